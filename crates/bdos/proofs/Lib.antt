@@ -1,0 +1,3 @@
+mod Carried
+mod Scanning
+mod Trees

@@ -1,0 +1,47 @@
+use Rattle.std.proofs.Common.{sym, subst, ◌∙◌, rules, arith}
+use Rattle.bdos.specs.Printing.{Grown}
+use Rattle.bdos.proofs.Scanning.{byte_read, looked_at, desk_on, looks_on, desk_here, looks_here, desk_end, looks_end, found_some, found_none, desk_is, grown_on}
+use Rattle.bdos.proofs.calls.print_until_dollar.Goals as goal
+
+pub loop-cell-preserved : goal.loop-cell-preserved
+loop-cell-preserved g c =
+    let i = c.loop-cell.invariant in
+    let value = byte_read (g.B.Bus.memory c.args.bus.now) _ _ _ _ c.in_ok-byte.ensures i.own i.beneath in
+    let looked = looked_at (g.B.Bus.memory c.args.bus.now) _ _ _ _ c.in_ok-byte.ensures i.own i.beneath in
+    record {
+      desk = desk_on _ 65536 c.loop-cell._cell _ _ _ _ (omega arith) value (omega arith) c.in_ok-print.ensures.ok ∙ i.desk;
+      looks = looks_on _ _ _ _ 65536 c.loop-cell._cell _ _ (omega arith) value (omega arith) looked ∙ i.looks;
+      grown = subst (Grown c.args.desk.now) (sym c.in_ok-print.ensures.ok) (grown_on _ _ _ i.grown);
+      own = search rules;
+      beneath = search rules;
+      lender = search rules;
+    }
+
+pub returns-then-byte-eq36 : goal.returns-then-byte-eq36
+returns-then-byte-eq36 g c =
+    let i = c.loop-cell.invariant in
+    let value = byte_read (g.B.Bus.memory c.args.bus.now) _ _ _ _ c.in_ok-byte.ensures i.own i.beneath in
+    let looked = looked_at (g.B.Bus.memory c.args.bus.now) _ _ _ _ c.in_ok-byte.ensures i.own i.beneath in
+    let whole = sym (desk_here _ 65536 c.loop-cell._cell _ _ c.loop-cell.desk (omega arith) value c.if-byte-eq36.true) ∙ i.desk in
+    record {
+      found = found_some _ _ _ whole;
+      printed = λ _. desk_is _ _ _ whole;
+      looks = looked ∙ sym (looks_here _ _ _ 65536 c.loop-cell._cell _ _ (omega arith) value c.if-byte-eq36.true) ∙ i.looks;
+      grown = i.grown;
+      own = search rules;
+      beneath = search rules;
+      lender = search rules;
+    }
+
+pub returns : goal.returns
+returns g c =
+    let i = c.loop-cell.invariant in
+    record {
+      found = found_none _ _ (sym (desk_end _ 65536 c.loop-cell._cell _ c.loop-cell.desk (omega arith)) ∙ i.desk);
+      printed = λ no. cc;
+      looks = sym (looks_end _ _ _ 65536 c.loop-cell._cell _ (omega arith)) ∙ i.looks;
+      grown = i.grown;
+      own = i.own;
+      beneath = i.beneath;
+      lender = i.lender;
+    }

@@ -1,0 +1,69 @@
+-- What the program says of its end. (The statuses and the messages: this project's profile.)
+use Rattle.std.specs.Prelude.{◌≡◌, ℕ, List, [], ◌∷◌, ◌⊎◌, ◌++◌, codes, take, Option}
+use Rattle.std.specs.Fmt.{decimal}
+use Rattle.std.specs.Io.KnownBytes.{Appends}
+use Rattle.machine.specs.Views.{Session}
+use Rattle.cpmrun.specs.declared.program.Fault.{Fault}
+use Rattle.cpmrun.specs.declared.program.Fault.TheVariants.{Use, CannotRead, CannotWrite, Refused, Malformed, TooLong, OutOfMemory}
+use Rattle.cpmrun.specs.Pieces.{lines_of}
+use Rattle.cpmrun.specs.Replay.{Finished, Replays}
+use Rattle.cpmrun.specs.ReportText.{line}
+
+-- the exit status of a fault
+abbrev pub status_of : Fault → ℕ
+status_of Use = 1
+status_of (CannotRead path) = 1
+status_of CannotWrite = 1
+status_of (Refused n) = 1
+status_of (Malformed k) = 2
+status_of (TooLong k) = 2
+status_of OutOfMemory = 12
+
+-- the line that tells a fault
+abbrev pub message_of : Fault → List ℕ
+message_of Use = line (codes "usage: cpmrun PROGRAM --edits FILE")
+message_of (CannotRead path) = line (codes "cpmrun: cannot read " ++ path.now)
+message_of CannotWrite = line (codes "cpmrun: cannot write standard output")
+message_of (Refused n) = line (codes "cpmrun: session refused " ++ decimal n)
+message_of (Malformed k) = codes "cpmrun: line " ++ decimal k ++ line (codes " is malformed")
+message_of (TooLong k) = codes "cpmrun: line " ++ decimal k ++ line (codes " is too long")
+message_of OutOfMemory = line (codes "cpmrun: out of memory")
+
+-- the fault has this status, and its message was written, whole or in part
+abbrev pub Tells : Fault → ℕ → Option (List ℕ) → Option (List ℕ) → Type 0
+Tells f status held holds = (status ≡ status_of f) × ((n : ℕ) × Appends held holds (take n (message_of f)))
+
+-- the words of the command line name these two files
+abbrev pub AreWords : List (List ℕ) → List ℕ → List ℕ → Type 0
+AreWords words program edits = words ≡ program ∷ codes "--edits" ∷ edits ∷ []
+
+-- why this file gives no session, or can't be read
+abbrev pub Unread : List ℕ → Fault → Type 0
+Unread path Use = ⊥
+Unread path (CannotRead p) = p.now ≡ path
+Unread path CannotWrite = ⊥
+Unread path (Refused n) = Unit {0}
+Unread path (Malformed k) = ⊥
+Unread path (TooLong k) = ⊥
+Unread path OutOfMemory = Unit {0}
+
+-- the fault fits the words: one of use where they name no two files, and else another, of one of these files if of any
+abbrev pub FitsWords : List (List ℕ) → Fault → Type 0
+FitsWords words Use = (program edits : List ℕ) → AreWords words program edits → ⊥
+FitsWords words (CannotRead p) = (program : List ℕ) × (edits : List ℕ) × AreWords words program edits × ((p.now ≡ program) ⊎ (p.now ≡ edits))
+FitsWords words CannotWrite = (program : List ℕ) × (edits : List ℕ) × AreWords words program edits
+FitsWords words (Refused n) = (program : List ℕ) × (edits : List ℕ) × AreWords words program edits
+FitsWords words (Malformed k) = (program : List ℕ) × (edits : List ℕ) × AreWords words program edits
+FitsWords words (TooLong k) = (program : List ℕ) × (edits : List ℕ) × AreWords words program edits
+FitsWords words OutOfMemory = Unit {0}
+
+-- some fault that fits the words was told so
+abbrev pub TellsOne : List (List ℕ) → ℕ → Option (List ℕ) → Option (List ℕ) → Type 0
+TellsOne words status held holds = (f : Fault) × FitsWords words f × Tells f status held holds
+
+-- the text was written that some lines give, replayed to their end from a session of some program, no script and this limit
+abbrev pub WritesReplay : Option (List ℕ) → Option (List ℕ) → Type 0
+WritesReplay held holds =
+    (first : Session) × (last : Session) × (bytes : List ℕ) × (text : List ℕ) × (count : ℕ)
+    × (first.script ≡ []) × (first.limit ≡ 1000000)
+    × Appends held holds text × Replays first (lines_of bytes) text last (Finished count)

@@ -1,0 +1,55 @@
+-- The texts that a replay writes. (The report and its lines: this project's profile.)
+use Rattle.std.specs.Prelude.{ℕ, ◌/◌, ◌%◌, List, [], ◌∷◌, ◌++◌, codes}
+use Rattle.std.specs.Fmt.{decimal}
+use Rattle.hex.specs.Hex.{encode_lower, encode_upper}
+use Rattle.i8080.specs.Flags.{byte_of}
+use Rattle.i8080.specs.declared.registers.Regs.{Regs}
+use Rattle.bdos.specs.declared.cause.Cause.{Cause}
+use Rattle.bdos.specs.declared.cause.Cause.TheVariants.{WarmBoot, Halt, Limit, Undefined, SystemArea, ConsoleExhausted, NoDollar, Unsupported, BadDrive}
+use Rattle.replay.specs.Cold.{Cold}
+
+-- `-` for no byte, else two digits in lower case for each
+abbrev pub hex_text : List ℕ → List ℕ
+hex_text [] = codes "-"
+hex_text (b ∷ bs) = encode_lower (b ∷ bs)
+
+-- two digits in upper case
+abbrev pub byte_text : ℕ → List ℕ
+byte_text b = encode_upper (b ∷ [])
+
+-- four digits in upper case, the high byte first
+abbrev pub word_text : ℕ → List ℕ
+word_text w = encode_upper (w / 256 ∷ w % 256 ∷ [])
+
+-- a line with its end
+abbrev pub line : List ℕ → List ℕ
+line text = text ++ 10 ∷ []
+
+abbrev pub cause_text : Cause → List ℕ
+cause_text WarmBoot = codes "WarmBoot"
+cause_text Halt = codes "Halt"
+cause_text Limit = codes "Limit"
+cause_text (Undefined byte) = codes "Undefined " ++ byte_text byte
+cause_text (SystemArea address) = codes "SystemArea " ++ word_text address
+cause_text ConsoleExhausted = codes "ConsoleExhausted"
+cause_text NoDollar = codes "NoDollar"
+cause_text (Unsupported number) = codes "Unsupported " ++ decimal number
+cause_text (BadDrive number) = codes "BadDrive " ++ decimal number
+
+-- each register after its name, F for the flag byte
+abbrev pub regs_text : Regs → List ℕ
+regs_text r =
+    codes "regs A=" ++ byte_text r.a ++ codes " F=" ++ byte_text (byte_of r.flags)
+    ++ codes " B=" ++ byte_text r.b ++ codes " C=" ++ byte_text r.c
+    ++ codes " D=" ++ byte_text r.d ++ codes " E=" ++ byte_text r.e
+    ++ codes " H=" ++ byte_text r.h ++ codes " L=" ++ byte_text r.l
+    ++ codes " SP=" ++ word_text r.sp ++ codes " PC=" ++ word_text r.pc
+
+-- the reply to `run`, of a cold run
+abbrev pub report_text : Cold → List ℕ
+report_text run =
+    line (codes "stop " ++ cause_text run.cause)
+    ++ line (codes "steps " ++ decimal run.steps)
+    ++ line (regs_text run.state.core.regs)
+    ++ line (codes "text " ++ hex_text run.state.core.desk.text)
+    ++ line (codes "end")

@@ -1,0 +1,123 @@
+// Where edit lines come from and replies go: readers and writers that may fail.
+
+ghost use Rattle.std.specs.Prelude.{◌≡◌, ℕ, ◌+◌, ◌^◌, ◌<◌, ◌≤◌, List, Option, length, take, IfOk, OnOk, OnErr};
+ghost use Rattle.std.specs.Io.KnownBytes.{ReadConsumes, WriteAppends, Appends};
+
+use std::io;
+
+/// A reader or a writer failed. Why, its own side knows.
+#[derive(Clone, Copy, Debug, PartialEq, Eq)]
+pub struct Failed;
+
+/// Where bytes come from. A contract sees the bytes that are left, where the reader tells them, and
+/// a count of failures.
+pub trait Reader {
+    // The bytes that are left, where the reader tells them.
+    ghost left: { Self → Option (List ℕ) };
+    // How often it failed.
+    ghost failures: { Self → ℕ };
+
+    /// Moves the next bytes, at most as many as the piece has places, to the front of the piece, and
+    /// gives their count. No byte for a piece that is not empty is the end. An error moves no byte and
+    /// adds one failure.
+    fn read(&mut self, piece: &mut [u8]) -> Result<usize, Failed>
+        requires { failures self.old < 2 ^ 63 }
+        ensures count { IfOk result (λ n. n ≤ length piece.new) }
+        ensures bytes { ReadConsumes (left self.old) (left self.new) result piece.new }
+        ensures ok { OnOk result (failures self.new ≡ failures self.old) }
+        ensures err { OnErr result (failures self.new ≡ failures self.old + 1) };
+}
+
+/// Where bytes go. A contract sees the bytes that it holds, where the writer tells them, and a count
+/// of failures.
+pub trait Writer {
+    // The bytes that it holds, where it tells them.
+    ghost holds: { Self → Option (List ℕ) };
+    // How often it failed.
+    ghost failures: { Self → ℕ };
+
+    /// Takes some first bytes of the piece, at least one where there is one, and gives their count. An
+    /// error takes no byte and adds one failure.
+    fn write(&mut self, piece: &[u8]) -> Result<usize, Failed>
+        requires { failures self.old < 2 ^ 63 }
+        ensures count { IfOk result (λ n. n ≤ length piece.now) }
+        ensures some { IfOk result (λ n. 0 < length piece.now → 0 < n) }
+        ensures bytes { WriteAppends (holds self.old) (holds self.new) result piece.now }
+        ensures ok { OnOk result (failures self.new ≡ failures self.old) }
+        ensures err { OnErr result (failures self.new ≡ failures self.old + 1) };
+}
+
+/// A reader or writer of the standard library, with a count of its failures. A write that takes no
+/// byte of a piece that has some is a failure.
+#[derive(Drop)]
+pub struct Over<T> {
+    inner: T,
+    failures: u64,
+}
+
+impl<T> Over<T> {
+    /// Over this reader or writer, with no failure yet.
+    pub fn new(inner: T) -> Over<T>
+        ensures none { result.failures ≡ 0 }
+        ensures same { result.inner ≡ inner }
+    {
+        Over { inner, failures: 0 }
+    }
+
+    /// The reader or writer, as it now is.
+    pub fn into_inner(self) -> T
+        ensures { result ≡ self.inner }
+    {
+        let Over { inner, failures: _ } = self;
+        inner
+    }
+}
+
+impl<T: io::Read> Reader for Over<T> {
+    ghost left = { λ o. T.remaining o.inner };
+
+    ghost failures = { λ o. o.failures };
+
+    fn read(&mut self, piece: &mut [u8]) -> Result<usize, Failed> {
+        match self.inner.read(piece) {
+            Ok(n) => Ok(n),
+            Err(_) => {
+                self.failures += 1;
+                Err(Failed)
+            }
+        }
+    }
+}
+
+impl<T: io::Write> Writer for Over<T> {
+    ghost holds = { λ o. T.contents o.inner };
+
+    ghost failures = { λ o. o.failures };
+
+    fn write(&mut self, piece: &[u8]) -> Result<usize, Failed> {
+        match self.inner.write(piece) {
+            Ok(n) if n > 0 || piece.is_empty() => Ok(n),
+            _ => {
+                self.failures += 1;
+                Err(Failed)
+            }
+        }
+    }
+}
+
+/// Writes the whole text, or some first part of it where the writer fails. No failure is tried
+/// again.
+pub fn write_all<W: Writer>(writer: &mut W, text: &[u8]) -> Result<(), Failed>
+    requires { W.failures writer.old < 2 ^ 63 }
+    ensures ok { OnOk result (Appends (W.holds writer.old) (W.holds writer.new) text.now) }
+    ensures part { OnErr result ((n : ℕ) × Appends (W.holds writer.old) (W.holds writer.new) (take n text.now)) }
+    ensures same { OnOk result (W.failures writer.new ≡ W.failures writer.old) }
+    ensures err { OnErr result (W.failures writer.new ≡ W.failures writer.old + 1) }
+{
+    let mut rest = text;
+    while !rest.is_empty() {
+        let n = writer.write(rest)?;
+        rest = &rest[n..];
+    }
+    Ok(())
+}

@@ -1,0 +1,30 @@
+-- The flag byte, and the flags that a result sets: the Intel 8080 Microcomputer Systems User's Manual, flags.
+use Rattle.std.specs.Prelude.{◌==◌, ◌+◌, ◌*◌, ◌/◌, ◌%◌, nat_le, ℕ, Bool, true, false, count_ones}
+use Rattle.i8080.specs.declared.flags.Flags.{Flags}
+
+abbrev pub bit : Bool → ℕ
+bit true = 1
+bit false = 0
+
+-- S Z 0 AC 0 P 1 CY, from bit 7 down
+abbrev pub byte_of : Flags → ℕ
+byte_of f = 128 * bit f.s + 64 * bit f.z + 16 * bit f.ac + 4 * bit f.p + 2 + bit f.cy
+
+abbrev pub flags_in : ℕ → Flags
+flags_in byte = record {
+  s = byte / 128 % 2 == 1;
+  z = byte / 64 % 2 == 1;
+  ac = byte / 16 % 2 == 1;
+  p = byte / 4 % 2 == 1;
+  cy = byte % 2 == 1;
+}
+
+-- the sign is bit 7 of the result, zero is set for a result of 0, and parity for an even count of ones; the carries are given
+abbrev pub flags_after : ℕ → Bool → Bool → Flags
+flags_after value ac cy = record {
+  s = nat_le 128 value;
+  z = value == 0;
+  ac = ac;
+  p = count_ones value % 2 == 0;
+  cy = cy;
+}

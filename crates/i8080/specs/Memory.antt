@@ -1,0 +1,46 @@
+-- Memory as an instruction sees it.
+use Rattle.std.specs.Prelude.{◌==◌, ◌||◌, if◌then◌else◌, ℕ, Bool, false, List, [], ◌∷◌, ◌++◌, Option, Some, is_some, unwrap_or}
+use Rattle.std.specs.Borrow.{GName}
+
+-- what was written at each address, if anything was
+abbrev pub Own : Type 0
+Own = ℕ → Option ℕ
+
+-- the addresses that were looked at, each once, in the order of their first looks
+abbrev pub Looks : Type 0
+Looks = List ℕ
+
+abbrev pub is_among : ℕ → List ℕ → Bool
+is_among a [] = false
+is_among a (x ∷ xs) = a == x || is_among a xs
+
+-- what was written, the bytes beneath it, what was looked at, and the reference that lends it all
+pub record Memory : Type 0 where
+  pub own : Own
+  pub beneath : ℕ → ℕ
+  pub looks : Looks
+  pub lender : Option GName
+
+-- the byte at each address: what was written there, else what lies beneath
+abbrev pub over : Own → (ℕ → ℕ) → ℕ → ℕ
+over own beneath = λ q. unwrap_or (own q) (beneath q)
+
+abbrev pub bytes : Memory → ℕ → ℕ
+bytes m = over m.own m.beneath
+
+-- a read looks at its cell, unless that cell was written; a second look adds nothing
+unfoldable pub look : Own → Looks → ℕ → Looks
+look own looks a = if is_some (own a) || is_among a looks then looks else looks ++ a ∷ []
+
+unfoldable pub write : Own → ℕ → ℕ → Own
+write own a v = λ q. if q == a then Some v else own q
+
+-- several reads
+abbrev pub look_all : Own → List ℕ → Looks → Looks
+look_all own [] looks = looks
+look_all own (a ∷ rest) looks = look_all own rest (look own looks a)
+
+-- several writes, in order
+abbrev pub write_all : Own → List (ℕ × ℕ) → Own
+write_all own [] = own
+write_all own (w ∷ rest) = write_all (write own w.0 w.1) rest

@@ -1,0 +1,484 @@
+// The instructions. Each reads first, then makes cells ready and writes them, and sets the
+// registers last, so that a want of memory changes nothing.
+
+ghost use Rattle.std.specs.Prelude.{◌≡◌, Ok};
+ghost use Rattle.i8080.specs.Reading.{Done};
+ghost use Rattle.i8080.specs.Registers.{advance};
+ghost use Rattle.i8080.specs.End.{Performs, Reads, Writes};
+ghost use Rattle.i8080.specs.Instruction.{operation, from_place, to_place, base_of, word_at, one_byte, one_word, pushing};
+ghost use Rattle.i8080.specs.declared.opcode.Source.TheVariants.{At, Immediate};
+ghost use Rattle.i8080.specs.declared.opcode.Op.TheVariants.{Nop, Mov, MovToMemory, Mvi, Lxi, Lda, Sta, Lhld, Shld, Ldax, Stax, Xchg, Accumulate, Inr, Dcr, Inx, Dcx, Dad, Rotate, Daa, Cma, Stc, Cmc, Jmp, JumpIf, Call, CallIf, Ret, RetIf, Rst, Pchl, Push, Pop, Xthl, Sphl, In, Out};
+
+use crate::bus::{Bus, fetch};
+use crate::flags::Flags;
+use crate::opcode::{Arithmetic, Base, Condition, Pair, Place, Register, Restart, Rotation, Saved};
+use crate::outcome::Did;
+use crate::registers::{Regs, word_of};
+use std::alloc::AllocError;
+
+// How an instruction ended, or that memory ran out.
+type Ended = Result<Did, AllocError>;
+
+// The word at an address.
+#[inline(always)]
+fn fetch_word<B: Bus>(bus: &mut B, a: u16) -> Result<u16, AllocError>
+    ensures { Reads (word_at a Done) (B.memory bus.old) result (B.memory bus.new) }
+{
+    let low = fetch(bus, a)?;
+    let high = fetch(bus, a.wrapping_add(1))?;
+    Ok(word_of(low, high))
+}
+
+// The byte in a register, or in the cell at HL.
+#[inline(always)]
+fn operand<B: Bus>(regs: &Regs, bus: &mut B, place: Place) -> Result<u8, AllocError>
+    ensures { Reads (from_place place regs.now Done) (B.memory bus.old) result (B.memory bus.new) }
+{
+    match place {
+        Place::Held(register) => Ok(regs.get(register)),
+        Place::Memory => fetch(bus, regs.pair(Pair::Hl)),
+    }
+}
+
+// Writes a byte.
+#[inline(always)]
+fn store<B: Bus>(bus: &mut B, a: u16, value: u8) -> Result<(), AllocError>
+    ensures { Writes (one_byte a value) (B.memory bus.old) result (B.memory bus.new) }
+{
+    bus.ready(a)?;
+    bus.write(a, value);
+    Ok(())
+}
+
+// Writes a word, once both of its cells are ready.
+#[inline(always)]
+fn store_word<B: Bus>(bus: &mut B, a: u16, value: u16) -> Result<(), AllocError>
+    ensures { Writes (one_word a value) (B.memory bus.old) result (B.memory bus.new) }
+{
+    let above = a.wrapping_add(1);
+    bus.ready(a)?;
+    bus.ready(above)?;
+    bus.write(a, (value % 256) as u8);
+    bus.write(above, (value / 256) as u8);
+    Ok(())
+}
+
+// Sets a register, or writes the cell at HL.
+#[inline(always)]
+fn put<B: Bus>(regs: &mut Regs, bus: &mut B, place: Place, value: u8) -> Ended
+    ensures { Performs (to_place place value regs.old) regs.old (B.memory bus.old) result regs.new (B.memory bus.new) }
+{
+    match place {
+        Place::Held(register) => regs.set(register, value),
+        Place::Memory => store(bus, regs.pair(Pair::Hl), value)?,
+    }
+    Ok(Did::Went)
+}
+
+// Pushes a word.
+#[inline(always)]
+fn push_word<B: Bus>(regs: &mut Regs, bus: &mut B, value: u16) -> Ended
+    ensures { Performs (pushing value regs.old) regs.old (B.memory bus.old) result regs.new (B.memory bus.new) }
+{
+    let top = regs.sp.wrapping_sub(2);
+    store_word(bus, top, value)?;
+    regs.sp = top;
+    Ok(Did::Went)
+}
+
+// Ends an instruction of this length.
+#[inline(always)]
+fn advance(regs: &mut Regs, length: u16) -> Ended
+    ensures did { result ≡ Ok Did.Went }
+    ensures regs { regs.new ≡ advance length regs.old }
+{
+    regs.pc = regs.pc.wrapping_add(length);
+    Ok(Did::Went)
+}
+
+#[inline(always)]
+fn address(regs: &Regs, base: Base) -> u16
+    ensures { result ≡ base_of base regs.now }
+{
+    match base {
+        Base::InBc => regs.pair(Pair::Bc),
+        Base::InDe => regs.pair(Pair::De),
+    }
+}
+
+// NOP, and DI and EI, which do nothing here.
+#[inline(always)]
+pub fn nop<B: Bus>(regs: &mut Regs, _bus: &mut B) -> Ended
+    ensures { Performs (operation Nop regs.old) regs.old (B.memory _bus.old) result regs.new (B.memory _bus.new) }
+{
+    advance(regs, 1)
+}
+
+#[inline(always)]
+pub fn mov<B: Bus>(regs: &mut Regs, bus: &mut B, to: Register, from: Place) -> Ended
+    ensures { Performs (operation (Mov to from) regs.old) regs.old (B.memory bus.old) result regs.new (B.memory bus.new) }
+{
+    let value = operand(regs, bus, from)?;
+    regs.set(to, value);
+    advance(regs, 1)
+}
+
+#[inline(always)]
+pub fn mov_to_memory<B: Bus>(regs: &mut Regs, bus: &mut B, from: Register) -> Ended
+    ensures { Performs (operation (MovToMemory from) regs.old) regs.old (B.memory bus.old) result regs.new (B.memory bus.new) }
+{
+    store(bus, regs.pair(Pair::Hl), regs.get(from))?;
+    advance(regs, 1)
+}
+
+#[inline(always)]
+pub fn mvi<B: Bus>(regs: &mut Regs, bus: &mut B, to: Place) -> Ended
+    ensures { Performs (operation (Mvi to) regs.old) regs.old (B.memory bus.old) result regs.new (B.memory bus.new) }
+{
+    let value = fetch(bus, regs.pc.wrapping_add(1))?;
+    put(regs, bus, to, value)?;
+    advance(regs, 2)
+}
+
+#[inline(always)]
+pub fn lxi<B: Bus>(regs: &mut Regs, bus: &mut B, to: Pair) -> Ended
+    ensures { Performs (operation (Lxi to) regs.old) regs.old (B.memory bus.old) result regs.new (B.memory bus.new) }
+{
+    let value = fetch_word(bus, regs.pc.wrapping_add(1))?;
+    regs.set_pair(to, value);
+    advance(regs, 3)
+}
+
+#[inline(always)]
+pub fn lda<B: Bus>(regs: &mut Regs, bus: &mut B) -> Ended
+    ensures { Performs (operation Lda regs.old) regs.old (B.memory bus.old) result regs.new (B.memory bus.new) }
+{
+    let from = fetch_word(bus, regs.pc.wrapping_add(1))?;
+    regs.a = fetch(bus, from)?;
+    advance(regs, 3)
+}
+
+#[inline(always)]
+pub fn sta<B: Bus>(regs: &mut Regs, bus: &mut B) -> Ended
+    ensures { Performs (operation Sta regs.old) regs.old (B.memory bus.old) result regs.new (B.memory bus.new) }
+{
+    let to = fetch_word(bus, regs.pc.wrapping_add(1))?;
+    store(bus, to, regs.a)?;
+    advance(regs, 3)
+}
+
+#[inline(never)]
+pub fn lhld<B: Bus>(regs: &mut Regs, bus: &mut B) -> Ended
+    ensures { Performs (operation Lhld regs.old) regs.old (B.memory bus.old) result regs.new (B.memory bus.new) }
+{
+    let from = fetch_word(bus, regs.pc.wrapping_add(1))?;
+    let value = fetch_word(bus, from)?;
+    regs.set_pair(Pair::Hl, value);
+    advance(regs, 3)
+}
+
+#[inline(never)]
+pub fn shld<B: Bus>(regs: &mut Regs, bus: &mut B) -> Ended
+    ensures { Performs (operation Shld regs.old) regs.old (B.memory bus.old) result regs.new (B.memory bus.new) }
+{
+    let to = fetch_word(bus, regs.pc.wrapping_add(1))?;
+    store_word(bus, to, regs.pair(Pair::Hl))?;
+    advance(regs, 3)
+}
+
+#[inline(always)]
+pub fn ldax<B: Bus>(regs: &mut Regs, bus: &mut B, base: Base) -> Ended
+    ensures { Performs (operation (Ldax base) regs.old) regs.old (B.memory bus.old) result regs.new (B.memory bus.new) }
+{
+    regs.a = fetch(bus, address(regs, base))?;
+    advance(regs, 1)
+}
+
+#[inline(always)]
+pub fn stax<B: Bus>(regs: &mut Regs, bus: &mut B, base: Base) -> Ended
+    ensures { Performs (operation (Stax base) regs.old) regs.old (B.memory bus.old) result regs.new (B.memory bus.new) }
+{
+    store(bus, address(regs, base), regs.a)?;
+    advance(regs, 1)
+}
+
+#[inline(always)]
+pub fn xchg<B: Bus>(regs: &mut Regs, _bus: &mut B) -> Ended
+    ensures { Performs (operation Xchg regs.old) regs.old (B.memory _bus.old) result regs.new (B.memory _bus.new) }
+{
+    let (hl, de) = (regs.pair(Pair::Hl), regs.pair(Pair::De));
+    regs.set_pair(Pair::Hl, de);
+    regs.set_pair(Pair::De, hl);
+    advance(regs, 1)
+}
+
+#[inline(always)]
+pub fn accumulate<B: Bus>(regs: &mut Regs, bus: &mut B, function: Arithmetic, from: Place) -> Ended
+    ensures { Performs (operation (Accumulate function (At from)) regs.old) regs.old (B.memory bus.old) result regs.new (B.memory bus.new) }
+{
+    let value = operand(regs, bus, from)?;
+    regs.accumulate(function, value);
+    advance(regs, 1)
+}
+
+#[inline(always)]
+pub fn accumulate_immediate<B: Bus>(regs: &mut Regs, bus: &mut B, function: Arithmetic) -> Ended
+    ensures { Performs (operation (Accumulate function Immediate) regs.old) regs.old (B.memory bus.old) result regs.new (B.memory bus.new) }
+{
+    let value = fetch(bus, regs.pc.wrapping_add(1))?;
+    regs.accumulate(function, value);
+    advance(regs, 2)
+}
+
+#[inline(always)]
+pub fn inr<B: Bus>(regs: &mut Regs, bus: &mut B, at: Place) -> Ended
+    ensures { Performs (operation (Inr at) regs.old) regs.old (B.memory bus.old) result regs.new (B.memory bus.new) }
+{
+    let value = operand(regs, bus, at)?;
+    let more = value.wrapping_add(1);
+    put(regs, bus, at, more)?;
+    regs.flags = Flags::after(more, value % 16 == 15, regs.flags.cy);
+    advance(regs, 1)
+}
+
+#[inline(always)]
+pub fn dcr<B: Bus>(regs: &mut Regs, bus: &mut B, at: Place) -> Ended
+    ensures { Performs (operation (Dcr at) regs.old) regs.old (B.memory bus.old) result regs.new (B.memory bus.new) }
+{
+    let value = operand(regs, bus, at)?;
+    let less = value.wrapping_sub(1);
+    put(regs, bus, at, less)?;
+    regs.flags = Flags::after(less, value % 16 != 0, regs.flags.cy);
+    advance(regs, 1)
+}
+
+#[inline(always)]
+pub fn inx<B: Bus>(regs: &mut Regs, _bus: &mut B, at: Pair) -> Ended
+    ensures { Performs (operation (Inx at) regs.old) regs.old (B.memory _bus.old) result regs.new (B.memory _bus.new) }
+{
+    let value = regs.pair(at).wrapping_add(1);
+    regs.set_pair(at, value);
+    advance(regs, 1)
+}
+
+#[inline(always)]
+pub fn dcx<B: Bus>(regs: &mut Regs, _bus: &mut B, at: Pair) -> Ended
+    ensures { Performs (operation (Dcx at) regs.old) regs.old (B.memory _bus.old) result regs.new (B.memory _bus.new) }
+{
+    let value = regs.pair(at).wrapping_sub(1);
+    regs.set_pair(at, value);
+    advance(regs, 1)
+}
+
+#[inline(always)]
+pub fn dad<B: Bus>(regs: &mut Regs, _bus: &mut B, from: Pair) -> Ended
+    ensures { Performs (operation (Dad from) regs.old) regs.old (B.memory _bus.old) result regs.new (B.memory _bus.new) }
+{
+    let whole = u32::from(regs.pair(Pair::Hl)) + u32::from(regs.pair(from));
+    regs.flags.cy = whole >= 65536;
+    regs.set_pair(Pair::Hl, (whole % 65536) as u16);
+    advance(regs, 1)
+}
+
+#[inline(always)]
+pub fn rotate<B: Bus>(regs: &mut Regs, _bus: &mut B, way: Rotation) -> Ended
+    ensures { Performs (operation (Rotate way) regs.old) regs.old (B.memory _bus.old) result regs.new (B.memory _bus.new) }
+{
+    let a = regs.a;
+    let doubled = (u16::from(a) * 2 % 256) as u8;
+    let carry = u8::from(regs.flags.cy);
+    (regs.a, regs.flags.cy) = match way {
+        Rotation::Rlc => (doubled + a / 128, a / 128 == 1),
+        Rotation::Rrc => (a / 2 + 128 * (a % 2), a % 2 == 1),
+        Rotation::Ral => (doubled + carry, a / 128 == 1),
+        Rotation::Rar => (a / 2 + 128 * carry, a % 2 == 1),
+    };
+    advance(regs, 1)
+}
+
+#[inline(always)]
+pub fn daa<B: Bus>(regs: &mut Regs, _bus: &mut B) -> Ended
+    ensures { Performs (operation Daa regs.old) regs.old (B.memory _bus.old) result regs.new (B.memory _bus.new) }
+{
+    let six = if regs.a % 16 > 9 || regs.flags.ac {
+        6
+    } else {
+        0
+    };
+    let sum = u16::from(regs.a) + u16::from(six);
+    let cy = regs.flags.cy || sum >= 160;
+    let ac = regs.a % 16 + six >= 16;
+    regs.a = ((sum + 96 * u16::from(cy)) % 256) as u8;
+    regs.flags = Flags::after(regs.a, ac, cy);
+    advance(regs, 1)
+}
+
+#[inline(always)]
+pub fn cma<B: Bus>(regs: &mut Regs, _bus: &mut B) -> Ended
+    ensures { Performs (operation Cma regs.old) regs.old (B.memory _bus.old) result regs.new (B.memory _bus.new) }
+{
+    regs.a = 255 - regs.a;
+    advance(regs, 1)
+}
+
+#[inline(always)]
+pub fn stc<B: Bus>(regs: &mut Regs, _bus: &mut B) -> Ended
+    ensures { Performs (operation Stc regs.old) regs.old (B.memory _bus.old) result regs.new (B.memory _bus.new) }
+{
+    regs.flags.cy = true;
+    advance(regs, 1)
+}
+
+#[inline(always)]
+pub fn cmc<B: Bus>(regs: &mut Regs, _bus: &mut B) -> Ended
+    ensures { Performs (operation Cmc regs.old) regs.old (B.memory _bus.old) result regs.new (B.memory _bus.new) }
+{
+    regs.flags.cy = !regs.flags.cy;
+    advance(regs, 1)
+}
+
+#[inline(always)]
+pub fn jmp<B: Bus>(regs: &mut Regs, bus: &mut B) -> Ended
+    ensures { Performs (operation Jmp regs.old) regs.old (B.memory bus.old) result regs.new (B.memory bus.new) }
+{
+    regs.pc = fetch_word(bus, regs.pc.wrapping_add(1))?;
+    Ok(Did::Went)
+}
+
+#[inline(always)]
+pub fn jump_if<B: Bus>(regs: &mut Regs, bus: &mut B, condition: Condition) -> Ended
+    ensures { Performs (operation (JumpIf condition) regs.old) regs.old (B.memory bus.old) result regs.new (B.memory bus.new) }
+{
+    let to = fetch_word(bus, regs.pc.wrapping_add(1))?;
+    if !condition.holds(regs.flags) {
+        return advance(regs, 3);
+    }
+    regs.pc = to;
+    Ok(Did::Went)
+}
+
+#[inline(always)]
+pub fn call<B: Bus>(regs: &mut Regs, bus: &mut B) -> Ended
+    ensures { Performs (operation Call regs.old) regs.old (B.memory bus.old) result regs.new (B.memory bus.new) }
+{
+    let to = fetch_word(bus, regs.pc.wrapping_add(1))?;
+    push_word(regs, bus, regs.pc.wrapping_add(3))?;
+    regs.pc = to;
+    Ok(Did::Went)
+}
+
+#[inline(never)]
+pub fn call_if<B: Bus>(regs: &mut Regs, bus: &mut B, condition: Condition) -> Ended
+    ensures { Performs (operation (CallIf condition) regs.old) regs.old (B.memory bus.old) result regs.new (B.memory bus.new) }
+{
+    let to = fetch_word(bus, regs.pc.wrapping_add(1))?;
+    if !condition.holds(regs.flags) {
+        return advance(regs, 3); // not called
+    }
+    push_word(regs, bus, regs.pc.wrapping_add(3))?;
+    regs.pc = to;
+    Ok(Did::Went)
+}
+
+#[inline(always)]
+pub fn ret<B: Bus>(regs: &mut Regs, bus: &mut B) -> Ended
+    ensures { Performs (operation Ret regs.old) regs.old (B.memory bus.old) result regs.new (B.memory bus.new) }
+{
+    regs.pc = fetch_word(bus, regs.sp)?;
+    regs.sp = regs.sp.wrapping_add(2);
+    Ok(Did::Went)
+}
+
+#[inline(never)]
+pub fn ret_if<B: Bus>(regs: &mut Regs, bus: &mut B, condition: Condition) -> Ended
+    ensures { Performs (operation (RetIf condition) regs.old) regs.old (B.memory bus.old) result regs.new (B.memory bus.new) }
+{
+    if condition.holds(regs.flags) {
+        return ret(regs, bus);
+    }
+    advance(regs, 1)
+}
+
+#[inline(never)]
+pub fn rst<B: Bus>(regs: &mut Regs, bus: &mut B, restart: Restart) -> Ended
+    ensures { Performs (operation (Rst restart) regs.old) regs.old (B.memory bus.old) result regs.new (B.memory bus.new) }
+{
+    push_word(regs, bus, regs.pc.wrapping_add(1))?;
+    regs.pc = 8 * u16::from(restart as u8);
+    Ok(Did::Went)
+}
+
+#[inline(always)]
+pub fn pchl<B: Bus>(regs: &mut Regs, _bus: &mut B) -> Ended
+    ensures { Performs (operation Pchl regs.old) regs.old (B.memory _bus.old) result regs.new (B.memory _bus.new) }
+{
+    regs.pc = regs.pair(Pair::Hl);
+    Ok(Did::Went)
+}
+
+#[inline(always)]
+pub fn push<B: Bus>(regs: &mut Regs, bus: &mut B, what: Saved) -> Ended
+    ensures { Performs (operation (Push what) regs.old) regs.old (B.memory bus.old) result regs.new (B.memory bus.new) }
+{
+    let value = match what {
+        Saved::BcPair => regs.pair(Pair::Bc),
+        Saved::DePair => regs.pair(Pair::De),
+        Saved::HlPair => regs.pair(Pair::Hl),
+        Saved::Psw => word_of(regs.flags.byte(), regs.a),
+    };
+    push_word(regs, bus, value)?;
+    advance(regs, 1)
+}
+
+#[inline(always)]
+pub fn pop<B: Bus>(regs: &mut Regs, bus: &mut B, what: Saved) -> Ended
+    ensures { Performs (operation (Pop what) regs.old) regs.old (B.memory bus.old) result regs.new (B.memory bus.new) }
+{
+    let value = fetch_word(bus, regs.sp)?;
+    match what {
+        Saved::BcPair => regs.set_pair(Pair::Bc, value),
+        Saved::DePair => regs.set_pair(Pair::De, value),
+        Saved::HlPair => regs.set_pair(Pair::Hl, value),
+        Saved::Psw => {
+            regs.a = (value / 256) as u8;
+            regs.flags = Flags::from_byte((value % 256) as u8);
+        }
+    }
+    regs.sp = regs.sp.wrapping_add(2);
+    advance(regs, 1)
+}
+
+#[inline(never)]
+pub fn xthl<B: Bus>(regs: &mut Regs, bus: &mut B) -> Ended
+    ensures { Performs (operation Xthl regs.old) regs.old (B.memory bus.old) result regs.new (B.memory bus.new) }
+{
+    let value = fetch_word(bus, regs.sp)?;
+    store_word(bus, regs.sp, regs.pair(Pair::Hl))?;
+    regs.set_pair(Pair::Hl, value);
+    advance(regs, 1)
+}
+
+#[inline(always)]
+pub fn sphl<B: Bus>(regs: &mut Regs, _bus: &mut B) -> Ended
+    ensures { Performs (operation Sphl regs.old) regs.old (B.memory _bus.old) result regs.new (B.memory _bus.new) }
+{
+    regs.sp = regs.pair(Pair::Hl);
+    advance(regs, 1)
+}
+
+#[inline(never)]
+pub fn input<B: Bus>(regs: &mut Regs, bus: &mut B) -> Ended
+    ensures { Performs (operation In regs.old) regs.old (B.memory bus.old) result regs.new (B.memory bus.new) }
+{
+    fetch(bus, regs.pc.wrapping_add(1))?;
+    regs.a = 255;
+    advance(regs, 2)
+}
+
+#[inline(never)]
+pub fn output<B: Bus>(regs: &mut Regs, bus: &mut B) -> Ended
+    ensures { Performs (operation Out regs.old) regs.old (B.memory bus.old) result regs.new (B.memory bus.new) }
+{
+    fetch(bus, regs.pc.wrapping_add(1))?;
+    advance(regs, 2)
+}

@@ -1,0 +1,101 @@
+-- What no step looks at has no influence, whatever the machine.
+use Rattle.std.proofs.Common.{◌≡◌, ℕ, zero, suc, ◌<◌, List, [], ◌∷◌, ◌++◌, refl, ap, sym, ◌∙◌, arith, Option, Some, None}
+use Rattle.interaction_trees.specs.Tree.{Tree, Return, Query, result_of, asked, AgreeOn, returning}
+use Rattle.interaction_trees.specs.Dependence.{Outcome, state_of, laid, passed_on}
+use Rattle.interaction_trees.specs.Dependence as dependence
+
+module _ {S : Type 0} {B : S → Type 0} where
+  -- answers that agree where a tree asks lead to the same result
+  pub same_result : {E : Type 0} (f g : (s : S) → B s) (t : Tree S B E) → AgreeOn (asked f t) f g → result_of g t ≡ result_of f t
+  same_result f g (Return e) h = refl
+  same_result f g (Query q k) h = rw (← h.0) (same_result f g (k (f q)) h.1)
+
+  -- by the same questions
+  pub same_asked : {E : Type 0} (f g : (s : S) → B s) (t : Tree S B E) → AgreeOn (asked f t) f g → asked g t ≡ asked f t
+  same_asked f g (Return e) h = refl
+  same_asked f g (Query q k) h = rw (← h.0) (ap (λ qs. q ∷ qs) (same_asked f g (k (f q)) h.1))
+
+  -- answers that agree everywhere lead to the same result
+  pub same_everywhere : {E : Type 0} (f g : (s : S) → B s) (t : Tree S B E) → ((s : S) → f s ≡ g s) → result_of f t ≡ result_of g t
+  same_everywhere f g (Return e) h = refl
+  same_everywhere f g (Query q k) h = rw (h q) (same_everywhere f g (k (g q)) h)
+
+  pub result_of-returning : {E F : Type 0} (f : (s : S) → B s) (h : E → F) (t : Tree S B E) → result_of f (returning h t) ≡ h (result_of f t)
+  result_of-returning f h (Return e) = refl
+  result_of-returning f h (Query q k) = result_of-returning f h (k (f q))
+
+  pub asked-returning : {E F : Type 0} (f : (s : S) → B s) (h : E → F) (t : Tree S B E) → asked f (returning h t) ≡ asked f t
+  asked-returning f h (Return e) = refl
+  asked-returning f h (Query q k) = ap (λ (qs : List S). q ∷ qs) (asked-returning f h (k (f q)))
+
+  pub agree_left : (f g : (s : S) → B s) (xs ys : List S) → AgreeOn (xs ++ ys) f g → AgreeOn xs f g
+  agree_left f g [] ys h = tt
+  agree_left f g (x ∷ xs) ys h = (h.0, agree_left f g xs ys h.1)
+
+  pub agree_right : (f g : (s : S) → B s) (xs ys : List S) → AgreeOn (xs ++ ys) f g → AgreeOn ys f g
+  agree_right f g [] ys h = h
+  agree_right f g (x ∷ xs) ys h = agree_right f g xs ys h.1
+
+module _ {S : Type 0} {B : S → Type 0} {Q : Type 0} {A : Q → Type 0} {W : Type 0} (part : W → (q : Q) → Tree S B (A q)) where
+  -- where the sessions agree on what is passed on to them, the states agree
+  pub laid_agree : (w : W) (f g : (s : S) → B s) (qs : List Q) → AgreeOn (passed_on part w f qs) f g → AgreeOn qs (laid part w f) (laid part w g)
+  laid_agree w f g [] h = tt
+  laid_agree w f g (q ∷ qs) h =
+      (sym (same_result f g (part w q) (agree_left f g _ _ h)), laid_agree w f g qs (agree_right f g _ _ h))
+
+  pub same_passed : (w : W) (f g : (s : S) → B s) (qs : List Q) → AgreeOn (passed_on part w f qs) f g → passed_on part w g qs ≡ passed_on part w f qs
+  same_passed w f g [] h = refl
+  same_passed w f g (q ∷ qs) h =
+      rw (same_asked f g (part w q) (agree_left f g _ _ h)) (ap (λ qs. asked f (part w q) ++ qs) (same_passed w f g qs (agree_right f g _ _ h)))
+
+module _ {S : Type 0} {B : S → Type 0} {Q : Type 0} {A : Q → Type 0} {W St R X : Type 0}
+    (part : W → (q : Q) → Tree S B (A q)) (own : St → W) (next : St → Tree Q A R) (made : St → R → Outcome St X) (start : St) where
+  abbrev outcome : ((s : S) → B s) → St → Outcome St X
+  outcome = dependence.outcome part own next made start
+
+  abbrev looks_at : ((s : S) → B s) → St → List S
+  looks_at = dependence.looks_at part own next made start
+
+  abbrev then_step : ((s : S) → B s) → Option St → Option St
+  then_step = dependence.then_step part own next made start
+
+  abbrev after : ((s : S) → B s) → ℕ → Option St
+  after = dependence.after part own next made start
+
+  abbrev looks_of : ((s : S) → B s) → Option St → List S
+  looks_of = dependence.looks_of part own next made start
+
+  abbrev looks : ((s : S) → B s) → ℕ → List S
+  looks = dependence.looks part own next made start
+
+  pub same_outcome : (f g : (s : S) → B s) (st : St) → AgreeOn (looks_at f st) f g → outcome g st ≡ outcome f st
+  unfolding dependence.outcome dependence.looks_at
+  same_outcome f g st h =
+      ap (made st) (same_result (laid part (own st) f) (laid part (own st) g) (next st) (laid_agree part (own st) f g _ h))
+
+  pub same_looks_at : (f g : (s : S) → B s) (st : St) → AgreeOn (looks_at f st) f g → looks_at g st ≡ looks_at f st
+  unfolding dependence.looks_at
+  same_looks_at f g st h =
+      rw (same_asked (laid part (own st) f) (laid part (own st) g) (next st) (laid_agree part (own st) f g _ h)) (same_passed part (own st) f g _ h)
+
+  same_then : (f g : (s : S) → B s) (o : Option St) → AgreeOn (looks_of f o) f g → then_step g o ≡ then_step f o
+  same_then f g None h = refl
+  same_then f g (Some st) h = ap state_of (same_outcome f g st h)
+
+  same_looks_of : (f g : (s : S) → B s) (o : Option St) → AgreeOn (looks_of f o) f g → looks_of g o ≡ looks_of f o
+  same_looks_of f g None h = refl
+  same_looks_of f g (Some st) h = same_looks_at f g st h
+
+  pub same_after : (f g : (s : S) → B s) (n : ℕ) → ((i : ℕ) → i < n → AgreeOn (looks f i) f g) → after g n ≡ after f n
+  unfolding dependence.after dependence.looks
+  same_after f g zero h = refl
+  same_after f g (suc n) h = rw (same_after f g n (λ i k. h i (omega arith))) (same_then f g (after f n) (h n (omega arith)))
+
+  pub same_looks : (f g : (s : S) → B s) (n : ℕ) → ((i : ℕ) → i < n → AgreeOn (looks f i) f g) → AgreeOn (looks f n) f g → looks g n ≡ looks f n
+  unfolding dependence.looks
+  same_looks f g n h k = rw (same_after f g n h) (same_looks_of f g (after f n) k)
+
+  -- the theorem
+  pub prefix_dependence : dependence.PrefixDependence part own next made start
+  prefix_dependence f g n h =
+      (same_after f g n h, λ i k. same_looks f g i (λ j m. h j (omega arith)) (h i k))

@@ -1,0 +1,58 @@
+-- A machine over two families of questions: what a step asks of the state, and what the state asks of the session.
+--
+-- S, B: the session's questions and their answers. Q, A: the state's. W: what a run wrote. St: a state. R: what a step
+-- makes of its answers. X: why a run stops.
+use Rattle.std.specs.Prelude.{◌≡◌, ℕ, zero, suc, ◌<◌, List, [], ◌∷◌, ◌++◌, Option, Some, None}
+use Rattle.interaction_trees.specs.Tree.{Tree, result_of, asked, AgreeOn}
+
+-- The state answers each question by a small tree over the session: of what it wrote itself it asks nothing.
+module _ {S : Type 0} {B : S → Type 0} {Q : Type 0} {A : Q → Type 0} {W : Type 0} (part : W → (q : Q) → Tree S B (A q)) where
+  -- the answers of a state that owns w, over a session that answers f
+  abbrev pub laid : W → ((s : S) → B s) → (q : Q) → A q
+  laid w f q = result_of f (part w q)
+
+  -- what is asked of the session on behalf of these questions of the state
+  abbrev pub passed_on : W → ((s : S) → B s) → List Q → List S
+  passed_on w f [] = []
+  passed_on w f (q ∷ qs) = asked f (part w q) ++ passed_on w f qs
+
+-- what follows a state: a step to another, or a stop
+pub data Outcome (St X : Type 0) : Type 0 where
+  Step : St → Outcome St X
+  Stop : X → Outcome St X
+
+abbrev pub state_of : {St X : Type 0} → Outcome St X → Option St
+state_of (Step st) = Some st
+state_of (Stop x) = None
+
+module _ {S : Type 0} {B : S → Type 0} {Q : Type 0} {A : Q → Type 0} {W St R X : Type 0}
+    (part : W → (q : Q) → Tree S B (A q)) (own : St → W) (next : St → Tree Q A R) (made : St → R → Outcome St X) (start : St) where
+  -- what follows a state
+  unfoldable pub outcome : ((s : S) → B s) → St → Outcome St X
+  outcome f st = made st (result_of (laid part (own st) f) (next st))
+
+  -- what is asked of the session there, where a stop follows too
+  unfoldable pub looks_at : ((s : S) → B s) → St → List S
+  looks_at f st = passed_on part (own st) f (asked (laid part (own st) f) (next st))
+
+  abbrev pub then_step : ((s : S) → B s) → Option St → Option St
+  then_step f None = None
+  then_step f (Some st) = state_of (outcome f st)
+
+  -- the state after n steps; none where a stop comes before
+  unfoldable pub after : ((s : S) → B s) → ℕ → Option St
+  after f zero = Some start
+  after f (suc n) = then_step f (after f n)
+
+  abbrev pub looks_of : ((s : S) → B s) → Option St → List S
+  looks_of f None = []
+  looks_of f (Some st) = looks_at f st
+
+  -- what is asked of the session at the state after n steps
+  unfoldable pub looks : ((s : S) → B s) → ℕ → List S
+  looks f n = looks_of f (after f n)
+
+  -- What no step below n looks at has no influence on the state after n steps.
+  abbrev pub PrefixDependence : Type 0
+  PrefixDependence = (f g : (s : S) → B s) (n : ℕ) → ((i : ℕ) → i < n → AgreeOn (looks f i) f g)
+      → (after g n ≡ after f n) × ((i : ℕ) → i < n → looks g i ≡ looks f i)

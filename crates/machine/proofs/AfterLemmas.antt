@@ -1,0 +1,23 @@
+-- The states of a run.
+use Rattle.std.proofs.Common.{◌≡◌, ℕ, ◌+◌, Option, Some, None, refl, ap, ◌∙◌, add-one}
+use Rattle.interaction_trees.specs.Dependence.{Outcome, Step, Stop, state_of}
+use Rattle.interaction_trees.specs.Dependence as dependence
+use Rattle.bdos.specs.declared.cause.Cause.{Cause}
+use Rattle.machine.specs.Views.{State}
+use Rattle.machine.specs.Machine.{Answers, next, part, made, start, outcome, after}
+
+abbrev then_step : Answers → Option State → Option State
+then_step = dependence.then_step part (λ (st : State). st.own) (λ (st : State). next st.core) made start
+
+-- a state was reached by a step from one before
+pub step_before : (f : Answers) (o : Option State) (st : State) → then_step f o ≡ Some st → (b : State) × (o ≡ Some b) × (outcome f b ≡ Step st)
+step_before f None st e = absurd (cc)
+step_before f (Some b) st e = (b, refl, stepped (outcome f b) st e) where
+  stepped : (o : Outcome State Cause) (st : State) → state_of o ≡ Some st → o ≡ Step st
+  stepped (Step x) st e = let same : x ≡ st = cc in ap Step same
+  stepped (Stop x) st e = absurd (cc)
+
+-- one step more
+pub after_step : (f : Answers) (n : ℕ) (st st' : State) → after f n ≡ Some st → outcome f st ≡ Step st' → after f (n + 1) ≡ Some st'
+unfolding dependence.after
+after_step f n st st' at went = rw add-one (ap (then_step f) at ∙ ap state_of went)

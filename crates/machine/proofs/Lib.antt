@@ -1,0 +1,5 @@
+pub mod AfterLemmas
+pub mod KeptLemmas
+pub mod StepLemmas
+pub mod WholeLemmas
+pub mod TextLemmas

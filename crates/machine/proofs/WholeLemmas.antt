@@ -1,0 +1,146 @@
+-- The machine with its whole memory as one list goes the same way.
+use Rattle.std.proofs.Common.{rules, inl, inr, ◌≡◌, ℕ, zero, suc, ◌+◌, ◌<◌, ◌≤◌, Option, Some, None, List, [], ◌∷◌, length, get_or, map, unwrap_or, refl, sym, ◌∙◌, ap, arith, cond, eqb, get_or-set_same, get_or-set_other, length-set, nat_lt, Bool, true, false, subst}
+use Rattle.std.proofs.Math.Path.{fun_ext}
+use Rattle.std.specs.Prelude.{slice_index, slice_set, slice_get}
+use Rattle.std.specs.Option.{option_map}
+use Rattle.std.specs.List.{range_with_len}
+use Rattle.std.specs.Ordering.{nat_cmp}
+use Rattle.std.specs.FinMap as finmap
+use Rattle.std.proofs.lemmas.Bool.Decides.{eqb_tells, leb_tells}
+use Rattle.std.proofs.lemmas.List.{get_or_past}
+use Rattle.std.proofs.lemmas.List.FromFn.{get_or-map-range_with_len, length-map-range_with_len, fill_by_all}
+use Rattle.interaction_trees.specs.Tree.{result_of}
+use Rattle.interaction_trees.specs.Dependence.{Outcome, Step, Stop, state_of}
+use Rattle.interaction_trees.specs.Dependence as dependence
+use Rattle.interaction_trees.proofs.DependenceLemmas.{same_everywhere}
+use Rattle.pagemem.specs.Image.{image_at}
+use Rattle.bdos.specs.declared.cause.Cause.{Cause}
+use Rattle.bdos.specs.Questions.{StateQuestion, Byte, Input}
+use Rattle.machine.specs.Views.{Session, Core, Cells, Own, State}
+use Rattle.machine.specs.Session.{page_zero, IsSession}
+use Rattle.machine.specs.Machine.{Cell, Answers, ask, Reached, Went, Stopped, next, own_or_ask, part, laid, stored, stored_all, made, start, outcome, after}
+use Rattle.machine.specs.Kept.{cell_count, cell_count-is}
+use Rattle.machine.specs.Whole.{Whole, memory_of, loaded, tells, written, whole_made, whole_outcome, whole_then, whole_after, laid_over, whole_of, WholeIsLaid}
+use Rattle.machine.proofs.KeptLemmas.{get_stored, stored_past}
+use Rattle.machine.proofs.AfterLemmas.{step_before}
+
+-- ---- a list of a byte for each cell
+
+length_memory : (byte : ℕ → ℕ) → length (memory_of byte) ≡ cell_count
+unfolding memory_of
+length_memory byte = length-map-range_with_len byte 0 cell_count
+
+get_memory : (byte : ℕ → ℕ) (q : ℕ) → q < 65536 → slice_index (memory_of byte) q ≡ byte q
+unfolding memory_of
+get_memory byte q h = get_or-map-range_with_len byte 0 cell_count q q 0 (rw cell_count-is h) (omega arith)
+
+get_past : (byte : ℕ → ℕ) (q : ℕ) → 65536 ≤ q → slice_index (memory_of byte) q ≡ 0
+unfolding memory_of
+get_past byte q h = get_or_past _ q 0 (rw (length-map-range_with_len byte 0 cell_count, cell_count-is) h)
+
+memory_is : (byte : ℕ → ℕ) (m : List ℕ) → length m ≡ cell_count → ((q : ℕ) → q < cell_count → get_or m q 0 ≡ byte q) → memory_of byte ≡ m
+unfolding memory_of
+memory_is byte m e same = sym (fill_by_all byte m cell_count 0 e same)
+
+-- ---- reads and writes
+
+-- a state's cell: what was written, else the session's
+abbrev cell_of : Session → Cells → ℕ → ℕ
+cell_of s m a = unwrap_or (finmap.get m a) (image_at page_zero s.program a)
+
+answered : (f : Answers) (o : Option ℕ) (a : ℕ) → result_of f (own_or_ask o a) ≡ unwrap_or o (f (Cell a))
+answered f None a = refl
+answered f (Some v) a = refl
+
+-- nothing is stored past the last cell
+abbrev pub Inside : Cells → Type 0
+Inside m = (q : ℕ) → 65536 ≤ q → finmap.get m q ≡ None
+
+image_past : (s : Session) (q : ℕ) → IsSession s → 65536 ≤ q → image_at page_zero s.program q ≡ 0
+image_past s q limits h = let short = limits.program in rw (low, high) refl where
+  low : nat_lt q 256 ≡ false
+  low = search (rules)
+
+  high : nat_lt q (256 + length s.program) ≡ false
+  high = let short = limits.program in search (rules)
+
+same_tell : (s : Session) (m : Cells) → IsSession s → Inside m → (q : StateQuestion) → tells (memory_of (cell_of s m)) s.script q ≡ laid (record { cells = m }) (ask s) q
+same_tell s m limits inside (Byte a) = elim (leb_tells 65536 a) [
+  | inl over ↦ get_past (cell_of s m) a over.1 ∙ sym (answered (ask s) (finmap.get m a) a ∙ ap (λ (o : Option ℕ). unwrap_or o (image_at page_zero s.program a)) (inside a over.1) ∙ image_past s a limits over.1)
+  | inr under ↦ get_memory (cell_of s m) a under.1 ∙ sym (answered (ask s) (finmap.get m a) a)
+]
+same_tell s m limits inside (Input k) = refl
+
+get_set : (m : List ℕ) (a v q : ℕ) → q < length m → get_or (slice_set m a v) q 0 ≡ cond (eqb q a) v (get_or m q 0)
+get_set m a v q h = elim (eqb_tells q a) [
+  | inl same ↦ rw (same.0, same.1) (get_or-set_same m a v 0 (rw (← same.1) h))
+  | inr other ↦ rw other.0 (get_or-set_other m a q v 0 other.1)
+]
+
+pick : (b : Bool) (v n : ℕ) (o : Option ℕ) → unwrap_or (cond b (Some v) o) n ≡ cond b v (unwrap_or o n)
+pick true v n o = refl
+pick false v n o = refl
+
+write_one : (s : Session) (m : Cells) (a v : ℕ) → slice_set (memory_of (cell_of s m)) a v ≡ memory_of (cell_of s (stored m a v))
+write_one s m a v = sym (memory_is (cell_of s (stored m a v)) (slice_set (memory_of (cell_of s m)) a v) (length-set (memory_of (cell_of s m)) a v ∙ length_memory (cell_of s m)) (λ q h.
+    let below : q < 65536 = rw cell_count-is at h in
+    get_set (memory_of (cell_of s m)) a v q (rw (length_memory (cell_of s m)) h)
+    ∙ ap (cond (eqb q a) v) (get_memory (cell_of s m) q below)
+    ∙ sym (ap (λ (o : Option ℕ). unwrap_or o (image_at page_zero s.program q)) (get_stored m a v q below) ∙ pick (eqb q a) v _ (finmap.get m q))))
+
+write_all : (s : Session) (ws : List (ℕ × ℕ)) (m : Cells) → written (memory_of (cell_of s m)) ws ≡ memory_of (cell_of s (stored_all m ws))
+write_all s [] m = refl
+write_all s (w ∷ ws) m = ap (λ (l : List ℕ). written l ws) (write_one s m w.0 w.1) ∙ write_all s ws (stored m w.0 w.1)
+
+inside_all : (ws : List (ℕ × ℕ)) (m : Cells) → Inside m → Inside (stored_all m ws)
+inside_all [] m h = h
+inside_all (w ∷ ws) m h = inside_all ws (stored m w.0 w.1) (λ q over. stored_past m w.0 w.1 q over (h q over))
+
+-- ---- a step, and a run
+
+made_whole : (s : Session) (st : State) (e : Reached) → whole_made (laid_over s st) e ≡ whole_of s (made st e)
+made_whole s st (Went c ws) = ap (λ (l : List ℕ). Step (record { core = c; memory = l })) (write_all s ws st.own.cells)
+made_whole s st (Stopped cause) = refl
+
+same_outcome : (s : Session) (st : State) → IsSession s → Inside st.own.cells → whole_outcome s (laid_over s st) ≡ whole_of s (outcome (ask s) st)
+unfolding whole_outcome dependence.outcome
+same_outcome s st limits inside =
+    ap (whole_made (laid_over s st)) (same_everywhere (tells (memory_of (cell_of s st.own.cells)) s.script) (laid st.own (ask s)) (next st.core) (same_tell s st.own.cells limits inside))
+    ∙ made_whole s st (result_of (laid st.own (ask s)) (next st.core))
+
+step_inside : (st next : State) (e : Reached) → Inside st.own.cells → made st e ≡ Step next → Inside next.own.cells
+step_inside st next (Went c ws) h e = let same : record { core = c; own = record { cells = stored_all st.own.cells ws } } ≡ next = cc in
+    subst (λ (x : State). Inside x.own.cells) same (inside_all ws st.own.cells h)
+step_inside st next (Stopped cause) h e = absurd (cc)
+
+-- what was written lies below the last cell
+after_inside : (f : Answers) (n : ℕ) (st : State) → after f n ≡ Some st → Inside st.own.cells
+unfolding dependence.after dependence.outcome
+after_inside f zero st e = let same : start ≡ st = cc in rw (← same) (λ q h. finmap.get-empty nat_cmp q)
+after_inside f (suc n) st e =
+    let (b, before, went) = step_before f (after f n) st e in
+    step_inside b st (result_of (laid b.own f) (next b.core)) (after_inside f n b before) went
+
+none_then : (s : Session) (o : Option State) → o ≡ None → whole_then s (option_map (laid_over s) o) ≡ option_map (laid_over s) (dependence.then_step part (λ (st : State). st.own) (λ (st : State). next st.core) made start (ask s) o)
+none_then s o e = rw e refl
+
+went_on : (s : Session) (w : Outcome Whole Cause) (o : Outcome State Cause) → w ≡ whole_of s o
+    → elim w as (λ _. Option Whole) [ Step next ↦ Some next | Stop cause ↦ None ] ≡ option_map (laid_over s) (state_of o)
+went_on s w (Step st) e = rw e refl
+went_on s w (Stop cause) e = rw e refl
+
+one_more : (s : Session) → IsSession s → (o : Option State) → ((st : State) → o ≡ Some st → Inside st.own.cells)
+    → whole_then s (option_map (laid_over s) o) ≡ option_map (laid_over s) (dependence.then_step part (λ (st : State). st.own) (λ (st : State). next st.core) made start (ask s) o)
+one_more s limits None inside = refl
+one_more s limits (Some st) inside = went_on s _ (outcome (ask s) st) (same_outcome s st limits (inside st refl))
+
+same_after : (s : Session) → IsSession s → (n : ℕ) → whole_after s n ≡ option_map (laid_over s) (after (ask s) n)
+unfolding whole_after dependence.after
+same_after s limits zero = ap (λ (l : List ℕ). Some (record { core = start.core; memory = l })) (ap memory_of (fun_ext (λ a. sym (ap (λ (o : Option ℕ). unwrap_or o (image_at page_zero s.program a)) (finmap.get-empty nat_cmp a)))))
+same_after s limits (suc n) = ap (whole_then s) (same_after s limits n) ∙ one_more s limits (after (ask s) n) (after_inside (ask s) n)
+
+pub whole_is_laid_lem : WholeIsLaid
+whole_is_laid_lem = record {
+  states = same_after;
+  outcomes = λ s limits n st e. same_outcome s st limits (after_inside (ask s) n st e);
+}

@@ -1,0 +1,9 @@
+pub mod Views
+pub mod Session
+pub mod SessionError
+pub mod Machine
+pub mod Kept
+pub mod Steps
+pub mod Whole
+pub mod Stops
+pub mod Part

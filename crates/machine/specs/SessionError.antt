@@ -1,0 +1,15 @@
+-- Why a session is refused.
+use Rattle.std.specs.Prelude.{◌≡◌, ℕ, Result, Ok, Err}
+use Rattle.machine.specs.Views.{Session}
+use Rattle.machine.specs.declared.session.SessionError.{SessionError}
+use Rattle.machine.specs.declared.session.SessionError.TheVariants.{ProgramTooLong, ScriptTooLong, LimitTooLarge}
+
+abbrev pub number_of : SessionError → ℕ
+number_of ProgramTooLong = 1
+number_of ScriptTooLong = 4
+number_of LimitTooLarge = 5
+
+-- the session that is wanted, or its refusal by number
+abbrev pub MadeAs : Result Session ℕ → Result Session SessionError → Type 0
+MadeAs wanted (Ok s) = wanted ≡ Ok s
+MadeAs wanted (Err e) = wanted ≡ Err (number_of e)

@@ -1,0 +1,66 @@
+-- The same machine with its whole memory as one list, and nothing told apart by who wrote it.
+use Rattle.std.specs.Prelude.{◌≡◌, ℕ, zero, suc, List, [], ◌∷◌, Option, Some, None, map, slice_index, slice_set, slice_get, unwrap_or}
+use Rattle.std.specs.Option.{option_map}
+use Rattle.std.specs.List.{range_with_len}
+use Rattle.std.specs.FinMap as finmap
+use Rattle.interaction_trees.specs.Tree.{result_of}
+use Rattle.interaction_trees.specs.Dependence.{Outcome, Step, Stop}
+use Rattle.pagemem.specs.Image.{image_at}
+use Rattle.bdos.specs.declared.cause.Cause.{Cause}
+use Rattle.bdos.specs.Questions.{StateQuestion, Byte, Input, StateAnswers}
+use Rattle.machine.specs.Views.{Session, Core, State}
+use Rattle.machine.specs.Session.{page_zero, IsSession}
+use Rattle.machine.specs.Machine.{ask, Reached, Went, Stopped, next, start, outcome, after}
+use Rattle.machine.specs.Kept.{cell_count}
+
+pub record Whole : Type 0 where
+  pub core : Core
+  pub memory : List ℕ
+
+-- the list of a byte for each cell
+unfoldable pub memory_of : (ℕ → ℕ) → List ℕ
+memory_of byte = map byte (range_with_len 0 cell_count)
+
+-- page zero, the program, and 0 in every other cell
+abbrev pub loaded : Session → List ℕ
+loaded s = memory_of (image_at page_zero s.program)
+
+-- what a memory and a script answer
+abbrev pub tells : List ℕ → List ℕ → StateAnswers
+tells memory script (Byte a) = slice_index memory a
+tells memory script (Input k) = slice_get script k
+
+abbrev pub written : List ℕ → List (ℕ × ℕ) → List ℕ
+written memory [] = memory
+written memory (w ∷ rest) = written (slice_set memory w.0 w.1) rest
+
+abbrev pub whole_made : Whole → Reached → Outcome Whole Cause
+whole_made w (Went c writes) = Step (record { core = c; memory = written w.memory writes })
+whole_made w (Stopped cause) = Stop cause
+
+-- what follows a whole state
+unfoldable pub whole_outcome : Session → Whole → Outcome Whole Cause
+whole_outcome s w = whole_made w (result_of (tells w.memory s.script) (next w.core))
+
+abbrev pub whole_then : Session → Option Whole → Option Whole
+whole_then s None = None
+whole_then s (Some w) = elim (whole_outcome s w) [ Step next ↦ Some next | Stop cause ↦ None ]
+
+-- the whole state after n steps from the loaded memory; none where a stop comes before
+unfoldable pub whole_after : Session → ℕ → Option Whole
+whole_after s zero = Some (record { core = start.core; memory = loaded s })
+whole_after s (suc n) = whole_then s (whole_after s n)
+
+-- what a state wrote, laid over its session
+abbrev pub laid_over : Session → State → Whole
+laid_over s st = record { core = st.core; memory = memory_of (λ a. unwrap_or (finmap.get st.own.cells a) (image_at page_zero s.program a)) }
+
+abbrev pub whole_of : Session → Outcome State Cause → Outcome Whole Cause
+whole_of s (Step st) = Step (laid_over s st)
+whole_of s (Stop cause) = Stop cause
+
+-- The whole machine goes the same way: after each number of steps it has the same core, and its memory is what was written
+-- laid over the session; and what follows is the same.
+pub record WholeIsLaid : Type 0 where
+  pub states : (s : Session) → IsSession s → (n : ℕ) → whole_after s n ≡ option_map (laid_over s) (after (ask s) n)
+  pub outcomes : (s : Session) → IsSession s → (n : ℕ) (st : State) → after (ask s) n ≡ Some st → whole_outcome s (laid_over s st) ≡ whole_of s (outcome (ask s) st)

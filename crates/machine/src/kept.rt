@@ -1,0 +1,138 @@
+// What is kept of a state.
+
+ghost use Rattle.std.specs.Prelude.{◌≡◌, [], IfOk, length, List, ℕ};
+ghost use Rattle.machine.specs.Kept.{kept};
+ghost use Rattle.machine.specs.Part.{whole, part_of};
+
+use crate::session::Session;
+use crate::state::State;
+use bdos::{Desk, Spot};
+use i8080::registers::Regs;
+use pagemem::cells::Cells;
+use pagemem::overlay::Overlay;
+use std::alloc::{AllocError, Global};
+use std::marker::Model;
+
+/// What is kept of a state: the registers, what was written, and the desk with the length of its text in place of the text.
+/// It holds no looks.
+#[derive(Drop)]
+pub struct Kept {
+    regs: Regs,
+    cells: Cells,
+    spot: Spot,
+    text_length: usize,
+}
+
+impl Model for Kept {
+    ghost use Rattle.std.specs.Prelude.{◌≤◌};
+    ghost use Rattle.std.specs.Coded.{codes};
+    ghost use Rattle.pagemem.specs.Cells.{own_in};
+    ghost use Rattle.machine.specs.Views.{cells_code};
+    ghost use Rattle.machine.specs.Kept.{kept};
+    ghost use Rattle.machine.specs.Part.{Part};
+
+    ghost Value = { Part };
+
+    ghost coded = { Prim.hlevel (codes, cells_code) };
+
+    ghost view = { λ k. record {
+      regs = k.regs;
+      cursor = k.spot.cursor;
+      column = k.spot.column;
+      buffer = k.spot.buffer;
+      length = k.text_length;
+      cells = kept (own_in k.cells);
+    } };
+
+    ghost invariant = { λ k. k.spot.column ≤ k.text_length };
+}
+
+impl State {
+    /// What is kept of the state. Its pages are shared with it from now on; nothing that contracts see of the state changes.
+    pub fn keep(&mut self) -> Result<Kept, AllocError>
+        ensures kept { IfOk result (λ k. k ≡ part_of self.old.state) }
+        ensures same { self.new ≡ self.old }
+    {
+        self.overlay.share()?;
+        let cells = self.overlay.cells.snapshot()?;
+        Ok(Kept {
+            regs: self.regs,
+            cells,
+            spot: self.desk.spot(),
+            text_length: self.desk.text().len(),
+        })
+    }
+
+    /// What is kept of the state, and its text, both moved out.
+    pub fn into_kept(self) -> (Kept, Vec<u8>)
+        ensures kept { result.0 ≡ part_of self.state }
+        ensures text { result.1.items ≡ self.state.core.desk.text }
+    {
+        let State {
+            regs,
+            overlay,
+            desk,
+        } = self;
+        let spot = desk.spot();
+        let text = desk.into_text();
+        let kept = Kept {
+            regs,
+            cells: overlay.into_cells(),
+            spot,
+            text_length: text.len(),
+        };
+        (kept, text)
+    }
+}
+
+impl Kept {
+    ghost use Rattle.pagemem.specs.Overlay.{own_of, looks_of};
+    ghost use Rattle.machine.specs.Machine.{cell_at};
+
+    /// The length of the text, in bytes.
+    pub fn text_length(&self) -> usize
+        ensures { result ≡ self.now.length }
+    {
+        self.text_length
+    }
+
+    /// The registers.
+    pub fn regs(&self) -> Regs
+        ensures { result ≡ self.now.regs }
+    {
+        self.regs
+    }
+
+    /// What was written, again, with nothing looked at. `Err` where memory is refused.
+    pub fn overlay(&self, alloc: Global) -> Result<Overlay, AllocError>
+        ensures own { IfOk result (λ o. kept (own_of o) ≡ self.now.cells) }
+        ensures looks { IfOk result (λ o. looks_of o ≡ []) }
+    {
+        let cells = self.cells.snapshot()?;
+        Overlay::over(alloc, cells)
+    }
+
+    /// The state again, over what was written and the text. It takes no memory.
+    pub fn resume(&self, overlay: Overlay, text: Vec<u8>) -> State
+        requires own { kept (own_of overlay) ≡ self.now.cells }
+        requires looks { looks_of overlay ≡ [] }
+        requires text { length text.items ≡ self.now.length }
+        ensures { result ≡ record { state = whole self.now text.items; looked = [] } }
+    {
+        State {
+            regs: self.regs,
+            overlay,
+            desk: Desk::over(self.spot, text),
+        }
+    }
+
+    /// The byte of a cell: what was written there, else the session's.
+    pub fn cell(&self, session: &Session, a: u16) -> u8
+        ensures { (text : List ℕ) → result ≡ cell_at session.now (whole self.now text) a }
+    {
+        match self.cells.written(a) {
+            Some(byte) => byte,
+            None => session.image().at(a),
+        }
+    }
+}

@@ -1,0 +1,171 @@
+// A session.
+
+ghost use Rattle.std.specs.Prelude.{◌≡◌, ◌+◌, ◌≤◌, length};
+ghost use Rattle.pagemem.specs.Image.{image_at};
+ghost use Rattle.pagemem.specs.ImageView.{cells_of};
+ghost use Rattle.machine.specs.Session.{page_zero, made_of, written_over};
+
+use pagemem::image::Image;
+use std::marker::Model;
+use thiserror::Error;
+
+/// The most bytes of a program: it stands from 0100H up to the system's area at 0FD00H.
+pub const PROGRAM_LIMIT: usize = 64_512;
+
+/// The most bytes of a console script.
+pub const SCRIPT_LIMIT: usize = 1_048_576;
+
+/// The most steps of a run.
+pub const STEP_LIMIT: u64 = 4_000_000_000;
+
+/// A program, its console script and a limit of steps, each within the limits above.
+#[derive(Drop)]
+pub struct Session {
+    first_page: [u8; 256],
+    program: Vec<u8>,
+    script: Vec<u8>,
+    limit: u64,
+}
+
+impl Model for Session {
+    ghost use Rattle.std.specs.Prelude.{◌≡◌};
+    ghost use Rattle.machine.specs.Views.{Session as Whole};
+    ghost use Rattle.machine.specs.Session.{page_zero, IsSession};
+
+    ghost Value = { Whole };
+
+    ghost view = { λ s. record { program = s.program.items; script = s.script.items; limit = s.limit } };
+
+    ghost invariant = { λ s. (s.first_page ≡ page_zero) × IsSession (record { program = s.program.items; script = s.script.items; limit = s.limit }) };
+}
+
+/// Why a session is refused.
+#[derive(Clone, Copy, Debug, PartialEq, Eq, Error)]
+pub enum SessionError {
+    /// The program has more than 64,512 bytes.
+    #[error("the program is too long")]
+    ProgramTooLong,
+    /// The script has more than 1,048,576 bytes.
+    #[error("the script is too long")]
+    ScriptTooLong,
+    /// The limit is more than 4,000,000,000 steps.
+    #[error("the limit is too large")]
+    LimitTooLarge,
+}
+
+impl SessionError {
+    ghost use Rattle.machine.specs.SessionError.{number_of};
+
+    /// The refusal's number: 1, 4 or 5.
+    pub fn number(self) -> u8
+        ensures { result ≡ number_of self }
+    {
+        match self {
+            SessionError::ProgramTooLong => 1,
+            SessionError::ScriptTooLong => 4,
+            SessionError::LimitTooLarge => 5,
+        }
+    }
+}
+
+impl Session {
+    ghost use Rattle.machine.specs.Session.{IsSession};
+    ghost use Rattle.machine.specs.SessionError.{MadeAs};
+
+    /// The session of these, or the first refusal that fits. What is refused is dropped.
+    pub fn new(program: Vec<u8>, script: Vec<u8>, limit: u64) -> Result<Session, SessionError>
+        ensures { MadeAs (made_of program.items script.items limit) result }
+    {
+        if program.len() > PROGRAM_LIMIT {
+            return Err(SessionError::ProgramTooLong);
+        }
+        if script.len() > SCRIPT_LIMIT {
+            return Err(SessionError::ScriptTooLong);
+        }
+        if limit > STEP_LIMIT {
+            return Err(SessionError::LimitTooLarge);
+        }
+        Ok(Session {
+            first_page: empty_page_zero(),
+            program,
+            script,
+            limit,
+        })
+    }
+
+    /// The limit, in steps.
+    pub fn limit(&self) -> u64
+        ensures value { result ≡ self.now.limit }
+        ensures within { result ≤ 4000000000 }
+    {
+        self.limit
+    }
+
+    /// The console script.
+    pub fn script(&self) -> &[u8]
+        ensures { result.now ≡ self.now.script }
+    {
+        self.script.as_slice()
+    }
+
+    /// The program's bytes, which stand from 0100H on.
+    pub fn program(&self) -> &[u8]
+        ensures value { result.now ≡ self.now.program }
+        ensures within { length result.now ≤ 64512 }
+    {
+        self.program.as_slice()
+    }
+
+    /// Page zero and the program as memory, borrowed.
+    #[inline(always)]
+    pub fn image(&self) -> Image<'_>
+        ensures { cells_of result ≡ image_at page_zero self.now.program }
+    {
+        Image::new(&self.first_page, &self.program)
+    }
+
+    /// Replaces the program's bytes from a place on.
+    pub fn poke(&mut self, at: usize, bytes: &[u8])
+        requires { at + length bytes.now ≤ length self.old.program }
+        ensures { self.new ≡ record self.old { program = written_over self.old.program at bytes.now } }
+    {
+        let place = &mut self.program[at..at + bytes.len()];
+        place.copy_from_slice(bytes);
+    }
+
+    /// Sets the limit, in steps.
+    pub fn set_limit(&mut self, limit: u64)
+        requires { limit ≤ 4000000000 }
+        ensures { self.new ≡ record self.old { limit = limit } }
+    {
+        self.limit = limit;
+    }
+}
+
+// Page zero of an empty tail: the jumps to the warm start and to the BDOS, and two names that are not there.
+const PAGE_ZERO: [u8; 256] = [
+    0xc3, 0x03, 0xff, 0x00, 0x00, 0xc3, 0x06, 0xfe, 0x00, 0x00, 0x00, 0x00, 0x00, 0x00, 0x00, 0x00,
+    0x00, 0x00, 0x00, 0x00, 0x00, 0x00, 0x00, 0x00, 0x00, 0x00, 0x00, 0x00, 0x00, 0x00, 0x00, 0x00,
+    0x00, 0x00, 0x00, 0x00, 0x00, 0x00, 0x00, 0x00, 0x00, 0x00, 0x00, 0x00, 0x00, 0x00, 0x00, 0x00,
+    0x00, 0x00, 0x00, 0x00, 0x00, 0x00, 0x00, 0x00, 0x00, 0x00, 0x00, 0x00, 0x00, 0x00, 0x00, 0x00,
+    0x00, 0x00, 0x00, 0x00, 0x00, 0x00, 0x00, 0x00, 0x00, 0x00, 0x00, 0x00, 0x00, 0x00, 0x00, 0x00,
+    0x00, 0x00, 0x00, 0x00, 0x00, 0x00, 0x00, 0x00, 0x00, 0x00, 0x00, 0x00, 0x00, 0x20, 0x20, 0x20,
+    0x20, 0x20, 0x20, 0x20, 0x20, 0x20, 0x20, 0x20, 0x00, 0x00, 0x00, 0x00, 0x00, 0x20, 0x20, 0x20,
+    0x20, 0x20, 0x20, 0x20, 0x20, 0x20, 0x20, 0x20, 0x00, 0x00, 0x00, 0x00, 0x00, 0x00, 0x00, 0x00,
+    0x00, 0x00, 0x00, 0x00, 0x00, 0x00, 0x00, 0x00, 0x00, 0x00, 0x00, 0x00, 0x00, 0x00, 0x00, 0x00,
+    0x00, 0x00, 0x00, 0x00, 0x00, 0x00, 0x00, 0x00, 0x00, 0x00, 0x00, 0x00, 0x00, 0x00, 0x00, 0x00,
+    0x00, 0x00, 0x00, 0x00, 0x00, 0x00, 0x00, 0x00, 0x00, 0x00, 0x00, 0x00, 0x00, 0x00, 0x00, 0x00,
+    0x00, 0x00, 0x00, 0x00, 0x00, 0x00, 0x00, 0x00, 0x00, 0x00, 0x00, 0x00, 0x00, 0x00, 0x00, 0x00,
+    0x00, 0x00, 0x00, 0x00, 0x00, 0x00, 0x00, 0x00, 0x00, 0x00, 0x00, 0x00, 0x00, 0x00, 0x00, 0x00,
+    0x00, 0x00, 0x00, 0x00, 0x00, 0x00, 0x00, 0x00, 0x00, 0x00, 0x00, 0x00, 0x00, 0x00, 0x00, 0x00,
+    0x00, 0x00, 0x00, 0x00, 0x00, 0x00, 0x00, 0x00, 0x00, 0x00, 0x00, 0x00, 0x00, 0x00, 0x00, 0x00,
+    0x00, 0x00, 0x00, 0x00, 0x00, 0x00, 0x00, 0x00, 0x00, 0x00, 0x00, 0x00, 0x00, 0x00, 0x00, 0x00,
+];
+
+// Page zero of an empty tail.
+#[tactic(auto, unfolding(crate::specs::Session::page_zero))]
+fn empty_page_zero() -> [u8; 256]
+    ensures { result ≡ page_zero }
+{
+    PAGE_ZERO
+}

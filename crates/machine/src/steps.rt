@@ -1,0 +1,169 @@
+// One step.
+
+ghost use Rattle.std.specs.Prelude.{◌≡◌, ◌≢◌, ◌+◌, ◌^◌, ◌<◌, ◌≤◌, ◌||◌, IfOk, IfSome, IfNone, OnOk, OnErr};
+ghost use Rattle.interaction_trees.specs.Tree.{Return};
+ghost use Rattle.interaction_trees.specs.Dependence.{Step, Stop};
+ghost use Rattle.i8080.specs.End.{Performs};
+ghost use Rattle.i8080.specs.Instruction.{instruction};
+ghost use Rattle.bdos.specs.Calls.{Serves};
+ghost use Rattle.bdos.specs.Desk.{Desk as DeskView};
+ghost use Rattle.machine.specs.Machine.{Question, ask, next, Stopped, outcome, looks_at, looked_at, is_in, Extends, IsReached};
+ghost use Rattle.machine.specs.Steps.{seen, CarriesOut};
+ghost use Rattle.machine.specs.Stops.{stop_by, stop_in};
+ghost use Rattle.machine.specs.Whole.{WholeIsLaid};
+
+use crate::meter::Meter;
+use crate::session::Session;
+use crate::state::State;
+use bdos::{Cause, Desk, Served, call};
+use i8080::execute::execute;
+use i8080::outcome::Did;
+use i8080::registers::Regs;
+use pagemem::overlay::Overlay;
+use pagemem::view::View;
+use std::alloc::AllocError;
+
+/// Where a jump goes to the warm start.
+const WARM_START: u16 = 0xff03;
+
+/// Where a call goes to the BDOS.
+const BDOS_ENTRY: u16 = 0xfe06;
+
+/// The first cell of the system's area.
+const SYSTEM_AREA: u16 = 0xfe00;
+
+// The instruction at PC, over a session's image.
+#[inline(always)]
+fn instruct(regs: &mut Regs, overlay: &mut Overlay, session: &Session) -> Result<Did, AllocError>
+    ensures { Performs (instruction regs.old) regs.old (seen session.now overlay.old) result regs.new (seen session.now overlay.new) }
+{
+    let mut view = View::new(session.image(), overlay);
+    let did = execute(regs, &mut view)?;
+    Ok(did)
+}
+
+// The call whose number is in C, over a session's image.
+fn serve(
+    regs: &mut Regs,
+    overlay: &mut Overlay,
+    desk: &mut Desk,
+    session: &Session,
+) -> Result<Served, AllocError>
+    ensures { Serves session.now.script regs.old (seen session.now overlay.old) desk.old result regs.new (seen session.now overlay.new) desk.new }
+{
+    let mut view = View::new(session.image(), overlay);
+    let served = call(regs, &mut view, desk, session.script())?;
+    Ok(served)
+}
+
+// The stop that an instruction tells.
+#[inline(always)]
+fn stop_by(did: Did) -> Option<Cause>
+    ensures { result ≡ stop_by did }
+{
+    match did {
+        Did::Went => None,
+        Did::Halt => Some(Cause::Halt),
+        Did::Undefined(byte) => Some(Cause::Undefined(byte)),
+    }
+}
+
+// The stop that a call tells.
+fn stop_in(served: Served) -> Option<Cause>
+    ensures { result ≡ stop_in served }
+{
+    match served {
+        Served::Went => None,
+        Served::Stop(cause) => Some(cause),
+    }
+}
+
+// The instruction at PC: a step, or a stop.
+#[inline(always)]
+fn carry_out(
+    regs: &mut Regs,
+    overlay: &mut Overlay,
+    session: &Session,
+) -> Result<Option<Cause>, AllocError>
+    requires { regs.old.pc < 0xfe00 }
+    ensures { (d : DeskView) → CarriesOut session.now regs.old d overlay.old result regs.new d overlay.new }
+{
+    match instruct(regs, overlay, session) {
+        Ok(did) => Ok(stop_by(did)),
+        Err(AllocError) => Err(AllocError),
+    }
+}
+
+// What follows where PC is in the system's area: the call at the BDOS's entry, and a stop elsewhere.
+#[cold]
+#[inline(never)]
+fn enter_system(
+    regs: &mut Regs,
+    overlay: &mut Overlay,
+    desk: &mut Desk,
+    session: &Session,
+) -> Result<Option<Cause>, AllocError>
+    requires { 0xfe00 ≤ regs.old.pc }
+    ensures { CarriesOut session.now regs.old desk.old overlay.old result regs.new desk.new overlay.new }
+{
+    if regs.pc == WARM_START {
+        return Ok(Some(Cause::WarmBoot));
+    }
+    if regs.pc != BDOS_ENTRY {
+        return Ok(Some(Cause::SystemArea(regs.pc)));
+    }
+    match serve(regs, overlay, desk, session) {
+        Ok(served) => Ok(stop_in(served)),
+        Err(AllocError) => Err(AllocError),
+    }
+}
+
+// What follows a state.
+#[inline(always)]
+fn proceed(
+    regs: &mut Regs,
+    overlay: &mut Overlay,
+    desk: &mut Desk,
+    session: &Session,
+) -> Result<Option<Cause>, AllocError>
+    ensures { CarriesOut session.now regs.old desk.old overlay.old result regs.new desk.new overlay.new }
+{
+    if regs.pc >= SYSTEM_AREA {
+        return enter_system(regs, overlay, desk, session);
+    }
+    carry_out(regs, overlay, session)
+}
+
+/// One step, or the cause of a stop. A stop or `Err` leaves the state, but for what was looked at.
+#[inline(always)]
+pub fn step(
+    state: &mut State,
+    session: &Session,
+    meter: &mut Meter,
+) -> Result<Option<Cause>, AllocError>
+    requires at { IsReached (ask session.now) state.old.state }
+    requires room { meter.old + 1 < 2 ^ 64 }
+    ensures went { IfOk result (λ r. IfNone r (outcome (ask session.now) state.old.state ≡ Step state.new.state)) }
+    ensures ticked { IfOk result (λ r. IfNone r (meter.new ≡ meter.old + 1)) }
+    ensures looked { OnOk result ((q : Question) → looked_at state.new.looked q ≡ looked_at state.old.looked q || is_in q (looks_at (ask session.now) state.old.state)) }
+    ensures extends { OnOk result (Extends state.old.looked state.new.looked) }
+    ensures stopped { IfOk result (λ r. IfSome r (λ cause. outcome (ask session.now) state.old.state ≡ Stop cause)) }
+    ensures stays { IfOk result (λ r. IfSome r (λ _. (state.new.state ≡ state.old.state) × (meter.new ≡ meter.old))) }
+    ensures failed { OnErr result ((state.new.state ≡ state.old.state) × (meter.new ≡ meter.old)) }
+{
+    if let Some(cause) = proceed(
+        &mut state.regs,
+        &mut state.overlay,
+        &mut state.desk,
+        session,
+    )? {
+        return Ok(Some(cause));
+    }
+    meter.tick();
+    Ok(None)
+}
+
+/// A law: the machine with its whole memory as one list goes the same way.
+pub fn whole_is_laid()
+    ensures { WholeIsLaid }
+{}

@@ -1,0 +1,6 @@
+use Rattle.std.proofs.Common.{arith}
+use Rattle.pagemem.proofs.Laws.{own_alike}
+use Rattle.pagemem.proofs.cells.copied_slots.Goals as goal
+
+pub returns-clause-own : goal.returns-clause-own
+returns-clause-own c = own_alike c.loop-slot.slot-index _ _ (omega (arith, c.loop-slot.invariant.len)) (omega arith) c.loop-slot.invariant.same

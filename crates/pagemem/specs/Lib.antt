@@ -1,0 +1,7 @@
+pub mod Plain
+pub mod Image
+pub mod ImageView
+pub mod Pages
+pub mod Cells
+pub mod Listing
+pub mod Overlay

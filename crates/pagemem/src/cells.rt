@@ -1,0 +1,165 @@
+// What a run wrote.
+
+ghost use Rattle.std.specs.Prelude.{◌≡◌, false, ◌<◌, ℕ, vec_len, IsTrue, IfOk, OnOk, None, get_or, length};
+ghost use Rattle.pagemem.specs.Pages.{own_at, ready_at, is_owned};
+ghost use Rattle.i8080.specs.Memory.{write};
+
+use crate::page::Slot;
+use std::alloc::{AllocError, Global};
+
+/// What was written, in 256 pages. A page is made at its first use; a cell that was not written has no byte here.
+#[derive(Drop)]
+pub struct Cells {
+    slots: Vec<Slot>,
+    alloc: Global,
+    ghost all_slots: { vec_len slots ≡ 256 },
+}
+
+impl Cells {
+    ghost use Rattle.pagemem.specs.Cells.{own_in, is_ready_in};
+
+    /// Nothing written. `Err` where memory is refused.
+    pub fn new(alloc: Global) -> Result<Cells, AllocError>
+        ensures { IfOk result (λ c. own_in c ≡ (λ _. None)) }
+    {
+        let slots = blank_slots(alloc, 256)?;
+        Ok(Cells { slots, alloc })
+    }
+
+    /// Makes the page of a cell owned, so that the cell may be read and written. No byte changes, and at `Err` nothing does.
+    #[inline(always)]
+    pub fn ready(&mut self, a: u16) -> Result<(), AllocError>
+        ensures ready { OnOk result (IsTrue (is_ready_in self.new a)) }
+        ensures kept { (q : ℕ) → IsTrue (is_ready_in self.old q) → IsTrue (is_ready_in self.new q) }
+        ensures own { own_in self.new ≡ own_in self.old }
+    {
+        let alloc = self.alloc;
+        make_ready(&mut self.slots, (a / 256) as usize, alloc)
+    }
+
+    /// The last byte that was written at a cell; none where none was.
+    #[tactic(auto, unfolding(crate::specs::Pages::own_at))]
+    pub fn written(&self, a: u16) -> Option<u8>
+        ensures { result ≡ own_in self.now a }
+    {
+        let at = (a % 256) as u8;
+        match &self.slots[(a / 256) as usize] {
+            Slot::Empty => None,
+            Slot::Owned(page) => page.get(at),
+            Slot::Shared(page) => page.get(at),
+        }
+    }
+
+    /// The last byte that was written at a ready cell; none where none was.
+    #[tactic(auto, unfolding(crate::specs::Pages::own_at))]
+    #[inline(always)]
+    pub fn ready_byte(&self, a: u16) -> Option<u8>
+        requires { IsTrue (is_ready_in self.now a) }
+        ensures { result ≡ own_in self.now a }
+    {
+        match &self.slots[(a / 256) as usize] {
+            Slot::Owned(page) => page.get((a % 256) as u8),
+            Slot::Empty => unreachable!(),
+            Slot::Shared(_) => unreachable!(),
+        }
+    }
+
+    /// Writes a ready cell.
+    #[tactic(auto, using(crate::proofs::Laws::own_write, crate::proofs::Laws::ready_kept))]
+    #[inline(always)]
+    pub fn write(&mut self, a: u16, value: u8)
+        requires { IsTrue (is_ready_in self.old a) }
+        ensures kept { (q : ℕ) → IsTrue (is_ready_in self.old q) → IsTrue (is_ready_in self.new q) }
+        ensures own { own_in self.new ≡ write (own_in self.old) a value }
+    {
+        let slot = &mut self.slots[(a / 256) as usize];
+        match slot {
+            Slot::Owned(page) => page.set((a % 256) as u8, value),
+            Slot::Empty => unreachable!(),
+            Slot::Shared(_) => unreachable!(),
+        }
+    }
+
+    /// Makes the owned pages shared, so that a snapshot costs a reference for each. No byte changes, also at `Err`.
+    pub fn share(&mut self) -> Result<(), AllocError>
+        ensures shared { OnOk result ((q : ℕ) → is_ready_in self.new q ≡ false) }
+        ensures own { own_in self.new ≡ own_in self.old }
+    {
+        let alloc = self.alloc;
+        share_slots(&mut self.slots, alloc)
+    }
+
+    /// Cells in which the same is written. A shared page has one owner more, an owned one is copied.
+    pub fn snapshot(&self) -> Result<Cells, AllocError>
+        ensures { IfOk result (λ c. own_in c ≡ own_in self.now) }
+    {
+        let slots = copied_slots(&self.slots, self.alloc)?;
+        Ok(Cells {
+            slots,
+            alloc: self.alloc,
+        })
+    }
+}
+
+// Makes one slot owned.
+#[tactic(auto, using(crate::proofs::Laws::own_same, crate::proofs::Laws::ready_kept))]
+#[inline(always)]
+fn make_ready(slots: &mut Vec<Slot>, at: usize, alloc: Global) -> Result<(), AllocError>
+    requires { at < vec_len slots.old }
+    ensures len { vec_len slots.new ≡ vec_len slots.old }
+    ensures ready { OnOk result (IsTrue (is_owned (get_or slots.new.items at Slot.Empty))) }
+    ensures kept { (q : ℕ) → IsTrue (ready_at slots.old.items q) → IsTrue (ready_at slots.new.items q) }
+    ensures own { own_at slots.new.items ≡ own_at slots.old.items }
+{
+    let slot = &mut slots[at];
+    slot.make_owned(alloc)
+}
+
+// Makes one slot shared, where its page is owned.
+#[tactic(auto, using(crate::proofs::Laws::own_same, crate::proofs::Laws::shared_kept))]
+fn make_shared(slots: &mut [Slot], at: usize, alloc: Global) -> Result<(), AllocError>
+    requires { at < length slots.old }
+    ensures len { length slots.new ≡ length slots.old }
+    ensures shared { OnOk result (is_owned (get_or slots.new at Slot.Empty) ≡ false) }
+    ensures others { (i : ℕ) → is_owned (get_or slots.old i Slot.Empty) ≡ false → OnOk result (is_owned (get_or slots.new i Slot.Empty) ≡ false) }
+    ensures own { own_at slots.new ≡ own_at slots.old }
+{
+    let slot = &mut slots[at];
+    slot.share(alloc)
+}
+
+// Makes all slots shared whose pages are owned.
+fn share_slots(slots: &mut [Slot], alloc: Global) -> Result<(), AllocError>
+    ensures shared { OnOk result ((q : ℕ) → ready_at slots.new q ≡ false) }
+    ensures own { own_at slots.new ≡ own_at slots.old }
+{
+    for i in 0..slots.len() {
+        make_shared(slots, i, alloc)?;
+    }
+    Ok(())
+}
+
+// Empty slots.
+#[tactic(auto, using(crate::proofs::Laws::more_empty, crate::proofs::Laws::own_blank))]
+fn blank_slots(alloc: Global, count: u16) -> Result<Vec<Slot>, AllocError>
+    ensures len { IfOk result (λ v. vec_len v ≡ count) }
+    ensures own { IfOk result (λ v. own_at v.items ≡ (λ _. None)) }
+{
+    let mut slots = Vec::with_capacity(alloc, count as usize)?;
+    for i in 0..count {
+        slots.push(Slot::Empty)?;
+    }
+    Ok(slots)
+}
+
+// Slots that hold the same.
+fn copied_slots(slots: &[Slot], alloc: Global) -> Result<Vec<Slot>, AllocError>
+    ensures len { IfOk result (λ v. vec_len v ≡ length slots.now) }
+    ensures own { IfOk result (λ v. own_at v.items ≡ own_at slots.now) }
+{
+    let mut copies = Vec::with_capacity(alloc, slots.len())?;
+    for slot in slots {
+        copies.push(slot.snapshot(alloc)?)?;
+    }
+    Ok(copies)
+}

@@ -1,0 +1,147 @@
+// What a run wrote and looked at.
+
+ghost use Rattle.std.specs.Prelude.{◌≡◌, false, ◌<◌, ◌∷◌, ◌++◌, [], ℕ, IsTrue, IfOk, OnOk, IfNone, IfSome, None, length, slice_index};
+ghost use Rattle.i8080.specs.Memory.{bytes, look, write, is_among, over};
+
+use crate::cells::Cells;
+use crate::image::Image;
+use crate::looks::Looks;
+use std::alloc::{AllocError, Global};
+
+/// What a run wrote, and beside it the cells that it looked at.
+#[derive(Drop)]
+pub struct Overlay {
+    pub cells: Cells,
+    looks: Looks,
+}
+
+impl Overlay {
+    ghost use Rattle.pagemem.specs.Cells.{own_in};
+    ghost use Rattle.pagemem.specs.ImageView.{cells_of};
+    ghost use Rattle.pagemem.specs.Overlay.{own_of, looks_of, is_ready_at};
+
+    /// Nothing written, nothing looked at. `Err` where memory is refused.
+    pub fn new(alloc: Global) -> Result<Overlay, AllocError>
+        ensures own { IfOk result (λ o. own_of o ≡ (λ _. None)) }
+        ensures looks { IfOk result (λ o. looks_of o ≡ []) }
+    {
+        let cells = Cells::new(alloc)?;
+        Overlay::over(alloc, cells)
+    }
+
+    /// What was written, and nothing looked at. `Err` where memory is refused.
+    pub fn over(alloc: Global, cells: Cells) -> Result<Overlay, AllocError>
+        ensures own { IfOk result (λ o. own_of o ≡ own_in cells) }
+        ensures looks { IfOk result (λ o. looks_of o ≡ []) }
+    {
+        let looks = Looks::new(alloc)?;
+        Ok(Overlay { cells, looks })
+    }
+
+    /// What was written, moved out.
+    pub fn into_cells(self) -> Cells
+        ensures { own_in result ≡ own_of self }
+    {
+        let Overlay { cells, looks: _ } = self;
+        cells
+    }
+
+    /// Makes a cell ready to be read and written. No byte and no look changes, and at `Err` nothing does.
+    #[inline(always)]
+    pub fn ready(&mut self, a: u16) -> Result<(), AllocError>
+        ensures ready { OnOk result (IsTrue (is_ready_at self.new a)) }
+        ensures kept { (q : ℕ) → IsTrue (is_ready_at self.old q) → IsTrue (is_ready_at self.new q) }
+        ensures own { own_of self.new ≡ own_of self.old }
+        ensures looks { looks_of self.new ≡ looks_of self.old }
+    {
+        self.cells.ready(a)
+    }
+
+    /// The last byte that was written at a cell; none where none was. That is no look.
+    pub fn written(&self, a: u16) -> Option<u8>
+        ensures { result ≡ own_of self.now a }
+    {
+        self.cells.written(a)
+    }
+
+    /// Whether a cell was looked at.
+    pub fn looked(&self, a: u16) -> bool
+        ensures { result ≡ is_among a (looks_of self.now) }
+    {
+        self.looks.contains(a)
+    }
+
+    /// The byte of a ready cell: what was written, else the image's, which is a look.
+    #[inline(always)]
+    pub fn read(&mut self, image: Image<'_>, a: u16) -> u8
+        requires { IsTrue (is_ready_at self.old a) }
+        ensures value { result ≡ over (own_of self.old) (cells_of image.entry) a }
+        ensures kept { (q : ℕ) → IsTrue (is_ready_at self.old q) → IsTrue (is_ready_at self.new q) }
+        ensures own { own_of self.new ≡ own_of self.old }
+        ensures looks { looks_of self.new ≡ look (own_of self.old) (looks_of self.old) a }
+    {
+        match self.cells.ready_byte(a) {
+            Some(value) => value,
+            None => {
+                self.looks.add(a);
+                image.at(a)
+            }
+        }
+    }
+
+    /// Writes a ready cell.
+    #[inline(always)]
+    pub fn write(&mut self, a: u16, value: u8)
+        requires { IsTrue (is_ready_at self.old a) }
+        ensures kept { (q : ℕ) → IsTrue (is_ready_at self.old q) → IsTrue (is_ready_at self.new q) }
+        ensures own { own_of self.new ≡ write (own_of self.old) a value }
+        ensures looks { looks_of self.new ≡ looks_of self.old }
+    {
+        self.cells.write(a, value);
+    }
+
+    /// How many cells were looked at.
+    #[inline(always)]
+    pub fn look_count(&self) -> usize
+        ensures { result ≡ length (looks_of self.now) }
+    {
+        self.looks.len()
+    }
+
+    /// The cell that was looked at after so many others.
+    pub fn nth_look(&self, index: usize) -> u16
+        requires { index < length (looks_of self.now) }
+        ensures { result ≡ slice_index (looks_of self.now) index }
+    {
+        self.looks.nth(index)
+    }
+
+    /// Takes away the last look; none where there is none. It takes no memory.
+    pub fn take_look(&mut self) -> Option<u16>
+        ensures none { IfNone result ((looks_of self.old ≡ []) × (looks_of self.new ≡ [])) }
+        ensures some { IfSome result (λ a. looks_of self.old ≡ looks_of self.new ++ a ∷ []) }
+        ensures own { own_of self.new ≡ own_of self.old }
+    {
+        self.looks.take()
+    }
+
+    /// Makes the owned pages shared, so that a snapshot costs a reference for each. Nothing that was written or looked at
+    /// changes, also at `Err`; cells may have to be made ready again.
+    pub fn share(&mut self) -> Result<(), AllocError>
+        ensures shared { OnOk result ((q : ℕ) → is_ready_at self.new q ≡ false) }
+        ensures own { own_of self.new ≡ own_of self.old }
+        ensures looks { looks_of self.new ≡ looks_of self.old }
+    {
+        self.cells.share()
+    }
+
+    /// An overlay in which the same is written and looked at.
+    pub fn snapshot(&self) -> Result<Overlay, AllocError>
+        ensures own { IfOk result (λ o. own_of o ≡ own_of self.now) }
+        ensures looks { IfOk result (λ o. looks_of o ≡ looks_of self.now) }
+    {
+        let cells = self.cells.snapshot()?;
+        let looks = self.looks.snapshot()?;
+        Ok(Overlay { cells, looks })
+    }
+}

@@ -1,0 +1,121 @@
+// Pages of 256 cells.
+
+ghost use Rattle.std.specs.Prelude.{◌≡◌, false, None, IfOk, IsTrue, OnOk, OnErr};
+ghost use Rattle.pagemem.specs.Pages.{page_own, slot_own, is_owned};
+ghost use Rattle.i8080.specs.Memory.{write};
+
+use std::alloc::{AllocError, Global};
+use std::rc::Rc;
+
+/// The bytes of 256 cells, and which of them were written.
+#[derive(Clone, Copy)]
+pub struct Page {
+    pub bytes: [u8; 256],
+    pub written: [bool; 256],
+}
+
+/// A page that is not there yet, is owned, or is shared with a snapshot.
+#[derive(Drop)]
+pub enum Slot {
+    Empty,
+    Owned(Box<Page>),
+    Shared(Rc<Page>),
+}
+
+impl Page {
+    /// A page with no written cell.
+    pub fn blank() -> Page
+        ensures { page_own result ≡ (λ _. None) }
+    {
+        Page {
+            bytes: [0; 256],
+            written: [false; 256],
+        }
+    }
+
+    /// The byte of a written cell of the page; none for every other.
+    #[tactic(auto, unfolding(crate::specs::Pages::page_own))]
+    #[inline(always)]
+    pub fn get(&self, at: u8) -> Option<u8>
+        ensures { result ≡ page_own self.now at }
+    {
+        let at = at as usize;
+        if self.written[at] {
+            Some(self.bytes[at])
+        } else {
+            None
+        }
+    }
+
+    /// Writes a cell of the page.
+    #[inline(always)]
+    pub fn set(&mut self, at: u8, value: u8)
+        ensures { page_own self.new ≡ write (page_own self.old) at value }
+    {
+        let at = at as usize;
+        self.bytes[at] = value;
+        self.written[at] = true;
+    }
+}
+
+impl Slot {
+    /// Makes the page owned: a new one, or a copy of a shared one.
+    #[inline(always)]
+    pub fn make_owned(&mut self, alloc: Global) -> Result<(), AllocError>
+        ensures owned { OnOk result (IsTrue (is_owned self.new)) }
+        ensures kept { IsTrue (is_owned self.old) → IsTrue (is_owned self.new) }
+        ensures own { slot_own self.new ≡ slot_own self.old }
+        ensures err { OnErr result (self.new ≡ self.old) }
+    {
+        if let Slot::Owned(_) = self {
+            return Ok(());
+        }
+        self.own(alloc)
+    }
+
+    // The same, away from the path of most reads.
+    #[cold]
+    #[inline(never)]
+    fn own(&mut self, alloc: Global) -> Result<(), AllocError>
+        ensures owned { OnOk result (IsTrue (is_owned self.new)) }
+        ensures kept { IsTrue (is_owned self.old) → IsTrue (is_owned self.new) }
+        ensures own { slot_own self.new ≡ slot_own self.old }
+        ensures err { OnErr result (self.new ≡ self.old) }
+    {
+        let page = match self {
+            Slot::Owned(_) => return Ok(()),
+            Slot::Empty => Page::blank(),
+            Slot::Shared(page) => **page,
+        };
+        *self = Slot::Owned(Box::new(alloc, page)?);
+        Ok(())
+    }
+
+    /// Makes an owned page shared.
+    pub fn share(&mut self, alloc: Global) -> Result<(), AllocError>
+        ensures shared { OnOk result (is_owned self.new ≡ false) }
+        ensures own { slot_own self.new ≡ slot_own self.old }
+        ensures err { OnErr result (self.new ≡ self.old) }
+    {
+        let page = match self {
+            Slot::Owned(page) => **page,
+            Slot::Empty | Slot::Shared(_) => return Ok(()),
+        };
+        *self = Slot::Shared(Rc::new(alloc, page)?);
+        Ok(())
+    }
+
+    /// Another slot of the same content: a page that is shared has one more owner, one that is owned is copied.
+    pub fn snapshot(&self, alloc: Global) -> Result<Slot, AllocError>
+        ensures own { IfOk result (λ s. slot_own s ≡ slot_own self.now) }
+    {
+        match self {
+            Slot::Empty => Ok(Slot::Empty),
+            Slot::Owned(page) => {
+                let page = **page;
+                Ok(Slot::Owned(Box::new(alloc, page)?))
+            }
+            Slot::Shared(page) => Ok(Slot::Shared(page.clone()?)),
+        }
+    }
+}

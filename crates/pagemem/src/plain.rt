@@ -1,0 +1,51 @@
+// Plain memory: one list.
+
+ghost use Rattle.std.specs.Prelude.{◌≡◌, ℕ, Bool, true, None, [], vec_len, nat_lt};
+ghost use Rattle.i8080.specs.Memory.{Memory};
+ghost use Rattle.pagemem.specs.Plain.{plain_own};
+
+use i8080::bus::Bus;
+use std::alloc::AllocError;
+
+/// One list of 65,536 bytes, all of which count as written.
+#[derive(Drop)]
+pub struct PlainMemory {
+    bytes: Vec<u8>,
+    ghost whole: { vec_len bytes ≡ 65536 },
+}
+
+impl PlainMemory {
+    /// The memory of 65,536 bytes.
+    pub fn new(bytes: Vec<u8>) -> PlainMemory
+        requires { vec_len bytes ≡ 65536 }
+        ensures { plain_own result.bytes.items ≡ plain_own bytes.items }
+    {
+        PlainMemory { bytes }
+    }
+}
+
+impl Bus for PlainMemory {
+    ghost memory = { λ m. record {
+      own = plain_own m.bytes.items;
+      beneath = λ _. 0;
+      looks = [];
+      lender = None;
+    } };
+
+    ghost is_ready = { λ _. λ _. true };
+
+    #[inline]
+    fn ready(&mut self, _a: u16) -> Result<(), AllocError> {
+        Ok(())
+    }
+
+    #[inline]
+    fn read(&mut self, a: u16) -> u8 {
+        self.bytes[a as usize]
+    }
+
+    #[inline]
+    fn write(&mut self, a: u16, value: u8) {
+        self.bytes[a as usize] = value;
+    }
+}

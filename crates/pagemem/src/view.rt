@@ -1,0 +1,56 @@
+// An overlay joined with an image.
+
+ghost use Rattle.std.specs.Prelude.{◌≡◌, ℕ, Bool, Some};
+ghost use Rattle.i8080.specs.Memory.{Memory};
+ghost use Rattle.pagemem.specs.Overlay.{own_of, looks_of, is_ready_at};
+ghost use Rattle.pagemem.specs.ImageView.{cells_of};
+
+use crate::image::Image;
+use crate::overlay::Overlay;
+use i8080::bus::Bus;
+use std::alloc::AllocError;
+
+/// The overlay's written cells laid over the image.
+#[derive(Drop)]
+pub struct View<'a> {
+    image: Image<'a>,
+    overlay: &'a mut Overlay,
+}
+
+impl<'a> View<'a> {
+    /// Joins them for as long as the overlay is lent.
+    #[inline(always)]
+    pub fn new(image: Image<'a>, overlay: &'a mut Overlay) -> View<'a>
+        ensures image { result.image ≡ image.entry }
+        ensures overlay { result.overlay ≡ overlay.entry }
+    {
+        View { image, overlay }
+    }
+}
+
+impl Bus for View<'_> {
+    ghost memory = { λ v. record {
+      own = own_of v.overlay.now;
+      beneath = cells_of v.image;
+      looks = looks_of v.overlay.now;
+      lender = Some v.overlay.ghost_name;
+    } };
+
+    ghost is_ready = { λ v. is_ready_at v.overlay.now };
+
+    #[inline(always)]
+    fn ready(&mut self, a: u16) -> Result<(), AllocError> {
+        self.overlay.ready(a)
+    }
+
+    #[inline(always)]
+    fn read(&mut self, a: u16) -> u8 {
+        let image = self.image;
+        self.overlay.read(image, a)
+    }
+
+    #[inline(always)]
+    fn write(&mut self, a: u16, value: u8) {
+        self.overlay.write(a, value)
+    }
+}

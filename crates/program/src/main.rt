@@ -1,0 +1,25 @@
+//! Replays a file of edit lines over a program of CP/M 2.2.
+#![tactic(auto)]
+
+use cpmrun::{Fault, Over, command, complain};
+use std::env;
+use std::io::ErrorKind;
+use std::process::ExitCode;
+
+/// Words that are not text are a fault of use.
+fn main(rt: HostRuntime) -> ExitCode {
+    let alloc = rt.alloc();
+    let mut out = Over::new(rt.stdout());
+    let mut err = Over::new(rt.stderr());
+    let args = match env::args(&rt) {
+        Ok(args) => args,
+        Err(error) if error.kind() == ErrorKind::OutOfMemory => {
+            return ExitCode::from(complain(alloc, Fault::OutOfMemory, &mut err));
+        }
+        Err(_) => return ExitCode::from(complain(alloc, Fault::Use, &mut err)),
+    };
+    let Ok(words) = args.skip(1).collect::<Vec<String>>(alloc) else {
+        return ExitCode::from(complain(alloc, Fault::OutOfMemory, &mut err));
+    };
+    ExitCode::from(command(&rt, words.as_slice(), &mut out, &mut err))
+}

@@ -1,0 +1,36 @@
+-- Where a cold run ends.
+use Rattle.std.proofs.Common.{◌≡◌, ℕ, zero, suc, ◌+◌, ◌-◌, ◌<◌, refl, ap, sym, ◌∙◌, arith, Some}
+use Rattle.interaction_trees.specs.Dependence.{Outcome, Step, Stop, state_of}
+use Rattle.interaction_trees.specs.Dependence as dependence
+use Rattle.bdos.specs.declared.cause.Cause.{Cause}
+use Rattle.bdos.specs.declared.cause.Cause.TheVariants.{Limit}
+use Rattle.machine.specs.Views.{State, Session}
+use Rattle.machine.specs.Machine.{Answers, ask, start, after, outcome}
+use Rattle.machine.proofs.AfterLemmas.{step_before}
+use Rattle.replay.specs.Cold.{cold, cold_from}
+
+reached : (f : Answers) (limit k n : ℕ) (st : State) → k + n ≡ limit → after f n ≡ Some st → cold_from f k n st ≡ cold_from f limit 0 start
+unfolding dependence.after
+reached f limit k zero st e a = let same : start ≡ st = cc in let all : k ≡ limit = omega arith in rw (← same, all) refl
+reached f limit k (suc n) st e a =
+    let (b, at, went) = step_before f (after f n) st a in
+    let before = reached f limit (suc k) n b (omega arith) at in
+    sym (ap (λ (o : Outcome State Cause). elim o [ Step next ↦ cold_from f k (suc n) next | Stop c ↦ record { state = b; steps = n; cause = c } ]) went) ∙ before
+
+-- a stop below the limit ends the cold run
+pub cold_stop : (s : Session) (n : ℕ) (st : State) (c : Cause) → after (ask s) n ≡ Some st → n < s.limit → outcome (ask s) st ≡ Stop c → cold s ≡ record { state = st; steps = n; cause = c }
+unfolding cold
+cold_stop s n st c at below stop =
+    let k = s.limit - n - 1 in
+    let count : suc k + n ≡ s.limit = omega arith in
+    sym (reached (ask s) s.limit (suc k) n st count at) ∙ ap (λ (o : Outcome State Cause). elim o [ Step next ↦ cold_from (ask s) k (suc n) next | Stop x ↦ record { state = st; steps = n; cause = x } ]) stop
+
+-- and so does the limit
+pub cold_limit : (s : Session) (n : ℕ) (st : State) → after (ask s) n ≡ Some st → n ≡ s.limit → cold s ≡ record { state = st; steps = n; cause = Limit }
+unfolding cold
+cold_limit s n st at e = sym (reached (ask s) s.limit 0 n st (omega arith) at)
+
+-- no step leads to the start
+pub after_none : (f : Answers) (st : State) → st ≡ start → after f 0 ≡ Some st
+unfolding dependence.after
+after_none f st e = ap (λ (s : State). Some s) (sym e)

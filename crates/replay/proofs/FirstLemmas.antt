@@ -1,0 +1,96 @@
+-- The table of first looks, as it grows and is erased.
+use Rattle.std.proofs.Common.{ap, ◌≡◌, ℕ, zero, suc, ◌+◌, ◌<◌, ◌≤◌, refl, ◌∙◌, arith, Bool, true, false, Option, Some, None, inl, inr, add-one}
+use Rattle.std.proofs.lemmas.Bool.{lt-ltb}
+use Rattle.std.proofs.lemmas.Bool.Decides.{nat_tests}
+use Rattle.std.proofs.Math.Nat.{eq-or-lt_of_le}
+use Rattle.machine.specs.Machine.{Question}
+use Rattle.machine.specs.Machine.{Cell, Script}
+use Rattle.interaction_trees.specs.Tree.{AgreeOn}
+use Rattle.interaction_trees.specs.Dependence as dependence
+use Rattle.interaction_trees.proofs.DependenceLemmas as lemmas
+use Rattle.machine.specs.Views.{State}
+use Rattle.machine.specs.Machine.{Answers, is_in, part, next, made, start, looks_at, looks, after}
+use Rattle.replay.specs.FirstLooks.{Table, or_else, mark, first, erased, step_of, IsFirstLooks}
+
+pub or_else-none : (a : Option ℕ) → or_else a None ≡ a
+or_else-none None = refl
+or_else-none (Some m) = refl
+
+-- an entry below n
+abbrev pub IsBelow : ℕ → Option ℕ → Type 0
+IsBelow n o = (m : ℕ) → o ≡ Some m → m < n
+
+below_mark : (n : ℕ) (b : Bool) → IsBelow (suc n) (mark b n)
+below_mark n true = λ m e. let k : n ≡ m = cc in omega arith
+below_mark n false = λ m e. cc
+
+below_or : (n : ℕ) (a b : Option ℕ) → IsBelow n a → IsBelow (suc n) b → IsBelow (suc n) (or_else a b)
+below_or n None b h k = k
+below_or n (Some x) b h k = λ m e. let l : m < n = h m e in omega arith
+
+pub first_below : (f : Answers) (q : Question) (n : ℕ) → IsBelow n (first f q n)
+unfolding first
+first_below f q zero = λ m e. cc
+first_below f q (suc n) = below_or n (first f q n) (mark (is_in q (looks f n)) n) (first_below f q n) (below_mark n (is_in q (looks f n)))
+
+erased_below : (t : ℕ) (o : Option ℕ) → IsBelow t o → erased t o ≡ o
+erased_below t None h = refl
+erased_below t (Some m) h = rw (lt-ltb m t (h m refl)) refl
+
+erased_mark : (t n : ℕ) (b : Bool) → t ≤ n → erased t (mark b n) ≡ None
+erased_mark t n true h = grind (arith, nat_tests)
+erased_mark t n false h = refl
+
+erased_or : (t n : ℕ) (a : Option ℕ) (b : Bool) → t ≤ n → erased t (or_else a (mark b n)) ≡ erased t a
+erased_or t n None b h = erased_mark t n b h
+erased_or t n (Some m) b h = refl
+
+pub erased_same : (f : Answers) (q : Question) (n : ℕ) → erased n (first f q n) ≡ first f q n
+erased_same f q n = erased_below n (first f q n) (first_below f q n)
+
+pub erased_first : (f : Answers) (q : Question) (t n : ℕ) → t ≤ n → erased t (first f q n) ≡ first f q t
+unfolding first
+erased_first f q t zero h = let e : t ≡ zero = omega arith in rw e refl
+erased_first f q t (suc n) h =
+    elim (eq-or-lt_of_le {n = t} {m = suc n} h) [
+      | inl e ↦ rw e (erased_same f q (suc n))
+      | inr l ↦ let k : t ≤ n = omega arith in erased_or t n (first f q n) (is_in q (looks f n)) k ∙ erased_first f q t n k
+    ]
+
+pub first-suc : (f : Answers) (q : Question) (n : ℕ) → first f q (suc n) ≡ or_else (first f q n) (mark (is_in q (looks f n)) n)
+unfolding first
+first-suc f q n = refl
+
+pub same_after : (f g : Answers) (n : ℕ) → ((i : ℕ) → i < n → AgreeOn (looks f i) f g) → after g n ≡ after f n
+same_after = lemmas.same_after part (λ (st : State). st.own) (λ (st : State). next st.core) made start
+
+pub same_looks : (f g : Answers) (n : ℕ) → ((i : ℕ) → i < n → AgreeOn (looks f i) f g) → AgreeOn (looks f n) f g → looks g n ≡ looks f n
+same_looks = lemmas.same_looks part (λ (st : State). st.own) (λ (st : State). next st.core) made start
+
+-- where two sessions agree on the looks of the steps below n, these steps are first looks alike
+pub same_first : (f g : Answers) (q : Question) (n : ℕ) → ((i : ℕ) → i < n → AgreeOn (looks f i) f g) → first g q n ≡ first f q n
+unfolding first
+same_first f g q zero h = refl
+same_first f g q (suc n) h =
+    rw (same_first f g q n (λ i k. h i (omega arith)), same_looks f g n (λ i k. h i (omega arith)) (h n (omega arith))) refl
+
+pub looks_here : (f : Answers) (n : ℕ) (st : State) → after f n ≡ Some st → looks f n ≡ looks_at f st
+unfolding dependence.looks
+looks_here f n st a = ap (λ (o : Option State). dependence.looks_of part (λ (st : State). st.own) (λ (st : State). next st.core) made start f o) a
+
+pub step_of-seen : (k : Table) (s : ℕ) (q : Question) → step_of (record { cells = k.cells; seen = s }) q ≡ step_of k q
+step_of-seen k s (Cell a) = refl
+step_of-seen k s (Script a) = refl
+
+-- noting the looks of step `seen` makes the table that of the steps below `seen + 1`
+pub noted : (f : Answers) (old new : Table) (st : State) (asked : Question → Bool) → IsFirstLooks f old
+    → after f old.seen ≡ Some st
+    → ((q : Question) → asked q ≡ is_in q (looks_at f st))
+    → ((q : Question) → step_of new q ≡ or_else (step_of old q) (mark (asked q) old.seen))
+    → new.seen ≡ old.seen + 1 → IsFirstLooks f new
+noted f old new st asked known at same steps seen =
+    record { entry = λ q. rw (seen, add-one, first-suc, steps q, known.entry q, same q, looks_here f old.seen st at) refl }
+
+-- a failed note leaves the table
+pub erased_known : (f : Answers) (old new : Table) → IsFirstLooks f old → ((q : Question) → step_of new q ≡ erased old.seen (step_of old q)) → new.seen ≡ old.seen → IsFirstLooks f new
+erased_known f old new known steps seen = record { entry = λ q. rw (seen, steps q, known.entry q) (erased_same f q old.seen) }

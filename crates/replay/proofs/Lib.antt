@@ -1,0 +1,11 @@
+pub mod ColdLemmas
+pub mod FirstLemmas
+pub mod RingLemmas
+pub mod StartLemmas
+pub mod TouchLemmas
+pub mod PokeLemmas
+pub mod RunnerLemmas
+pub mod LookLemmas
+pub mod OutcomeLemmas
+pub mod KeepingLemmas
+pub mod StepsLemmas

@@ -1,0 +1,250 @@
+-- Checkpoints that are kept, made and dropped.
+use Rattle.std.proofs.Common.{◌≡◌, ℕ, zero, suc, ◌-◌, ◌<◌, ◌≤◌, ◌%◌, List, [], ◌∷◌, ◌++◌, length, max, drop, take, Some, None, ◌⊎◌, inl, inr, refl, ap, sym, ◌∙◌, arith, length-append, length-drop, append_assoc}
+use Rattle.std.specs.Prelude.{slice_get, Result, Ok, Err, OnErr}
+use Rattle.std.proofs.lemmas.Bool.{cases_lt}
+use Rattle.std.proofs.lemmas.List.{drop-append-le, drop-drop, append-nil}
+use Rattle.circular_buffer.specs.Buffer.{Buffer, keep_last, last_item}
+use Rattle.replay.specs.declared.ring.Checkpoint.{Checkpoint}
+use Rattle.replay.specs.Ring.{Each, Rising, IsDue, Adds, Keeps, SomeStep, KeptUpTo}
+
+pub on_err : {T E : Type 0} (r : Result T E) (P : Type 0) → P → OnErr r P
+on_err (Ok x) P p = tt
+on_err (Err e) P p = p
+
+pub Each-weaken : {X : Type 0} (P Q : X → Type 0) (xs : List X) → ((x : X) → P x → Q x) → Each P xs → Each Q xs
+Each-weaken P Q [] f h = tt
+Each-weaken P Q (x ∷ xs) f h = (f x h.0, Each-weaken P Q xs f h.1)
+
+pub Each-append : {X : Type 0} (P : X → Type 0) (xs ys : List X) → Each P xs → Each P ys → Each P (xs ++ ys)
+Each-append P [] ys h k = k
+Each-append P (x ∷ xs) ys h k = (h.0, Each-append P xs ys h.1 k)
+
+pub Each-left : {X : Type 0} (P : X → Type 0) (xs ys : List X) → Each P (xs ++ ys) → Each P xs
+Each-left P [] ys h = tt
+Each-left P (x ∷ xs) ys h = (h.0, Each-left P xs ys h.1)
+
+pub Each-right : {X : Type 0} (P : X → Type 0) (xs ys : List X) → Each P (xs ++ ys) → Each P ys
+Each-right P [] ys h = h
+Each-right P (x ∷ xs) ys h = Each-right P xs ys h.1
+
+pub Each-drop : {X : Type 0} (P : X → Type 0) (n : ℕ) (xs : List X) → Each P xs → Each P (drop n xs)
+Each-drop P zero xs h = h
+Each-drop P (suc n) [] h = tt
+Each-drop P (suc n) (x ∷ xs) h = Each-drop P n xs h.1
+
+pub keep_last-keep_last : {X : Type 0} (n : ℕ) (xs ys : List X) → keep_last n (keep_last n xs ++ ys) ≡ keep_last n (xs ++ ys)
+keep_last-keep_last n xs ys =
+    let k = length xs - n in
+    let short : k ≤ length xs = omega arith in
+    let e = drop-append-le k xs ys short in
+    let l = length-append xs ys in
+    let d = length-drop k (xs ++ ys) in
+    rw (← e) (drop-drop (length (drop k (xs ++ ys)) - n) k (xs ++ ys) ∙ ap (λ (i : ℕ). drop i (xs ++ ys)) (omega arith))
+
+pub keep_last-all : {X : Type 0} (n : ℕ) (xs : List X) → length xs ≤ n → keep_last n xs ≡ xs
+keep_last-all n xs h = let e : length xs - n ≡ 0 = omega arith in rw e refl
+
+pub Each-keep_last : {X : Type 0} (P : X → Type 0) (n : ℕ) (xs : List X) → Each P xs → Each P (keep_last n xs)
+Each-keep_last P n xs h = Each-drop P (length xs - n) xs h
+
+pub Rising-push : (xs : List Checkpoint) (c : Checkpoint) → Rising xs → Each (λ d. d.step < c.step) xs → Rising (xs ++ c ∷ [])
+Rising-push [] c r b = (tt, tt)
+Rising-push (x ∷ xs) c r b = (Each-append _ xs (c ∷ []) r.0 (b.0, tt), Rising-push xs c r.1 b.1)
+
+below_all : (x : Checkpoint) (xs ys : List Checkpoint) → Each (λ d. Each (λ c. c.step < d.step) (x ∷ xs)) ys → Each (λ d. x.step < d.step) ys
+below_all x xs [] h = tt
+below_all x xs (y ∷ ys) h = (h.0.0, below_all x xs ys h.1)
+
+below_rest : (x : Checkpoint) (xs ys : List Checkpoint) → Each (λ d. Each (λ c. c.step < d.step) (x ∷ xs)) ys → Each (λ d. Each (λ c. c.step < d.step) xs) ys
+below_rest x xs [] h = tt
+below_rest x xs (y ∷ ys) h = (h.0.1, below_rest x xs ys h.1)
+
+pub Rising-left : (xs ys : List Checkpoint) → Rising (xs ++ ys) → Rising xs
+Rising-left [] ys r = tt
+Rising-left (x ∷ xs) ys r = (Each-left _ xs ys r.0, Rising-left xs ys r.1)
+
+pub Rising-append : (xs ys : List Checkpoint) → Rising xs → Rising ys → Each (λ d. Each (λ c. c.step < d.step) xs) ys → Rising (xs ++ ys)
+Rising-append [] ys r s b = s
+Rising-append (x ∷ xs) ys r s b =
+    (Each-append _ xs ys r.0 (below_all x xs ys b), Rising-append xs ys r.1 s (below_rest x xs ys b))
+
+pub Rising-drop : (n : ℕ) (xs : List Checkpoint) → Rising xs → Rising (drop n xs)
+Rising-drop zero xs r = r
+Rising-drop (suc n) [] r = tt
+Rising-drop (suc n) (x ∷ xs) r = Rising-drop n xs r.1
+
+-- the last of a rising list is the greatest
+pub last_greatest : (xs : List Checkpoint) (c : Checkpoint) → Rising xs → last_item xs ≡ Some c → Each (λ d. d.step ≤ c.step) xs
+last_greatest [] c r e = tt
+last_greatest (x ∷ []) c r e = let same : x ≡ c = cc in (rw same (omega arith), tt)
+last_greatest (x ∷ (y ∷ ys)) c r e =
+    let two : suc (suc (length ys)) - 1 ≡ suc (length ys) = omega arith in
+    let one : suc (length ys) - 1 ≡ length ys = omega arith in
+    let there : slice_get (y ∷ ys) (length ys) ≡ Some c = rw two at e in
+    let rest = last_greatest (y ∷ ys) c r.1 (rw one there) in
+    let here : x.step < y.step = r.0.0 in
+    let there : y.step ≤ c.step = rest.0 in
+    (omega arith, rest)
+
+none_there : (x : Checkpoint) (xs : List Checkpoint) → slice_get (x ∷ xs) (length xs) ≡ None → ⊥
+none_there x [] e = cc
+none_there x (y ∷ ys) e = none_there y ys e
+
+pub none_last : (P : Checkpoint → Type 0) (xs : List Checkpoint) → last_item xs ≡ None → Each P xs
+none_last P [] e = tt
+none_last P (x ∷ xs) e =
+    let one : suc (length xs) - 1 ≡ length xs = omega arith in
+    absurd (none_there x xs (rw one at e))
+
+-- the same in the middle of a run, whose newest checkpoint is at `newest`
+pub record Adding (old new : List Checkpoint) (slots from upto last spacing newest : ℕ) : Type 0 where
+  pub adds : Adds old new slots from upto last spacing
+  pub old_below : Each (λ c. c.step ≤ newest) old
+  pub made_below : Each (λ c. c.step ≤ newest) adds.made
+  pub start_below : from ≤ newest
+
+-- a due step is due whatever is reached later
+pub widen : (old new : List Checkpoint) (slots from upto further last spacing : ℕ) → upto ≤ further → Adds old new slots from upto last spacing → Adds old new slots from further last spacing
+widen old new slots from upto further last spacing up a = record {
+  made = a.made;
+  kept = a.kept;
+  due = Each-weaken _ _ a.made (λ d h. record { reached = (h.reached.0, omega (arith, h.reached.1)); above = h.above; marked = h.marked }) a.due;
+  rising = a.rising;
+}
+
+pub widen_to : (old new : List Checkpoint) (slots from upto last limit spacing : ℕ) → upto ≤ last → last ≡ limit → Adds old new slots from upto last spacing → Adds old new slots from limit limit spacing
+widen_to old new slots from upto last limit spacing up e a = rw (← e) (widen old new slots from upto last last spacing up a)
+
+due_relast : (old : List Checkpoint) (from upto last other spacing step : ℕ) → upto < last → IsDue old from upto last spacing step → (step % spacing ≡ 0) ⊎ (step ≡ last) → IsDue old from upto other spacing step
+due_relast old from upto last other spacing step below h (inl m) = record { reached = h.reached; above = h.above; marked = inl m }
+due_relast old from upto last other spacing step below h (inr e) = absurd (omega (arith, h.reached.1))
+
+-- no step below the limit was made as the limit's
+pub relast : (old new : List Checkpoint) (slots from upto last other spacing : ℕ) → upto < last → Adds old new slots from upto last spacing → Adds old new slots from upto other spacing
+relast old new slots from upto last other spacing below a = record {
+  made = a.made;
+  kept = a.kept;
+  due = Each-weaken _ _ a.made (λ d h. due_relast old from upto last other spacing d.step below h h.marked) a.due;
+  rising = a.rising;
+}
+
+pub relast_adding : (old new : List Checkpoint) (slots from upto last other spacing newest : ℕ) → upto < last → Adding old new slots from upto last spacing newest → Adding old new slots from upto other spacing newest
+relast_adding old new slots from upto last other spacing newest below g = record {
+  adds = record {
+    made = g.adds.made;
+    kept = g.adds.kept;
+    due = Each-weaken _ _ g.adds.made (λ d h. due_relast old from upto last other spacing d.step below h h.marked) g.adds.due;
+    rising = g.adds.rising;
+  };
+  old_below = g.old_below;
+  made_below = g.made_below;
+  start_below = g.start_below;
+}
+
+module _ (old : List Checkpoint) (from last spacing newest upto : ℕ) (ring : Buffer Checkpoint) (c : Checkpoint) where
+  -- one more checkpoint, above all others
+  push_made : (slots : ℕ) → Adding old ring.items slots from upto last spacing newest → upto ≤ c.step → newest < c.step → (c.step % spacing ≡ 0) ⊎ (c.step ≡ last)
+      → Adding old (keep_last slots (ring.items ++ c ∷ [])) slots from c.step last spacing (max newest c.step)
+  push_made slots g up above mark =
+      let made = g.adds.made in
+      let start : from < c.step = omega (arith, g.start_below) in
+      let due : IsDue old from c.step last spacing c.step = record { reached = (start, omega arith); above = Each-weaken _ _ old (λ d h. omega (arith, h)) g.old_below; marked = mark } in
+      let wide : Each (λ d. IsDue old from c.step last spacing d.step) made =
+      Each-weaken _ _ made (λ d h. record { reached = (h.reached.0, omega (arith, h.reached.1)); above = h.above; marked = h.marked }) g.adds.due in
+      record {
+        adds = record {
+          made = made ++ c ∷ [];
+          kept = ap (λ (xs : List Checkpoint). keep_last slots (xs ++ c ∷ [])) g.adds.kept ∙ keep_last-keep_last slots (old ++ made) (c ∷ []) ∙ ap (λ (xs : List Checkpoint). keep_last slots xs) (append_assoc old made (c ∷ []));
+          due = Each-append _ made (c ∷ []) wide (due, tt);
+          rising = Rising-push made c g.adds.rising (Each-weaken _ _ made (λ d h. omega (arith, h)) g.made_below);
+        };
+        old_below = Each-weaken _ _ old (λ d h. omega (arith, h)) g.old_below;
+        made_below = Each-append _ made (c ∷ []) (Each-weaken _ _ made (λ d h. omega (arith, h)) g.made_below) (omega arith, tt);
+        start_below = omega (arith, g.start_below);
+      }
+
+  left_out : (slots : ℕ) → Adding old ring.items slots from upto last spacing newest → upto ≤ c.step → Adding old ring.items slots from c.step last spacing (max newest c.step)
+  left_out slots g up = record {
+    adds = record {
+      made = g.adds.made;
+      kept = g.adds.kept;
+      due = Each-weaken _ _ g.adds.made (λ d h. record { reached = (h.reached.0, omega (arith, h.reached.1)); above = h.above; marked = h.marked }) g.adds.due;
+      rising = g.adds.rising;
+    };
+    old_below = Each-weaken _ _ old (λ d h. omega (arith, h)) g.old_below;
+    made_below = Each-weaken _ _ g.adds.made (λ d h. omega (arith, h)) g.made_below;
+    start_below = omega (arith, g.start_below);
+  }
+
+  pub kept_adds : (next : Buffer Checkpoint) (slots : ℕ) → ring.capacity ≡ slots → Adding old ring.items slots from upto last spacing newest → upto ≤ c.step → (c.step % spacing ≡ 0) ⊎ (c.step ≡ last)
+      → Keeps newest ring next c → Adding old next.items slots from c.step last spacing (max newest c.step)
+  kept_adds next slots room g up mark (inl e) = rw e (left_out slots g up)
+  kept_adds next slots room g up mark (inr k) = rw (k.1, room) (push_made slots g up k.0 mark)
+
+module _ (newest : ℕ) (ring : Buffer Checkpoint) (c : Checkpoint) where
+  pub kept_capacity : (next : Buffer Checkpoint) → Keeps newest ring next c → next.capacity ≡ ring.capacity
+  kept_capacity next (inl e) = rw e refl
+  kept_capacity next (inr k) = rw k.1 refl
+
+  pub kept_each : (P : Checkpoint → Type 0) (next : Buffer Checkpoint) → Keeps newest ring next c → Each P ring.items → (newest < c.step → P c) → Each P next.items
+  kept_each P next (inl e) h here = rw e h
+  kept_each P next (inr k) h here = rw k.1 (Each-keep_last P ring.capacity (ring.items ++ c ∷ []) (Each-append P ring.items (c ∷ []) h (here k.0, tt)))
+
+  -- nothing is kept past what was seen
+  pub kept_known : (seen : ℕ) (next : Buffer Checkpoint) → Keeps newest ring next c → (seen < c.step → next ≡ ring) → Each (λ d. d.step ≤ seen) ring.items → Each (λ d. d.step ≤ seen) next.items
+  kept_known seen next keeps past low = by_order (cases_lt seen c.step)
+    where
+      by_order : (seen < c.step) ⊎ (c.step ≤ seen) → Each (λ d. d.step ≤ seen) next.items
+      by_order (inl l) = rw (past l) low
+      by_order (inr h) = kept_each (λ d. d.step ≤ seen) next keeps low (λ _. h)
+
+-- no checkpoint is made below the newest
+pub kept_same : (newest : ℕ) (ring next : Buffer Checkpoint) (c : Checkpoint) → Keeps newest ring next c → c.step ≤ newest → next ≡ ring
+kept_same newest ring next c (inl e) low = e
+kept_same newest ring next c (inr k) low = absurd (let h : newest < c.step = k.0 in omega arith)
+
+some_below : (from newest : ℕ) (xs : List Checkpoint) → SomeStep xs from → Each (λ c. c.step ≤ newest) xs → from ≤ newest
+some_below from newest [] h b = absurd h
+some_below from newest (x ∷ xs) (inl e) b = omega (arith, b.0)
+some_below from newest (x ∷ xs) (inr h) b = some_below from newest xs h b.1
+
+-- where a run begins is no later than a bound of all kept steps
+pub begins_below : (from newest : ℕ) (xs : List Checkpoint) → (from ≡ 0) ⊎ SomeStep xs from → Each (λ c. c.step ≤ newest) xs → from ≤ newest
+begins_below from newest xs (inl e) b = omega arith
+begins_below from newest xs (inr h) b = some_below from newest xs h b
+
+-- a run begins with nothing made
+pub none_made : (old : List Checkpoint) (slots from last spacing newest : ℕ) → length old ≤ slots → Each (λ c. c.step ≤ newest) old → (from ≡ 0) ⊎ SomeStep old from → Adding old old slots from from last spacing newest
+none_made old slots from last spacing newest short below start = record {
+  adds = record { made = []; kept = rw append-nil (sym (keep_last-all slots old short)); due = tt; rising = tt };
+  old_below = below;
+  made_below = tt;
+  start_below = begins_below from newest old start below;
+}
+
+pub taken_last : (xs : List Checkpoint) (c : Checkpoint) → last_item xs ≡ Some c → xs ≡ take (length xs - 1) xs ++ c ∷ []
+taken_last [] c e = cc
+taken_last (x ∷ []) c e = let same : x ≡ c = cc in rw same refl
+taken_last (x ∷ (y ∷ ys)) c e =
+    let two : suc (suc (length ys)) - 1 ≡ suc (length ys) = omega arith in
+    let one : suc (length ys) - 1 ≡ length ys = omega arith in
+    let there : slice_get (y ∷ ys) (length ys) ≡ Some c = rw two at e in
+    let rest = taken_last (y ∷ ys) c (rw one there) in
+    rw two (ap (λ (zs : List Checkpoint). x ∷ zs) (rest ∙ rw one refl))
+
+pub popped : (old new gone : List Checkpoint) (c : Checkpoint) (touch : ℕ) → last_item old ≡ Some c → new ≡ take (length old - 1) old → touch < c.step → Each (λ d. touch < d.step) gone
+    → Rising old → (old ++ gone ≡ new ++ (c ∷ gone)) × Rising new
+popped old new gone c touch last e past h rising =
+    let split : old ≡ new ++ c ∷ [] = rw e (taken_last old c last) in
+    (ap (λ (zs : List Checkpoint). zs ++ gone) split ∙ append_assoc new (c ∷ []) gone, Rising-left new (c ∷ []) (rw split at rising))
+
+pub kept_up_to : (old now gone : List Checkpoint) (c : Checkpoint) (touch : ℕ) → old ≡ now ++ gone → Rising now → last_item now ≡ Some c → c.step ≤ touch → Each (λ d. touch < d.step) gone → KeptUpTo touch old now
+kept_up_to old now gone c touch parts rising last low past =
+    record { gone = gone; parts = parts; left = Each-weaken _ _ now (λ d h. omega (arith, h)) (last_greatest now c rising last); past = past }
+
+pub adds_rising : (old new : List Checkpoint) (slots from upto last spacing : ℕ) → Rising old → Adds old new slots from upto last spacing → Rising new
+adds_rising old new slots from upto last spacing r a =
+    rw a.kept (Rising-drop (length (old ++ a.made) - slots) (old ++ a.made) (Rising-append old a.made r a.rising (Each-weaken _ _ a.made (λ d h. h.above) a.due)))
+
+pub no_adds : (old : List Checkpoint) (slots from upto last spacing : ℕ) → length old ≤ slots → Adds old old slots from upto last spacing
+no_adds old slots from upto last spacing short = record { made = []; kept = rw append-nil (sym (keep_last-all slots old short)); due = tt; rising = tt }

@@ -1,0 +1,125 @@
+-- An edit keeps the checkpoints up to its touch.
+use Rattle.std.proofs.Common.{◌≡◌, ℕ, zero, suc, ◌<◌, ◌≤◌, List, [], ◌∷◌, ◌++◌, Option, Some, None, ◌⊎◌, inl, inr, refl, ap, subst, sym, ◌∙◌, arith, Bool, true, false, ◌||◌, map}
+use Rattle.std.proofs.Math.Nat.{eq-or-lt_of_le}
+use Rattle.std.proofs.Common.{eq-eqb, eqb-true}
+use Rattle.machine.specs.Machine.{Question}
+use Rattle.machine.specs.Machine.{Cell, Script}
+use Rattle.replay.specs.declared.ring.Checkpoint.{Checkpoint}
+use Rattle.interaction_trees.specs.Tree.{AgreeOn}
+use Rattle.machine.specs.Machine.{Answers, looks, is_in, same_question}
+use Rattle.replay.specs.FirstLooks.{Table, step_of, erased, first, or_else, mark, IsFirstLooks}
+use Rattle.replay.specs.Ring.{Each, Stands}
+use Rattle.replay.specs.RunnerView.{KeepsUntouched, seen_with}
+use Rattle.replay.specs.Touch.{Untouched, IsNotedTouch}
+use Rattle.replay.proofs.RingLemmas.{Each-weaken, Each-right}
+use Rattle.replay.proofs.FirstLemmas.{erased_first, same_first, same_after, first-suc, IsBelow, first_below}
+
+pub same_itself : (q : Question) → same_question q q ≡ true
+same_itself (Cell a) = eq-eqb a a refl
+same_itself (Script k) = eq-eqb k k refl
+
+or_right : (a b : Bool) → b ≡ true → (a || b) ≡ true
+or_right true b e = refl
+or_right false b e = e
+
+-- two sessions agree on a list where they agree on each of its questions
+agree_each : (f g : Answers) (qs : List Question) → ((q : Question) → is_in q qs ≡ true → f q ≡ g q) → AgreeOn qs f g
+agree_each f g [] h = tt
+agree_each f g (x ∷ xs) h =
+    (h x (rw (same_itself x) refl), agree_each f g xs (λ q i. h q (or_right (same_question q x) (is_in q xs) i)))
+
+or_cases : (a b : Bool) → (a || b) ≡ true → (a ≡ true) ⊎ (b ≡ true)
+or_cases true b e = inl refl
+or_cases false b e = inr e
+
+pub same_is : (q x : Question) → same_question q x ≡ true → q ≡ x
+same_is (Cell a) (Cell b) e = ap Cell (eqb-true a b e)
+same_is (Cell a) (Script k) e = cc
+same_is (Script k) (Cell a) e = cc
+same_is (Script k) (Script j) e = ap Script (eqb-true k j e)
+
+agree_at : (f g : Answers) (qs : List Question) (q : Question) → is_in q qs ≡ true → AgreeOn qs f g → f q ≡ g q
+agree_at f g [] q i h = absurd (cc)
+agree_at f g (x ∷ xs) q i h = elim (or_cases (same_question q x) (is_in q xs) i) [
+  | inl e ↦ let P : Question → Type 0 = λ y. f y ≡ g y in subst P (sym (same_is q x e)) h.0
+  | inr e ↦ agree_at f g xs q e h.1
+]
+
+noted_here : (n : ℕ) (a : Option ℕ) (b : Bool) → b ≡ true → IsBelow n a → (m : ℕ) × (or_else a (mark b n) ≡ Some m) × (m ≤ n)
+noted_here n None b e h = (n, rw e refl, omega arith)
+noted_here n (Some m) b e h = (m, refl, omega (arith, h m refl))
+
+-- a question that a step below n asks is noted at that step or before
+pub noted_by : (f : Answers) (q : Question) (n i : ℕ) → i < n → is_in q (looks f i) ≡ true → (m : ℕ) × (first f q n ≡ Some m) × (m ≤ i)
+noted_by f q zero i b h = absurd (omega arith)
+noted_by f q (suc n) i b h = elim (eq-or-lt_of_le {n = i} {m = n} (omega arith)) [
+  | inl e ↦
+      let (m, at, low) = noted_here n (first f q n) (is_in q (looks f n)) (rw e at h) (first_below f q n) in
+      (m, first-suc f q n ∙ at, omega arith)
+  | inr l ↦ let (m, at, low) = noted_by f q n i l h in (m, first-suc f q n ∙ rw at refl, low)
+]
+
+marked_there : (n : ℕ) (a : Option ℕ) (b : Bool) (m : ℕ) → or_else a (mark b n) ≡ Some m → (a ≡ Some m) ⊎ ((b ≡ true) × (n ≡ m))
+marked_there n None true m e = inr (refl, (cc))
+marked_there n None false m e = absurd (cc)
+marked_there n (Some x) b m e = inl e
+
+-- a noted step asks the question
+asked_there : (f : Answers) (q : Question) (n m : ℕ) → first f q n ≡ Some m → is_in q (looks f m) ≡ true
+unfolding first
+asked_there f q zero m e = absurd (cc)
+asked_there f q (suc n) m e = elim (marked_there n (first f q n) (is_in q (looks f n)) m e) [
+  | inl h ↦ asked_there f q n m h
+  | inr h ↦ rw h.1 at h.0
+]
+
+pub untouched : (f g : Answers) (k : Table) (t : ℕ) → IsFirstLooks f k → IsNotedTouch f g k t → Untouched f g t
+untouched f g k t known touch i below =
+    agree_each f g (looks f i) (λ q asked.
+    let (m, at, low) = noted_by f q k.seen i (omega (arith, touch.within)) asked in
+    touch.below q m (known.entry q ∙ at) (omega arith))
+
+-- what is left of the table is that of the edited session
+pub edited_known : (f g : Answers) (old new : Table) (t : ℕ) → IsFirstLooks f old → IsNotedTouch f g old t
+    → ((q : Question) → step_of new q ≡ erased t (step_of old q)) → new.seen ≡ t → IsFirstLooks g new
+edited_known f g old new t known touch steps seen =
+    record { entry = λ q. steps q ∙ rw (known.entry q, seen) (erased_first f q t old.seen touch.within ∙ sym (same_first f g q t (untouched f g old t known touch))) }
+
+-- where the noted touch is below `seen`, it is the touch
+pub touch_here : (f g : Answers) (k : Table) (t : ℕ) → IsFirstLooks f k → IsNotedTouch f g k t → t < k.seen → AgreeOn (looks f t) f g → ⊥
+touch_here f g k t known touch below agree = differs touch.here
+  where
+    differs : (t ≡ k.seen) ⊎ ((q : Question) × (step_of k q ≡ Some t) × (f q ≡ g q → ⊥)) → ⊥
+    differs (inl e) = omega arith
+    differs (inr w) = w.2 (agree_at f g (looks f t) w.0 (asked_there f w.0 k.seen t (sym (known.entry w.0) ∙ w.1)) agree)
+
+gone_touched : (f g : Answers) (k : Table) (t : ℕ) (gone : List Checkpoint) → IsFirstLooks f k → IsNotedTouch f g k t
+    → Each (λ c. c.step ≤ k.seen) gone → Each (λ c. t < c.step) gone → Each (λ c. Untouched f g c.step → ⊥) gone
+gone_touched f g k t [] known touch low past = tt
+gone_touched f g k t (x ∷ xs) known touch low past =
+    (λ same. touch_here f g k t known touch (omega (arith, low.0, past.0)) (same t past.0), gone_touched f g k t xs known touch low.1 past.1)
+
+pub each_map : {X Y : Type 0} (h : X → Y) (P : Y → Type 0) (xs : List X) → Each (λ x. P (h x)) xs → Each P (map h xs)
+each_map h P [] e = tt
+each_map h P (x ∷ xs) e = (e.0, each_map h P xs e.1)
+
+pub map-append : {X Y : Type 0} (h : X → Y) (xs ys : List X) → map h (xs ++ ys) ≡ map h xs ++ map h ys
+map-append h [] ys = refl
+map-append h (x ∷ xs) ys = ap (λ l. h x ∷ l) (map-append h xs ys)
+
+-- the checkpoints up to the noted touch are those up to the touch
+pub keeps_untouched : (f g : Answers) (text : List ℕ) (k : Table) (t : ℕ) (old new gone : List Checkpoint) → IsFirstLooks f k → IsNotedTouch f g k t
+    → Each (λ c. c.step ≤ k.seen) old → old ≡ new ++ gone → Each (λ c. c.step ≤ t) new → Each (λ c. t < c.step) gone
+    → KeepsUntouched f g (map (seen_with text) old) (map (seen_with text) new)
+keeps_untouched f g text k t old new gone known touch low parts here past = record {
+  gone = map (seen_with text) gone;
+  parts = ap (map (seen_with text)) parts ∙ map-append (seen_with text) new gone;
+  untouched = each_map (seen_with text) (λ c. Untouched f g c.step) new (Each-weaken _ _ new (λ c h. λ i b. untouched f g k t known touch i (omega (arith, h))) here);
+  touched = each_map (seen_with text) (λ c. Untouched f g c.step → ⊥) gone (gone_touched f g k t gone known touch (Each-right _ new gone (rw parts at low)) past);
+}
+
+-- and stand for the edited session
+pub still_stand : (f g : Answers) (text : List ℕ) (t : ℕ) (xs : List Checkpoint) → Untouched f g t → Each (λ c. c.step ≤ t) xs → Each (Stands f text) xs → Each (Stands g text) xs
+still_stand f g text t [] same low valid = tt
+still_stand f g text t (x ∷ xs) same low valid =
+    (record { later = valid.0.later; fits = valid.0.fits; state = same_after f g x.step (λ i b. same i (omega (arith, low.0))) ∙ valid.0.state }, still_stand f g text t xs same low.1 valid.1)

@@ -1,0 +1,59 @@
+use Rattle.std.proofs.Common.{arith}
+use Rattle.machine.specs.Machine.{ask}
+use Rattle.replay.proofs.RingLemmas.{on_err, begins_below}
+use Rattle.replay.proofs.StartLemmas.{start_within}
+use Rattle.replay.proofs.KeepingLemmas.{stands_valid, Left, left}
+use Rattle.replay.proofs.rerun.rerun.Goals as goal
+
+pub returns-in_err-from-clause-ticked_at_most : goal.returns-in_err-from-clause-ticked_at_most
+returns-in_err-from-clause-ticked_at_most c =
+    on_err c.from_residual.result _ (omega (arith, start_within c.args.shown.now.session.limit c.args.ring.now.items))
+
+pub resume-ran-requires-clause-seen : goal.resume-ran-requires-clause-seen
+resume-ran-requires-clause-seen c = (begins_below c.in_ok-from.from c.args.table.now.seen c.args.ring.now.items c.in_ok-from.ensures.started c.requires.sound.below, c.requires.sound.seen_in)
+
+pub resume-ran-requires-clause-low : goal.resume-ran-requires-clause-low
+resume-ran-requires-clause-low c = rw c.in_ok-from.ensures.step (start_within c.args.shown.now.session.limit c.args.ring.now.items)
+
+pub resume-ran-requires-clause-valid : goal.resume-ran-requires-clause-valid
+resume-ran-requires-clause-valid c = stands_valid (ask c.args.shown.now.session) c.args.shown.now.text.items c.args.ring.now.items c.requires.sound.stands
+
+failed : (c : goal.After-drop-kept-inside) → Left (ask c.args.shown.now.session) c.resume-ran.new.state.state c.put_by-kept.new.text.items c.resume-ran.new.ring.items
+failed c =
+    left (ask c.args.shown.now.session) c.args.shown.now.session.limit c.newest_step-newest.result c.in_ok-from.from c.limit.result c.resume-ran.new.state.state c.args.ring.now c.resume-ran.new.ring
+    c.args.shown.now.text.items c.begin.new.text.items c.put_by-kept.new.text.items
+    c.requires.sound.stands c.newest_step-newest.ensures.there c.limit.ensures.value c.in_ok-from.ensures.step c.resume-ran.ensures.at c.resume-ran.ensures.same c.resume-ran.ensures.valid
+    c.in_ok-from.ensures.needed c.put_by-kept.ensures.text c.put_by-kept.ensures.needed
+
+ended : (c : goal.Joined-shown-2) → Left (ask c.args.shown.now.session) c.resume-ran.new.state.state c.put_by-kept.new.text.items c.resume-ran.new.ring.items
+ended c =
+    left (ask c.args.shown.now.session) c.args.shown.now.session.limit c.newest_step-newest.result c.in_ok-from.from c.limit.result c.resume-ran.new.state.state c.args.ring.now c.resume-ran.new.ring
+    c.args.shown.now.text.items c.begin.new.text.items c.put_by-kept.new.text.items
+    c.requires.sound.stands c.newest_step-newest.ensures.there c.limit.ensures.value c.in_ok-from.ensures.step c.resume-ran.ensures.at c.resume-ran.ensures.same c.resume-ran.ensures.valid
+    c.in_ok-from.ensures.needed c.put_by-kept.ensures.text c.put_by-kept.ensures.needed
+
+pub returns-in_err-steps-clause-sound : goal.returns-in_err-steps-clause-sound
+returns-in_err-steps-clause-sound c = record {
+  stands = (failed c).stands;
+  rising = c.resume-ran.ensures.rising;
+  below = c.resume-ran.ensures.known;
+  noted = c.resume-ran.ensures.noted;
+  spacing_in = c.requires.sound.spacing_in;
+  seen_in = c.resume-ran.ensures.seen;
+}
+
+pub returns-clause-sound : goal.returns-clause-sound
+returns-clause-sound c = record {
+  stands = (ended c).stands;
+  rising = c.resume-ran.ensures.rising;
+  below = c.resume-ran.ensures.known;
+  noted = c.resume-ran.ensures.noted;
+  spacing_in = c.requires.sound.spacing_in;
+  seen_in = c.resume-ran.ensures.seen;
+}
+
+pub returns-clause-fits : goal.returns-clause-fits
+returns-clause-fits c = rw c.put_by-kept.ensures.kept (ended c).fits
+
+pub returns-clause-cold : goal.returns-clause-cold
+returns-clause-cold c = rw c.put_by-kept.ensures.kept (rw (ended c).begins c.in_ok-steps.ensures.cold)

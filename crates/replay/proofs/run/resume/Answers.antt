@@ -1,0 +1,134 @@
+use Rattle.std.proofs.Common.{inr, arith, refl, ◌∙◌, ◌≡◌, ◌≤◌, ◌<◌, ap, sym, Some}
+use Rattle.machine.specs.Views.{Running}
+use Rattle.machine.specs.Machine.{ask, after}
+use Rattle.replay.proofs.KeepingLemmas.{new_valid}
+use Rattle.replay.proofs.RingLemmas.{on_err, Each-weaken, widen_to, relast_adding, kept_adds, kept_capacity, kept_each, kept_known, kept_same, none_made, adds_rising}
+use Rattle.replay.proofs.ColdLemmas.{cold_stop, cold_limit}
+use Rattle.replay.proofs.run.resume.Goals as goal
+
+pub loop-n-init : goal.loop-n-init
+loop-n-init c = record {
+  at = c.requires.at;
+  looks = λ _. c.requires.looks;
+  noted = c.requires.noted;
+  seen_in = c.requires.seen.1;
+  low = omega arith;
+  high = rw c.limit-limit.ensures.value c.requires.low;
+  meter = refl;
+  capacity = refl;
+  valid = c.requires.valid;
+  known = c.requires.known;
+  adds = none_made _ _ _ _ _ _ (rw (← c.len.ensures.len) c.len.ensures.within.0) c.requires.newest c.requires.started;
+  newer = omega arith;
+  upto = λ h. Each-weaken _ _ _ (λ d low. omega (arith, h, low)) c.requires.newest;
+  same = λ h. refl;
+}
+
+pub returns-in_err-reached-clause-at : goal.returns-in_err-reached-clause-at
+returns-in_err-reached-clause-at c =
+    let a = c.in_err-reached.ensures.at in
+    let i = c.loop-n.invariant in
+    let low = a.2 in
+    let high = a.3 in
+    (a.0, a.1, omega (arith, high, c.due_after-end.ensures.later, c.limit-limit.ensures.value), λ h. Each-weaken _ _ _ (λ d e. omega (arith, e, low)) (i.upto h))
+
+pub returns-in_err-reached-clause-adds_at_most : goal.returns-in_err-reached-clause-adds_at_most
+returns-in_err-reached-clause-adds_at_most c =
+    on_err _ _ (widen_to _ _ _ _ _ _ _ _ c.loop-n.invariant.high c.limit-limit.ensures.value c.loop-n.invariant.adds.adds)
+
+pub returns-in_err-reached-clause-rising : goal.returns-in_err-reached-clause-rising
+returns-in_err-reached-clause-rising c = adds_rising _ _ _ _ _ _ _ c.requires.rising c.loop-n.invariant.adds.adds
+
+pub returns-in_err-reached-clause-known : goal.returns-in_err-reached-clause-known
+returns-in_err-reached-clause-known c = let s = c.advance.ensures.seen.0 in Each-weaken _ _ _ (λ d h. omega (arith, h, s)) c.loop-n.invariant.known
+
+pub returns-in-Some-clause-cold : goal.returns-in-Some-clause-cold
+returns-in-Some-clause-cold c =
+    let a = c.in_ok-reached.ensures.at in
+    let at : after (ask c.args.session.now) c.in_ok-reached.reached ≡ Some c.advance.new.state.state = rw a.4 a.1 in
+    let stopped = rw c.in-Some.is at c.in_ok-reached.ensures.stopped in
+    rw c.keep_above-last_kept.ensures.state (cold_stop _ _ _ _ at (omega (arith, stopped.0, c.due_after-end.ensures.later, c.limit-limit.ensures.value)) stopped.1)
+
+pub returns-in-Some-clause-at : goal.returns-in-Some-clause-at
+returns-in-Some-clause-at c =
+    let a = c.in_ok-reached.ensures.at in
+    let i = c.loop-n.invariant in
+    let here : c.in_ok-reached.reached ≡ a.0 = a.4 in
+    let low = a.2 in
+    let high = a.3 in (
+      a.0,
+      a.1 ∙ ap (λ (r : Running). Some r.state) (sym c.keep_above-last_kept.ensures.state),
+      omega (arith, high, c.due_after-end.ensures.later, c.limit-limit.ensures.value),
+      λ h. kept_each _ c.loop-n.ring _ _ _ c.keep_above-last_kept.ensures.ring (Each-weaken _ _ _ (λ d e. omega (arith, e, low)) (i.upto h)) (λ e. omega (arith, here)),
+    )
+
+pub returns-in-Some-clause-same : goal.returns-in-Some-clause-same
+returns-in-Some-clause-same c h =
+    let i = c.loop-n.invariant in
+    let a = c.in_ok-reached.ensures.at in
+    let here : c.in_ok-reached.reached ≡ a.0 = a.4 in
+    let high = a.3 in
+    let past : c.args.session.now.limit < c.args.newest = h in
+    kept_same _ c.loop-n.ring _ _ c.keep_above-last_kept.ensures.ring (omega (arith, here, high, past, i.newer, c.due_after-end.ensures.later, c.limit-limit.ensures.value)) ∙ i.same (omega (arith, past, c.limit-limit.ensures.value))
+
+pub returns-in-Some-clause-adds : goal.returns-in-Some-clause-adds
+returns-in-Some-clause-adds c =
+    let a = c.in_ok-reached.ensures.at in
+    let low : c.loop-n.n ≤ c.in_ok-reached.reached = rw a.4 a.2 in
+    let g = relast_adding _ _ _ _ _ _ c.in_ok-reached.reached _ _ c.loop-n-test.true c.loop-n.invariant.adds in
+    let all = kept_adds _ _ _ _ _ _ c.loop-n.ring _ _ _ c.loop-n.invariant.capacity g low (inr refl) c.keep_above-last_kept.ensures.ring in
+    all.adds
+
+pub returns-in-Some-clause-rising : goal.returns-in-Some-clause-rising
+returns-in-Some-clause-rising c =
+    let a = c.in_ok-reached.ensures.at in
+    let low : c.loop-n.n ≤ c.in_ok-reached.reached = rw a.4 a.2 in
+    let g = relast_adding _ _ _ _ _ _ c.in_ok-reached.reached _ _ c.loop-n-test.true c.loop-n.invariant.adds in
+    let all = kept_adds _ _ _ _ _ _ c.loop-n.ring _ _ _ c.loop-n.invariant.capacity g low (inr refl) c.keep_above-last_kept.ensures.ring in
+    adds_rising _ _ _ _ _ _ _ c.requires.rising all.adds
+
+pub returns-in-Some-clause-valid : goal.returns-in-Some-clause-valid
+returns-in-Some-clause-valid c =
+    let a = c.in_ok-reached.ensures.at in
+    let at : after (ask c.args.session.now) c.in_ok-reached.reached ≡ Some c.advance.new.state.state = rw a.4 a.1 in
+    kept_each _ c.loop-n.ring _ _ _ c.keep_above-last_kept.ensures.ring c.loop-n.invariant.valid (λ h. new_valid _ _ _ (omega (arith, h)) at)
+
+pub returns-in-Some-clause-known : goal.returns-in-Some-clause-known
+returns-in-Some-clause-known c =
+    let s = c.advance.ensures.seen.0 in
+    kept_known _ c.loop-n.ring _ c.advance.new.table.seen _ c.keep_above-last_kept.ensures.ring (rw c.seen.ensures at c.keep_above-last_kept.ensures.seen) (Each-weaken _ _ _ (λ d h. omega (arith, h, s)) c.loop-n.invariant.known)
+
+pub loop-n-preserved : goal.loop-n-preserved
+loop-n-preserved c =
+    let ends = rw c.in_default.is at c.in_ok-reached.ensures.stopped in
+    let looks = rw c.in_default.is at c.in_ok-reached.ensures.looks in
+    let marked = rw (← ends) at c.due_after-end.ensures.marked in
+    let i = c.loop-n.invariant in
+    let s = c.advance.ensures.seen.0 in
+    let a = c.in_ok-reached.ensures.at in
+    let at : after (ask c.args.session.now) c.in_ok-reached.reached ≡ Some c.advance.new.state.state = rw a.4 a.1 in
+    let low : c.loop-n.n ≤ c.in_ok-reached.reached = rw a.4 a.2 in
+    let ring = c.keep_above-last_kept.ensures.ring in
+    let newest = c.keep_above-last_kept.ensures.newest in
+    record {
+      at = rw c.keep_above-last_kept.ensures.state at;
+      looks = rw c.keep_above-last_kept.ensures.state looks;
+      noted = c.advance.ensures.noted;
+      seen_in = c.advance.ensures.seen.1;
+      low = omega (arith, low);
+      high = omega (arith, ends, c.due_after-end.ensures.later);
+      meter = omega (arith, c.in_ok-reached.ensures.ticked);
+      capacity = kept_capacity _ c.loop-n.ring _ _ ring ∙ i.capacity;
+      valid = kept_each _ c.loop-n.ring _ _ _ ring i.valid (λ h. new_valid _ _ _ (omega (arith, h)) at);
+      known = kept_known _ c.loop-n.ring _ c.advance.new.table.seen _ ring (rw c.seen.ensures at c.keep_above-last_kept.ensures.seen) (Each-weaken _ _ _ (λ d h. omega (arith, h, s)) i.known);
+      adds = rw newest (kept_adds _ _ _ _ _ _ c.loop-n.ring _ _ _ i.capacity i.adds low marked ring);
+      newer = omega (arith, newest, i.newer);
+      upto = λ h. kept_each _ c.loop-n.ring _ _ _ ring (Each-weaken _ _ _ (λ d e. omega (arith, e, low)) (i.upto h)) (λ e. omega arith);
+      same = λ h. kept_same _ c.loop-n.ring _ _ ring (let past : c.limit-limit.result < c.args.newest = h in omega (arith, past, ends, i.newer, c.due_after-end.ensures.later)) ∙ i.same h;
+    }
+
+pub returns-clause-cold : goal.returns-clause-cold
+returns-clause-cold c = cold_limit _ _ _ c.loop-n.invariant.at (omega arith)
+
+pub returns-clause-rising : goal.returns-clause-rising
+returns-clause-rising c = adds_rising _ _ _ _ _ _ _ c.requires.rising c.loop-n.invariant.adds.adds

@@ -1,0 +1,22 @@
+-- The cold run of a session, up to its limit.
+use Rattle.std.specs.Prelude.{ℕ, zero, suc}
+use Rattle.interaction_trees.specs.Dependence.{Step, Stop}
+use Rattle.bdos.specs.declared.cause.Cause.{Cause}
+use Rattle.bdos.specs.declared.cause.Cause.TheVariants.{Limit}
+use Rattle.machine.specs.Views.{Session, State}
+use Rattle.machine.specs.Machine.{Answers, ask, start, outcome}
+
+-- a run's last state, its count of steps and why it ended
+pub record Cold : Type 0 where
+  pub state : State
+  pub steps : ℕ
+  pub cause : Cause
+
+-- at most k more steps from the state after n; the limit is decided before every other stop
+abbrev pub cold_from : Answers → ℕ → ℕ → State → Cold
+cold_from f zero n st = record { state = st; steps = n; cause = Limit }
+cold_from f (suc k) n st = elim (outcome f st) [ Step next ↦ cold_from f k (suc n) next | Stop cause ↦ record { state = st; steps = n; cause = cause } ]
+
+-- the run of a session from its start
+unfoldable pub cold : Session → Cold
+cold s = cold_from (ask s) s.limit 0 start

@@ -1,0 +1,10 @@
+pub mod Fits
+pub mod Options
+pub mod Edits
+pub mod Cold
+pub mod FirstLooks
+pub mod Ring
+pub mod Touch
+pub mod RunnerView
+pub mod Lending
+pub mod Report

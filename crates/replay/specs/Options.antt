@@ -1,0 +1,23 @@
+-- The options of a runner.
+use Rattle.std.specs.Prelude.{◌≡◌, ℕ, ◌==◌, ◌||◌, nat_lt, if◌then◌else◌, Option, Some, None}
+use Rattle.replay.specs.declared.options.Options.{Options}
+use Rattle.replay.specs.declared.options.OptionsError.{OptionsError}
+use Rattle.replay.specs.declared.options.OptionsError.TheVariants.{Spacing, Slots, OutOfMemory}
+
+abbrev pub number_of : OptionsError → ℕ
+number_of Spacing = 1
+number_of Slots = 2
+number_of OutOfMemory = 3
+
+-- the refusal of options outside 1 to 1,000,000,000 steps and 1 to 4,096 slots; none for all others
+abbrev pub refusal_of : Options → Option ℕ
+refusal_of o =
+    if o.spacing == 0 || nat_lt 1000000000 o.spacing then Some 1
+    else if o.slots == 0 || nat_lt 4096 o.slots then Some 2
+    else None
+
+-- the refusal fits; want of memory is one of options that are within their ranges
+abbrev pub RefusedBy : Options → OptionsError → Type 0
+RefusedBy o Spacing = refusal_of o ≡ Some 1
+RefusedBy o Slots = refusal_of o ≡ Some 2
+RefusedBy o OutOfMemory = refusal_of o ≡ None

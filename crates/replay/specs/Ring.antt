@@ -1,0 +1,71 @@
+-- Checkpoints: which stand, and which a rerun may add.
+use Rattle.std.specs.Prelude.{◌≡◌, ℕ, ◌<◌, ◌≤◌, ◌%◌, List, [], ◌∷◌, ◌++◌, Some, ◌⊎◌, max, nat_le, if◌then◌else◌, length, take, map}
+use Rattle.circular_buffer.specs.Buffer.{Buffer, buffer, keep_last}
+use Rattle.machine.specs.Machine.{Answers, after}
+use Rattle.machine.specs.Part.{whole}
+use Rattle.replay.specs.declared.ring.Checkpoint.{Checkpoint}
+
+-- P holds of each
+abbrev pub Each : {X : Type 0} → (X → Type 0) → List X → Type 0
+Each P [] = Unit {0}
+Each P (x ∷ xs) = P x × Each P xs
+
+-- the steps, the oldest first
+abbrev pub steps : List Checkpoint → List ℕ
+steps ring = map (λ c. c.step) ring
+
+-- with some text of the length that is kept it is the state after its step, which is not the start
+pub record IsValid (f : Answers) (c : Checkpoint) : Type 0 where
+  pub later : 1 ≤ c.step
+  pub text : List ℕ
+  pub fits : length text ≡ c.state.length
+  pub state : after f c.step ≡ Some (whole c.state text)
+
+-- it is so with the beginning of this text
+pub record Stands (f : Answers) (text : List ℕ) (c : Checkpoint) : Type 0 where
+  pub later : 1 ≤ c.step
+  pub fits : c.state.length ≤ length text
+  pub state : after f c.step ≡ Some (whole c.state (take c.state.length text))
+
+-- the steps rise
+abbrev pub Rising : List Checkpoint → Type 0
+Rising [] = Unit {0}
+Rising (c ∷ cs) = Each (λ d. c.step < d.step) cs × Rising cs
+
+-- a step that a run from `from` reached, above all that was kept, and a multiple of the spacing or the last
+pub record IsDue (kept : List Checkpoint) (from upto last spacing step : ℕ) : Type 0 where
+  pub reached : (from < step) × (step ≤ upto)
+  pub above : Each (λ c. c.step < step) kept
+  pub marked : (step % spacing ≡ 0) ⊎ (step ≡ last)
+
+-- the new ring is the last `slots` of the old one and of some due checkpoints after it
+pub record Adds (old new : List Checkpoint) (slots from upto last spacing : ℕ) : Type 0 where
+  pub made : List Checkpoint
+  pub kept : new ≡ keep_last slots (old ++ made)
+  pub due : Each (λ c. IsDue old from upto last spacing c.step) made
+  pub rising : Rising made
+
+-- the ring is as it was, or has it too and not its oldest where it was full; that only above the newest
+abbrev pub Keeps : ℕ → Buffer Checkpoint → Buffer Checkpoint → Checkpoint → Type 0
+Keeps newest old new c = (new ≡ old) ⊎ ((newest < c.step) × (new ≡ buffer (keep_last old.capacity (old.items ++ c ∷ [])) old.capacity))
+
+-- one of them is at this step
+abbrev pub SomeStep : List Checkpoint → ℕ → Type 0
+SomeStep [] n = ⊥
+SomeStep (c ∷ cs) n = (c.step ≡ n) ⊎ SomeStep cs n
+
+abbrev pub HasCheckpoint : List Checkpoint → Checkpoint → Type 0
+HasCheckpoint [] c = ⊥
+HasCheckpoint (x ∷ xs) c = (x ≡ c) ⊎ HasCheckpoint xs c
+
+-- the checkpoints up to a step are left
+pub record KeptUpTo (touch : ℕ) (old new : List Checkpoint) : Type 0 where
+  pub gone : List Checkpoint
+  pub parts : old ≡ new ++ gone
+  pub left : Each (λ c. c.step ≤ touch) new
+  pub past : Each (λ c. touch < c.step) gone
+
+-- the greatest kept step that is not past the limit, else 0
+abbrev pub start_step : ℕ → List Checkpoint → ℕ
+start_step limit [] = 0
+start_step limit (c ∷ cs) = max (if nat_le c.step limit then c.step else 0) (start_step limit cs)

@@ -1,0 +1,90 @@
+-- What contracts see of a runner.
+use Rattle.std.specs.Prelude.{◌≡◌, ℕ, ◌<◌, ◌≤◌, ◌%◌, ◌⊎◌, List, [], ◌∷◌, ◌++◌, Some, max, nat_le, if◌then◌else◌, map, take}
+use Rattle.circular_buffer.specs.Buffer.{Buffer, keep_last}
+use Rattle.machine.specs.Views.{Session, State}
+use Rattle.machine.specs.Machine.{Answers, ask, after}
+use Rattle.machine.specs.Part.{whole}
+use Rattle.replay.specs.declared.ring.Checkpoint.{Checkpoint as KeptCheckpoint}
+use Rattle.replay.specs.FirstLooks.{Table, IsFirstLooks}
+use Rattle.replay.specs.Ring.{Each, Rising, Stands}
+use Rattle.replay.specs.Touch.{Untouched}
+
+-- a step that a run reached, and the state there
+pub record Checkpoint : Type 0 where
+  pub step : ℕ
+  pub state : State
+
+-- a session, options, and checkpoints, the oldest first
+pub record RunnerView : Type 0 where
+  pub session : Session
+  pub spacing : ℕ
+  pub slots : ℕ
+  pub checkpoints : List Checkpoint
+
+-- the options stay
+pub record SameOptions (old new : RunnerView) : Type 0 where
+  pub spacing : new.spacing ≡ old.spacing
+  pub slots : new.slots ≡ old.slots
+
+-- a checkpoint with its text, which is a beginning of this one
+abbrev pub seen_with : List ℕ → KeptCheckpoint → Checkpoint
+seen_with text c = record { step = c.step; state = whole c.state (take c.state.length text) }
+
+-- the steps of the checkpoints
+abbrev pub kept_steps : RunnerView → List ℕ
+kept_steps r = map (λ c. c.step) r.checkpoints
+
+-- each checkpoint is the state of the session after its step, which is not the start
+pub record IsAt (f : Answers) (c : Checkpoint) : Type 0 where
+  pub later : 1 ≤ c.step
+  pub state : after f c.step ≡ Some c.state
+
+abbrev pub AllStand : RunnerView → Type 0
+AllStand r = Each (IsAt (ask r.session)) r.checkpoints
+
+-- exactly the checkpoints up to the touch are left, in their order; all where there is no touch
+pub record KeepsUntouched (f g : Answers) (old new : List Checkpoint) : Type 0 where
+  pub gone : List Checkpoint
+  pub parts : old ≡ new ++ gone
+  pub untouched : Each (λ c. Untouched f g c.step) new
+  pub touched : Each (λ c. Untouched f g c.step → ⊥) gone
+
+-- a rising list of steps
+abbrev pub RisingSteps : List ℕ → Type 0
+RisingSteps [] = Unit {0}
+RisingSteps (k ∷ ks) = Each (λ j. k < j) ks × RisingSteps ks
+
+-- a step that a run from `from` reached, above all kept steps, and a multiple of the spacing or the last
+pub record IsDueStep (kept : List ℕ) (from upto last spacing step : ℕ) : Type 0 where
+  pub reached : (from < step) × (step ≤ upto)
+  pub above : Each (λ k. k < step) kept
+  pub marked : (step % spacing ≡ 0) ⊎ (step ≡ last)
+
+-- the new steps are the last `slots` of the old ones followed by a rising list of due steps
+pub record AddsSteps (old new : List ℕ) (slots from upto spacing : ℕ) : Type 0 where
+  pub made : List ℕ
+  pub kept : new ≡ keep_last slots (old ++ made)
+  pub due : Each (IsDueStep old from upto upto spacing) made
+  pub rising : RisingSteps made
+
+-- the greatest of the steps that is not past the limit, else 0
+abbrev pub start_of : ℕ → List ℕ → ℕ
+start_of limit [] = 0
+start_of limit (k ∷ ks) = max (if nat_le k limit then k else 0) (start_of limit ks)
+
+-- where a rerun begins
+abbrev pub rerun_start : RunnerView → ℕ
+rerun_start r = start_of r.session.limit (kept_steps r)
+
+-- the checkpoints after a rerun that reached this step, or was to reach it
+abbrev pub Reran : RunnerView → RunnerView → ℕ → Type 0
+Reran old new upto = AddsSteps (kept_steps old) (kept_steps new) old.slots (rerun_start old) upto old.spacing
+
+-- what always holds of a runner's parts
+pub record IsSound (s : Session) (text : List ℕ) (spacing : ℕ) (ring : Buffer KeptCheckpoint) (table : Table) : Type 0 where
+  pub stands : Each (Stands (ask s) text) ring.items
+  pub rising : Rising ring.items
+  pub below : Each (λ c. c.step ≤ table.seen) ring.items
+  pub noted : IsFirstLooks (ask s) table
+  pub spacing_in : (0 < spacing) × (spacing ≤ 1000000000)
+  pub seen_in : table.seen ≤ 4000000000

@@ -1,0 +1,96 @@
+// The ring of checkpoints.
+
+ghost use Rattle.std.specs.Prelude.{◌≡◌, ℕ, ◌+◌, ◌*◌, ◌/◌, ◌%◌, ◌<◌, ◌≤◌, ◌⊎◌, IfNone, IfSome, max};
+ghost use Rattle.machine.specs.Part.{part_of};
+ghost use Rattle.replay.specs.Ring.{Each, Rising, Keeps, KeptUpTo, SomeStep, HasCheckpoint, start_step};
+
+use circular_buffer::HeapCircularBuffer;
+use machine::{Kept, State};
+
+/// A step that a run reached, and what is kept of the state there.
+#[derive(Drop)]
+pub struct Checkpoint {
+    pub step: u64,
+    pub state: Kept,
+}
+
+/// The next step at which a checkpoint is due, or the limit.
+pub fn due_after(n: u64, spacing: u64, limit: u64) -> u64
+    requires { (n < limit) × (limit ≤ 4000000000) × (0 < spacing) × (spacing ≤ 1000000000) }
+    ensures later { (n < result) × (result ≤ limit) }
+    ensures marked { (result % spacing ≡ 0) ⊎ (result ≡ limit) }
+    ensures next { result ≤ (n / spacing + 1) * spacing }
+{
+    let next = (n / spacing + 1) * spacing;
+    if next < limit { next } else { limit }
+}
+
+/// The greatest kept step, or 0.
+pub fn newest_step(ring: &HeapCircularBuffer<Checkpoint>) -> u64
+    requires { Rising ring.now.items }
+    ensures greatest { Each (λ c. c.step ≤ result) ring.now.items }
+    ensures there { (result ≡ 0) ⊎ SomeStep ring.now.items result }
+{
+    match ring.back() {
+        Some(checkpoint) => checkpoint.step,
+        None => 0,
+    }
+}
+
+/// The checkpoint of the greatest kept step that is not past the limit.
+pub fn latest_within(ring: &HeapCircularBuffer<Checkpoint>, limit: u64) -> Option<&Checkpoint>
+    requires { Rising ring.now.items }
+    ensures none { IfNone result (start_step limit ring.now.items ≡ 0) }
+    ensures some { IfSome result (λ c. (c.now.step ≡ start_step limit ring.now.items) × HasCheckpoint ring.now.items c.now) }
+{
+    let mut left = ring.len();
+    while left > 0 {
+        if let Some(checkpoint) = ring.get(left - 1) {
+            if checkpoint.step <= limit {
+                return Some(checkpoint);
+            }
+        }
+        left -= 1;
+    }
+    None
+}
+
+/// Keeps a checkpoint above the newest, unless a step before it is past what was seen, or memory is refused. Answers the
+/// newest step then.
+pub fn keep_above(
+    ring: &mut HeapCircularBuffer<Checkpoint>,
+    newest: u64,
+    step: u64,
+    seen: u64,
+    state: &mut State,
+) -> u64
+    ensures newest { result ≡ max newest step }
+    ensures seen { seen < step → ring.new ≡ ring.old }
+    ensures ring { Keeps newest ring.old ring.new (record { step = step; state = part_of state.old.state }) }
+    ensures state { state.new ≡ state.old }
+{
+    if step <= newest {
+        return newest;
+    }
+    if seen < step {
+        return step;
+    }
+    if let Ok(kept) = state.keep() {
+        let _ = ring.push_back(Checkpoint { step, state: kept });
+    }
+    step
+}
+
+/// Drops the checkpoints past the step `touch`.
+pub fn keep_up_to(ring: &mut HeapCircularBuffer<Checkpoint>, touch: u64)
+    requires { Rising ring.old.items }
+    ensures parts { KeptUpTo touch ring.old.items ring.new.items }
+    ensures capacity { ring.new.capacity ≡ ring.old.capacity }
+{
+    while let Some(checkpoint) = ring.back() {
+        if checkpoint.step <= touch {
+            return;
+        }
+        let _ = ring.pop_back();
+    }
+}

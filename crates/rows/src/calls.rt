@@ -1,0 +1,77 @@
+// The console and the calls, over a plain memory.
+
+use crate::fixtures::{WARM_BOOT, blank};
+use bdos::Cause::{NoDollar, Unsupported, WarmBoot};
+use bdos::{Desk, Served, call};
+use i8080::bus::Bus;
+use i8080::registers::Regs;
+use std::test::Fail;
+
+#[test]
+fn a_tab_fills_eight_columns(rt: HostRuntime) -> Result<(), Fail> {
+    let mut desk = Desk::new(rt.alloc());
+    for byte in b"a\tb" {
+        desk.print(*byte)?;
+    }
+    assert_eq!(rt; desk.text(), b"a       b".as_slice());
+    let copy = desk.snapshot()?;
+    desk.print(b'c')?;
+    assert_eq!(rt; copy.text(), b"a       b".as_slice());
+    assert_eq!(rt; desk.text(), b"a       bc".as_slice());
+    Ok(())
+}
+
+// A call with `x` in E, a string at 0278H, and its return address in the last cell and the first.
+const CALLING: Regs = Regs {
+    d: 0x02,
+    e: 0x78,
+    h: 7,
+    sp: 0xffff,
+    ..WARM_BOOT
+};
+
+const RETURNED: Regs = Regs {
+    h: 0,
+    sp: 1,
+    pc: 0x0345,
+    ..CALLING
+};
+
+const CELLS: [(u16, u8); 5] = [
+    (0xffff, 0x45),
+    (0x0000, 0x03),
+    (0x0278, b'a'),
+    (0x0279, b'\t'),
+    (0x027a, b'b'),
+];
+
+// Each row is a call's number, the byte behind the string, the stop if there is one, and all that was printed so far.
+#[test]
+fn calls_print_and_return_or_stop(rt: HostRuntime) -> Result<(), Fail> {
+    let mut memory = blank(rt.alloc())?;
+    for (at, byte) in CELLS {
+        memory.write(at, byte);
+    }
+    let mut desk = Desk::new(rt.alloc());
+    for (number, end, stop, text) in [
+        (2, b'$', None, &b"x"[..]),
+        (9, b'$', None, b"xa      b"),
+        (9, 0, Some(NoDollar), b"xa      b"),
+        (0, b'$', Some(WarmBoot), b"xa      b"),
+        (200, b'$', Some(Unsupported(200)), b"xa      b"),
+    ] {
+        memory.write(0x027b, end);
+        let (served, mut wanted) = match stop {
+            None => (Served::Went, RETURNED),
+            Some(cause) => (Served::Stop(cause), CALLING),
+        };
+        wanted.c = number;
+        let mut regs = CALLING;
+        regs.c = number;
+        let answer = call(&mut regs, &mut memory, &mut desk, &[])?;
+        assert_eq!(rt; answer, served, "call {number}");
+        assert_eq!(rt; regs, wanted, "call {number}");
+        assert_eq!(rt; desk.text(), text, "call {number}");
+    }
+    Ok(())
+}

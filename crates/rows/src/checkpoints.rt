@@ -1,0 +1,348 @@
+// Which checkpoints stand after edits and runs, and how many steps each run carries out.
+
+ghost use Rattle.std.specs.Prelude.{vec_len};
+
+use self::Act::{Cell, Drop, Limit, Poke, Run};
+use crate::fixtures::{HI, WARM_BOOT, number_of, rerun, runner_of, runner_with};
+use machine::{Bytes, Cause, Meter, Regs};
+use replay::{Edit, Options, Runner};
+use std::alloc::{AllocError, Global};
+use std::process::Abort;
+use std::test::Fail;
+
+// What is done to a runner.
+#[derive(Clone, Copy, Debug)]
+enum Act<'a> {
+    // It runs: so many steps are carried out, it ends so, after so many steps, and this was printed.
+    Run(u64, Cause, u64, &'a [u8]),
+    // It runs, carries out no step, and this cell has this byte.
+    Cell(u16, u8),
+    Poke(u16, u8),
+    Limit(u64),
+    Drop(usize),
+}
+
+const WARM: Cause = Cause::WarmBoot;
+
+const USUAL: Options = Options {
+    spacing: 4,
+    slots: 64,
+};
+
+const MILLION: u64 = 1_000_000;
+
+// Stores 5 over its own byte, and loads it from there.
+const OVERWRITES: [u8; 11] = [
+    0x3e, 0x05, 0x32, 0x0a, 0x01, 0x3a, 0x0a, 0x01, 0xc9, 0x00, 0x77,
+];
+
+// Prints `a` and `b`, each by call 2.
+const TWO_BYTES: [u8; 13] = [
+    0x1e, 0x61, 0x0e, 0x02, 0xcd, 0x05, 0x00, 0x1e, 0x62, 0xcd, 0x05, 0x00, 0xc9,
+];
+
+// Writes HLT into its own way.
+const HALTS: [u8; 7] = [0x3e, 0x76, 0x32, 0x06, 0x01, 0x00, 0x00];
+
+const ONE_MORE: [u8; 13] = [
+    0x0e, 0x09, 0x11, 0x09, 0x01, 0xcd, 0x05, 0x00, 0xc9, 0x48, 0x69, 0x24, 0x00,
+];
+
+// Runs, and compares how many steps were carried out, how it ended, and what was printed.
+fn run(
+    rt: &impl Abort,
+    alloc: Global,
+    runner: &mut Runner,
+    wanted: (u64, Cause, u64, &[u8]),
+) -> Result<(), AllocError> {
+    let (added, cause, steps, text) = wanted;
+    let mut meter = Meter::new();
+    let report = runner.rerun(alloc, &mut meter)?;
+    assert_eq!(rt; (report.cause(), report.steps()), (cause, steps));
+    assert_eq!(rt; report.text(), text);
+    assert_eq!(rt; meter.count(), added);
+    Ok(())
+}
+
+fn carry_out(
+    rt: &impl Abort,
+    alloc: Global,
+    runner: &mut Runner,
+    act: Act<'_>,
+) -> Result<(), AllocError> {
+    match act {
+        Run(added, cause, steps, text) => run(rt, alloc, runner, (added, cause, steps, text))?,
+        Cell(at, byte) => {
+            let mut meter = Meter::new();
+            let report = runner.rerun(alloc, &mut meter)?;
+            assert_eq!(rt; (report.cell(at), meter.count()), (byte, 0));
+        }
+        Poke(at, byte) => {
+            let edit = Edit::Poke(at, Bytes::new(vec![in alloc; byte; 1]?));
+            assert_eq!(rt; number_of(runner.edit(edit)), 0);
+        }
+        Limit(limit) => assert_eq!(rt; number_of(runner.edit(Edit::SetLimit(limit))), 0),
+        Drop(count) => runner.drop_oldest(count),
+    }
+    Ok(())
+}
+
+// Each row is what is done, and which checkpoints stand then.
+fn acts(
+    rt: &impl Abort,
+    alloc: Global,
+    program: &[u8],
+    options: Options,
+    rows: &[(Act<'_>, &[u64])],
+) -> Result<(), Fail> {
+    let mut runner = runner_with(alloc, program, MILLION, options)?;
+    for (done, kept) in rows {
+        carry_out(rt, alloc, &mut runner, *done)?;
+        for i in 0..kept.len() {
+            assert_eq!(rt; runner.kept(i), Some(kept[i]), "after {done:?}");
+        }
+        assert_eq!(rt; runner.kept(kept.len()), None, "after {done:?}");
+    }
+    Ok(())
+}
+
+#[test]
+fn an_edit_keeps_what_it_does_not_touch(rt: HostRuntime) -> Result<(), Fail> {
+    let first = (Run(7, WARM, 7, b"Hi"), &[4, 7][..]);
+    acts(
+        &rt,
+        rt.alloc(),
+        &HI,
+        USUAL,
+        &[
+            first,
+            (Poke(0x010a, 0x6f), &[4]),
+            (Run(3, WARM, 7, b"Ho"), &[4, 7]),
+            (Poke(0x010a, 0x69), &[4]),
+            (Run(3, WARM, 7, b"Hi"), &[4, 7]),
+        ],
+    )?;
+    acts(
+        &rt,
+        rt.alloc(),
+        &HI,
+        USUAL,
+        &[
+            first,
+            (Poke(0x010b, 0x21), &[4]),
+            (Run(0, Cause::NoDollar, 4, b""), &[4]),
+        ],
+    )?;
+    acts(
+        &rt,
+        rt.alloc(),
+        &HI,
+        USUAL,
+        &[
+            first,
+            (Poke(0x010a, 0x6f), &[4]),
+            (Poke(0x0101, 0x02), &[]),
+            (Run(7, WARM, 7, b"        "), &[4, 7]),
+        ],
+    )?;
+    acts(
+        &rt,
+        rt.alloc(),
+        &TWO_BYTES,
+        USUAL,
+        &[
+            (Run(11, WARM, 11, b"ab"), &[4, 8, 11]),
+            (Limit(6), &[4, 8, 11]),
+            (Run(2, Cause::Limit, 6, b"a"), &[4, 8, 11]),
+            (Limit(100), &[4, 8, 11]),
+            (Run(0, WARM, 11, b"ab"), &[4, 8, 11]),
+            (Poke(0x0108, 0x63), &[4]),
+            (Run(7, WARM, 11, b"ac"), &[4, 8, 11]),
+        ],
+    )
+}
+
+#[test]
+fn what_no_step_looks_at_touches_nothing(rt: HostRuntime) -> Result<(), Fail> {
+    acts(
+        &rt,
+        rt.alloc(),
+        &OVERWRITES,
+        USUAL,
+        &[
+            (Run(5, WARM, 5, b""), &[4, 5]),
+            (Poke(0x010a, 0x88), &[4, 5]),
+            (Cell(0x010a, 0x05), &[4, 5]),
+        ],
+    )?;
+    acts(
+        &rt,
+        rt.alloc(),
+        &ONE_MORE,
+        USUAL,
+        &[
+            (Run(7, WARM, 7, b"Hi"), &[4, 7]),
+            (Poke(0x010c, 0x55), &[4, 7]),
+            (Cell(0x010c, 0x55), &[4, 7]),
+        ],
+    )?;
+    acts(
+        &rt,
+        rt.alloc(),
+        &HALTS,
+        USUAL,
+        &[
+            (Run(3, Cause::Halt, 3, b""), &[3]),
+            (Poke(0x0106, 0xc9), &[3]),
+            (Run(0, Cause::Halt, 3, b""), &[3]),
+        ],
+    )
+}
+
+#[test]
+fn a_limit_touches_nothing(rt: HostRuntime) -> Result<(), Fail> {
+    acts(
+        &rt,
+        rt.alloc(),
+        &HI,
+        USUAL,
+        &[
+            (Limit(0), &[]),
+            (Run(0, Cause::Limit, 0, b""), &[]),
+            (Limit(7), &[]),
+            (Run(7, Cause::Limit, 7, b"Hi"), &[4, 7]),
+            (Limit(8), &[4, 7]),
+            (Run(0, WARM, 7, b"Hi"), &[4, 7]),
+        ],
+    )?;
+    acts(
+        &rt,
+        rt.alloc(),
+        &HI,
+        USUAL,
+        &[
+            (Run(7, WARM, 7, b"Hi"), &[4, 7]),
+            (Limit(5), &[4, 7]),
+            (Run(1, Cause::Limit, 5, b"Hi"), &[4, 7]),
+            (Limit(100), &[4, 7]),
+            (Run(0, WARM, 7, b"Hi"), &[4, 7]),
+        ],
+    )
+}
+
+#[test]
+fn a_full_ring_drops_its_oldest(rt: HostRuntime) -> Result<(), Fail> {
+    let one = Options {
+        spacing: 4,
+        slots: 1,
+    };
+    acts(
+        &rt,
+        rt.alloc(),
+        &HI,
+        one,
+        &[
+            (Run(7, WARM, 7, b"Hi"), &[7]),
+            (Poke(0x010a, 0x6f), &[]),
+            (Run(7, WARM, 7, b"Ho"), &[7]),
+            (Drop(1), &[]),
+            (Run(7, WARM, 7, b"Ho"), &[7]),
+        ],
+    )?;
+    acts(
+        &rt,
+        rt.alloc(),
+        &HI,
+        one,
+        &[
+            (Limit(5), &[]),
+            (Run(5, Cause::Limit, 5, b"Hi"), &[5]),
+            (Limit(100), &[5]),
+            (Run(2, WARM, 7, b"Hi"), &[7]),
+        ],
+    )?;
+    let three = Options {
+        spacing: 1,
+        slots: 3,
+    };
+    acts(
+        &rt,
+        rt.alloc(),
+        &HI,
+        three,
+        &[
+            (Run(7, WARM, 7, b"Hi"), &[5, 6, 7]),
+            (Limit(6), &[5, 6, 7]),
+            (Run(0, Cause::Limit, 6, b"Hi"), &[5, 6, 7]),
+            (Limit(100), &[5, 6, 7]),
+            (Drop(2), &[7]),
+            (Poke(0x010a, 0x6f), &[]),
+            (Run(7, WARM, 7, b"Ho"), &[5, 6, 7]),
+        ],
+    )
+}
+
+// Each program is run, poked at one byte and run again, and has these registers then.
+#[test]
+fn registers_are_those_of_the_edited_session(rt: HostRuntime) -> Result<(), Fail> {
+    let stored = Regs { a: 5, ..WARM_BOOT };
+    let halted = Regs {
+        a: 0x76,
+        sp: 0xfdfe,
+        pc: 0x0106,
+        ..WARM_BOOT
+    };
+    let blanks = Regs {
+        c: 2,
+        d: 1,
+        e: 9,
+        ..WARM_BOOT
+    };
+    for (program, at, byte, first, then, regs) in [
+        (&OVERWRITES[..], 0x010a, 0x88, &b""[..], &b""[..], stored),
+        (&HALTS[..], 0x0106, 0xc9, b"", b"", halted),
+        (&HI[..], 0x0101, 0x02, b"Hi", b"        ", blanks),
+    ] {
+        let mut runner = runner_of(rt.alloc(), program, MILLION)?;
+        let _ = rerun(&rt, rt.alloc(), &mut runner, first)?;
+        carry_out(&rt, rt.alloc(), &mut runner, Poke(at, byte))?;
+        let run = rerun(&rt, rt.alloc(), &mut runner, then)?;
+        assert_eq!(rt; run.regs, regs);
+    }
+    Ok(())
+}
+
+// Whether exactly the multiples of the spacing and the last step are kept.
+fn keeps_due_steps(runner: &Runner, spacing: u64, last: u64) -> bool {
+    let mut index = 0usize;
+    for step in 1..=last {
+        if step == last || spacing > 0 && step % spacing == 0 {
+            if runner.kept(index) != Some(step) {
+                return false;
+            }
+            index = index.wrapping_add(1);
+        }
+    }
+    runner.kept(index).is_none()
+}
+
+#[test]
+fn each_due_step_is_kept(rt: HostRuntime) -> Result<(), Fail> {
+    for (program, last, cause, text) in [
+        (&HI[..], 7, WARM, &b"Hi"[..]),
+        (&OVERWRITES[..], 5, WARM, b""),
+        (&TWO_BYTES[..], 11, WARM, b"ab"),
+        (&ONE_MORE[..], 7, WARM, b"Hi"),
+        (&HALTS[..], 3, Cause::Halt, b""),
+    ] {
+        for spacing in 1..=12 {
+            let options = Options { spacing, slots: 64 };
+            let mut runner = runner_with(rt.alloc(), program, MILLION, options)?;
+            run(&rt, rt.alloc(), &mut runner, (last, cause, last, text))?;
+            assert!(rt; keeps_due_steps(&runner, spacing, last), "{spacing}");
+            run(&rt, rt.alloc(), &mut runner, (0, cause, last, text))?;
+            assert!(rt; keeps_due_steps(&runner, spacing, last), "{spacing}");
+        }
+    }
+    Ok(())
+}

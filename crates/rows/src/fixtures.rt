@@ -1,0 +1,102 @@
+// What the tests begin with.
+
+ghost use Rattle.std.specs.Prelude.{◌≡◌, vec_len, IfOk};
+
+use i8080::flags::Flags;
+use machine::{Cause, Meter, Regs, Session};
+use pagemem::PlainMemory;
+use replay::{EditError, Options, Runner};
+use std::alloc::{AllocError, Global};
+use std::process::Abort;
+use std::test::Fail;
+
+/// A program that prints `Hi` by call 9 and returns.
+pub const HI: [u8; 12] = [
+    0x0e, 0x09, 0x11, 0x09, 0x01, 0xcd, 0x05, 0x00, 0xc9, 0x48, 0x69, 0x24,
+];
+
+/// The loaded registers after a return that led to the warm start.
+pub const WARM_BOOT: Regs = Regs {
+    a: 0,
+    b: 0,
+    c: 0,
+    d: 0,
+    e: 0,
+    h: 0,
+    l: 0,
+    sp: 0xfe00,
+    pc: 0xff03,
+    flags: Flags {
+        s: false,
+        z: false,
+        ac: false,
+        p: false,
+        cy: false,
+    },
+};
+
+/// So many zeros.
+pub fn zeros(alloc: Global, count: usize) -> Result<Vec<u8>, AllocError>
+    ensures { IfOk result (λ v. vec_len v ≡ count) }
+{
+    Ok(vec![in alloc; 0; count]?)
+}
+
+/// A plain memory of zeros.
+pub fn blank(alloc: Global) -> Result<PlainMemory, AllocError> {
+    Ok(PlainMemory::new(zeros(alloc, 65_536)?))
+}
+
+/// A runner of a program without a script, with a checkpoint each four steps.
+pub fn runner_of(alloc: Global, program: &[u8], limit: u64) -> Result<Runner, Fail> {
+    let options = Options {
+        spacing: 4,
+        slots: 64,
+    };
+    runner_with(alloc, program, limit, options)
+}
+
+/// A runner of a program without a script.
+pub fn runner_with(
+    alloc: Global,
+    program: &[u8],
+    limit: u64,
+    options: Options,
+) -> Result<Runner, Fail> {
+    let session = Session::new(program.to_vec(alloc)?, Vec::new(alloc), limit)?;
+    Ok(Runner::new(alloc, session, options)?)
+}
+
+/// The number of a refusal; 0 where the edit was carried out.
+pub fn number_of(answer: Result<(), EditError>) -> u8 {
+    match answer {
+        Ok(()) => 0,
+        Err(error) => error.number(),
+    }
+}
+
+/// How a run ended.
+#[derive(Clone, Copy, Debug, PartialEq, Eq)]
+pub struct Ended {
+    pub cause: Cause,
+    pub steps: u64,
+    pub regs: Regs,
+}
+
+/// Runs a session again, and compares the text that it printed. No more steps are carried out than a cold run takes.
+pub fn rerun(
+    rt: &impl Abort,
+    alloc: Global,
+    runner: &mut Runner,
+    text: &[u8],
+) -> Result<Ended, AllocError> {
+    let mut meter = Meter::new();
+    let report = runner.rerun(alloc, &mut meter)?;
+    assert_eq!(rt; report.text(), text);
+    assert!(rt; meter.count() <= report.steps());
+    Ok(Ended {
+        cause: report.cause(),
+        steps: report.steps(),
+        regs: report.regs(),
+    })
+}
