@@ -54,7 +54,7 @@ impl State {
         ensures same { self.new ≡ self.old }
     {
         self.overlay.share()?;
-        let cells = self.overlay.cells.snapshot()?;
+        let cells = self.overlay.copied_cells()?;
         Ok(Kept {
             regs: self.regs,
             cells,

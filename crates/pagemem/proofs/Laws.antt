@@ -1,7 +1,7 @@
 -- Writes and looks, by address.
 use Rattle.std.proofs.lemmas.Bool.{eq-eqb}
 use Rattle.std.proofs.Math.Dec.{eqb}
-use Rattle.std.proofs.Common.{IsTrue, ◌≡◌, ◌≢◌, ℕ, ◌<◌, ◌+◌, ◌*◌, ◌/◌, ◌%◌, ◌^◌, Bool, true, false, cond, ◌==◌, ◌&&◌, ◌||◌, not, List, length, get_or, set, Option, Some, None, unwrap_or, is_some, refl, sym, ◌∙◌, ap, subst, arith, slice_set, ◌++◌, ◌∷◌, [], replicate, zero, suc, inl, inr, get_or-set_same, get_or-set_other}
+use Rattle.std.proofs.Common.{IsTrue, ◌≡◌, ◌≢◌, ℕ, ◌<◌, ◌+◌, ◌/◌, ◌%◌, Bool, true, false, cond, ◌==◌, List, length, get_or, set, Option, Some, None, is_some, refl, sym, ◌∙◌, ap, subst, arith, slice_set, ◌++◌, ◌∷◌, [], replicate, zero, suc, inl, inr, get_or-set_same, get_or-set_other}
 use Rattle.std.proofs.Math.Path.{fun_ext}
 use native.Mathlib.Numerals.{unary_clauses}
 use Rattle.std.proofs.Common.{add-one}
@@ -13,7 +13,7 @@ use Rattle.pagemem.specs.Plain.{plain_own}
 use Rattle.pagemem.specs.Pages.{SameOwn, is_owned, ready_at, page_own, slot_own, own_at}
 use Rattle.pagemem.specs.declared.page.Page.{Page}
 use Rattle.pagemem.specs.declared.page.Slot.{Slot}
-use Rattle.pagemem.specs.declared.page.Slot.TheVariants.{Empty, Owned, Shared}
+use Rattle.pagemem.specs.declared.page.Slot.TheVariants.{Empty}
 
 -- what stands at a place after a write
 pub set_read : {X : Type 0} (xs : List X) (a : ℕ) (v d : X) → a < length xs → (q : ℕ) → get_or (set xs a v) q d ≡ cond (q == a) v (get_or xs q d)

@@ -1,7 +1,7 @@
 -- Marks of cells and the order in which they were set, as a cell is added and taken away.
-use Rattle.std.proofs.Common.{inl, inr, ◌≡◌, ◌≢◌, ℕ, zero, suc, ◌+◌, ◌-◌, ◌<◌, ◌≤◌, Bool, true, false, cond, ◌||◌, List, [], ◌∷◌, ◌++◌, length, get_or, set, take, count_by, refl, sym, ◌∙◌, ap, subst, arith, replicate, eqb, add-one, length-set, get_or-set_same, get_or-set_other, slice_index, slice_set}
+use Rattle.std.proofs.Common.{inl, inr, ◌≡◌, ◌≢◌, ℕ, zero, suc, ◌+◌, ◌-◌, ◌<◌, Bool, true, false, cond, ◌||◌, List, [], ◌∷◌, ◌++◌, length, get_or, set, take, count_by, refl, sym, ◌∙◌, ap, arith, replicate, eqb, length-set, get_or-set_same, get_or-set_other, slice_index}
 use Rattle.std.proofs.lemmas.Bool.Decides.{eqb_tells}
-use Rattle.std.proofs.lemmas.List.{take_more_set, take_more, take-set-le, append-nil}
+use Rattle.std.proofs.lemmas.List.{take_more_set, take_more, take-set-le}
 use Rattle.std.proofs.lemmas.List.Sums.{sum_by-set, count_by-le-length}
 use Rattle.i8080.specs.Memory.{is_among}
 use Rattle.pagemem.specs.Listing.{Lists}

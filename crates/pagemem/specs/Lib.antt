@@ -1,4 +1,5 @@
 pub mod Plain
+pub mod Settled
 pub mod Image
 pub mod ImageView
 pub mod Pages

@@ -1,5 +1,5 @@
 -- Marks of cells, and the order in which they were set.
-use Rattle.std.specs.Prelude.{◌≡◌, ℕ, ◌<◌, ◌≤◌, Bool, false, List, length, take, get_or, slice_index, count_by}
+use Rattle.std.specs.Prelude.{◌≡◌, ℕ, ◌<◌, Bool, false, List, length, take, get_or, slice_index, count_by}
 use Rattle.i8080.specs.Memory.{is_among}
 
 -- the first `count` of the order are the marked cells, each once

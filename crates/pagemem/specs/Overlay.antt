@@ -1,5 +1,5 @@
 -- What is seen of an overlay.
-use Rattle.std.specs.Prelude.{ℕ, Bool, List}
+use Rattle.std.specs.Prelude.{ℕ, Bool}
 use Rattle.i8080.specs.Memory.{Own, Looks}
 use Rattle.pagemem.specs.declared.overlay.Overlay.{Overlay}
 use Rattle.pagemem.specs.Cells.{own_in, is_ready_in}

@@ -7,6 +7,7 @@ pub mod looks;
 pub mod overlay;
 pub mod page;
 pub mod plain;
+pub mod settled;
 pub mod view;
 
 pub use cells::Cells;

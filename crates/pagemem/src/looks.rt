@@ -106,11 +106,11 @@ impl Looks {
 }
 
 // How many cells there are.
-const CELLS: usize = 65_536;
+pub(crate) const CELLS: usize = 65_536;
 
 // Marks that are not set.
 #[tactic(auto, using(crate::proofs::ListingLemmas::none_marked, crate::proofs::ListingLemmas::none_counted))]
-fn blank_marks(alloc: Global, count: usize) -> Result<Vec<bool>, AllocError>
+pub(crate) fn blank_marks(alloc: Global, count: usize) -> Result<Vec<bool>, AllocError>
     ensures len { IfOk result (λ v. vec_len v ≡ count) }
     ensures none { IfOk result (λ v. (q : ℕ) → get_or v.items q false ≡ false) }
     ensures counted { IfOk result (λ v. count_by (λ b. b) v.items ≡ 0) }

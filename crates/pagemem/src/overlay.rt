@@ -2,21 +2,25 @@
 
 ghost use Rattle.std.specs.Prelude.{◌≡◌, false, ◌<◌, ◌∷◌, ◌++◌, [], ℕ, IsTrue, IfOk, OnOk, IfNone, IfSome, None, length, slice_index};
 ghost use Rattle.i8080.specs.Memory.{bytes, look, write, is_among, over};
+ghost use Rattle.pagemem.specs.Cells.{own_in, is_ready_in};
+ghost use Rattle.pagemem.specs.Settled.{is_settled, Rests};
 
 use crate::cells::Cells;
 use crate::image::Image;
 use crate::looks::Looks;
+use crate::settled::Settled;
 use std::alloc::{AllocError, Global};
 
 /// What a run wrote, and beside it the cells that it looked at.
 #[derive(Drop)]
 pub struct Overlay {
-    pub cells: Cells,
+    cells: Cells,
     looks: Looks,
+    settled: Settled,
+    ghost rests: { (q : ℕ) → IsTrue (is_settled settled q) → Rests (own_in cells) (is_ready_in cells) looks q },
 }
 
 impl Overlay {
-    ghost use Rattle.pagemem.specs.Cells.{own_in};
     ghost use Rattle.pagemem.specs.ImageView.{cells_of};
     ghost use Rattle.pagemem.specs.Overlay.{own_of, looks_of, is_ready_at};
 
@@ -35,15 +39,31 @@ impl Overlay {
         ensures looks { IfOk result (λ o. looks_of o ≡ []) }
     {
         let looks = Looks::new(alloc)?;
-        Ok(Overlay { cells, looks })
+        let settled = Settled::new(alloc)?;
+        Ok(Overlay {
+            cells,
+            looks,
+            settled,
+        })
     }
 
     /// What was written, moved out.
     pub fn into_cells(self) -> Cells
         ensures { own_in result ≡ own_of self }
     {
-        let Overlay { cells, looks: _ } = self;
+        let Overlay {
+            cells,
+            looks: _,
+            settled: _,
+        } = self;
         cells
+    }
+
+    /// A copy of what was written. A shared page has one owner more, an owned one is copied.
+    pub fn copied_cells(&self) -> Result<Cells, AllocError>
+        ensures { IfOk result (λ c. own_in c ≡ own_of self.now) }
+    {
+        self.cells.snapshot()
     }
 
     /// Makes a cell ready to be read and written. No byte and no look changes, and at `Err` nothing does.
@@ -54,6 +74,9 @@ impl Overlay {
         ensures own { own_of self.new ≡ own_of self.old }
         ensures looks { looks_of self.new ≡ looks_of self.old }
     {
+        if self.settled.contains(a) {
+            return Ok(());
+        }
         self.cells.ready(a)
     }
 
@@ -80,10 +103,14 @@ impl Overlay {
         ensures own { own_of self.new ≡ own_of self.old }
         ensures looks { looks_of self.new ≡ look (own_of self.old) (looks_of self.old) a }
     {
+        if self.settled.contains(a) {
+            return image.at(a);
+        }
         match self.cells.ready_byte(a) {
             Some(value) => value,
             None => {
                 self.looks.add(a);
+                self.settled.add(a);
                 image.at(a)
             }
         }
@@ -98,6 +125,7 @@ impl Overlay {
         ensures looks { looks_of self.new ≡ looks_of self.old }
     {
         self.cells.write(a, value);
+        self.settled.remove(a);
     }
 
     /// How many cells were looked at.
@@ -122,7 +150,9 @@ impl Overlay {
         ensures some { IfSome result (λ a. looks_of self.old ≡ looks_of self.new ++ a ∷ []) }
         ensures own { own_of self.new ≡ own_of self.old }
     {
-        self.looks.take()
+        let last = self.looks.take()?;
+        self.settled.remove(last);
+        Some(last)
     }
 
     /// Makes the owned pages shared, so that a snapshot costs a reference for each. Nothing that was written or looked at
@@ -132,6 +162,7 @@ impl Overlay {
         ensures own { own_of self.new ≡ own_of self.old }
         ensures looks { looks_of self.new ≡ looks_of self.old }
     {
+        self.settled.clear();
         self.cells.share()
     }
 
@@ -142,6 +173,11 @@ impl Overlay {
     {
         let cells = self.cells.snapshot()?;
         let looks = self.looks.snapshot()?;
-        Ok(Overlay { cells, looks })
+        let settled = self.settled.cleared()?;
+        Ok(Overlay {
+            cells,
+            looks,
+            settled,
+        })
     }
 }

@@ -1,5 +1,4 @@
-use Rattle.std.proofs.Common.{arith, sym, ◌∙◌, ap, ◌≡◌, ◌<◌, ◌++◌, ◌∷◌, [], List, ℕ, get_or, false, cond, take, is_some}
-use Rattle.i8080.specs.Memory.{is_among}
+use Rattle.std.proofs.Common.{arith, sym, ◌∙◌, ap, ◌≡◌, ◌<◌, ◌++◌, ◌∷◌, [], get_or, false, cond, take}
 use Rattle.pagemem.proofs.ListingLemmas.{fits, added, lists_added}
 use Rattle.pagemem.proofs.looks.Looks.add.Goals as goal
 

@@ -1,0 +1,59 @@
+-- Settled cells stay at rest as a cell is settled or taken out.
+use Rattle.std.proofs.Common.{inl, inr, ◌≡◌, ℕ, Bool, true, false, cond, ◌||◌, ◌++◌, ◌∷◌, [], IsTrue, None, refl, sym, ◌∙◌, ap, subst, eqb}
+use Rattle.std.proofs.lemmas.Bool.Decides.{eqb_tells}
+use Rattle.i8080.specs.Memory.{Own, Looks, look, write, is_among}
+use Rattle.pagemem.specs.Settled.{Rests}
+use Rattle.pagemem.proofs.ListingLemmas.{is_among-append}
+
+-- a cell at rest is not looked at again
+pub look_at_rest : (own : Own) (ready : ℕ → Bool) (looks : Looks) (a : ℕ) → Rests own ready looks a → looks ≡ look own looks a
+unfolding look
+look_at_rest own ready looks a r = rw (r.unwritten, r.looked) refl
+
+-- the looks with one more
+abbrev with_look : Looks → ℕ → Looks
+with_look looks a = cond (is_among a looks) looks (looks ++ a ∷ [])
+
+after_look : (looks : Looks) (a q : ℕ) → IsTrue (is_among q looks) → IsTrue (is_among q (with_look looks a))
+after_look looks a q h = pick (is_among a looks) where
+  pick : (b : Bool) → IsTrue (is_among q (cond b looks (looks ++ a ∷ [])))
+  pick true = h
+  pick false = is_among-append q looks (a ∷ []) ∙ rw h refl
+
+looked_at : (looks : Looks) (a : ℕ) → IsTrue (is_among a (with_look looks a))
+looked_at looks a = pick (is_among a looks) refl where
+  at_end : (b : Bool) → (b || (eqb a a || false)) ≡ true
+  at_end true = refl
+  at_end false = elim (eqb_tells a a) [ inl same ↦ rw same.0 refl | inr other ↦ absurd (other.1 refl) ]
+
+  pick : (b : Bool) → is_among a looks ≡ b → IsTrue (is_among a (cond b looks (looks ++ a ∷ [])))
+  pick true e = e
+  pick false e = is_among-append a looks (a ∷ []) ∙ at_end (is_among a looks)
+
+-- a cell is settled after its look
+pub settled_by_look : (own : Own) (ready was is : ℕ → Bool) (looks : Looks) (a : ℕ) → ((q : ℕ) → IsTrue (was q) → Rests own ready looks q) → ((q : ℕ) → is q ≡ cond (eqb q a) true (was q)) → IsTrue (ready a) → own a ≡ None
+    → (q : ℕ) → IsTrue (is q) → Rests own ready (with_look looks a) q
+settled_by_look own ready was is looks a rests e here unwritten q h = elim (eqb_tells q a) [
+  | inl same ↦ subst (λ (k : ℕ). Rests own ready (with_look looks a) k) (sym same.1) (record { ready = here; unwritten = unwritten; looked = looked_at looks a })
+  | inr other ↦ let r = rests q (sym (e q ∙ rw other.0 refl) ∙ h) in record { ready = r.ready; unwritten = r.unwritten; looked = after_look looks a q r.looked }
+]
+
+-- a cell that is written is taken out
+pub settled_by_write : (own : Own) (ready now was is : ℕ → Bool) (looks : Looks) (a v : ℕ) → ((q : ℕ) → IsTrue (was q) → Rests own ready looks q) → ((q : ℕ) → is q ≡ cond (eqb q a) false (was q)) → ((q : ℕ) → IsTrue (ready q) → IsTrue (now q))
+    → (q : ℕ) → IsTrue (is q) → Rests (write own a v) now looks q
+unfolding write
+settled_by_write own ready now was is looks a v rests e kept q h = elim (eqb_tells q a) [
+  | inl same ↦ absurd (let no : false ≡ true = sym (e q ∙ rw same.0 refl) ∙ h in cc)
+  | inr other ↦ let r = rests q (sym (e q ∙ rw other.0 refl) ∙ h) in record { ready = kept q r.ready; unwritten = rw other.0 r.unwritten; looked = r.looked }
+]
+
+-- a cell whose look is taken away is taken out
+pub settled_by_take : (own : Own) (ready was is : ℕ → Bool) (looks left : Looks) (a : ℕ) → ((q : ℕ) → IsTrue (was q) → Rests own ready looks q) → ((q : ℕ) → is q ≡ cond (eqb q a) false (was q)) → looks ≡ left ++ a ∷ []
+    → (q : ℕ) → IsTrue (is q) → Rests own ready left q
+settled_by_take own ready was is looks left a rests e last q h = elim (eqb_tells q a) [
+  | inl same ↦ absurd (let no : false ≡ true = sym (e q ∙ rw same.0 refl) ∙ h in cc)
+  | inr other ↦ let r = rests q (sym (e q ∙ rw other.0 refl) ∙ h) in record { ready = r.ready; unwritten = r.unwritten; looked = without (is_among q left) (sym (ap (is_among q) last ∙ is_among-append q left (a ∷ []) ∙ rw other.0 refl) ∙ r.looked) }
+] where
+  without : (b : Bool) → (b || (false || false)) ≡ true → b ≡ true
+  without true s = refl
+  without false s = s

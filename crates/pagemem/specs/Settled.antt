@@ -1,0 +1,14 @@
+-- What is seen of settled cells.
+use Rattle.std.specs.Prelude.{◌≡◌, ℕ, Bool, false, IsTrue, None, get_or}
+use Rattle.i8080.specs.Memory.{Own, Looks, is_among}
+use Rattle.pagemem.specs.declared.settled.Settled.{Settled}
+
+-- whether a cell is settled
+abbrev pub is_settled : Settled → ℕ → Bool
+is_settled s q = get_or s.marks.items q false
+
+-- of such a cell a read gives what lies beneath and changes nothing
+pub record Rests (own : Own) (is_ready : ℕ → Bool) (looks : Looks) (q : ℕ) : Type 0 where
+  pub ready : IsTrue (is_ready q)
+  pub unwritten : own q ≡ None
+  pub looked : IsTrue (is_among q looks)

@@ -1,0 +1,65 @@
+// Cells of which a read changes nothing.
+
+ghost use Rattle.std.specs.Prelude.{◌≡◌, ◌==◌, ℕ, true, false, if◌then◌else◌, IfOk, get_or, vec_len};
+
+use crate::looks::{CELLS, blank_marks};
+use std::alloc::{AllocError, Global};
+
+/// Cells that are settled. A read of such a cell is known to give the image's byte and to change nothing, so it needs to ask
+/// neither the pages nor the looks.
+#[derive(Drop)]
+pub struct Settled {
+    marks: Vec<bool>,
+    ghost all_marks: { vec_len marks ≡ 65536 },
+}
+
+impl Settled {
+    ghost use Rattle.pagemem.specs.Settled.{is_settled};
+
+    /// No cell. `Err` where memory is refused.
+    pub fn new(alloc: Global) -> Result<Settled, AllocError>
+        ensures { IfOk result (λ s. (q : ℕ) → is_settled s q ≡ false) }
+    {
+        let marks = blank_marks(alloc, CELLS)?;
+        Ok(Settled { marks })
+    }
+
+    /// No cell, in memory of the same allocator. `Err` where memory is refused.
+    pub fn cleared(&self) -> Result<Settled, AllocError>
+        ensures { IfOk result (λ s. (q : ℕ) → is_settled s q ≡ false) }
+    {
+        Settled::new(*self.marks.allocator())
+    }
+
+    /// Whether a cell is settled.
+    #[inline(always)]
+    pub fn contains(&self, a: u16) -> bool
+        ensures { result ≡ is_settled self.now a }
+    {
+        let at = a as usize;
+        self.marks[at]
+    }
+
+    /// Settles a cell.
+    #[inline(always)]
+    pub fn add(&mut self, a: u16)
+        ensures { (q : ℕ) → is_settled self.new q ≡ (if q == a then true else is_settled self.old q) }
+    {
+        self.marks[a as usize] = true;
+    }
+
+    /// Takes a cell out.
+    #[inline(always)]
+    pub fn remove(&mut self, a: u16)
+        ensures { (q : ℕ) → is_settled self.new q ≡ (if q == a then false else is_settled self.old q) }
+    {
+        self.marks[a as usize] = false;
+    }
+
+    /// Takes all cells out. It takes no memory.
+    pub fn clear(&mut self)
+        ensures { (q : ℕ) → is_settled self.new q ≡ false }
+    {
+        self.marks.fill(false);
+    }
+}
