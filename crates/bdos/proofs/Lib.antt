@@ -1,3 +1,3 @@
 mod Carried
 mod Scanning
-mod Trees
+pub mod Trees

@@ -1,6 +1,6 @@
 -- Printing a string byte by byte, one cell after another.
-use Rattle.std.proofs.Common.{◌≡◌, ◌≢◌, ℕ, suc, ◌+◌, ◌-◌, ◌<◌, ◌≤◌, ◌==◌, Bool, true, false, List, [], ◌∷◌, ◌++◌, Option, Some, None, is_some, length, take, Ok, inl, inr, refl, ap, sym, ◌∙◌, arith, cond}
-use Rattle.std.proofs.lemmas.Bool.Decides.{eqb_tells}
+use Rattle.std.proofs.Common.{◌≡◌, ◌≢◌, ℕ, suc, ◌+◌, ◌-◌, ◌<◌, ◌≤◌, ◌==◌, Bool, true, false, List, [], ◌∷◌, ◌++◌, Option, Some, None, is_some, length, take, Ok, refl, ap, sym, ◌∙◌, arith, cond}
+use Rattle.std.proofs.lemmas.Bool.{eq-eqb, ne_eqb}
 use Rattle.std.proofs.lemmas.List.{take-append-le, length-append}
 use Rattle.std.specs.Option.{option_map}
 use Rattle.i8080.specs.Memory.{Memory, Own, Looks, bytes, look, look_all}
@@ -25,29 +25,23 @@ one_less n i h = omega arith
 none_left : (n i : ℕ) → n ≤ i → n - i ≡ 0
 none_left n i h = omega arith
 
-is_dollar : (v : ℕ) → v ≡ 0x24 → (v == 0x24) ≡ true
-is_dollar v h = elim (eqb_tells v 0x24) [ inl same ↦ same.0 | inr other ↦ absurd (other.1 h) ]
-
-no_dollar : (v : ℕ) → v ≢ 0x24 → (v == 0x24) ≡ false
-no_dollar v h = elim (eqb_tells v 0x24) [ inl same ↦ absurd (h same.1) | inr other ↦ other.0 ]
-
 -- the string from a cell on: that the cell ends it, or that it goes on from the next
 ends_here : (byte : ℕ → ℕ) (n a : ℕ) → byte a ≡ 0x24 → end_of (string_at (suc n) a) byte ≡ Some []
 unfolding string_at
-ends_here byte n a h = rw (is_dollar (byte a) h, end_of) refl
+ends_here byte n a h = rw (eq-eqb (byte a) 0x24 h, end_of) refl
 
 asked_here : (byte : ℕ → ℕ) (n a : ℕ) → byte a ≡ 0x24 → asked (string_at (suc n) a) byte ≡ a ∷ []
 unfolding string_at
-asked_here byte n a h = rw (is_dollar (byte a) h, asked) refl
+asked_here byte n a h = rw (eq-eqb (byte a) 0x24 h, asked) refl
 
 goes_on : (byte : ℕ → ℕ) (n a : ℕ) → byte a ≢ 0x24
     → end_of (string_at (suc n) a) byte ≡ option_map (λ rest. byte a ∷ rest) (end_of (string_at n (onward a 1)) byte)
 unfolding string_at
-goes_on byte n a h = rw (no_dollar (byte a) h, end_of) (end_of-ending (option_map (λ rest. byte a ∷ rest)) (string_at n (onward a 1)) byte)
+goes_on byte n a h = rw (ne_eqb (byte a) 0x24 h, end_of) (end_of-ending (option_map (λ rest. byte a ∷ rest)) (string_at n (onward a 1)) byte)
 
 asked_on : (byte : ℕ → ℕ) (n a : ℕ) → byte a ≢ 0x24 → asked (string_at (suc n) a) byte ≡ a ∷ asked (string_at n (onward a 1)) byte
 unfolding string_at
-asked_on byte n a h = rw (no_dollar (byte a) h, asked) (ap (λ (at : List ℕ). a ∷ at) (asked-ending (option_map (λ rest. byte a ∷ rest)) (string_at n (onward a 1)) byte))
+asked_on byte n a h = rw (ne_eqb (byte a) 0x24 h, asked) (ap (λ (at : List ℕ). a ∷ at) (asked-ending (option_map (λ rest. byte a ∷ rest)) (string_at n (onward a 1)) byte))
 
 nothing_left : (byte : ℕ → ℕ) (a : ℕ) → end_of (string_at 0 a) byte ≡ None
 unfolding string_at

@@ -23,6 +23,7 @@ pub data CallEnd : Type 0 where
   Stopped : Cause → CallEnd
 
 -- the registers after the return to an address with a value: HL is the value, A is L and B is H, and the stack is popped
+-- (CP/M 2.2 Interface Guide; that the other registers stay: this project's profile)
 abbrev pub returned : ℕ → ℕ → Regs → Regs
 returned value to r = record r { a = low value; b = high value; h = high value; l = low value; sp = onward r.sp 2; pc = to }
 
@@ -30,7 +31,8 @@ returned value to r = record r { a = low value; b = high value; h = high value; 
 abbrev pub returning_with : ℕ → Regs → Desk → List (ℕ × ℕ) → StateTree CallEnd
 returning_with value r d writes = reads (word_at r.sp Done) (λ to. Return (Returned (returned value to r) d writes))
 
--- function 9: the return address is read first, then the string at DE
+-- function 9: the return address is read first, then the string at DE (CP/M 2.2 Interface Guide, function 9; the order, and
+-- that a string with no `$` stops: this project's profile)
 abbrev pub printing : Regs → Desk → ℕ → Option (List ℕ) → StateTree CallEnd
 printing r d to None = Return (Stopped NoDollar)
 printing r d to (Some string) = Return (Returned (returned 0 to r) (printed_all d string) [])
@@ -38,7 +40,8 @@ printing r d to (Some string) = Return (Returned (returned 0 to r) (printed_all 
 abbrev pub print_string : Regs → Desk → StateTree CallEnd
 print_string r d = reads (word_at r.sp Done) (λ to. reads (string_at 65536 (word r.e r.d)) (printing r d to))
 
--- the call whose number is in C
+-- the call whose number is in C (CP/M 2.2 Interface Guide, functions 0, 2 and 9; that other numbers stop: this project's
+-- profile)
 unfoldable pub call : Regs → Desk → StateTree CallEnd
 call r d =
     if r.c == 0 then Return (Stopped WarmBoot)

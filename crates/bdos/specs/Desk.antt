@@ -11,11 +11,12 @@ pub record Desk : Type 0 where
   -- the buffer address of the file calls
   pub buffer : ℕ
 
--- nothing taken and nothing sent, and the buffer in page zero
+-- nothing taken and nothing sent, and the buffer in page zero, at 0080H (CP/M 2.2 Interface Guide, function 26)
 abbrev pub first_desk : Desk
 first_desk = record { cursor = 0; text = []; column = 0; buffer = 0x80 }
 
--- the column after a byte: a carriage return goes to 0, a backspace one back, other control bytes stay
+-- the column after a byte: a carriage return goes to 0, a backspace one back, other control bytes stay (this project's
+-- profile)
 abbrev pub column_after : ℕ → ℕ → ℕ
 column_after column byte =
     if byte == 0x0d then 0
@@ -26,7 +27,8 @@ column_after column byte =
 abbrev pub sent : Desk → ℕ → Desk
 sent d byte = record d { text = d.text ++ byte ∷ []; column = column_after d.column byte }
 
--- blanks, at least one, up to the next column of eight
+-- blanks, at least one, up to the next column of eight (that tabs are expanded: CP/M 2.2 Interface Guide, function 2; that
+-- blanks stand for them, and the columns of eight: this project's profile)
 abbrev pub tabbed : Desk → Desk
 tabbed d = let blanks = 8 - d.column % 8 in record d { text = d.text ++ replicate blanks 0x20; column = d.column + blanks }
 

@@ -1,10 +1,10 @@
--- What a step asks of the state.
+-- What a step asks of the state. (That bytes of cells and of the console script are all of it: this project's profile.)
 use Rattle.std.specs.Prelude.{ℕ, Option}
 use Rattle.i8080.specs.Reading.{Reading, Done}
 use Rattle.i8080.specs.Reading as reading
 use Rattle.interaction_trees.specs.Tree.{Tree, Query}
 
--- the byte of a cell; the script byte at a place, or that there is none
+-- the byte of a cell; the script byte at a place, or that there is none (this project's profile)
 pub data StateQuestion : Type 0 where
   Byte : ℕ → StateQuestion
   Input : ℕ → StateQuestion

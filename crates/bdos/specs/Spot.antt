@@ -3,5 +3,5 @@ use Rattle.std.specs.Prelude.{ℕ, List}
 use Rattle.bdos.specs.declared.desk.Spot.{Spot}
 use Rattle.bdos.specs.Desk.{Desk}
 
-abbrev pub desk_of : Spot → List ℕ → Desk
-desk_of spot text = record { cursor = spot.cursor; text = text; column = spot.column; buffer = spot.buffer }
+abbrev pub desk_over : Spot → List ℕ → Desk
+desk_over spot text = record { cursor = spot.cursor; text = text; column = spot.column; buffer = spot.buffer }

@@ -16,7 +16,7 @@ use i8080::registers::{Regs, word_of};
 use std::alloc::AllocError;
 
 /// Carries out the call whose number is in C. A call that stops, and an `Err`, leave the registers, the written cells and
-/// the desk as they were.
+/// the desk as they were. No call takes a byte of the script yet.
 #[tactic(auto, unfolding(crate::specs::Calls::call))]
 pub fn call<B: Bus>(
     regs: &mut Regs,

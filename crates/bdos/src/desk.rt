@@ -45,7 +45,7 @@ pub(crate) struct Mark {
 }
 
 impl Desk {
-    ghost use Rattle.bdos.specs.Spot.{desk_of};
+    ghost use Rattle.bdos.specs.Spot.{desk_over};
 
     /// A desk with nothing taken and nothing sent, and the buffer in page zero. It takes no memory.
     pub fn new(alloc: Global) -> Desk
@@ -65,17 +65,18 @@ impl Desk {
     /// The desk of a spot and its text, which is at least as long as the column.
     pub fn over(spot: Spot, text: Vec<u8>) -> Desk
         requires { spot.column ≤ length text.items }
-        ensures { result ≡ desk_of spot text.items }
+        ensures { result ≡ desk_over spot text.items }
     {
         Desk { spot, text }
     }
 
     /// All of the desk but its text.
     pub fn spot(&self) -> Spot
-        ensures spot { self.now ≡ desk_of result self.now.text }
+        ensures spot { self.now ≡ desk_over result self.now.text }
         ensures within { result.column ≤ length self.now.text }
     {
-        self.spot
+        let Desk { spot, text: _ } = self;
+        *spot
     }
 
     /// The text, moved out.

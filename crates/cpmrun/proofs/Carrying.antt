@@ -1,5 +1,5 @@
 -- Lines that are carried out one after the other.
-use Rattle.std.proofs.Common.{◌≡◌, ℕ, suc, ◌+◌, ◌-◌, ◌≤◌, List, [], ◌∷◌, ◌++◌, length, take, drop, refl, sym, ap, ◌∙◌, arith, append_assoc, length-append, take-append-drop, Option, Some, Err}
+use Rattle.std.proofs.Common.{◌≡◌, ℕ, ◌+◌, ◌-◌, ◌≤◌, List, [], ◌∷◌, ◌++◌, length, take, drop, refl, sym, ap, ◌∙◌, arith, append_assoc, length-append, take-append-drop, Option, Some, Err}
 use Rattle.std.proofs.lemmas.List.{append-nil}
 use Rattle.std.proofs.lemmas.List.Folds.{concat-append}
 use Rattle.std.proofs.Math.Seq.{take-append_seam}
@@ -12,7 +12,7 @@ use Rattle.cpmrun.specs.declared.stream.ReplayFault.{ReplayFault}
 use Rattle.cpmrun.specs.declared.stream.ReplayFault.TheVariants.{Malformed, LineTooLong, Read, Write, OutOfMemory}
 use Rattle.cpmrun.specs.EditLine.{EditLine}
 use Rattle.cpmrun.specs.Pieces.{lines_of, past_lines}
-use Rattle.cpmrun.specs.Replay.{Carries, none, more, reply, after}
+use Rattle.cpmrun.specs.Replay.{Carries, Replays, MalformedAt, none, more, reply, after}
 use Rattle.cpmrun.specs.Progress.{BreaksOff, Faults, CarriesOut}
 
 -- one more line is carried out
@@ -22,10 +22,6 @@ Carries-snoc l c none short is = more c short is none
 Carries-snoc l c (more d short' is' rest) short is = more d short' is' (Carries-snoc l c rest short is)
 
 -- a reply for each line
-pub Carries-length : {s t : Session} {ls rs : List (List ℕ)} → Carries s ls rs t → length ls ≡ length rs
-Carries-length none = refl
-Carries-length (more d short is rest) = ap suc (Carries-length rest)
-
 pub concat-snoc : (rs : List (List ℕ)) (r : List ℕ) → concat (rs ++ r ∷ []) ≡ concat rs ++ r
 concat-snoc rs r = concat-append rs (r ∷ []) ∙ ap (λ x. concat rs ++ x) (append-nil r)
 
@@ -69,18 +65,22 @@ module _ (left : Option (List ℕ)) (first s t : Session) (held h₀ h₁ : Opti
   Faults-from U n (Malformed k) number short others cut cuts near near' h = rw (h.2, h.3) (record {
     text = concat replies;
     written = written;
-    replays = λ rest e. record {
+    replays = λ rest e. malformed rest (cuts rest e).0 (cuts rest e).1;
+    some = ([], malformed [] others (ap lines_of (append-nil whole) ∙ cut));
+    near = let e : k - 1 ≡ length done = omega (arith, h.0, number) in rw e near;
+  }) where
+    malformed : (rest : List ℕ) (after_it : List (List ℕ)) → lines_of (whole ++ rest) ≡ done ++ line ∷ after_it
+        → Replays first (lines_of (whole ++ rest)) (concat replies) s (MalformedAt k)
+    malformed rest after_it is = record {
       done = done;
-      left = line ∷ (cuts rest e).0;
+      left = line ∷ after_it;
       replies = replies;
-      cut = (cuts rest e).1;
+      cut = is;
       few = few;
       carried = carried;
       written = refl;
       ends = (h.0 ∙ number, short, rw h.0 h.1);
-    };
-    near = let e : k - 1 ≡ length done = omega (arith, h.0, number) in rw e near;
-  })
+    }
   Faults-from U n (LineTooLong k) number short others cut cuts near near' h = absurd h
   Faults-from U n Read number short others cut cuts near near' h = absurd h
   Faults-from U n Write number short others cut cuts near near' h =

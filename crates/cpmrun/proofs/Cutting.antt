@@ -1,10 +1,7 @@
 -- A text cut at a byte, as it grows.
-use Rattle.std.proofs.Common.{◌≡◌, ℕ, suc, List, [], ◌∷◌, ◌++◌, length, refl, ap, ◌∙◌, Bool, true, false, ◌⊎◌, inl, inr, eqb}
+use Rattle.std.proofs.Common.{◌≡◌, ℕ, suc, List, [], ◌∷◌, ◌++◌, length, refl, ap, ◌∙◌, inl, inr, eqb}
+use Rattle.std.proofs.lemmas.Bool.{cases_Bool}
 use Rattle.cpmrun.specs.Pieces.{first_piece, other_pieces, pieces, without_empty_last, lines_of, past_lines}
-
-pub bool_cases : (x : Bool) → (x ≡ true) ⊎ (x ≡ false)
-bool_cases true = inl refl
-bool_cases false = inr refl
 
 nil_ne_snoc : (ds : List (List ℕ)) (l : List ℕ) → [] ≡ ds ++ l ∷ [] → ⊥
 nil_ne_snoc [] l e = cc
@@ -15,7 +12,7 @@ pub pieces-append : (cut : ℕ) (xs ys : List ℕ) (ds : List (List ℕ)) (l : L
     → pieces cut (xs ++ ys) ≡ ds ++ (l ++ first_piece cut ys) ∷ other_pieces cut ys
 pieces-append cut [] ys [] l e = let n : [] ≡ l = cc in rw (← n) refl
 pieces-append cut [] ys (d ∷ ds) l e = absurd (nil_ne_snoc ds l cc)
-pieces-append cut (b ∷ xs) ys [] l e = elim (bool_cases (eqb b cut)) [
+pieces-append cut (b ∷ xs) ys [] l e = elim (cases_Bool (eqb b cut)) [
   | inl t ↦ let g = rw t at e in absurd (cc)
   | inr f ↦ let g = rw f at e in
       let others : other_pieces cut xs ≡ [] = cc in
@@ -23,7 +20,7 @@ pieces-append cut (b ∷ xs) ys [] l e = elim (bool_cases (eqb b cut)) [
       let word : b ∷ first_piece cut xs ≡ l = cc in
       rw (f, ← word) cc
 ]
-pieces-append cut (b ∷ xs) ys (d ∷ ds) l e = elim (bool_cases (eqb b cut)) [
+pieces-append cut (b ∷ xs) ys (d ∷ ds) l e = elim (cases_Bool (eqb b cut)) [
   | inl t ↦ let g = rw t at e in
       let again = pieces-append cut xs ys ds l cc in
       rw t cc
@@ -38,7 +35,7 @@ pub past_lines-pieces : (xs ys : List ℕ) (ds : List (List ℕ)) (l : List ℕ)
     → past_lines (length ds) (xs ++ ys) ≡ l ++ ys
 past_lines-pieces [] ys [] l e = let n : [] ≡ l = cc in rw (← n) refl
 past_lines-pieces [] ys (d ∷ ds) l e = absurd (nil_ne_snoc ds l cc)
-past_lines-pieces (b ∷ xs) ys [] l e = elim (bool_cases (eqb b 10)) [
+past_lines-pieces (b ∷ xs) ys [] l e = elim (cases_Bool (eqb b 10)) [
   | inl t ↦ let g = rw t at e in absurd (cc)
   | inr f ↦ let g = rw f at e in
       let others : other_pieces 10 xs ≡ [] = cc in
@@ -46,7 +43,7 @@ past_lines-pieces (b ∷ xs) ys [] l e = elim (bool_cases (eqb b 10)) [
       let word : b ∷ first_piece 10 xs ≡ l = cc in
       rw (← word) (ap (λ s. b ∷ s) again)
 ]
-past_lines-pieces (b ∷ xs) ys (d ∷ ds) l e = elim (bool_cases (eqb b 10)) [
+past_lines-pieces (b ∷ xs) ys (d ∷ ds) l e = elim (cases_Bool (eqb b 10)) [
   | inl t ↦ let g = rw t at e in rw t (past_lines-pieces xs ys ds l cc)
   | inr f ↦ let g = rw f at e in
       let others : other_pieces 10 xs ≡ ds ++ l ∷ [] = cc in
@@ -57,13 +54,13 @@ past_lines-pieces (b ∷ xs) ys (d ∷ ds) l e = elim (bool_cases (eqb b 10)) [
 pub past_lines-last : (xs : List ℕ) (ds : List (List ℕ)) (l : List ℕ) → pieces 10 xs ≡ ds ++ l ∷ []
     → past_lines (suc (length ds)) xs ≡ []
 past_lines-last [] ds l e = refl
-past_lines-last (b ∷ xs) [] l e = elim (bool_cases (eqb b 10)) [
+past_lines-last (b ∷ xs) [] l e = elim (cases_Bool (eqb b 10)) [
   | inl t ↦ let g = rw t at e in absurd (cc)
   | inr f ↦ let g = rw f at e in
       let others : other_pieces 10 xs ≡ [] = cc in
       rw f (past_lines-last xs [] (first_piece 10 xs) (ap (λ ps. first_piece 10 xs ∷ ps) others))
 ]
-past_lines-last (b ∷ xs) (d ∷ ds) l e = elim (bool_cases (eqb b 10)) [
+past_lines-last (b ∷ xs) (d ∷ ds) l e = elim (cases_Bool (eqb b 10)) [
   | inl t ↦ let g = rw t at e in rw t (past_lines-last xs ds l cc)
   | inr f ↦ let g = rw f at e in
       let others : other_pieces 10 xs ≡ ds ++ l ∷ [] = cc in

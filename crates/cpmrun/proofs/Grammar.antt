@@ -1,6 +1,6 @@
 -- Lines of three words that mean nothing, and that a line has one command at most.
 use Rattle.std.specs.Prelude.{codes, Option, Some, None, IfNone}
-use Rattle.std.proofs.Common.{◌≡◌, ℕ, List, [], ◌∷◌, inl, inr, subst, sym, arith, ◌∙◌, refl}
+use Rattle.std.proofs.Common.{◌≡◌, ℕ, List, [], inl, inr, subst, sym, arith, ◌∙◌, refl}
 use Rattle.replay.specs.declared.edit.Edit.TheVariants.{Poke, SetLimit}
 use Rattle.cpmrun.specs.declared.line.Command.{Command}
 use Rattle.cpmrun.specs.declared.line.Command.TheVariants.{Change, Run, Forget}
@@ -23,7 +23,7 @@ module _ (line r₁ r₂ a h : List ℕ) (e₁ : other_pieces 32 line ≡ pieces
   no_bytes none Run p = cc
   no_bytes none (Forget n) p = let w = p.1 in cc
 
--- two words have the command of the two
+-- two words without a meaning have no command
 module _ (line r : List ℕ) (e : other_pieces 32 line ≡ pieces 32 r) (f : other_pieces 32 r ≡ []) where
   pub no_number : ((c : Command) → IsNumbered (first_piece 32 line) (first_piece 32 r) c → ⊥) → (c : Command) → EditLine line c → ⊥
   no_number none (Change (Poke at bytes)) p = let w = p.2 in cc
@@ -36,12 +36,6 @@ module _ (line r : List ℕ) (e : other_pieces 32 line ≡ pieces 32 r) (f : oth
       let verb : first_piece 32 line ≡ codes "drop" = let w = p.1 in cc in
       let same : p.0 ≡ first_piece 32 r = let w = p.1 in cc in
       none (Forget n) (verb, subst (λ x. IsNumber x n) same p.2)
-
-  pub two_words : (c : Command) → IsNumbered (first_piece 32 line) (first_piece 32 r) c → EditLine line c
-  two_words (Change (Poke at bytes)) p = absurd p
-  two_words (Change (SetLimit n)) p = (first_piece 32 r, (let v = p.0 in cc), p.1)
-  two_words Run p = absurd p
-  two_words (Forget n) p = (first_piece 32 r, (let v = p.0 in cc), p.1)
 
 pub if_none : {X : Type 0} (x : Option X) (P Q : Type 0) → (P → Q) → IfNone x P → IfNone x Q
 if_none None P Q f h = f h

@@ -1,5 +1,6 @@
 -- What one more byte, and the end of the input, do to a replay.
 use Rattle.std.proofs.Common.{◌≡◌, ℕ, suc, ◌+◌, ◌-◌, ◌≤◌, ◌<◌, List, [], ◌∷◌, ◌++◌, length, refl, sym, ap, subst, ◌∙◌, arith, append_assoc, length-append, inl, inr, Option, Some, None, Err, false, eqb, eqb-true}
+use Rattle.std.proofs.lemmas.Bool.{cases_Bool}
 use Rattle.std.proofs.lemmas.List.{append-nil}
 use Rattle.std.specs.List.{concat}
 use Rattle.std.specs.Io.KnownBytes.{Appends, IsAtEnd}
@@ -10,12 +11,12 @@ use Rattle.cpmrun.specs.declared.stream.ReplayFault.{ReplayFault}
 use Rattle.cpmrun.specs.EditLine.{EditLine}
 use Rattle.cpmrun.specs.Pieces.{first_piece, other_pieces, pieces, without_empty_last, lines_of, past_lines}
 use Rattle.cpmrun.specs.Replay.{none, Finished, TooLongAt, EndsAt, Replays, reply, after}
-use Rattle.cpmrun.specs.Progress.{Reached, EndsWith, BreaksOff, ReadsNoMore, Faults, CarriesOut}
-use Rattle.cpmrun.proofs.Cutting.{bool_cases, pieces-append, past_lines-pieces, past_lines-last, lines_of-append, lines_of-pieces}
+use Rattle.cpmrun.specs.Progress.{Reached, EndsWith, BreaksOff, Faults, CarriesOut}
+use Rattle.cpmrun.proofs.Cutting.{pieces-append, past_lines-pieces, past_lines-last, lines_of-append, lines_of-pieces}
 use Rattle.cpmrun.proofs.Carrying.{Carries-snoc, concat-snoc, Faults-from, stays_there}
 
 not_cut : (b : ℕ) → (b ≡ 10 → ⊥) → eqb b 10 ≡ false
-not_cut b ne = elim (bool_cases (eqb b 10)) [ inl t ↦ absurd (ne (eqb-true b 10 t)) | inr f ↦ f ]
+not_cut b ne = elim (cases_Bool (eqb b 10)) [ inl t ↦ absurd (ne (eqb-true b 10 t)) | inr f ↦ f ]
 
 one_line : (l : List ℕ) → 0 < length l → without_empty_last (l ∷ []) ≡ l ∷ []
 one_line [] h = absurd (omega arith)
@@ -48,28 +49,6 @@ at_once s held = record {
   carried = none;
   begins = ([], refl);
   contains = ([], refl);
-  near = omega arith;
-}
-
--- the reader failed
-pub read_fails : (left : Option (List ℕ)) (first : Session) (held : Option (List ℕ)) (bytes : List ℕ) (now : Session) (holds : Option (List ℕ)) (line : List ℕ) (count : ℕ)
-    → Reached first held bytes now holds line count → count ≤ 1000000 → length line ≤ 65536 → ReadsNoMore first held bytes now holds
-read_fails left first held bytes now holds line count r few short = record {
-  text = concat r.replies;
-  written = r.written;
-  ended = r.done;
-  rest = line;
-  cut = r.cut;
-  replays = record {
-    done = r.done;
-    left = [];
-    replies = r.replies;
-    cut = sym (append-nil r.done);
-    few = omega (arith, r.counted);
-    carried = r.carried;
-    written = refl;
-    ends = (refl, refl);
-  };
   near = omega arith;
 }
 
@@ -146,7 +125,16 @@ module _ (first : Session) (held : Option (List ℕ)) (bytes : List ℕ) (now : 
   line_too_long left b rest ne full few_more = record {
     text = concat r.replies;
     written = r.written;
-    replays = λ more e.
+    replays = λ more e. too_long more;
+    some = ([], too_long []);
+    near =
+        let past : past_lines (length r.done) ((bytes ++ b ∷ []) ++ rest) ≡ line ++ (b ∷ rest) =
+        ap (past_lines (length r.done)) (append_assoc bytes (b ∷ []) rest) ∙ past_lines-pieces bytes (b ∷ rest) r.done line r.cut in
+        let k : count + 1 - 1 ≡ length r.done = omega (arith, r.counted) in
+        rw (k, past) (omega (arith, length-append line (b ∷ rest)));
+  } where
+    too_long : (more : List ℕ) → Replays first (lines_of (((bytes ++ b ∷ []) ++ rest) ++ more)) (concat r.replies) now (TooLongAt (count + 1))
+    too_long more =
         let q = (line ++ b ∷ []) ++ first_piece 10 (rest ++ more) in
         let qs = other_pieces 10 (rest ++ more) in record {
           done = r.done;
@@ -159,13 +147,7 @@ module _ (first : Session) (held : Option (List ℕ)) (bytes : List ℕ) (now : 
           written = refl;
           ends = rw r.counted (ends_long (length r.done) q qs
               (omega (arith, length-append (line ++ b ∷ []) (first_piece 10 (rest ++ more)), length-append line (b ∷ []))));
-        };
-    near =
-        let past : past_lines (length r.done) ((bytes ++ b ∷ []) ++ rest) ≡ line ++ (b ∷ rest) =
-        ap (past_lines (length r.done)) (append_assoc bytes (b ∷ []) rest) ∙ past_lines-pieces bytes (b ∷ rest) r.done line r.cut in
-        let k : count + 1 - 1 ≡ length r.done = omega (arith, r.counted) in
-        rw (k, past) (omega (arith, length-append line (b ∷ rest)));
-  }
+        }
 
   -- no memory for one more byte
   pub line_stays : (b : ℕ) (rest : List ℕ) → length rest ≤ 65535 → BreaksOff first held ((bytes ++ b ∷ []) ++ rest) now holds

@@ -1,8 +1,5 @@
 -- The words of the program, and messages that are written whole or in part.
-use Rattle.std.proofs.Common.{◌≡◌, ℕ, ◌≤◌, ◌<◌, List, [], ◌∷◌, length, take, get_or, arith, Option, Result, Ok, Err, OnOk, OnErr, IfSome, Some, None, ◌⊎◌, inl, inr}
-use Rattle.cpmrun.specs.declared.program.Fault.{Fault}
-use Rattle.cpmrun.specs.declared.program.Fault.TheVariants.{OutOfMemory}
-use Rattle.cpmrun.specs.Program.{FitsWords, Tells, TellsOne}
+use Rattle.std.proofs.Common.{◌≡◌, ℕ, ◌≤◌, ◌<◌, List, [], ◌∷◌, length, take, get_or, arith, Option, Result, Ok, Err, OnOk, OnErr, IfSome, Some, None}
 use Rattle.std.specs.Option.{option_map}
 use Rattle.std.proofs.lemmas.List.{take_all}
 use Rattle.std.specs.Io.KnownBytes.{Appends}
@@ -27,9 +24,3 @@ pub up_to : (r : Option (List ℕ)) (n : ℕ) (got : List ℕ) → IfSome (optio
     → IfSome r (λ xs. got ≡ take n xs)
 up_to None n got h = tt
 up_to (Some xs) n got h = h
-
--- the fault, or want of memory, is one that was told
-pub told_one : (words : List (List ℕ)) (f : Fault) (status : ℕ) (held holds : Option (List ℕ)) → FitsWords words f
-    → Tells f status held holds ⊎ Tells OutOfMemory status held holds → TellsOne words status held holds
-told_one words f status held holds fits (inl t) = (f, fits, t)
-told_one words f status held holds fits (inr t) = (OutOfMemory, tt, t)

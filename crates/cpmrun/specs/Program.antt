@@ -1,11 +1,14 @@
 -- What the program says of its end. (The statuses and the messages: this project's profile.)
-use Rattle.std.specs.Prelude.{◌≡◌, ℕ, List, [], ◌∷◌, ◌⊎◌, ◌++◌, codes, take, Option}
+use Rattle.std.specs.Prelude.{◌≡◌, ℕ, ◌<◌, List, [], ◌∷◌, ◌⊎◌, ◌++◌, codes, take, Option}
 use Rattle.std.specs.Fmt.{decimal}
 use Rattle.std.specs.Io.KnownBytes.{Appends}
 use Rattle.machine.specs.Views.{Session}
 use Rattle.cpmrun.specs.declared.program.Fault.{Fault}
 use Rattle.cpmrun.specs.declared.program.Fault.TheVariants.{Use, CannotRead, CannotWrite, Refused, Malformed, TooLong, OutOfMemory}
+use Rattle.cpmrun.specs.declared.stream.ReplayFault.{ReplayFault}
+use Rattle.cpmrun.specs.declared.stream.ReplayFault.TheVariants as replay_fault
 use Rattle.cpmrun.specs.Pieces.{lines_of}
+use Rattle.cpmrun.specs.Progress.{Faults}
 use Rattle.cpmrun.specs.Replay.{Finished, Replays}
 use Rattle.cpmrun.specs.ReportText.{line}
 
@@ -57,9 +60,29 @@ FitsWords words (Malformed k) = (program : List ℕ) × (edits : List ℕ) × Ar
 FitsWords words (TooLong k) = (program : List ℕ) × (edits : List ℕ) × AreWords words program edits
 FitsWords words OutOfMemory = Unit {0}
 
--- some fault that fits the words was told so
-abbrev pub TellsOne : List (List ℕ) → ℕ → Option (List ℕ) → Option (List ℕ) → Type 0
-TellsOne words status held holds = (f : Fault) × FitsWords words f × Tells f status held holds
+-- what a replay leaves on the output that broke off with a fault, from a session of some program, no script and this limit
+abbrev pub BreaksOffWith : ReplayFault → Option (List ℕ) → Option (List ℕ) → Type 0
+BreaksOffWith f held holds =
+    (left : Option (List ℕ)) × (first : Session) × (last : Session) × (bytes : List ℕ)
+    × (first.script ≡ []) × (first.limit ≡ 1000000) × Faults left first held bytes last holds f
+
+-- what stands on the output after a fault, and how often writing it has failed: what stood there, or what the replay left; and a
+-- fault of writing only where writing failed
+abbrev pub Leaves : Option (List ℕ) → Option (List ℕ) → ℕ → ℕ → Fault → Type 0
+Leaves held holds failed fails Use = holds ≡ held
+Leaves held holds failed fails (CannotRead p) = (holds ≡ held) ⊎ BreaksOffWith replay_fault.Read held holds
+Leaves held holds failed fails CannotWrite = BreaksOffWith replay_fault.Write held holds × (failed < fails)
+Leaves held holds failed fails (Refused n) = holds ≡ held
+Leaves held holds failed fails (Malformed k) = BreaksOffWith (replay_fault.Malformed k) held holds
+Leaves held holds failed fails (TooLong k) = BreaksOffWith (replay_fault.LineTooLong k) held holds
+Leaves held holds failed fails OutOfMemory = (holds ≡ held) ⊎ BreaksOffWith replay_fault.OutOfMemory held holds
+
+-- a fault that fits the words left the output so, and it was told, or want of memory where there was none to tell it
+pub record EndsByFault (words : List (List ℕ)) (status : ℕ) (held holds : Option (List ℕ)) (failed fails : ℕ) (told tells : Option (List ℕ)) : Type 0 where
+  pub fault : Fault
+  pub fits : FitsWords words fault
+  pub leaves : Leaves held holds failed fails fault
+  pub telling : Tells fault status told tells ⊎ Tells OutOfMemory status told tells
 
 -- the text was written that some lines give, replayed to their end from a session of some program, no script and this limit
 abbrev pub WritesReplay : Option (List ℕ) → Option (List ℕ) → Type 0

@@ -20,11 +20,13 @@ pub record Reached (first : Session) (held : Option (List ℕ)) (bytes : List �
   pub written : Appends held holds (concat replies)
   pub counted : count ≡ length done
 
--- the replay of these bytes and those that are left ends so, and little more than k - 1 lines was read
+-- the replay of these bytes and those that are left ends so, that of some text which begins with them does where the reader
+-- does not tell what is left, and little more than k - 1 lines was read
 pub record EndsWith (left : Option (List ℕ)) (first : Session) (held : Option (List ℕ)) (bytes : List ℕ) (now : Session) (holds : Option (List ℕ)) (k : ℕ) (end : End) : Type 0 where
   pub text : List ℕ
   pub written : Appends held holds text
   pub replays : (rest : List ℕ) → left ≡ Some rest → Replays first (lines_of (bytes ++ rest)) text now end
+  pub some : (rest : List ℕ) × Replays first (lines_of (bytes ++ rest)) text now end
   pub near : length (past_lines (k - 1) bytes) ≤ 131072
 
 -- some first lines were carried out, and all their replies but the last were written whole, that one in part

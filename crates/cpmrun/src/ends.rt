@@ -12,9 +12,9 @@ pub struct Failed;
 /// Where bytes come from. A contract sees the bytes that are left, where the reader tells them, and
 /// a count of failures.
 pub trait Reader {
-    // The bytes that are left, where the reader tells them.
+    /// The bytes that are left, where the reader tells them.
     ghost left: { Self → Option (List ℕ) };
-    // How often it failed.
+    /// How often it failed.
     ghost failures: { Self → ℕ };
 
     /// Moves the next bytes, at most as many as the piece has places, to the front of the piece, and
@@ -31,9 +31,9 @@ pub trait Reader {
 /// Where bytes go. A contract sees the bytes that it holds, where the writer tells them, and a count
 /// of failures.
 pub trait Writer {
-    // The bytes that it holds, where it tells them.
+    /// The bytes that it holds, where it tells them.
     ghost holds: { Self → Option (List ℕ) };
-    // How often it failed.
+    /// How often it failed.
     ghost failures: { Self → ℕ };
 
     /// Takes some first bytes of the piece, at least one where there is one, and gives their count. An

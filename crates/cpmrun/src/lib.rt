@@ -10,6 +10,6 @@ pub mod stream;
 
 pub use ends::{Failed, Over, Reader, Writer, write_all};
 pub use line::{Command, one_command, parse_line};
-pub use program::{Fault, Words, command, complain, read_words, replay_session};
+pub use program::{Fault, command, complain};
 pub use reply::{cause_text, refused, report_of};
 pub use stream::{Ending, ReplayFault, one_replay, replay};

@@ -4,12 +4,13 @@ ghost use Rattle.std.specs.Prelude.{◌≡◌, ℕ, ◌^◌, ◌<◌, ◌∷◌,
 ghost use Rattle.std.specs.Io.KnownBytes.{Appends, Consumes, IsAtEnd};
 ghost use Rattle.machine.specs.Views.{Session};
 ghost use Rattle.cpmrun.specs.Pieces.{lines_of};
-ghost use Rattle.cpmrun.specs.Program.{AreWords, FitsWords, Tells, TellsOne, Unread, WritesReplay, message_of, status_of};
+ghost use Rattle.cpmrun.specs.Program.{AreWords, EndsByFault, FitsWords, Leaves, Tells, Unread, WritesReplay, message_of, status_of};
 ghost use Rattle.cpmrun.specs.Progress.{Faults};
 ghost use Rattle.cpmrun.specs.Replay.{Finished, Replays};
 
 use crate::ends::{Over, Reader, Writer, write_all};
 use crate::stream::{Ending, ReplayFault, replay};
+use machine::session::PROGRAM_LIMIT;
 use machine::{Meter, Session};
 use replay::{Options, Runner};
 use std::alloc::{AllocError, Global};
@@ -22,15 +23,15 @@ const LIMIT: u64 = 1_000_000;
 
 /// The most bytes of a program that are read: one more than a session takes, so that a longer one
 /// is refused by the session and not read on.
-const MOST_READ: u64 = 64_513;
+const MOST_READ: u64 = PROGRAM_LIMIT as u64 + 1;
 
 /// The words of the command line, those after the program's name.
 #[derive(Clone, Copy)]
-pub struct Words<'a> {
+struct Words<'a> {
     /// The path of the program to be run.
-    pub program: &'a str,
+    program: &'a str,
     /// The path of the file of edit lines.
-    pub edits: &'a str,
+    edits: &'a str,
 }
 
 /// Why the program ends with a status other than 0.
@@ -82,7 +83,7 @@ impl Fault<'_> {
 }
 
 /// The words, where they are exactly `PROGRAM --edits FILE`, with any text for each path.
-pub fn read_words(words: &[String]) -> Option<Words<'_>>
+fn read_words(words: &[String]) -> Option<Words<'_>>
     ensures found { IfSome result (λ w. AreWords (map string_bytes words.now) w.program.now w.edits.now) }
     ensures none { IfNone result ((program edits : List ℕ) → AreWords (map string_bytes words.now) program edits → ⊥) }
 {
@@ -101,7 +102,7 @@ pub fn read_words(words: &[String]) -> Option<Words<'_>>
 /// Replays the edit lines of the reader over a new runner of the session, with checkpoints each
 /// 10,000 steps, 64 at most. The faults are those of `replay`; where memory for the runner is wanting,
 /// nothing was read and nothing written.
-pub fn replay_session<R: Reader, W: Writer>(
+fn replay_session<R: Reader, W: Writer>(
     alloc: Global,
     session: Session,
     reader: &mut R,
@@ -186,6 +187,7 @@ fn run<'a, R: Files + AllocGlobal + Clone + Drop, O: Writer>(
     requires { O.failures out.old < 2 ^ 63 }
     ensures done { OnOk result (WritesReplay (O.holds out.old) (O.holds out.new)) }
     ensures fault { IfErr result (FitsWords (map string_bytes words.now)) }
+    ensures leaves { IfErr result (Leaves (O.holds out.old) (O.holds out.new) (O.failures out.old) (O.failures out.new)) }
 {
     let Some(words) = read_words(words) else {
         return Err(Fault::Use);
@@ -241,7 +243,7 @@ pub fn command<R: Files + AllocGlobal + Clone + Drop, O: Writer, E: Writer>(
     requires err { E.failures err.old < 2 ^ 63 }
     ensures done { result ≡ 0 → WritesReplay (O.holds out.old) (O.holds out.new) }
     ensures quiet { result ≡ 0 → E.holds err.new ≡ E.holds err.old }
-    ensures told { (result ≡ 0 → ⊥) → TellsOne (map string_bytes words.now) result (E.holds err.old) (E.holds err.new) }
+    ensures fault { (result ≡ 0 → ⊥) → EndsByFault (map string_bytes words.now) result (O.holds out.old) (O.holds out.new) (O.failures out.old) (O.failures out.new) (E.holds err.old) (E.holds err.new) }
 {
     match run(rt, words, out) {
         Ok(()) => 0,

@@ -13,6 +13,7 @@ use crate::reply::{refused, report_of};
 use machine::Meter;
 use replay::{Edit, EditError, Runner};
 use std::alloc::Global;
+use thiserror::Error;
 
 /// How a replay ends without a fault.
 #[derive(Clone, Copy, Debug)]
@@ -22,21 +23,26 @@ pub struct Ending {
 }
 
 /// Why a replay ends early. Lines are numbered from 1.
-#[derive(Clone, Copy, Debug, PartialEq, Eq)]
+#[derive(Clone, Copy, Debug, PartialEq, Eq, Error)]
 pub enum ReplayFault {
     /// The line of this number is no edit line, or it is past the 1,000,000th. The lines before it
     /// were carried out, and exactly their replies written.
+    #[error("line {0} is malformed")]
     Malformed(u64),
     /// The line of this number has more than 65,536 bytes. The lines before it were carried out, and
     /// exactly their replies written.
+    #[error("line {0} is too long")]
     LineTooLong(u64),
     /// The reader failed. The lines whose 0AH was read were carried out, and exactly their replies
     /// written.
+    #[error("the edit lines could not be read")]
     Read,
     /// The writer failed. Some first lines were carried out, and a beginning of their replies written.
+    #[error("the replies could not be written")]
     Write,
     /// Memory was wanted and refused. Some first lines were carried out, and a beginning of their
     /// replies written.
+    #[error("out of memory")]
     OutOfMemory,
 }
 
@@ -66,7 +72,7 @@ fn forget<W: Writer>(runner: &mut Runner, count: u64, writer: &mut W) -> Result<
     ensures fine { OnOk result (W.failures writer.new ≡ W.failures writer.old) }
     ensures failed { result ≡ Err ReplayFault.Write → W.failures writer.old < W.failures writer.new }
 {
-    runner.drop_oldest(count as usize);
+    runner.drop_oldest(count);
     match write_all(writer, b"ok\n".as_slice()) {
         Ok(()) => Ok(()),
         Err(Failed) => Err(ReplayFault::Write),
@@ -87,7 +93,7 @@ fn run<W: Writer>(
     ensures failed { result ≡ Err ReplayFault.Write → W.failures writer.old < W.failures writer.new }
     ensures meter { meter.new ≤ meter.old + 4000000000 }
 {
-    let Ok(report) = runner.rerun(alloc, meter) else {
+    let Ok(report) = runner.rerun(meter) else {
         return Err(ReplayFault::OutOfMemory);
     };
     let Ok(text) = report_of(alloc, &report) else {

@@ -8,7 +8,8 @@ use Rattle.i8080.specs.declared.outcome.Did.TheVariants as did
 use Rattle.i8080.specs.Memory.{Own, Memory, bytes, write_all}
 use Rattle.i8080.specs.Reading.{Reading, end_of, looks_after}
 
--- it went on with these registers, after these writes; or it stopped, and changed nothing
+-- it went on with these registers, after these writes; or it stopped, and changed nothing. That HLT and a byte that stands
+-- for no instruction stop a run: this project's profile
 pub data End : Type 0 where
   Went : Regs → List (ℕ × ℕ) → End
   Halt : End

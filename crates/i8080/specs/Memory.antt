@@ -1,4 +1,5 @@
--- Memory as an instruction sees it.
+-- Memory as an instruction sees it: bytes by address, as in the Intel 8080 Microcomputer Systems User's Manual. What counts
+-- as a look: this project's profile.
 use Rattle.std.specs.Prelude.{◌==◌, ◌||◌, if◌then◌else◌, ℕ, Bool, false, List, [], ◌∷◌, ◌++◌, Option, Some, is_some, unwrap_or}
 use Rattle.std.specs.Borrow.{GName}
 

@@ -1,4 +1,4 @@
--- Registers and register pairs by name.
+-- Registers, register pairs and the word PSW, by name: the Intel 8080 Microcomputer Systems User's Manual, registers.
 use Rattle.std.specs.Prelude.{ℕ, ◌+◌, ◌*◌, ◌/◌, ◌%◌, ◌^◌}
 use Rattle.i8080.specs.declared.registers.Regs.{Regs}
 use Rattle.i8080.specs.declared.opcode.Register.{Register}

@@ -1,6 +1,6 @@
 // A memory of 65,536 cells, behind whatever keeps it.
 
-ghost use Rattle.std.specs.Prelude.{◌≡◌, ℕ, Bool, IsTrue, OnOk, Option};
+ghost use Rattle.std.specs.Prelude.{◌≡◌, ℕ, Bool, IsTrue, OnOk, OnErr, Option};
 ghost use Rattle.i8080.specs.Memory.{Memory, bytes, look, write};
 ghost use Rattle.i8080.specs.Reading.{Cell, Done};
 ghost use Rattle.i8080.specs.End.{Reads};
@@ -15,9 +15,10 @@ pub trait Bus {
     /// Whether a cell may be read and written.
     ghost is_ready: { Self → ℕ → Bool };
 
-    /// Makes a cell ready.
+    /// Makes a cell ready. At `Err` the same cells are ready as before.
     fn ready(&mut self, a: u16) -> Result<(), AllocError>
         ensures ready { OnOk result (IsTrue (is_ready self.new a)) }
+        ensures err { OnErr result (is_ready self.new ≡ is_ready self.old) }
         ensures kept { (q : ℕ) → IsTrue (is_ready self.old q) → IsTrue (is_ready self.new q) }
         ensures memory { memory self.new ≡ memory self.old };
 

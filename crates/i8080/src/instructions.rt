@@ -19,6 +19,9 @@ use std::alloc::AllocError;
 // How an instruction ended, or that memory ran out.
 type Ended = Result<Did, AllocError>;
 
+// What is rare and long stands apart, in functions that end in `_apart`, so that the rest fits into one piece of a step. Each
+// is called by a function that takes its answer out of memory, so that no other answer has to lie there.
+
 // The word at an address.
 #[inline(always)]
 fn fetch_word<B: Bus>(bus: &mut B, a: u16) -> Result<u16, AllocError>
@@ -167,8 +170,16 @@ pub fn sta<B: Bus>(regs: &mut Regs, bus: &mut B) -> Ended
     advance(regs, 3)
 }
 
-#[inline(never)]
+#[inline(always)]
 pub fn lhld<B: Bus>(regs: &mut Regs, bus: &mut B) -> Ended
+    ensures { Performs (operation Lhld regs.old) regs.old (B.memory bus.old) result regs.new (B.memory bus.new) }
+{
+    let did = lhld_apart(regs, bus)?;
+    Ok(did)
+}
+
+#[inline(never)]
+fn lhld_apart<B: Bus>(regs: &mut Regs, bus: &mut B) -> Ended
     ensures { Performs (operation Lhld regs.old) regs.old (B.memory bus.old) result regs.new (B.memory bus.new) }
 {
     let from = fetch_word(bus, regs.pc.wrapping_add(1))?;
@@ -177,8 +188,16 @@ pub fn lhld<B: Bus>(regs: &mut Regs, bus: &mut B) -> Ended
     advance(regs, 3)
 }
 
-#[inline(never)]
+#[inline(always)]
 pub fn shld<B: Bus>(regs: &mut Regs, bus: &mut B) -> Ended
+    ensures { Performs (operation Shld regs.old) regs.old (B.memory bus.old) result regs.new (B.memory bus.new) }
+{
+    let did = shld_apart(regs, bus)?;
+    Ok(did)
+}
+
+#[inline(never)]
+fn shld_apart<B: Bus>(regs: &mut Regs, bus: &mut B) -> Ended
     ensures { Performs (operation Shld regs.old) regs.old (B.memory bus.old) result regs.new (B.memory bus.new) }
 {
     let to = fetch_word(bus, regs.pc.wrapping_add(1))?;
@@ -367,8 +386,16 @@ pub fn call<B: Bus>(regs: &mut Regs, bus: &mut B) -> Ended
     Ok(Did::Went)
 }
 
-#[inline(never)]
+#[inline(always)]
 pub fn call_if<B: Bus>(regs: &mut Regs, bus: &mut B, condition: Condition) -> Ended
+    ensures { Performs (operation (CallIf condition) regs.old) regs.old (B.memory bus.old) result regs.new (B.memory bus.new) }
+{
+    let did = call_if_apart(regs, bus, condition)?;
+    Ok(did)
+}
+
+#[inline(never)]
+fn call_if_apart<B: Bus>(regs: &mut Regs, bus: &mut B, condition: Condition) -> Ended
     ensures { Performs (operation (CallIf condition) regs.old) regs.old (B.memory bus.old) result regs.new (B.memory bus.new) }
 {
     let to = fetch_word(bus, regs.pc.wrapping_add(1))?;
@@ -389,8 +416,16 @@ pub fn ret<B: Bus>(regs: &mut Regs, bus: &mut B) -> Ended
     Ok(Did::Went)
 }
 
-#[inline(never)]
+#[inline(always)]
 pub fn ret_if<B: Bus>(regs: &mut Regs, bus: &mut B, condition: Condition) -> Ended
+    ensures { Performs (operation (RetIf condition) regs.old) regs.old (B.memory bus.old) result regs.new (B.memory bus.new) }
+{
+    let did = ret_if_apart(regs, bus, condition)?;
+    Ok(did)
+}
+
+#[inline(never)]
+fn ret_if_apart<B: Bus>(regs: &mut Regs, bus: &mut B, condition: Condition) -> Ended
     ensures { Performs (operation (RetIf condition) regs.old) regs.old (B.memory bus.old) result regs.new (B.memory bus.new) }
 {
     if condition.holds(regs.flags) {
@@ -399,8 +434,16 @@ pub fn ret_if<B: Bus>(regs: &mut Regs, bus: &mut B, condition: Condition) -> End
     advance(regs, 1)
 }
 
-#[inline(never)]
+#[inline(always)]
 pub fn rst<B: Bus>(regs: &mut Regs, bus: &mut B, restart: Restart) -> Ended
+    ensures { Performs (operation (Rst restart) regs.old) regs.old (B.memory bus.old) result regs.new (B.memory bus.new) }
+{
+    let did = rst_apart(regs, bus, restart)?;
+    Ok(did)
+}
+
+#[inline(never)]
+fn rst_apart<B: Bus>(regs: &mut Regs, bus: &mut B, restart: Restart) -> Ended
     ensures { Performs (operation (Rst restart) regs.old) regs.old (B.memory bus.old) result regs.new (B.memory bus.new) }
 {
     push_word(regs, bus, regs.pc.wrapping_add(1))?;
@@ -448,8 +491,16 @@ pub fn pop<B: Bus>(regs: &mut Regs, bus: &mut B, what: Saved) -> Ended
     advance(regs, 1)
 }
 
-#[inline(never)]
+#[inline(always)]
 pub fn xthl<B: Bus>(regs: &mut Regs, bus: &mut B) -> Ended
+    ensures { Performs (operation Xthl regs.old) regs.old (B.memory bus.old) result regs.new (B.memory bus.new) }
+{
+    let did = xthl_apart(regs, bus)?;
+    Ok(did)
+}
+
+#[inline(never)]
+fn xthl_apart<B: Bus>(regs: &mut Regs, bus: &mut B) -> Ended
     ensures { Performs (operation Xthl regs.old) regs.old (B.memory bus.old) result regs.new (B.memory bus.new) }
 {
     let value = fetch_word(bus, regs.sp)?;
@@ -466,8 +517,16 @@ pub fn sphl<B: Bus>(regs: &mut Regs, _bus: &mut B) -> Ended
     advance(regs, 1)
 }
 
-#[inline(never)]
+#[inline(always)]
 pub fn input<B: Bus>(regs: &mut Regs, bus: &mut B) -> Ended
+    ensures { Performs (operation In regs.old) regs.old (B.memory bus.old) result regs.new (B.memory bus.new) }
+{
+    let did = input_apart(regs, bus)?;
+    Ok(did)
+}
+
+#[inline(never)]
+fn input_apart<B: Bus>(regs: &mut Regs, bus: &mut B) -> Ended
     ensures { Performs (operation In regs.old) regs.old (B.memory bus.old) result regs.new (B.memory bus.new) }
 {
     fetch(bus, regs.pc.wrapping_add(1))?;
@@ -475,8 +534,16 @@ pub fn input<B: Bus>(regs: &mut Regs, bus: &mut B) -> Ended
     advance(regs, 2)
 }
 
-#[inline(never)]
+#[inline(always)]
 pub fn output<B: Bus>(regs: &mut Regs, bus: &mut B) -> Ended
+    ensures { Performs (operation Out regs.old) regs.old (B.memory bus.old) result regs.new (B.memory bus.new) }
+{
+    let did = output_apart(regs, bus)?;
+    Ok(did)
+}
+
+#[inline(never)]
+fn output_apart<B: Bus>(regs: &mut Regs, bus: &mut B) -> Ended
     ensures { Performs (operation Out regs.old) regs.old (B.memory bus.old) result regs.new (B.memory bus.new) }
 {
     fetch(bus, regs.pc.wrapping_add(1))?;

@@ -1,5 +1,5 @@
 -- What pages hold, as a finite map and as a function of the address.
-use Rattle.std.proofs.Common.{rules, inl, inr, ◌≡◌, ℕ, zero, suc, ◌<◌, ◌≤◌, ◌≢◌, Option, Some, None, refl, sym, ◌∙◌, ap, arith, cond, eqb, List, [], ◌∷◌, nat_lt, if◌then◌else◌, true, false, get_or, length, ◌/◌, ◌%◌}
+use Rattle.std.proofs.Common.{rules, inl, inr, ◌≡◌, ℕ, zero, suc, ◌<◌, ◌≤◌, ◌≢◌, Option, Some, None, refl, sym, ◌∙◌, ap, arith, cond, eqb, List, [], ◌∷◌, nat_lt, true, false, length, ◌/◌, ◌%◌}
 use Rattle.std.proofs.lemmas.Bool.Decides.{eqb_tells, leb_tells}
 use Rattle.std.proofs.lemmas.Cmp.{nat_cmp_total}
 use Rattle.std.proofs.lemmas.List.{get_or_past}
@@ -53,39 +53,34 @@ kept_is own m h same = map.same_map nat_cmp_total map.nat_cmp-IsAntisymmetric _ 
 pub kept_none : (own : ℕ → Option ℕ) → own ≡ (λ _. None) → kept own ≡ map.empty
 kept_none own e = kept_is own map.empty (λ q h. ap (λ (f : ℕ → Option ℕ). f q) e) (λ q. map.get-empty nat_cmp q ∙ sym (ap (λ (f : ℕ → Option ℕ). f q) e))
 
+-- whether a byte is stored
+not_below : (a : ℕ) → 65536 ≤ a → nat_lt a 65536 ≡ false
+not_below a p = search (rules)
+
+below : (a : ℕ) → a < 65536 → nat_lt a 65536 ≡ true
+below a p = search (rules)
+
 -- a byte stored is there afterwards, below the last cell
 pub get_stored : (m : Cells) (a v q : ℕ) → q < 65536 → map.get (stored m a v) q ≡ cond (eqb q a) (Some v) (map.get m q)
 get_stored m a v q h = elim (leb_tells 65536 a) [
   | inl over ↦ far (let p : 65536 ≤ a = over.1 in p)
   | inr under ↦ near (let p : a < 65536 = under.1 in p)
 ] where
-  test_false : 65536 ≤ a → nat_lt a 65536 ≡ false
-  test_false p = search (rules)
-
-  test_true : a < 65536 → nat_lt a 65536 ≡ true
-  test_true p = search (rules)
-
   far : 65536 ≤ a → map.get (stored m a v) q ≡ cond (eqb q a) (Some v) (map.get m q)
   far p = elim (eqb_tells q a) [
     | inl same ↦ absurd (let e : q ≡ a = same.1 in omega arith)
-    | inr other ↦ rw (test_false p, other.0) refl
+    | inr other ↦ rw (not_below a p, other.0) refl
   ]
 
   near : a < 65536 → map.get (stored m a v) q ≡ cond (eqb q a) (Some v) (map.get m q)
-  near p = rw (test_true p) (get_insert m a v q)
+  near p = rw (below a p) (get_insert m a v q)
 
 -- nothing is stored past the last cell
 pub stored_past : (m : Cells) (a v q : ℕ) → 65536 ≤ q → map.get m q ≡ None → map.get (stored m a v) q ≡ None
 stored_past m a v q h e = elim (leb_tells 65536 a) [
-  | inl over ↦ rw (let p : 65536 ≤ a = over.1 in test_false p) e
-  | inr under ↦ let p : a < 65536 = under.1 in rw (test_true p) (get_insert m a v q ∙ rw (unlike p) e)
+  | inl over ↦ rw (not_below a over.1) e
+  | inr under ↦ let p : a < 65536 = under.1 in rw (below a p) (get_insert m a v q ∙ rw (unlike p) e)
 ] where
-  test_false : 65536 ≤ a → nat_lt a 65536 ≡ false
-  test_false p = search (rules)
-
-  test_true : a < 65536 → nat_lt a 65536 ≡ true
-  test_true p = search (rules)
-
   unlike : a < 65536 → eqb q a ≡ false
   unlike p = elim (eqb_tells q a) [ inl same ↦ absurd (let e : q ≡ a = same.1 in omega arith) | inr other ↦ other.0 ]
 

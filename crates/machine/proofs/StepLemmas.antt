@@ -1,16 +1,15 @@
 -- An instruction or a call over pages is a step of the machine.
-use Rattle.std.proofs.Common.{inl, inr, ◌≡◌, ℕ, ◌<◌, ◌≤◌, ◌≢◌, Bool, true, false, ◌||◌, ◌&&◌, ◌==◌, not, List, [], ◌∷◌, ◌++◌, map, Option, Some, None, unwrap_or, is_some, refl, sym, ◌∙◌, ap, subst, arith, append_assoc, cond, eqb, nat_le, get_or, length, rules, IfSome}
-use Rattle.std.specs.Prelude.{slice_get}
-use Rattle.std.proofs.Math.Path.{fun_ext}
-use Rattle.std.proofs.lemmas.Bool.Decides.{eqb_tells, leb_tells}
+use Rattle.std.proofs.Common.{inl, inr, ◌≡◌, ℕ, ◌<◌, ◌≤◌, ◌≢◌, Bool, true, false, ◌||◌, ◌&&◌, ◌==◌, not, List, [], ◌∷◌, ◌++◌, map, Option, Some, None, unwrap_or, is_some, refl, sym, ◌∙◌, ap, subst, arith, append_assoc, cond, IfSome}
+use Rattle.std.proofs.Math.Bool.{or_assoc, or-false}
+use Rattle.std.proofs.lemmas.Bool.{ne_eqb, lt-leb, le-leb}
+use Rattle.std.proofs.lemmas.Bool.Decides.{eqb_tells}
 use Rattle.std.specs.FinMap as finmap
-use Rattle.interaction_trees.specs.Tree.{Tree, Return, Query, result_of, asked, AgreeOn, returning}
+use Rattle.interaction_trees.specs.Tree.{Return, result_of, asked, AgreeOn, returning}
 use Rattle.interaction_trees.specs.Dependence.{Outcome, Step, Stop}
 use Rattle.interaction_trees.specs.Dependence as dependence
 use Rattle.interaction_trees.proofs.DependenceLemmas.{same_result, same_asked, result_of-returning, asked-returning}
 use Rattle.i8080.specs.declared.registers.Regs.{Regs}
 use Rattle.i8080.specs.declared.outcome.Did.{Did}
-use Rattle.i8080.specs.declared.outcome.Did.TheVariants as did
 use Rattle.i8080.specs.Memory.{Looks, over, look, look_all, is_among, write_all}
 use Rattle.i8080.specs.Reading.{Reading, Done}
 use Rattle.i8080.specs.Reading as reading
@@ -18,37 +17,31 @@ use Rattle.i8080.specs.Instruction.{instruction}
 use Rattle.i8080.specs.End as end
 use Rattle.pagemem.specs.Image.{image_at}
 use Rattle.bdos.specs.declared.cause.Cause.{Cause}
-use Rattle.bdos.specs.declared.cause.Cause.TheVariants.{WarmBoot, Halt, Undefined, SystemArea, NoDollar, Unsupported}
+use Rattle.bdos.specs.declared.cause.Cause.TheVariants.{WarmBoot, SystemArea}
 use Rattle.bdos.specs.declared.served.Served.{Served}
-use Rattle.bdos.specs.declared.served.Served.TheVariants as served
 use Rattle.bdos.specs.Desk.{Desk, printed}
 use Rattle.i8080.specs.Instruction.{word_at}
 use Rattle.i8080.specs.Registers.{word}
-use Rattle.bdos.specs.Questions.{StateQuestion, Byte, Input, StateAnswer, StateAnswers, StateTree, reads}
+use Rattle.bdos.specs.Questions.{StateQuestion, Byte, Input, StateAnswers, StateTree, reads}
 use Rattle.bdos.specs.Calls as calls
 use Rattle.bdos.specs.Strings.{string_at}
-use Rattle.machine.specs.Views.{Session, Core, Cells, Own, State}
+use Rattle.machine.specs.Views.{Session, Own}
 use Rattle.machine.specs.Session.{page_zero}
-use Rattle.machine.specs.Machine.{Question, Cell, Script, Answers, ask, same_question, is_in, Reached, Went, Stopped, reached, reached_by_call, next, own_or_ask, part, laid, stored_all, made, start, outcome, looks_at, looked_at, Extends}
+use Rattle.machine.specs.Machine.{Question, Cell, Script, Answers, ask, same_question, is_in, Reached, Went, Stopped, reached, reached_by_call, next, own_or_ask, part, laid, made, outcome, looks_at, looked_at, Extends}
 use Rattle.machine.specs.Kept.{kept, held}
 use Rattle.machine.specs.Stops.{stop_by, stop_in}
 use Rattle.machine.specs.Steps.{told, seen, CarriesOut}
-use Rattle.std.specs.declared.result.Result.{Result}
-use Rattle.std.specs.declared.result.Result.TheVariants.{Ok, Err}
-use Rattle.std.specs.declared.alloc.AllocError.{AllocError}
+use Rattle.std.specs.declared.result.Result.TheVariants.{Ok}
 use Rattle.pagemem.specs.declared.overlay.Overlay.{Overlay}
 use Rattle.pagemem.specs.Overlay.{own_of, looks_of}
 use Rattle.pagemem.specs.declared.cells.Cells.{Cells as PagedCells}
 use Rattle.pagemem.specs.Cells.{own_in}
 use Rattle.std.proofs.lemmas.List.{append-nil}
-use Rattle.machine.proofs.KeptLemmas.{in_cells}
-use Rattle.machine.proofs.KeptLemmas.{InCells, get_kept, kept_written}
+use Rattle.i8080.proofs.LookLemmas.{is_among-append}
+use Rattle.bdos.proofs.Trees.{result_of-reads}
+use Rattle.machine.proofs.KeptLemmas.{InCells, in_cells, get_kept, kept_written}
 
 -- ---- a tree of reads, as a tree of questions
-
-pub result_of-reads : {E F : Type 0} (f : StateAnswers) (t : Reading E) (k : E → StateTree F) → result_of f (reads t k) ≡ result_of f (k (reading.end_of t (λ a. f (Byte a))))
-result_of-reads f (Done e) k = refl
-result_of-reads f (reading.Cell a t) k = result_of-reads f (t (f (Byte a))) k
 
 pub asked-reads : {E F : Type 0} (f : StateAnswers) (t : Reading E) (k : E → StateTree F)
     → asked f (reads t k) ≡ map Byte (reading.asked t (λ a. f (Byte a))) ++ asked f (k (reading.end_of t (λ a. f (Byte a))))
@@ -61,7 +54,7 @@ agree_everywhere : (f g : StateAnswers) → ((q : StateQuestion) → f q ≡ g q
 agree_everywhere f g h [] = tt
 agree_everywhere f g h (q ∷ qs) = (h q, agree_everywhere f g h qs)
 
-answered : (f : Answers) (o : Option ℕ) (a : ℕ) → result_of f (own_or_ask o a) ≡ unwrap_or o (f (Cell a))
+pub answered : (f : Answers) (o : Option ℕ) (a : ℕ) → result_of f (own_or_ask o a) ≡ unwrap_or o (f (Cell a))
 answered f None a = refl
 answered f (Some v) a = refl
 
@@ -91,18 +84,6 @@ laid_asked s own h t = same_asked (memory_answers s own) (laid (own_kept own) (a
 
 -- ---- the looks
 
-or_assoc : (a b c : Bool) → ((a || b) || c) ≡ (a || (b || c))
-or_assoc true b c = refl
-or_assoc false b c = refl
-
-is_among-append : (q : ℕ) (xs ys : List ℕ) → is_among q (xs ++ ys) ≡ (is_among q xs || is_among q ys)
-is_among-append q [] ys = refl
-is_among-append q (x ∷ xs) ys = ap (λ b. eqb q x || b) (is_among-append q xs ys) ∙ sym (or_assoc (eqb q x) _ _)
-
-or_false : (b : Bool) → (b || false) ≡ b
-or_false true = refl
-or_false false = refl
-
 is_in-append : (q : Question) (xs ys : List Question) → is_in q (xs ++ ys) ≡ (is_in q xs || is_in q ys)
 is_in-append q [] ys = refl
 is_in-append q (x ∷ xs) ys = ap (λ b. same_question q x || b) (is_in-append q xs ys) ∙ sym (or_assoc (same_question q x) _ _)
@@ -125,7 +106,7 @@ one_look own looks a q = pick (own a) (is_among a looks) refl where
   after : (b : Bool) → b ≡ is_among a looks → is_among q (cond b looks (looks ++ a ∷ [])) ≡ (is_among q looks || ((q == a) && true))
   after true e = elim (eqb_tells q a) [
     | inl same ↦ rw (same.0, same.1, ← e) refl
-    | inr other ↦ rw other.0 (sym (or_false (is_among q looks)))
+    | inr other ↦ rw other.0 (sym (or-false (is_among q looks)))
   ]
   after false e = is_among-append q looks (a ∷ []) ∙ ap (λ b. is_among q looks || b) (last (q == a)) where
     last : (b : Bool) → (b || false) ≡ (b && true)
@@ -136,12 +117,12 @@ one_look own looks a q = pick (own a) (is_among a looks) refl where
   pick None b e = after (is_among a looks) refl
   pick (Some v) b e = none (q == a) where
     none : (b : Bool) → is_among q looks ≡ (is_among q looks || (b && false))
-    none true = sym (or_false (is_among q looks))
-    none false = sym (or_false (is_among q looks))
+    none true = sym (or-false (is_among q looks))
+    none false = sym (or-false (is_among q looks))
 
 looks_of_cell : (f : Answers) (own : ℕ → Option ℕ) → InCells own → (qs : List StateQuestion) (looks : Looks) (q : ℕ)
     → is_among q (look_all own (calls.addresses qs) looks) ≡ (is_among q looks || is_in (Cell q) (dependence.passed_on part (own_kept own) f qs))
-looks_of_cell f own h [] looks q = sym (or_false (is_among q looks))
+looks_of_cell f own h [] looks q = sym (or-false (is_among q looks))
 looks_of_cell f own h (Byte a ∷ qs) looks q =
     looks_of_cell f own h qs (look own looks a) q
     ∙ ap (λ b. b || is_in (Cell q) (dependence.passed_on part (own_kept own) f qs)) (one_look own looks a q)
@@ -194,9 +175,6 @@ addresses-map (a ∷ at) qs = ap (λ (xs : List ℕ). a ∷ xs) (addresses-map a
 -- ---- a step, by the tree that comes at PC
 
 module _ (s : Session) (r : Regs) (d : Desk) (own : ℕ → Option ℕ) (h : InCells own) where
-  bytes : ℕ → ℕ
-  bytes = over own (image_at page_zero s.program)
-
   -- how the tree ends that comes at PC
   outcome_of : (t : StateTree Reached) → next (record { regs = r; desk = d }) ≡ t → outcome (ask s) (held r d own) ≡ made (held r d own) (result_of (memory_answers s own) t)
   unfolding dependence.outcome
@@ -257,20 +235,11 @@ carried s r r' d d' o o' t e alone l looks = record {
   extends = let all = all_extend (own_of o) (calls.addresses (asked (memory_answers s (own_of o)) t)) (looks_of o) in (all.0, looks ∙ all.1);
 }
 
--- a step that was refused memory
-pub refused : (s : Session) (r r' : Regs) (d d' : Desk) (o o' : Overlay) (error : AllocError) → r' ≡ r → d' ≡ d → own_of o' ≡ own_of o → CarriesOut s r d o (Err error) r' d' o'
-refused s r r' d d' o o' error e f g = record { outcome = tt; stays = tt; failed = λ i. held (e i) (f i) (g i); looked = tt; extends = tt }
-
 -- ---- an instruction
 
 at_instruction : (r : Regs) (d : Desk) → r.pc < 0xfe00 → next (record { regs = r; desk = d }) ≡ reads (instruction r) (λ e. Return (reached d e))
 unfolding next
-at_instruction r d low = rw (unlike r.pc 0xff03 (omega arith), unlike r.pc 0xfe06 (omega arith), under r.pc low) refl where
-  unlike : (pc n : ℕ) → pc ≢ n → (pc == n) ≡ false
-  unlike pc n h = elim (eqb_tells pc n) [ inl same ↦ absurd (h same.1) | inr other ↦ other.0 ]
-
-  under : (pc : ℕ) → pc < 0xfe00 → nat_le 0xfe00 pc ≡ false
-  under pc h = elim (leb_tells 0xfe00 pc) [ inl up ↦ absurd (let e : 0xfe00 ≤ pc = up.1 in omega arith) | inr below ↦ below.0 ]
+at_instruction r d low = rw (ne_eqb r.pc 0xff03 (omega arith), ne_eqb r.pc 0xfe06 (omega arith), lt-leb 0xfe00 r.pc low) refl
 
 end_leaves : (r r' : Regs) (d : Desk) (own own' : ℕ → Option ℕ) (e : end.End) → r' ≡ end.regs_of e r → own' ≡ end.own_of e own → Leaves (reached d e) r d own r' d own'
 end_leaves r r' d own own' (end.Went t ws) regs wrote = (regs, refl, wrote)
@@ -355,9 +324,4 @@ next_warm r d e = rw e refl
 
 pub next_system : (r : Regs) (d : Desk) → r.pc ≢ 0xff03 → r.pc ≢ 0xfe06 → 0xfe00 ≤ r.pc → next (record { regs = r; desk = d }) ≡ Return (Stopped (SystemArea r.pc))
 unfolding next
-next_system r d w b h = rw (unlike r.pc 0xff03 w, unlike r.pc 0xfe06 b, over_system r.pc h) refl where
-  unlike : (pc n : ℕ) → pc ≢ n → (pc == n) ≡ false
-  unlike pc n h = elim (eqb_tells pc n) [ inl same ↦ absurd (h same.1) | inr other ↦ other.0 ]
-
-  over_system : (pc : ℕ) → 0xfe00 ≤ pc → nat_le 0xfe00 pc ≡ true
-  over_system pc h = elim (leb_tells 0xfe00 pc) [ inl up ↦ up.0 | inr low ↦ absurd (let e : pc < 0xfe00 = low.1 in omega arith) ]
+next_system r d w b h = rw (ne_eqb r.pc 0xff03 w, ne_eqb r.pc 0xfe06 b, le-leb 0xfe00 r.pc h) refl

@@ -1,9 +1,9 @@
 -- The console text only grows.
 use Rattle.std.proofs.Common.{◌≡◌, ℕ, zero, suc, ◌+◌, ◌-◌, ◌≤◌, ◌==◌, Bool, true, false, cond, List, [], ◌∷◌, ◌++◌, length, take, Option, Some, None, refl, sym, ◌∙◌, ap, subst, arith, append_assoc, length-append, zero-add, nat_le}
 use native.Mathlib.Nat.{suc-add}
-use Rattle.std.proofs.lemmas.List.{append-nil, take-append-le, take_all}
+use Rattle.std.proofs.lemmas.List.{append-nil}
 use Rattle.std.proofs.Math.Seq.{take-append_seam}
-use Rattle.interaction_trees.specs.Tree.{Tree, Return, Query, result_of, returning}
+use Rattle.interaction_trees.specs.Tree.{Return, result_of, returning}
 use Rattle.interaction_trees.specs.Dependence.{Outcome, Step, Stop}
 use Rattle.interaction_trees.specs.Dependence as dependence
 use Rattle.interaction_trees.proofs.DependenceLemmas.{result_of-returning}
@@ -13,16 +13,15 @@ use Rattle.i8080.specs.Reading as reading
 use Rattle.i8080.specs.Instruction.{instruction, word_at}
 use Rattle.i8080.specs.Registers.{word}
 use Rattle.i8080.specs.End as end
-use Rattle.bdos.specs.declared.cause.Cause.{Cause}
 use Rattle.bdos.specs.declared.cause.Cause.TheVariants.{WarmBoot, SystemArea}
 use Rattle.bdos.specs.Desk.{Desk, printed, printed_all, sent, tabbed}
 use Rattle.bdos.specs.Questions.{StateAnswers, StateTree, reads}
 use Rattle.bdos.specs.Calls as calls
 use Rattle.bdos.specs.Strings.{string_at}
+use Rattle.bdos.proofs.Trees.{result_of-reads}
 use Rattle.machine.specs.Views.{Core, State}
 use Rattle.machine.specs.Machine.{Answers, Extends, Reached, Went, Stopped, reached, reached_by_call, next, laid, stored_all, made, outcome, after}
 use Rattle.machine.proofs.AfterLemmas.{step_before}
-use Rattle.machine.proofs.StepLemmas.{result_of-reads}
 
 pub extends_itself : (xs : List ℕ) → Extends xs xs
 extends_itself xs = ([], sym (append-nil xs))

@@ -1,9 +1,8 @@
 -- The machine with its whole memory as one list goes the same way.
-use Rattle.std.proofs.Common.{rules, inl, inr, ◌≡◌, ℕ, zero, suc, ◌+◌, ◌<◌, ◌≤◌, Option, Some, None, List, [], ◌∷◌, length, get_or, map, unwrap_or, refl, sym, ◌∙◌, ap, arith, cond, eqb, get_or-set_same, get_or-set_other, length-set, nat_lt, Bool, true, false, subst}
+use Rattle.std.proofs.Common.{rules, inl, inr, ◌≡◌, ℕ, zero, suc, ◌+◌, ◌<◌, ◌≤◌, Option, Some, None, List, [], ◌∷◌, length, get_or, unwrap_or, refl, sym, ◌∙◌, ap, arith, cond, eqb, get_or-set_same, get_or-set_other, length-set, nat_lt, Bool, true, false, subst}
 use Rattle.std.proofs.Math.Path.{fun_ext}
-use Rattle.std.specs.Prelude.{slice_index, slice_set, slice_get}
+use Rattle.std.specs.Prelude.{slice_index, slice_set}
 use Rattle.std.specs.Option.{option_map}
-use Rattle.std.specs.List.{range_with_len}
 use Rattle.std.specs.Ordering.{nat_cmp}
 use Rattle.std.specs.FinMap as finmap
 use Rattle.std.proofs.lemmas.Bool.Decides.{eqb_tells, leb_tells}
@@ -16,13 +15,14 @@ use Rattle.interaction_trees.proofs.DependenceLemmas.{same_everywhere}
 use Rattle.pagemem.specs.Image.{image_at}
 use Rattle.bdos.specs.declared.cause.Cause.{Cause}
 use Rattle.bdos.specs.Questions.{StateQuestion, Byte, Input}
-use Rattle.machine.specs.Views.{Session, Core, Cells, Own, State}
+use Rattle.machine.specs.Views.{Session, Cells, State}
 use Rattle.machine.specs.Session.{page_zero, IsSession}
-use Rattle.machine.specs.Machine.{Cell, Answers, ask, Reached, Went, Stopped, next, own_or_ask, part, laid, stored, stored_all, made, start, outcome, after}
+use Rattle.machine.specs.Machine.{Answers, ask, Reached, Went, Stopped, next, part, laid, stored, stored_all, made, start, outcome, after}
 use Rattle.machine.specs.Kept.{cell_count, cell_count-is}
-use Rattle.machine.specs.Whole.{Whole, memory_of, loaded, tells, written, whole_made, whole_outcome, whole_then, whole_after, laid_over, whole_of, WholeIsLaid}
+use Rattle.machine.specs.Whole.{Whole, memory_of, tells, written, whole_made, whole_outcome, whole_then, whole_after, laid_over, whole_of, WholeIsLaid}
 use Rattle.machine.proofs.KeptLemmas.{get_stored, stored_past}
 use Rattle.machine.proofs.AfterLemmas.{step_before}
+use Rattle.machine.proofs.StepLemmas.{answered}
 
 -- ---- a list of a byte for each cell
 
@@ -47,10 +47,6 @@ memory_is byte m e same = sym (fill_by_all byte m cell_count 0 e same)
 -- a state's cell: what was written, else the session's
 abbrev cell_of : Session → Cells → ℕ → ℕ
 cell_of s m a = unwrap_or (finmap.get m a) (image_at page_zero s.program a)
-
-answered : (f : Answers) (o : Option ℕ) (a : ℕ) → result_of f (own_or_ask o a) ≡ unwrap_or o (f (Cell a))
-answered f None a = refl
-answered f (Some v) a = refl
 
 -- nothing is stored past the last cell
 abbrev pub Inside : Cells → Type 0
@@ -121,9 +117,6 @@ after_inside f (suc n) st e =
     let (b, before, went) = step_before f (after f n) st e in
     step_inside b st (result_of (laid b.own f) (next b.core)) (after_inside f n b before) went
 
-none_then : (s : Session) (o : Option State) → o ≡ None → whole_then s (option_map (laid_over s) o) ≡ option_map (laid_over s) (dependence.then_step part (λ (st : State). st.own) (λ (st : State). next st.core) made start (ask s) o)
-none_then s o e = rw e refl
-
 went_on : (s : Session) (w : Outcome Whole Cause) (o : Outcome State Cause) → w ≡ whole_of s o
     → elim w as (λ _. Option Whole) [ Step next ↦ Some next | Stop cause ↦ None ] ≡ option_map (laid_over s) (state_of o)
 went_on s w (Step st) e = rw e refl
@@ -139,8 +132,9 @@ unfolding whole_after dependence.after
 same_after s limits zero = ap (λ (l : List ℕ). Some (record { core = start.core; memory = l })) (ap memory_of (fun_ext (λ a. sym (ap (λ (o : Option ℕ). unwrap_or o (image_at page_zero s.program a)) (finmap.get-empty nat_cmp a)))))
 same_after s limits (suc n) = ap (whole_then s) (same_after s limits n) ∙ one_more s limits (after (ask s) n) (after_inside (ask s) n)
 
-pub whole_is_laid_lem : WholeIsLaid
-whole_is_laid_lem = record {
+-- the law of the whole machine
+pub whole_goes_as_laid : WholeIsLaid
+whole_goes_as_laid = record {
   states = same_after;
   outcomes = λ s limits n st e. same_outcome s st limits (after_inside (ask s) n st e);
 }

@@ -5,7 +5,7 @@ use Rattle.i8080.specs.declared.registers.Regs.{Regs}
 use Rattle.bdos.specs.Desk.{Desk}
 use Rattle.machine.specs.Views.{Cells, State}
 
--- how many cells there are; a word of its own, so that nothing counts up to it
+-- how many cells there are (8080 manual); a word of its own, so that nothing counts up to it
 pub cell_count : ℕ
 cell_count = 65536
 

@@ -20,7 +20,7 @@ use Rattle.machine.specs.Session.{page_zero}
 
 -- ---- what the session is asked
 
--- the byte of a cell of the loaded image; the script byte at a place, or that there is none
+-- the byte of a cell of the loaded image; the script byte at a place, or that there is none (this project's profile)
 pub data Question : Type 0 where
   Cell : ℕ → Question
   Script : ℕ → Question
@@ -54,16 +54,21 @@ pub data Reached : Type 0 where
   Went : Core → List (ℕ × ℕ) → Reached
   Stopped : Cause → Reached
 
+-- the end of an instruction: HLT and a byte that is no opcode stop (which bytes are opcodes: 8080 manual; that both end a
+-- run: this project's profile)
 abbrev pub reached : Desk → end.End → Reached
 reached d (end.Went r writes) = Went (record { regs = r; desk = d }) writes
 reached d end.Halt = Stopped Halt
 reached d (end.Undefined byte) = Stopped (Undefined byte)
 
+-- the end of a call
 abbrev pub reached_by_call : calls.CallEnd → Reached
 reached_by_call (calls.Returned r d writes) = Went (record { regs = r; desk = d }) writes
 reached_by_call (calls.Stopped cause) = Stopped cause
 
--- what a step asks of the state, and what it makes of the answers: the first line that fits decides
+-- What a step asks of the state, and what it makes of the answers: the first line that fits decides. (That a jump to 0000H
+-- is the warm start and a call to 0005H the BDOS: CP/M 2.2 Interface Guide. That page zero leads there to 0FF03H and to
+-- 0FE06H, that the system's area begins at 0FE00H, and the order of the lines: this project's profile.)
 unfoldable pub next : Core → StateTree Reached
 next c =
     if c.regs.pc == 0xff03 then Return (Stopped WarmBoot)
@@ -90,7 +95,7 @@ laid = dependence.laid part
 abbrev pub cell_at : Session → State → ℕ → ℕ
 cell_at s st a = laid st.own (ask s) (Byte a)
 
--- a byte written at a cell; there are 65,536 cells
+-- a byte written at a cell; there are 65,536 cells (8080 manual)
 abbrev pub stored : Cells → ℕ → ℕ → Cells
 stored m a v = if nat_lt a 65536 then map.insert m a v else m
 
@@ -104,6 +109,8 @@ made st (Stopped cause) = Stop cause
 
 -- ---- a run
 
+-- the registers of a loaded program (that it begins at 0100H: CP/M 2.2 Interface Guide; that the stack begins at 0FDFEH
+-- and that all else is 0: this project's profile)
 abbrev pub first_regs : Regs
 first_regs = record { a = 0; b = 0; c = 0; d = 0; e = 0; h = 0; l = 0; sp = 0xfdfe; pc = 0x0100; flags = record { s = false; z = false; ac = false; p = false; cy = false } }
 

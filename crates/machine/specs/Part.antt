@@ -1,8 +1,7 @@
 -- A state without its text.
 use Rattle.std.specs.Prelude.{ℕ, List, length}
 use Rattle.i8080.specs.declared.registers.Regs.{Regs}
-use Rattle.bdos.specs.Desk.{Desk}
-use Rattle.machine.specs.Views.{Cells, Core, Own, State}
+use Rattle.machine.specs.Views.{Cells, State}
 
 -- what is kept of a state: all of it but the text, of which the length is kept
 pub record Part : Type 0 where

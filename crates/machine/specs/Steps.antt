@@ -1,5 +1,5 @@
 -- A step over pages.
-use Rattle.std.specs.Prelude.{◌≡◌, ◌||◌, ℕ, Option, Some, None, IfOk, OnOk, OnErr, IfSome}
+use Rattle.std.specs.Prelude.{◌≡◌, ◌||◌, Option, Some, None, IfOk, OnOk, OnErr, IfSome}
 use Rattle.std.specs.declared.result.Result.{Result}
 use Rattle.std.specs.declared.alloc.AllocError.{AllocError}
 use Rattle.interaction_trees.specs.Dependence.{Outcome, Step, Stop}

@@ -6,7 +6,7 @@ use Rattle.std.specs.Coded.{Coded, coded_ℕ}
 use Rattle.i8080.specs.declared.registers.Regs.{Regs}
 use Rattle.bdos.specs.Desk.{Desk}
 
--- what is handed in
+-- what is handed in (this project's profile)
 pub record Session : Type 0 where
   pub program : List ℕ
   pub script : List ℕ

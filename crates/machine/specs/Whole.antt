@@ -7,7 +7,7 @@ use Rattle.interaction_trees.specs.Tree.{result_of}
 use Rattle.interaction_trees.specs.Dependence.{Outcome, Step, Stop}
 use Rattle.pagemem.specs.Image.{image_at}
 use Rattle.bdos.specs.declared.cause.Cause.{Cause}
-use Rattle.bdos.specs.Questions.{StateQuestion, Byte, Input, StateAnswers}
+use Rattle.bdos.specs.Questions.{Byte, Input, StateAnswers}
 use Rattle.machine.specs.Views.{Session, Core, State}
 use Rattle.machine.specs.Session.{page_zero, IsSession}
 use Rattle.machine.specs.Machine.{ask, Reached, Went, Stopped, next, start, outcome, after}
@@ -21,7 +21,8 @@ pub record Whole : Type 0 where
 unfoldable pub memory_of : (ℕ → ℕ) → List ℕ
 memory_of byte = map byte (range_with_len 0 cell_count)
 
--- page zero, the program, and 0 in every other cell
+-- page zero, the program, and 0 in every other cell (where they stand: CP/M 2.2 Interface Guide; that the other cells are
+-- 0: this project's profile)
 abbrev pub loaded : Session → List ℕ
 loaded s = memory_of (image_at page_zero s.program)
 

@@ -9,7 +9,7 @@ use pagemem::image::Image;
 use std::marker::Model;
 use thiserror::Error;
 
-/// The most bytes of a program: it stands from 0100H up to the system's area at 0FD00H.
+/// The most bytes of a program: it stands from 0100H on and ends at 0FD00H. The system's area begins at 0FE00H.
 pub const PROGRAM_LIMIT: usize = 64_512;
 
 /// The most bytes of a console script.
@@ -29,10 +29,10 @@ pub struct Session {
 
 impl Model for Session {
     ghost use Rattle.std.specs.Prelude.{◌≡◌};
-    ghost use Rattle.machine.specs.Views.{Session as Whole};
+    ghost use Rattle.machine.specs.Views.{Session as SessionView};
     ghost use Rattle.machine.specs.Session.{page_zero, IsSession};
 
-    ghost Value = { Whole };
+    ghost Value = { SessionView };
 
     ghost view = { λ s. record { program = s.program.items; script = s.script.items; limit = s.limit } };
 

@@ -6,7 +6,7 @@ use Rattle.std.proofs.Math.Path.{fun_ext}
 use native.Mathlib.Numerals.{unary_clauses}
 use Rattle.std.proofs.Common.{add-one}
 use Rattle.std.proofs.lemmas.Bool.Decides.{eqb_tells, leb_tells}
-use Rattle.std.proofs.lemmas.List.{get_or_past}
+use Rattle.std.proofs.lemmas.List.{get_or_past, set-get_or}
 use Rattle.std.proofs.Common.{◌≤◌}
 use Rattle.i8080.specs.Memory.{Own, Looks, look, write, is_among}
 use Rattle.pagemem.specs.Plain.{plain_own}
@@ -85,6 +85,10 @@ ready_kept slots i slot h keep q r = elim (eqb_tells (q / 256) i) [
   | inr other ↦ rw (set_read slots i slot Empty h (q / 256), other.0) r
 ]
 
+-- a slot exchanged for itself
+pub ready_same : (slots : List Slot) (i : ℕ) (slot : Slot) → slot ≡ get_or slots i Empty → ready_at (set slots i slot) ≡ ready_at slots
+ready_same slots i slot e = ap ready_at (ap (set slots i) e ∙ set-get_or slots i Empty)
+
 -- a look at a written cell is none, at another it is added
 pub look_written : (own : Own) (looks : Looks) (a : ℕ) → is_some (own a) ≡ true → looks ≡ look own looks a
 unfolding look
@@ -124,11 +128,4 @@ pub shared_kept : (slots : List Slot) (i : ℕ) (slot : Slot) → i < length slo
 shared_kept slots i slot h e j r = elim (eqb_tells j i) [
   | inl same ↦ rw (set_read slots i slot Empty h j, same.0) e
   | inr other ↦ rw (set_read slots i slot Empty h j, other.0) r
-]
-
--- all slots are not owned where the first so many are, and there are no more
-pub all_shared : (n : ℕ) (slots : List Slot) → length slots ≤ n → ((j : ℕ) → j < n → is_owned (get_or slots j Empty) ≡ false) → (q : ℕ) → ready_at slots q ≡ false
-all_shared n slots h e q = elim (leb_tells n (q / 256)) [
-  | inl past ↦ rw (get_or_past slots (q / 256) Empty (let k : n ≤ q / 256 = past.1 in omega arith)) refl
-  | inr within ↦ e (q / 256) within.1
 ]

@@ -1,3 +1,4 @@
+pub mod AgreementLemmas
 pub mod Laws
 pub mod ListingLemmas
 pub mod SettledLemmas

@@ -1,30 +1,16 @@
 -- Marks of cells and the order in which they were set, as a cell is added and taken away.
 use Rattle.std.proofs.Common.{inl, inr, ◌≡◌, ◌≢◌, ℕ, zero, suc, ◌+◌, ◌-◌, ◌<◌, Bool, true, false, cond, ◌||◌, List, [], ◌∷◌, ◌++◌, length, get_or, set, take, count_by, refl, sym, ◌∙◌, ap, arith, replicate, eqb, length-set, get_or-set_same, get_or-set_other, slice_index}
+use Rattle.std.proofs.Math.Bool.{or-false}
 use Rattle.std.proofs.lemmas.Bool.Decides.{eqb_tells}
 use Rattle.std.proofs.lemmas.List.{take_more_set, take_more, take-set-le}
 use Rattle.std.proofs.lemmas.List.Sums.{sum_by-set, count_by-le-length}
 use Rattle.i8080.specs.Memory.{is_among}
+use Rattle.i8080.proofs.LookLemmas.{is_among-append}
 use Rattle.pagemem.specs.Listing.{Lists}
 use Rattle.pagemem.proofs.Laws.{set_read, none_set}
 
 abbrev one : Bool → ℕ
 one b = cond b 1 0
-
-or_false : (b : Bool) → (b || false) ≡ b
-or_false true = refl
-or_false false = refl
-
-or_assoc : (a b c : Bool) → ((a || b) || c) ≡ (a || (b || c))
-or_assoc true b c = refl
-or_assoc false b c = refl
-
-or_left : (a b : Bool) → (a || b) ≡ false → a ≡ false
-or_left false b h = refl
-or_left true b h = h
-
-pub is_among-append : (q : ℕ) (xs ys : List ℕ) → is_among q (xs ++ ys) ≡ (is_among q xs || is_among q ys)
-is_among-append q [] ys = refl
-is_among-append q (x ∷ xs) ys = ap (λ b. eqb q x || b) (is_among-append q xs ys) ∙ sym (or_assoc (eqb q x) _ _)
 
 -- ---- how many marks are set
 
@@ -88,7 +74,7 @@ module _ (marks : List Bool) (order : List ℕ) (count : ℕ) (l : Lists marks o
       found : (q : ℕ) → (is_among q (take count order) || (eqb q a || false)) ≡ cond (eqb q a) true (get_or marks q false)
       found q = elim (eqb_tells q a) [
         | inl same ↦ rw same.0 (last (is_among q (take count order)))
-        | inr other ↦ rw other.0 (or_false (is_among q (take count order)) ∙ sym (l.listed q))
+        | inr other ↦ rw other.0 (or-false (is_among q (take count order)) ∙ sym (l.listed q))
       ] where
         last : (b : Bool) → (b || true) ≡ true
         last true = refl
@@ -129,5 +115,5 @@ module _ (marks : List Bool) (order : List ℕ) (count : ℕ) (l : Lists marks o
       left : (q : ℕ) → get_or (set marks (slice_index order n) false) q false ≡ is_among q (take n order)
       left q = set_read marks (slice_index order n) false false (omega (arith, l.all_marks)) q ∙ elim (eqb_tells q (slice_index order n)) [
         | inl same ↦ rw (same.0, same.1) (sym (l.apart n (omega (arith, last))))
-        | inr other ↦ rw other.0 (l.listed q ∙ ap (is_among q) taken ∙ is_among-append q (take n order) (slice_index order n ∷ []) ∙ ap (λ b. is_among q (take n order) || (b || false)) other.0 ∙ or_false (is_among q (take n order)))
+        | inr other ↦ rw other.0 (l.listed q ∙ ap (is_among q) taken ∙ is_among-append q (take n order) (slice_index order n ∷ []) ∙ ap (λ b. is_among q (take n order) || (b || false)) other.0 ∙ or-false (is_among q (take n order)))
       ]

@@ -2,8 +2,8 @@
 use Rattle.std.proofs.Common.{inl, inr, ◌≡◌, ℕ, Bool, true, false, cond, ◌||◌, ◌++◌, ◌∷◌, [], IsTrue, None, refl, sym, ◌∙◌, ap, subst, eqb}
 use Rattle.std.proofs.lemmas.Bool.Decides.{eqb_tells}
 use Rattle.i8080.specs.Memory.{Own, Looks, look, write, is_among}
+use Rattle.i8080.proofs.LookLemmas.{is_among-append}
 use Rattle.pagemem.specs.Settled.{Rests}
-use Rattle.pagemem.proofs.ListingLemmas.{is_among-append}
 
 -- a cell at rest is not looked at again
 pub look_at_rest : (own : Own) (ready : ℕ → Bool) (looks : Looks) (a : ℕ) → Rests own ready looks a → looks ≡ look own looks a

@@ -1,3 +1,4 @@
+pub mod Agreement
 pub mod Plain
 pub mod Settled
 pub mod Image

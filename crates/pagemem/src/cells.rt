@@ -1,6 +1,6 @@
 // What a run wrote.
 
-ghost use Rattle.std.specs.Prelude.{◌≡◌, false, ◌<◌, ℕ, vec_len, IsTrue, IfOk, OnOk, None, get_or, length};
+ghost use Rattle.std.specs.Prelude.{◌≡◌, false, ◌<◌, ℕ, vec_len, IsTrue, IfOk, OnOk, OnErr, None, get_or, length};
 ghost use Rattle.pagemem.specs.Pages.{own_at, ready_at, is_owned};
 ghost use Rattle.i8080.specs.Memory.{write};
 
@@ -30,6 +30,7 @@ impl Cells {
     #[inline(always)]
     pub fn ready(&mut self, a: u16) -> Result<(), AllocError>
         ensures ready { OnOk result (IsTrue (is_ready_in self.new a)) }
+        ensures err { OnErr result (is_ready_in self.new ≡ is_ready_in self.old) }
         ensures kept { (q : ℕ) → IsTrue (is_ready_in self.old q) → IsTrue (is_ready_in self.new q) }
         ensures own { own_in self.new ≡ own_in self.old }
     {
@@ -102,12 +103,13 @@ impl Cells {
 }
 
 // Makes one slot owned.
-#[tactic(auto, using(crate::proofs::Laws::own_same, crate::proofs::Laws::ready_kept))]
+#[tactic(auto, using(crate::proofs::Laws::own_same, crate::proofs::Laws::ready_kept, crate::proofs::Laws::ready_same))]
 #[inline(always)]
 fn make_ready(slots: &mut Vec<Slot>, at: usize, alloc: Global) -> Result<(), AllocError>
     requires { at < vec_len slots.old }
     ensures len { vec_len slots.new ≡ vec_len slots.old }
     ensures ready { OnOk result (IsTrue (is_owned (get_or slots.new.items at Slot.Empty))) }
+    ensures err { OnErr result (ready_at slots.new.items ≡ ready_at slots.old.items) }
     ensures kept { (q : ℕ) → IsTrue (ready_at slots.old.items q) → IsTrue (ready_at slots.new.items q) }
     ensures own { own_at slots.new.items ≡ own_at slots.old.items }
 {

@@ -1,15 +1,17 @@
 //! What a run wrote and looked at, in pages over a borrowed image; and plain memory.
 #![tactic(auto)]
 
+pub mod agreement;
 pub mod cells;
 pub mod image;
-pub mod looks;
+mod looks;
 pub mod overlay;
-pub mod page;
+mod page;
 pub mod plain;
-pub mod settled;
+mod settled;
 pub mod view;
 
+pub use agreement::memories_agree;
 pub use cells::Cells;
 pub use image::Image;
 pub use overlay::Overlay;

@@ -46,7 +46,8 @@ impl Looks {
     pub fn contains(&self, a: u16) -> bool
         ensures { result ≡ is_among a self.now }
     {
-        self.marks[a as usize]
+        let at = a as usize;
+        self.marks[at]
     }
 
     /// Notes a look at a cell, at the end, unless the cell is there.

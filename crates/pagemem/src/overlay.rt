@@ -1,6 +1,6 @@
 // What a run wrote and looked at.
 
-ghost use Rattle.std.specs.Prelude.{◌≡◌, false, ◌<◌, ◌∷◌, ◌++◌, [], ℕ, IsTrue, IfOk, OnOk, IfNone, IfSome, None, length, slice_index};
+ghost use Rattle.std.specs.Prelude.{◌≡◌, false, ◌<◌, ◌∷◌, ◌++◌, [], ℕ, IsTrue, IfOk, OnOk, OnErr, IfNone, IfSome, None, length, slice_index};
 ghost use Rattle.i8080.specs.Memory.{bytes, look, write, is_among, over};
 ghost use Rattle.pagemem.specs.Cells.{own_in, is_ready_in};
 ghost use Rattle.pagemem.specs.Settled.{is_settled, Rests};
@@ -70,6 +70,7 @@ impl Overlay {
     #[inline(always)]
     pub fn ready(&mut self, a: u16) -> Result<(), AllocError>
         ensures ready { OnOk result (IsTrue (is_ready_at self.new a)) }
+        ensures err { OnErr result (is_ready_at self.new ≡ is_ready_at self.old) }
         ensures kept { (q : ℕ) → IsTrue (is_ready_at self.old q) → IsTrue (is_ready_at self.new q) }
         ensures own { own_of self.new ≡ own_of self.old }
         ensures looks { looks_of self.new ≡ looks_of self.old }
@@ -109,11 +110,24 @@ impl Overlay {
         match self.cells.ready_byte(a) {
             Some(value) => value,
             None => {
-                self.looks.add(a);
-                self.settled.add(a);
+                self.look(a);
                 image.at(a)
             }
         }
+    }
+
+    // A look at a ready cell that was not written, away from the path of most reads.
+    #[cold]
+    #[inline(never)]
+    fn look(&mut self, a: u16)
+        requires ready { IsTrue (is_ready_at self.old a) }
+        requires unwritten { own_of self.old a ≡ None }
+        ensures kept { (q : ℕ) → IsTrue (is_ready_at self.old q) → IsTrue (is_ready_at self.new q) }
+        ensures own { own_of self.new ≡ own_of self.old }
+        ensures looks { looks_of self.new ≡ look (own_of self.old) (looks_of self.old) a }
+    {
+        self.looks.add(a);
+        self.settled.add(a);
     }
 
     /// Writes a ready cell.
@@ -144,11 +158,12 @@ impl Overlay {
         self.looks.nth(index)
     }
 
-    /// Takes away the last look; none where there is none. It takes no memory.
+    /// Takes away the last look; none where there is none. It takes no memory, and the same cells stay ready.
     pub fn take_look(&mut self) -> Option<u16>
         ensures none { IfNone result ((looks_of self.old ≡ []) × (looks_of self.new ≡ [])) }
         ensures some { IfSome result (λ a. looks_of self.old ≡ looks_of self.new ++ a ∷ []) }
         ensures own { own_of self.new ≡ own_of self.old }
+        ensures ready { is_ready_at self.new ≡ is_ready_at self.old }
     {
         let last = self.looks.take()?;
         self.settled.remove(last);

@@ -1,6 +1,6 @@
 // Plain memory: one list.
 
-ghost use Rattle.std.specs.Prelude.{◌≡◌, ℕ, Bool, true, None, [], vec_len, nat_lt};
+ghost use Rattle.std.specs.Prelude.{◌≡◌, ℕ, Bool, true, None, [], vec_len};
 ghost use Rattle.i8080.specs.Memory.{Memory};
 ghost use Rattle.pagemem.specs.Plain.{plain_own};
 

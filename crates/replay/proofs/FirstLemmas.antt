@@ -1,20 +1,15 @@
 -- The table of first looks, as it grows and is erased.
-use Rattle.std.proofs.Common.{ap, ◌≡◌, ℕ, zero, suc, ◌+◌, ◌<◌, ◌≤◌, refl, ◌∙◌, arith, Bool, true, false, Option, Some, None, inl, inr, add-one}
+use Rattle.std.proofs.Common.{ap, ◌≡◌, ℕ, zero, suc, ◌<◌, ◌≤◌, refl, ◌∙◌, arith, Bool, true, false, Option, Some, None, inl, inr}
 use Rattle.std.proofs.lemmas.Bool.{lt-ltb}
 use Rattle.std.proofs.lemmas.Bool.Decides.{nat_tests}
 use Rattle.std.proofs.Math.Nat.{eq-or-lt_of_le}
 use Rattle.machine.specs.Machine.{Question}
-use Rattle.machine.specs.Machine.{Cell, Script}
 use Rattle.interaction_trees.specs.Tree.{AgreeOn}
 use Rattle.interaction_trees.specs.Dependence as dependence
 use Rattle.interaction_trees.proofs.DependenceLemmas as lemmas
 use Rattle.machine.specs.Views.{State}
 use Rattle.machine.specs.Machine.{Answers, is_in, part, next, made, start, looks_at, looks, after}
 use Rattle.replay.specs.FirstLooks.{Table, or_else, mark, first, erased, step_of, IsFirstLooks}
-
-pub or_else-none : (a : Option ℕ) → or_else a None ≡ a
-or_else-none None = refl
-or_else-none (Some m) = refl
 
 -- an entry below n
 abbrev pub IsBelow : ℕ → Option ℕ → Type 0
@@ -77,19 +72,6 @@ same_first f g q (suc n) h =
 pub looks_here : (f : Answers) (n : ℕ) (st : State) → after f n ≡ Some st → looks f n ≡ looks_at f st
 unfolding dependence.looks
 looks_here f n st a = ap (λ (o : Option State). dependence.looks_of part (λ (st : State). st.own) (λ (st : State). next st.core) made start f o) a
-
-pub step_of-seen : (k : Table) (s : ℕ) (q : Question) → step_of (record { cells = k.cells; seen = s }) q ≡ step_of k q
-step_of-seen k s (Cell a) = refl
-step_of-seen k s (Script a) = refl
-
--- noting the looks of step `seen` makes the table that of the steps below `seen + 1`
-pub noted : (f : Answers) (old new : Table) (st : State) (asked : Question → Bool) → IsFirstLooks f old
-    → after f old.seen ≡ Some st
-    → ((q : Question) → asked q ≡ is_in q (looks_at f st))
-    → ((q : Question) → step_of new q ≡ or_else (step_of old q) (mark (asked q) old.seen))
-    → new.seen ≡ old.seen + 1 → IsFirstLooks f new
-noted f old new st asked known at same steps seen =
-    record { entry = λ q. rw (seen, add-one, first-suc, steps q, known.entry q, same q, looks_here f old.seen st at) refl }
 
 -- a failed note leaves the table
 pub erased_known : (f : Answers) (old new : Table) → IsFirstLooks f old → ((q : Question) → step_of new q ≡ erased old.seen (step_of old q)) → new.seen ≡ old.seen → IsFirstLooks f new

@@ -1,33 +1,18 @@
 -- The looks of one step, noted in the table.
-use Rattle.std.proofs.Common.{◌≡◌, ℕ, suc, ◌+◌, ◌<◌, ◌≤◌, Bool, true, false, ◌||◌, List, [], ◌∷◌, ◌++◌, length, drop, Option, Some, None, ◌⊎◌, inl, inr, refl, ap, sym, ◌∙◌, subst, arith, add-one, eqb}
-use Rattle.std.proofs.lemmas.Bool.{cases_lt}
+use Rattle.std.proofs.Common.{◌≡◌, ℕ, suc, ◌+◌, ◌<◌, ◌≤◌, Bool, true, false, ◌||◌, List, ◌++◌, length, drop, Option, Some, None, ◌⊎◌, inl, inr, refl, ap, sym, ◌∙◌, subst, arith, add-one}
+use Rattle.std.proofs.lemmas.Bool.{cases_lt, or_cases}
+use Rattle.std.proofs.Math.Seq.{drop-append_seam}
 use Rattle.std.proofs.Math.Nat.{eq-or-lt_of_le}
-use Rattle.i8080.specs.Memory.{is_among}
+use Rattle.i8080.proofs.LookLemmas.{is_among-append}
 use Rattle.machine.specs.Views.{State}
 use Rattle.machine.specs.Machine.{Question, Cell, Script, Answers, is_in, looked_at, Extends, after, looks_at}
 use Rattle.replay.specs.FirstLooks.{Table, step_of, or_else, mark, first, IsFirstLooks, AllNoted, IsNoted, IsLeftBehind}
 use Rattle.replay.proofs.FirstLemmas.{first-suc, looks_here, erased_known}
 use Rattle.replay.proofs.TouchLemmas.{noted_by}
 
-or_assoc : (a b c : Bool) → ((a || b) || c) ≡ (a || (b || c))
-or_assoc true b c = refl
-or_assoc false b c = refl
-
-among-append : (q : ℕ) (xs ys : List ℕ) → is_among q (xs ++ ys) ≡ (is_among q xs || is_among q ys)
-among-append q [] ys = refl
-among-append q (x ∷ xs) ys = ap (λ b. eqb q x || b) (among-append q xs ys) ∙ sym (or_assoc (eqb q x) _ _)
-
 looked_at-append : (q : Question) (xs ys : List ℕ) → looked_at (xs ++ ys) q ≡ (looked_at xs q || looked_at ys q)
-looked_at-append (Cell a) xs ys = among-append a xs ys
+looked_at-append (Cell a) xs ys = is_among-append a xs ys
 looked_at-append (Script k) xs ys = refl
-
-cut_front : (xs ys : List ℕ) → drop (length xs) (xs ++ ys) ≡ ys
-cut_front [] ys = refl
-cut_front (x ∷ xs) ys = cut_front xs ys
-
-or_true : (a b : Bool) → (a || b) ≡ true → (a ≡ true) ⊎ (b ≡ true)
-or_true true b e = inl refl
-or_true false b e = inr e
 
 -- an entry is entered for the new looks alone: that is the same as for all
 same_mark : (o : Option ℕ) (before more all asked : Bool) (n : ℕ) → (before ≡ true → o ≡ None → ⊥) → all ≡ (before || more) → all ≡ (before || asked) → or_else o (mark more n) ≡ or_else o (mark asked n)
@@ -55,7 +40,7 @@ module _ (f : Answers) (old new : Table) (n : ℕ) (st : State) (looked looked' 
   more_looked q = ap (λ l. looked_at l q) extends.1 ∙ looked_at-append q looked extends.0
 
   fresh : drop (length looked) looked' ≡ extends.0
-  fresh = ap (drop (length looked)) extends.1 ∙ cut_front looked extends.0
+  fresh = ap (drop (length looked)) extends.1 ∙ drop-append_seam looked extends.0
 
   -- the table stays
   stays : new ≡ old → (n + 1 ≤ old.seen → AllNoted old looked') → Notes f old new n looked'
@@ -68,7 +53,7 @@ module _ (f : Answers) (old new : Table) (n : ℕ) (st : State) (looked looked' 
 
   -- the step was seen before
   seen_before : n < old.seen → AllNoted old looked'
-  seen_before below q asked none = elim (or_true (looked_at looked q) (is_in q (looks_at f st)) (sym (asks q) ∙ asked)) [
+  seen_before below q asked none = elim (or_cases (looked_at looked q) (is_in q (looks_at f st)) (sym (asks q) ∙ asked)) [
     | inl h ↦ all (omega arith) q h none
     | inr h ↦ asked_here q h none
   ]

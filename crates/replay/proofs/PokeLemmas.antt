@@ -1,9 +1,9 @@
 -- What a poke changes, one byte after the other.
-use Rattle.std.proofs.Common.{◌≡◌, ◌≢◌, ℕ, ◌+◌, ◌-◌, ◌<◌, ◌≤◌, Bool, true, false, cond, eqb, List, [], ◌∷◌, ◌++◌, length, get_or, set, take, drop, Option, Some, None, ◌⊎◌, inl, inr, refl, ap, sym, ◌∙◌, subst, arith, add-one, nat_lt, length-append, length-drop, append_assoc, get_or-set_other, get_or-set_same, length-set, drop-cons, take-append-drop, eqb-true, eq-eqb}
+use Rattle.std.proofs.Common.{◌≡◌, ◌≢◌, ℕ, ◌+◌, ◌-◌, ◌<◌, ◌≤◌, Bool, true, false, cond, eqb, List, [], ◌∷◌, ◌++◌, length, get_or, set, take, drop, Option, Some, None, ◌⊎◌, inl, inr, refl, ap, sym, ◌∙◌, subst, arith, add-one, length-append, length-drop, append_assoc, get_or-set_other, get_or-set_same, length-set, drop-cons, take-append-drop, eqb-true, eq-eqb}
 use Rattle.std.specs.Prelude.{slice_index, slice_set}
 use Rattle.std.proofs.lemmas.List.{take_more, append-nil, length-take-le}
-use Rattle.std.proofs.lemmas.Bool.{lt-ltb}
-use Rattle.std.proofs.lemmas.Bool.Decides.{leb_tells, nat_tests}
+use Rattle.std.proofs.lemmas.Bool.{lt-ltb, le-ltb}
+use Rattle.std.proofs.lemmas.Bool.Decides.{leb_tells}
 use Rattle.pagemem.specs.Image.{image_at}
 use Rattle.machine.specs.Views.{Session}
 use Rattle.machine.specs.Session.{page_zero, written_over}
@@ -83,9 +83,7 @@ byte_there : (low program : List ℕ) (at : ℕ) → at < length program → ima
 byte_there low program at h =
     let inside : 256 + at < 256 + length program = omega arith in
     let place : 256 + at - 256 ≡ at = omega arith in
-    rw (not_below (256 + at) 256 (omega arith), lt-ltb (256 + at) (256 + length program) inside, place) refl where
-      not_below : (a b : ℕ) → b ≤ a → nat_lt a b ≡ false
-      not_below a b h = grind (arith, nat_tests)
+    rw (le-ltb (256 + at) 256 (omega arith), lt-ltb (256 + at) (256 + length program) inside, place) refl
 
 -- ---- the touch, as one more question gets another answer
 
@@ -129,7 +127,7 @@ module _ (f g g' : Answers) (k : Table) (c : Question) (others : (q : Question) 
     here = still_here t n.here;
   }
   touch_changed differs (Some m) at short t n = elim (leb_tells t m) [
-    | inl over ↦ let h : t ≤ m = over.1 in rw (not_below m t h) (record {
+    | inl over ↦ let h : t ≤ m = over.1 in rw (le-ltb m t h) (record {
       within = n.within;
       below = λ q j there low. elim (is_here q (same_question q c) refl) [
         | inl s ↦ absurd (let e : m ≡ j = some_same (sym at ∙ subst (λ (y : Question). step_of k y ≡ Some j) s there) in omega arith)
@@ -145,9 +143,7 @@ module _ (f g g' : Answers) (k : Table) (c : Question) (others : (q : Question) 
       ];
       here = inr (c, at, differs);
     })
-  ] where
-    not_below : (a b : ℕ) → b ≤ a → nat_lt a b ≡ false
-    not_below a b h = grind (arith, nat_tests)
+  ]
 
 -- ---- the touch of a poke, byte by byte
 

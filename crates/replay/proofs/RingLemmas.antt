@@ -120,14 +120,6 @@ due_relast old from upto last other spacing step below h (inl m) = record { reac
 due_relast old from upto last other spacing step below h (inr e) = absurd (omega (arith, h.reached.1))
 
 -- no step below the limit was made as the limit's
-pub relast : (old new : List Checkpoint) (slots from upto last other spacing : ℕ) → upto < last → Adds old new slots from upto last spacing → Adds old new slots from upto other spacing
-relast old new slots from upto last other spacing below a = record {
-  made = a.made;
-  kept = a.kept;
-  due = Each-weaken _ _ a.made (λ d h. due_relast old from upto last other spacing d.step below h h.marked) a.due;
-  rising = a.rising;
-}
-
 pub relast_adding : (old new : List Checkpoint) (slots from upto last other spacing newest : ℕ) → upto < last → Adding old new slots from upto last spacing newest → Adding old new slots from upto other spacing newest
 relast_adding old new slots from upto last other spacing newest below g = record {
   adds = record {
@@ -245,6 +237,3 @@ kept_up_to old now gone c touch parts rising last low past =
 pub adds_rising : (old new : List Checkpoint) (slots from upto last spacing : ℕ) → Rising old → Adds old new slots from upto last spacing → Rising new
 adds_rising old new slots from upto last spacing r a =
     rw a.kept (Rising-drop (length (old ++ a.made) - slots) (old ++ a.made) (Rising-append old a.made r a.rising (Each-weaken _ _ a.made (λ d h. h.above) a.due)))
-
-pub no_adds : (old : List Checkpoint) (slots from upto last spacing : ℕ) → length old ≤ slots → Adds old old slots from upto last spacing
-no_adds old slots from upto last spacing short = record { made = []; kept = rw append-nil (sym (keep_last-all slots old short)); due = tt; rising = tt }

@@ -1,5 +1,5 @@
 -- What always holds of a runner's parts, through edits and drops.
-use Rattle.std.proofs.Common.{◌≡◌, ℕ, zero, suc, ◌-◌, ◌<◌, ◌≤◌, List, [], ◌∷◌, length, map, drop, Some, None, refl, ap, sym, ◌∙◌, arith}
+use Rattle.std.proofs.Common.{◌≡◌, ℕ, zero, suc, ◌-◌, ◌<◌, ◌≤◌, List, [], ◌∷◌, length, map, Some, None, refl, ap, sym, ◌∙◌, arith}
 use Rattle.std.specs.Prelude.{slice_get}
 use Rattle.std.proofs.lemmas.List.{append-nil}
 use Rattle.circular_buffer.specs.Buffer.{Buffer, buffer, keep_last}
@@ -97,31 +97,6 @@ sound_last s text spacing n ring ring' table slots sound e = record {
   spacing_in = sound.spacing_in;
   seen_in = sound.seen_in;
 }
-
-pub sound_none : (s : Session) (text : List ℕ) (spacing : ℕ) (ring ring' : Buffer KeptCheckpoint) (table : Table) → IsSound s text spacing ring table → ring'.items ≡ [] → IsSound s text spacing ring' table
-sound_none s text spacing ring ring' table sound e = record {
-  stands = rw e tt;
-  rising = rw e tt;
-  below = rw e tt;
-  noted = sound.noted;
-  spacing_in = sound.spacing_in;
-  seen_in = sound.seen_in;
-}
-
-pub map-drop : {X Y : Type 0} (h : X → Y) (n : ℕ) (xs : List X) → map h (drop n xs) ≡ drop n (map h xs)
-map-drop h zero xs = refl
-map-drop h (suc n) [] = refl
-map-drop h (suc n) (x ∷ xs) = map-drop h n xs
-
-pub length-map : {X Y : Type 0} (h : X → Y) (xs : List X) → length (map h xs) ≡ length xs
-length-map h [] = refl
-length-map h (x ∷ xs) = ap suc (length-map h xs)
-
-pub drop-past : {X : Type 0} (n : ℕ) (xs : List X) → length xs ≤ n → drop n xs ≡ []
-drop-past zero [] h = refl
-drop-past zero (x ∷ xs) h = absurd (omega arith)
-drop-past (suc n) [] h = refl
-drop-past (suc n) (x ∷ xs) h = drop-past n xs (omega arith)
 
 -- the steps of checkpoints as they are seen
 pub seen_steps : (text : List ℕ) (xs : List KeptCheckpoint) → map (λ c. c.step) (map (seen_with text) xs) ≡ map (λ c. c.step) xs

@@ -1,38 +1,36 @@
 -- The steps of checkpoints, without their states.
 use Rattle.std.proofs.Common.{◌≡◌, ℕ, ◌-◌, ◌<◌, List, [], ◌∷◌, ◌++◌, length, max, map, drop, refl, ap, sym, ◌∙◌, if◌then◌else◌, nat_le}
+use Rattle.std.proofs.lemmas.List.{map-append, length-map, drop-map}
 use Rattle.circular_buffer.specs.Buffer.{keep_last}
 use Rattle.replay.specs.declared.ring.Checkpoint.{Checkpoint as KeptCheckpoint}
-use Rattle.replay.specs.Ring.{Rising, IsDue, Adds, steps, start_step}
-use Rattle.replay.specs.RunnerView.{IsDueStep, AddsSteps, RisingSteps, start_of, seen_with}
+use Rattle.replay.specs.Ring.{Rising, RisingBy, IsDue, IsDueBy, Adds, AddsBy, steps, start_by, start_step}
+use Rattle.replay.specs.RunnerView.{Checkpoint, seen_with}
 use Rattle.replay.proofs.RingLemmas.{Each-weaken}
-use Rattle.replay.proofs.TouchLemmas.{each_map, map-append}
-use Rattle.replay.proofs.RunnerLemmas.{map-drop, length-map, seen_steps}
+use Rattle.replay.proofs.TouchLemmas.{each_map}
+use Rattle.replay.proofs.RunnerLemmas.{seen_steps}
 
-rising_steps : (xs : List KeptCheckpoint) → Rising xs → RisingSteps (steps xs)
+rising_steps : (xs : List KeptCheckpoint) → Rising xs → RisingBy (λ k. k) (steps xs)
 rising_steps [] r = tt
 rising_steps (x ∷ xs) r = (each_map (λ c. c.step) (λ j. x.step < j) xs r.0, rising_steps xs r.1)
 
-starts_alike : (limit : ℕ) (xs : List KeptCheckpoint) → start_of limit (steps xs) ≡ start_step limit xs
-starts_alike limit [] = refl
-starts_alike limit (x ∷ xs) = ap (λ n. max (if nat_le x.step limit then x.step else 0) n) (starts_alike limit xs)
-
 last_steps : (n : ℕ) (xs : List KeptCheckpoint) → steps (keep_last n xs) ≡ keep_last n (steps xs)
-last_steps n xs = map-drop (λ (c : KeptCheckpoint). c.step) (length xs - n) xs ∙ ap (λ l. drop (l - n) (steps xs)) (sym (length-map (λ (c : KeptCheckpoint). c.step) xs))
+last_steps n xs = sym (drop-map (λ (c : KeptCheckpoint). c.step) (length xs - n) xs) ∙ ap (λ l. drop (l - n) (steps xs)) (sym (length-map xs (λ (c : KeptCheckpoint). c.step)))
 
-adds_steps : (old new : List KeptCheckpoint) (slots from upto spacing : ℕ) → Adds old new slots from upto upto spacing → AddsSteps (steps old) (steps new) slots from upto spacing
+adds_steps : (old new : List KeptCheckpoint) (slots from upto spacing : ℕ) → Adds old new slots from upto upto spacing → AddsBy (λ k. k) (steps old) (steps new) slots from upto upto spacing
 adds_steps old new slots from upto spacing a = record {
   made = steps a.made;
   kept = ap (λ (xs : List KeptCheckpoint). steps xs) a.kept ∙ last_steps slots (old ++ a.made) ∙ ap (λ (l : List ℕ). keep_last slots l) (map-append (λ (c : KeptCheckpoint). c.step) old a.made);
-  due = each_map (λ c. c.step) (IsDueStep (steps old) from upto upto spacing) a.made (Each-weaken _ _ a.made due_step a.due);
+  due = each_map (λ c. c.step) (IsDueBy (λ k. k) (steps old) from upto upto spacing) a.made (Each-weaken _ _ a.made due_step a.due);
   rising = rising_steps a.made a.rising;
 }
   where
-    due_step : (c : KeptCheckpoint) → IsDue old from upto upto spacing c.step → IsDueStep (steps old) from upto upto spacing c.step
+    due_step : (c : KeptCheckpoint) → IsDue old from upto upto spacing c.step → IsDueBy (λ k. k) (steps old) from upto upto spacing c.step
     due_step c h = record { reached = h.reached; above = each_map (λ d. d.step) (λ k. k < c.step) old h.above; marked = h.marked }
 
-pub rerun_begins : (text : List ℕ) (xs : List KeptCheckpoint) (limit : ℕ) → start_of limit (map (λ c. c.step) (map (seen_with text) xs)) ≡ start_step limit xs
-rerun_begins text xs limit = rw (seen_steps text xs) (starts_alike limit xs)
+pub rerun_begins : (text : List ℕ) (xs : List KeptCheckpoint) (limit : ℕ) → start_by (λ (c : Checkpoint). c.step) limit (map (seen_with text) xs) ≡ start_step limit xs
+rerun_begins text [] limit = refl
+rerun_begins text (x ∷ xs) limit = ap (λ n. max (if nat_le x.step limit then x.step else 0) n) (rerun_begins text xs limit)
 
 pub reran : (text text' : List ℕ) (old new : List KeptCheckpoint) (slots from upto spacing : ℕ) → Adds old new slots from upto upto spacing
-    → AddsSteps (map (λ c. c.step) (map (seen_with text) old)) (map (λ c. c.step) (map (seen_with text') new)) slots from upto spacing
+    → AddsBy (λ k. k) (map (λ c. c.step) (map (seen_with text) old)) (map (λ c. c.step) (map (seen_with text') new)) slots from upto upto spacing
 reran text text' old new slots from upto spacing a = rw (seen_steps text old, seen_steps text' new) (adds_steps old new slots from upto spacing a)

@@ -1,7 +1,9 @@
 -- An edit keeps the checkpoints up to its touch.
-use Rattle.std.proofs.Common.{◌≡◌, ℕ, zero, suc, ◌<◌, ◌≤◌, List, [], ◌∷◌, ◌++◌, Option, Some, None, ◌⊎◌, inl, inr, refl, ap, subst, sym, ◌∙◌, arith, Bool, true, false, ◌||◌, map}
+use Rattle.std.proofs.Common.{◌≡◌, ℕ, zero, suc, ◌<◌, ◌≤◌, List, [], ◌∷◌, ◌++◌, Option, Some, None, ◌⊎◌, inl, inr, refl, ap, subst, sym, ◌∙◌, arith, Bool, true, false, map}
 use Rattle.std.proofs.Math.Nat.{eq-or-lt_of_le}
 use Rattle.std.proofs.Common.{eq-eqb, eqb-true}
+use Rattle.std.proofs.lemmas.Bool.{or_cases, or_right}
+use Rattle.std.proofs.lemmas.List.{map-append}
 use Rattle.machine.specs.Machine.{Question}
 use Rattle.machine.specs.Machine.{Cell, Script}
 use Rattle.replay.specs.declared.ring.Checkpoint.{Checkpoint}
@@ -18,19 +20,11 @@ pub same_itself : (q : Question) → same_question q q ≡ true
 same_itself (Cell a) = eq-eqb a a refl
 same_itself (Script k) = eq-eqb k k refl
 
-or_right : (a b : Bool) → b ≡ true → (a || b) ≡ true
-or_right true b e = refl
-or_right false b e = e
-
 -- two sessions agree on a list where they agree on each of its questions
 agree_each : (f g : Answers) (qs : List Question) → ((q : Question) → is_in q qs ≡ true → f q ≡ g q) → AgreeOn qs f g
 agree_each f g [] h = tt
 agree_each f g (x ∷ xs) h =
     (h x (rw (same_itself x) refl), agree_each f g xs (λ q i. h q (or_right (same_question q x) (is_in q xs) i)))
-
-or_cases : (a b : Bool) → (a || b) ≡ true → (a ≡ true) ⊎ (b ≡ true)
-or_cases true b e = inl refl
-or_cases false b e = inr e
 
 pub same_is : (q x : Question) → same_question q x ≡ true → q ≡ x
 same_is (Cell a) (Cell b) e = ap Cell (eqb-true a b e)
@@ -102,10 +96,6 @@ gone_touched f g k t (x ∷ xs) known touch low past =
 pub each_map : {X Y : Type 0} (h : X → Y) (P : Y → Type 0) (xs : List X) → Each (λ x. P (h x)) xs → Each P (map h xs)
 each_map h P [] e = tt
 each_map h P (x ∷ xs) e = (e.0, each_map h P xs e.1)
-
-pub map-append : {X Y : Type 0} (h : X → Y) (xs ys : List X) → map h (xs ++ ys) ≡ map h xs ++ map h ys
-map-append h [] ys = refl
-map-append h (x ∷ xs) ys = ap (λ l. h x ∷ l) (map-append h xs ys)
 
 -- the checkpoints up to the noted touch are those up to the touch
 pub keeps_untouched : (f g : Answers) (text : List ℕ) (k : Table) (t : ℕ) (old new gone : List Checkpoint) → IsFirstLooks f k → IsNotedTouch f g k t

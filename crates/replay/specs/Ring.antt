@@ -27,23 +27,41 @@ pub record Stands (f : Answers) (text : List ℕ) (c : Checkpoint) : Type 0 wher
   pub fits : c.state.length ≤ length text
   pub state : after f c.step ≡ Some (whole c.state (take c.state.length text))
 
--- the steps rise
-abbrev pub Rising : List Checkpoint → Type 0
-Rising [] = Unit {0}
-Rising (c ∷ cs) = Each (λ d. c.step < d.step) cs × Rising cs
+-- the steps rise, where `at` tells the step of each
+abbrev pub RisingBy : {X : Type 0} → (X → ℕ) → List X → Type 0
+RisingBy at [] = Unit {0}
+RisingBy at (x ∷ xs) = Each (λ y. at x < at y) xs × RisingBy at xs
 
 -- a step that a run from `from` reached, above all that was kept, and a multiple of the spacing or the last
-pub record IsDue (kept : List Checkpoint) (from upto last spacing step : ℕ) : Type 0 where
+pub record IsDueBy {X : Type 0} (at : X → ℕ) (kept : List X) (from upto last spacing step : ℕ) : Type 0 where
   pub reached : (from < step) × (step ≤ upto)
-  pub above : Each (λ c. c.step < step) kept
+  pub above : Each (λ x. at x < step) kept
   pub marked : (step % spacing ≡ 0) ⊎ (step ≡ last)
 
--- the new ring is the last `slots` of the old one and of some due checkpoints after it
-pub record Adds (old new : List Checkpoint) (slots from upto last spacing : ℕ) : Type 0 where
-  pub made : List Checkpoint
+-- the new list is the last `slots` of the old one and of some rising list of due steps after it
+pub record AddsBy {X : Type 0} (at : X → ℕ) (old new : List X) (slots from upto last spacing : ℕ) : Type 0 where
+  pub made : List X
   pub kept : new ≡ keep_last slots (old ++ made)
-  pub due : Each (λ c. IsDue old from upto last spacing c.step) made
-  pub rising : Rising made
+  pub due : Each (λ x. IsDueBy at old from upto last spacing (at x)) made
+  pub rising : RisingBy at made
+
+-- the greatest of the steps that is not past the limit, else 0
+abbrev pub start_by : {X : Type 0} → (X → ℕ) → ℕ → List X → ℕ
+start_by at limit [] = 0
+start_by at limit (x ∷ xs) = max (if nat_le (at x) limit then at x else 0) (start_by at limit xs)
+
+-- the same of checkpoints
+abbrev pub Rising : List Checkpoint → Type 0
+Rising = RisingBy (λ c. c.step)
+
+abbrev pub IsDue : List Checkpoint → ℕ → ℕ → ℕ → ℕ → ℕ → Type 0
+IsDue = IsDueBy (λ c. c.step)
+
+abbrev pub Adds : List Checkpoint → List Checkpoint → ℕ → ℕ → ℕ → ℕ → ℕ → Type 0
+Adds = AddsBy (λ c. c.step)
+
+abbrev pub start_step : ℕ → List Checkpoint → ℕ
+start_step = start_by (λ c. c.step)
 
 -- the ring is as it was, or has it too and not its oldest where it was full; that only above the newest
 abbrev pub Keeps : ℕ → Buffer Checkpoint → Buffer Checkpoint → Checkpoint → Type 0
@@ -64,8 +82,3 @@ pub record KeptUpTo (touch : ℕ) (old new : List Checkpoint) : Type 0 where
   pub parts : old ≡ new ++ gone
   pub left : Each (λ c. c.step ≤ touch) new
   pub past : Each (λ c. touch < c.step) gone
-
--- the greatest kept step that is not past the limit, else 0
-abbrev pub start_step : ℕ → List Checkpoint → ℕ
-start_step limit [] = 0
-start_step limit (c ∷ cs) = max (if nat_le c.step limit then c.step else 0) (start_step limit cs)

@@ -1,12 +1,12 @@
 -- What contracts see of a runner.
-use Rattle.std.specs.Prelude.{◌≡◌, ℕ, ◌<◌, ◌≤◌, ◌%◌, ◌⊎◌, List, [], ◌∷◌, ◌++◌, Some, max, nat_le, if◌then◌else◌, map, take}
-use Rattle.circular_buffer.specs.Buffer.{Buffer, keep_last}
+use Rattle.std.specs.Prelude.{◌≡◌, ℕ, ◌<◌, ◌≤◌, List, ◌++◌, Some, map, take}
+use Rattle.circular_buffer.specs.Buffer.{Buffer}
 use Rattle.machine.specs.Views.{Session, State}
 use Rattle.machine.specs.Machine.{Answers, ask, after}
 use Rattle.machine.specs.Part.{whole}
 use Rattle.replay.specs.declared.ring.Checkpoint.{Checkpoint as KeptCheckpoint}
 use Rattle.replay.specs.FirstLooks.{Table, IsFirstLooks}
-use Rattle.replay.specs.Ring.{Each, Rising, Stands}
+use Rattle.replay.specs.Ring.{Each, Rising, Stands, AddsBy, start_by}
 use Rattle.replay.specs.Touch.{Untouched}
 
 -- a step that a run reached, and the state there
@@ -49,36 +49,14 @@ pub record KeepsUntouched (f g : Answers) (old new : List Checkpoint) : Type 0 w
   pub untouched : Each (λ c. Untouched f g c.step) new
   pub touched : Each (λ c. Untouched f g c.step → ⊥) gone
 
--- a rising list of steps
-abbrev pub RisingSteps : List ℕ → Type 0
-RisingSteps [] = Unit {0}
-RisingSteps (k ∷ ks) = Each (λ j. k < j) ks × RisingSteps ks
-
--- a step that a run from `from` reached, above all kept steps, and a multiple of the spacing or the last
-pub record IsDueStep (kept : List ℕ) (from upto last spacing step : ℕ) : Type 0 where
-  pub reached : (from < step) × (step ≤ upto)
-  pub above : Each (λ k. k < step) kept
-  pub marked : (step % spacing ≡ 0) ⊎ (step ≡ last)
-
--- the new steps are the last `slots` of the old ones followed by a rising list of due steps
-pub record AddsSteps (old new : List ℕ) (slots from upto spacing : ℕ) : Type 0 where
-  pub made : List ℕ
-  pub kept : new ≡ keep_last slots (old ++ made)
-  pub due : Each (IsDueStep old from upto upto spacing) made
-  pub rising : RisingSteps made
-
--- the greatest of the steps that is not past the limit, else 0
-abbrev pub start_of : ℕ → List ℕ → ℕ
-start_of limit [] = 0
-start_of limit (k ∷ ks) = max (if nat_le k limit then k else 0) (start_of limit ks)
-
 -- where a rerun begins
 abbrev pub rerun_start : RunnerView → ℕ
-rerun_start r = start_of r.session.limit (kept_steps r)
+rerun_start r = start_by (λ c. c.step) r.session.limit r.checkpoints
 
--- the checkpoints after a rerun that reached this step, or was to reach it
+-- the checkpoints after a rerun that reached this step, or was to reach it: the new steps are the last of the old ones and of
+-- some due steps after them
 abbrev pub Reran : RunnerView → RunnerView → ℕ → Type 0
-Reran old new upto = AddsSteps (kept_steps old) (kept_steps new) old.slots (rerun_start old) upto old.spacing
+Reran old new upto = AddsBy (λ k. k) (kept_steps old) (kept_steps new) old.slots (rerun_start old) upto upto old.spacing
 
 -- what always holds of a runner's parts
 pub record IsSound (s : Session) (text : List ℕ) (spacing : ℕ) (ring : Buffer KeptCheckpoint) (table : Table) : Type 0 where

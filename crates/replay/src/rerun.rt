@@ -99,6 +99,7 @@ pub fn rerun(
     ensures ticked { IfOk result (λ r. meter.new + start_step shown.old.session.limit ring.old.items ≡ meter.old + r.0) }
     ensures ticked_at_most { OnErr result (meter.new + start_step shown.old.session.limit ring.old.items ≤ meter.old + shown.old.session.limit) }
     ensures metered { meter.new ≤ meter.old + 4000000000 }
+    ensures rises { meter.old ≤ meter.new }
     ensures adds { IfOk result (λ r. Adds ring.old.items ring.new.items ring.old.capacity (start_step shown.old.session.limit ring.old.items) r.0 r.0 spacing) }
     ensures adds_at_most { OnErr result (Adds ring.old.items ring.new.items ring.old.capacity (start_step shown.old.session.limit ring.old.items) shown.old.session.limit shown.old.session.limit spacing) }
     ensures capacity { ring.new.capacity ≡ ring.old.capacity }

@@ -61,6 +61,7 @@ fn advance(
     ensures stopped { IfOk result (λ r. MatchOption r.1 (r.0 ≡ end) (λ cause. (r.0 < end) × (outcome (ask session.now) state.new.state ≡ Stop cause))) }
     ensures ticked { IfOk result (λ r. meter.new + from ≡ meter.old + r.0) }
     ensures ticked_at_most { OnErr result (meter.new + from ≤ meter.old + end) }
+    ensures rises { meter.old ≤ meter.new }
     ensures noted { IsFirstLooks (ask session.now) table.new }
     ensures looks { IfOk result (λ r. MatchOption r.1 (r.0 ≤ table.new.seen → AllNoted table.new state.new.looked) (λ _. Unit {0})) }
     ensures seen { (table.old.seen ≤ table.new.seen) × (table.new.seen ≤ 4000000000) }
@@ -107,6 +108,7 @@ pub fn resume(
     ensures within { IfOk result (λ r. r.0 ≤ session.now.limit) }
     ensures ticked { IfOk result (λ r. meter.new + from ≡ meter.old + r.0) }
     ensures ticked_at_most { OnErr result (meter.new + from ≤ meter.old + session.now.limit) }
+    ensures rises { meter.old ≤ meter.new }
     ensures adds { IfOk result (λ r. Adds ring.old.items ring.new.items ring.old.capacity from r.0 r.0 spacing) }
     ensures adds_at_most { OnErr result (Adds ring.old.items ring.new.items ring.old.capacity from session.now.limit session.now.limit spacing) }
     ensures capacity { ring.new.capacity ≡ ring.old.capacity }

@@ -15,6 +15,7 @@ use crate::ring::{Checkpoint, keep_up_to};
 use crate::table::FirstLooks;
 use crate::touch::poke_touch;
 use circular_buffer::HeapCircularBuffer;
+use machine::session::STEP_LIMIT;
 use machine::{Meter, Session};
 use std::alloc::{AllocError, Global};
 use std::marker::Model;
@@ -93,12 +94,12 @@ impl Runner {
     }
 
     /// Drops so many of the oldest checkpoints, or all where there are fewer.
-    pub fn drop_oldest(&mut self, count: usize)
+    pub fn drop_oldest(&mut self, count: u64)
         ensures { self.new ≡ record self.old { checkpoints = drop count self.old.checkpoints } }
     {
         let len = self.ring.len();
-        if count < len {
-            self.ring.truncate_front(len - count);
+        if count < len as u64 {
+            self.ring.truncate_front(len - count as usize);
         } else {
             self.ring.clear();
         }
@@ -149,7 +150,7 @@ impl Runner {
         ensures err { OnErr result (self.new ≡ self.old) }
     {
         let _ = self.ring.len();
-        if limit > 4_000_000_000 {
+        if limit > STEP_LIMIT {
             return Err(EditError::LimitTooLarge);
         }
         self.shown.session.set_limit(limit);
@@ -158,7 +159,7 @@ impl Runner {
 
     /// Runs the session from the greatest kept step that is not past its limit, else from its start, and reports of it. `Err`
     /// where memory is refused: the session stays, and so do the checkpoints, but for new ones in a full ring.
-    pub fn rerun(&mut self, alloc: Global, meter: &mut Meter) -> Result<Report<'_>, AllocError>
+    pub fn rerun(&mut self, meter: &mut Meter) -> Result<Report<'_>, AllocError>
         requires { meter.old ≤ 2 ^ 63 }
         ensures* ends { sem 𝓛 (EndsAs self.entry (λ n. (n.session ≡ self.old.session) × SameOptions self.old n × AllStand n
             × MatchResult result (λ r. Reran self.old n (shown r).steps) (λ _. Reran self.old n self.old.session.limit))) }
@@ -167,7 +168,9 @@ impl Runner {
         ensures ticked { IfOk result (λ r. meter.new + rerun_start self.old ≡ meter.old + (shown r).steps) }
         ensures ticked_at_most { OnErr result (meter.new + rerun_start self.old ≤ meter.old + self.old.session.limit) }
         ensures metered { meter.new ≤ meter.old + 4000000000 }
+        ensures rises { meter.old ≤ meter.new }
     {
+        let alloc = *self.shown.text.allocator();
         let (steps, cause) = rerun(
             alloc,
             &mut self.shown,

@@ -19,7 +19,7 @@ enum Act<'a> {
     Cell(u16, u8),
     Poke(u16, u8),
     Limit(u64),
-    Drop(usize),
+    Drop(u64),
 }
 
 const WARM: Cause = Cause::WarmBoot;
@@ -51,13 +51,12 @@ const ONE_MORE: [u8; 13] = [
 // Runs, and compares how many steps were carried out, how it ended, and what was printed.
 fn run(
     rt: &impl Abort,
-    alloc: Global,
     runner: &mut Runner,
     wanted: (u64, Cause, u64, &[u8]),
 ) -> Result<(), AllocError> {
     let (added, cause, steps, text) = wanted;
     let mut meter = Meter::new();
-    let report = runner.rerun(alloc, &mut meter)?;
+    let report = runner.rerun(&mut meter)?;
     assert_eq!(rt; (report.cause(), report.steps()), (cause, steps));
     assert_eq!(rt; report.text(), text);
     assert_eq!(rt; meter.count(), added);
@@ -71,10 +70,10 @@ fn carry_out(
     act: Act<'_>,
 ) -> Result<(), AllocError> {
     match act {
-        Run(added, cause, steps, text) => run(rt, alloc, runner, (added, cause, steps, text))?,
+        Run(added, cause, steps, text) => run(rt, runner, (added, cause, steps, text))?,
         Cell(at, byte) => {
             let mut meter = Meter::new();
-            let report = runner.rerun(alloc, &mut meter)?;
+            let report = runner.rerun(&mut meter)?;
             assert_eq!(rt; (report.cell(at), meter.count()), (byte, 0));
         }
         Poke(at, byte) => {
@@ -304,9 +303,9 @@ fn registers_are_those_of_the_edited_session(rt: HostRuntime) -> Result<(), Fail
         (&HI[..], 0x0101, 0x02, b"Hi", b"        ", blanks),
     ] {
         let mut runner = runner_of(rt.alloc(), program, MILLION)?;
-        let _ = rerun(&rt, rt.alloc(), &mut runner, first)?;
+        let _ = rerun(&rt, &mut runner, first)?;
         carry_out(&rt, rt.alloc(), &mut runner, Poke(at, byte))?;
-        let run = rerun(&rt, rt.alloc(), &mut runner, then)?;
+        let run = rerun(&rt, &mut runner, then)?;
         assert_eq!(rt; run.regs, regs);
     }
     Ok(())
@@ -338,9 +337,9 @@ fn each_due_step_is_kept(rt: HostRuntime) -> Result<(), Fail> {
         for spacing in 1..=12 {
             let options = Options { spacing, slots: 64 };
             let mut runner = runner_with(rt.alloc(), program, MILLION, options)?;
-            run(&rt, rt.alloc(), &mut runner, (last, cause, last, text))?;
+            run(&rt, &mut runner, (last, cause, last, text))?;
             assert!(rt; keeps_due_steps(&runner, spacing, last), "{spacing}");
-            run(&rt, rt.alloc(), &mut runner, (0, cause, last, text))?;
+            run(&rt, &mut runner, (0, cause, last, text))?;
             assert!(rt; keeps_due_steps(&runner, spacing, last), "{spacing}");
         }
     }

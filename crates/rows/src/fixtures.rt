@@ -84,14 +84,9 @@ pub struct Ended {
 }
 
 /// Runs a session again, and compares the text that it printed. No more steps are carried out than a cold run takes.
-pub fn rerun(
-    rt: &impl Abort,
-    alloc: Global,
-    runner: &mut Runner,
-    text: &[u8],
-) -> Result<Ended, AllocError> {
+pub fn rerun(rt: &impl Abort, runner: &mut Runner, text: &[u8]) -> Result<Ended, AllocError> {
     let mut meter = Meter::new();
-    let report = runner.rerun(alloc, &mut meter)?;
+    let report = runner.rerun(&mut meter)?;
     assert_eq!(rt; report.text(), text);
     assert!(rt; meter.count() <= report.steps());
     Ok(Ended {

@@ -146,25 +146,28 @@ fn after(memory: &mut PlainMemory, byte: u8, before: Regs) -> Result<Regs, Alloc
 #[test]
 fn arithmetic_agrees_with_a_second_way(rt: HostRuntime) -> Result<(), AllocError> {
     let mut memory = blank(rt.alloc())?;
-    for (function, byte) in [
-        (Add, 0x80),
-        (Adc, 0x88),
-        (Sub, 0x90),
-        (Sbb, 0x98),
-        (Ana, 0xa0),
-        (Xra, 0xa8),
-        (Ora, 0xb0),
-        (Cmp, 0xb8),
+    for (function, held, immediate) in [
+        (Add, 0x80, 0xc6),
+        (Adc, 0x88, 0xce),
+        (Sub, 0x90, 0xd6),
+        (Sbb, 0x98, 0xde),
+        (Ana, 0xa0, 0xe6),
+        (Xra, 0xa8, 0xee),
+        (Ora, 0xb0, 0xf6),
+        (Cmp, 0xb8, 0xfe),
     ] {
-        for a in 0..=255 {
-            for value in 0..=255 {
+        for value in 0..=255 {
+            memory.write(1, value);
+            for a in 0..=255 {
                 for cy in [false, true] {
                     let mut before = start(a, false, cy);
                     before.b = value;
-                    let regs = after(&mut memory, byte, before)?;
                     let (wanted, flags) = second_way(function, a, value, cy);
-                    let agrees = regs.a == wanted && regs.flags == flags;
-                    assert!(rt; agrees, "{function:?} at {a}, {value}, {cy}");
+                    for (byte, length) in [(held, 1), (immediate, 2)] {
+                        let regs = after(&mut memory, byte, before)?;
+                        let agrees = regs.a == wanted && regs.flags == flags && regs.pc == length;
+                        assert!(rt; agrees, "{byte} at {a}, {value}, {cy}");
+                    }
                 }
             }
         }
@@ -189,6 +192,9 @@ fn one_operand_agrees_with_a_second_way(rt: HostRuntime) -> Result<(), AllocErro
             let (mut top, mut bottom) = (before.flags, before.flags);
             top.cy = a > 127;
             bottom.cy = a & 1 != 0;
+            let (mut other, mut set) = (before.flags, before.flags);
+            other.cy = cy == false;
+            set.cy = true;
             for (byte, wanted, wanted_flags) in [
                 (0x3c, more, flags_of(more, more_half, cy)),
                 (0x3d, less, flags_of(less, less_half, cy)),
@@ -197,10 +203,85 @@ fn one_operand_agrees_with_a_second_way(rt: HostRuntime) -> Result<(), AllocErro
                 (0x0f, right, bottom),
                 (0x17, left & 254 | carry, top),
                 (0x1f, right & 127 | carry.rotate_right(1), bottom),
+                (0x2f, 255 - a, before.flags),
+                (0x3f, a, other),
+                (0x37, a, set),
             ] {
                 let regs = after(&mut memory, byte, before)?;
                 let agrees = regs.a == wanted && regs.flags == wanted_flags && regs.pc == 1;
                 assert!(rt; agrees, "{byte} at {a}, {ac}, {cy}");
+            }
+        }
+    }
+    Ok(())
+}
+
+// Registers of which each pair, and the stack pointer, is one word.
+fn filled(low: u8, high: u8, cy: bool) -> Regs {
+    let mut regs = start(1, true, cy);
+    (regs.b, regs.c) = (high, low);
+    (regs.d, regs.e) = (high, low);
+    (regs.h, regs.l) = (high, low);
+    regs.sp = word_of(low, high);
+    regs
+}
+
+// The sum of two words, by their bytes, with the carry.
+fn sum_of_words(a: u16, b: u16) -> (u16, bool) {
+    let (low, _, carry) = sum_by_bits((a % 256) as u8, (b % 256) as u8, false);
+    let (high, _, over) = sum_by_bits((a / 256) as u8, (b / 256) as u8, carry);
+    (word_of(low, high), over)
+}
+
+#[test]
+fn a_pair_counts_up_and_down(rt: HostRuntime) -> Result<(), AllocError> {
+    let mut memory = blank(rt.alloc())?;
+    for word in 0..=65_535u16 {
+        let before = filled((word % 256) as u8, (word / 256) as u8, true);
+        let kept = word_of(before.flags.byte(), before.a);
+        let (more, _) = sum_of_words(word, 1);
+        let (less, _) = sum_of_words(word, 0xffff);
+        for (byte, wanted) in [
+            (0x03, [kept, more, word, word, word, 1]),
+            (0x13, [kept, word, more, word, word, 1]),
+            (0x23, [kept, word, word, more, word, 1]),
+            (0x33, [kept, word, word, word, more, 1]),
+            (0x0b, [kept, less, word, word, word, 1]),
+            (0x1b, [kept, word, less, word, word, 1]),
+            (0x2b, [kept, word, word, less, word, 1]),
+            (0x3b, [kept, word, word, word, less, 1]),
+        ] {
+            let regs = after(&mut memory, byte, before)?;
+            assert!(rt; words_of(regs) == wanted, "{byte} at {word}");
+        }
+    }
+    Ok(())
+}
+
+#[test]
+fn a_pair_is_added_to_hl(rt: HostRuntime) -> Result<(), AllocError> {
+    let mut memory = blank(rt.alloc())?;
+    for (high, low) in [(0, 0), (0, 1), (0, 255), (127, 255), (128, 0), (255, 255)] {
+        let other = word_of(low, high);
+        for word in 0..=65_535u16 {
+            for cy in [false, true] {
+                let mut before = filled(low, high, cy);
+                (before.h, before.l) = ((word / 256) as u8, (word % 256) as u8);
+                let (sum, over) = sum_of_words(word, other);
+                let (twice, twice_over) = sum_of_words(word, word);
+                for (byte, wanted, carry) in [
+                    (0x09, sum, over),
+                    (0x19, sum, over),
+                    (0x29, twice, twice_over),
+                    (0x39, sum, over),
+                ] {
+                    let regs = after(&mut memory, byte, before)?;
+                    let mut flags = before.flags;
+                    flags.cy = carry;
+                    let kept = word_of(flags.byte(), before.a);
+                    let agrees = words_of(regs) == [kept, other, other, wanted, other, 1];
+                    assert!(rt; agrees, "{byte} at {word}, {other}, {cy}");
+                }
             }
         }
     }
@@ -249,7 +330,7 @@ fn programs_return_with_known_registers(rt: HostRuntime) -> Result<(), Fail> {
         (&DECIMAL_ADJUST, 4, 0x0113, 0, 0),
     ] {
         let mut runner = runner_of(rt.alloc(), program, 1_000_000)?;
-        let run = rerun(&rt, rt.alloc(), &mut runner, &[])?;
+        let run = rerun(&rt, &mut runner, &[])?;
         assert_eq!(rt; (run.cause, run.steps), (WarmBoot, steps), "{program:?}");
         let words = [accumulator, bc, 0, hl, 0xfe00, 0xff03];
         assert_eq!(rt; words_of(run.regs), words, "{program:?}");
@@ -266,7 +347,7 @@ fn programs_end_with_known_registers(rt: HostRuntime) -> Result<(), Fail> {
         (&LAST_JUMP, WarmBoot, 5, 0xc302, 0, 0xfdfe, 0xff03),
     ] {
         let mut runner = runner_of(rt.alloc(), program, 1_000_000)?;
-        let run = rerun(&rt, rt.alloc(), &mut runner, &[])?;
+        let run = rerun(&rt, &mut runner, &[])?;
         assert_eq!(rt; (run.cause, run.steps), (cause, steps), "{program:?}");
         let words = [accumulator, bc, 0, 0, sp, pc];
         assert_eq!(rt; words_of(run.regs), words, "{program:?}");
@@ -278,7 +359,7 @@ fn programs_end_with_known_registers(rt: HostRuntime) -> Result<(), Fail> {
 fn a_push_wraps_to_the_last_cell(rt: HostRuntime) -> Result<(), Fail> {
     let mut runner = runner_of(rt.alloc(), &STACK_AT_ZERO, 1_000_000)?;
     let mut meter = Meter::new();
-    let report = runner.rerun(rt.alloc(), &mut meter)?;
+    let report = runner.rerun(&mut meter)?;
     assert_eq!(rt; (report.cell(0x0000), report.cell(0xffff)), (0x12, 0x34));
     Ok(())
 }

@@ -2,7 +2,7 @@
 
 use crate::fixtures::{HI, blank};
 use i8080::bus::{Bus, fetch};
-use pagemem::{Cells, Image, Overlay, View};
+use pagemem::{Cells, Image, Overlay, View, memories_agree};
 use std::alloc::AllocError;
 use std::test::Fail;
 
@@ -69,6 +69,7 @@ fn plain_memory_reads_the_same(rt: HostRuntime) -> Result<(), Fail> {
     memory.write(0x0101, 0x5a);
     memory.write(0xffff, 0x5a);
     assert_eq!(rt; three(&mut memory)?, (0x0e, 0x5a, 0x5a));
+    memories_agree();
     Ok(())
 }
 

@@ -41,7 +41,7 @@ fn programs_end_by_their_causes(rt: HostRuntime) -> Result<(), Fail> {
         (&tabbed[..], &b"a       b"[..], Cause::WarmBoot, 7, PRINTED),
     ] {
         let mut runner = runner_of(rt.alloc(), program, 1_000_000)?;
-        let run = rerun(&rt, rt.alloc(), &mut runner, text)?;
+        let run = rerun(&rt, &mut runner, text)?;
         assert_eq!(rt; run, Ended { cause, steps, regs }, "{program:?}");
     }
     Ok(())
@@ -98,7 +98,7 @@ fn a_rerun_is_the_run_of_the_edited_session(rt: HostRuntime) -> Result<(), Fail>
     ] {
         poke(&rt, rt.alloc(), &mut runner, (0x010b, &[byte], 0))?;
         assert_eq!(rt; number_of(runner.edit(Edit::SetLimit(limit))), 0);
-        let run = rerun(&rt, rt.alloc(), &mut runner, text)?;
+        let run = rerun(&rt, &mut runner, text)?;
         assert_eq!(rt; run, Ended { cause, steps, regs }, "at limit {limit}");
         assert_eq!(rt; run.regs.flags.byte(), 0x02);
     }
@@ -157,7 +157,7 @@ fn refusals_have_their_numbers(rt: HostRuntime) -> Result<(), Fail> {
 fn a_report_tells_how_the_run_ended(rt: HostRuntime) -> Result<(), Fail> {
     let mut runner = runner_of(rt.alloc(), &HI, 1_000_000)?;
     let mut meter = Meter::new();
-    let report = runner.rerun(rt.alloc(), &mut meter)?;
+    let report = runner.rerun(&mut meter)?;
     assert_eq!(rt; report.cause(), Cause::WarmBoot);
     assert_eq!(rt; (report.steps(), meter.count()), (7, 7));
     assert_eq!(rt; report.regs(), PRINTED);

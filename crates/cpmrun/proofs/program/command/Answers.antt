@@ -1,5 +1,4 @@
-use Rattle.cpmrun.proofs.Telling.{told_one}
 use Rattle.cpmrun.proofs.program.command.Goals as goal
 
-pub returns-in-Err-clause-told : goal.returns-in-Err-clause-told
-returns-in-Err-clause-told g c = λ _. told_one _ c.in-Err.fault _ _ _ c.in-Err.ensures.fault c.complain.ensures
+pub returns-in-Err-clause-fault : goal.returns-in-Err-clause-fault
+returns-in-Err-clause-fault g c = λ _. record { fault = c.in-Err.fault; fits = c.in-Err.ensures.fault; leaves = c.in-Err.ensures.leaves; telling = c.complain.ensures }

@@ -1,8 +1,4 @@
-use Rattle.std.proofs.Common.{ap, ◌∙◌}
-use Rattle.bdos.specs.Desk.{Desk}
-use Rattle.machine.specs.Views.{Cells, State}
 use Rattle.machine.specs.Machine.{first_regs}
-use Rattle.machine.specs.Kept.{kept}
 use Rattle.machine.proofs.KeptLemmas.{kept_none}
 use Rattle.machine.proofs.state.State.load.Goals as goal
 

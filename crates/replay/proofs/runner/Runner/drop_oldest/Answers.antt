@@ -1,6 +1,7 @@
-use Rattle.std.proofs.Common.{◌≡◌, ◌-◌, List, ap, arith, length}
+use Rattle.std.proofs.Common.{◌≡◌, ◌-◌, List, ap, arith, length, sym}
+use Rattle.std.proofs.lemmas.List.{drop-map}
 use Rattle.replay.specs.RunnerView.{RunnerView, Checkpoint, seen_with}
-use Rattle.replay.proofs.RunnerLemmas.{sound_last, map-drop}
+use Rattle.replay.proofs.RunnerLemmas.{sound_last}
 use Rattle.replay.proofs.runner.Runner.drop_oldest.Goals as goal
 
 pub invariant_of-self : goal.invariant_of-self
@@ -10,5 +11,5 @@ pub returns-then-count-len : goal.returns-then-count-len
 returns-then-count-len c =
     let ring = c.self.inside.ring in
     let count : length ring.items - (c.len-len.result - c.args.count) ≡ c.args.count = omega (arith, c.len-len.ensures.len, c.if-count-len.true) in
-    let left = map-drop (seen_with c.self.inside.shown.text.items) c.args.count ring.items in
+    let left = sym (drop-map (seen_with c.self.inside.shown.text.items) c.args.count ring.items) in
     rw (← c.self.view_is, c.truncate_front.ensures, count) (ap (λ (cs : List Checkpoint). let r : RunnerView = record { session = c.self.inside.shown.session; spacing = c.self.inside.spacing; slots = ring.capacity; checkpoints = cs } in r) left)

@@ -28,6 +28,7 @@ returns-in_err-steps c =
         ticked = if_err c.from_residual.result _ c.from_residual.ensures.0;
         ticked_at_most = on_err c.from_residual.result _ c.in_err-steps.ensures.ticked_at_most;
         metered = c.rerun.ensures.metered;
+        rises = c.rerun.ensures.rises;
       },
     )
 
@@ -54,5 +55,6 @@ returns c =
         ticked = c.in_ok-steps.ensures.ticked;
         ticked_at_most = tt;
         metered = c.rerun.ensures.metered;
+        rises = c.rerun.ensures.rises;
       },
     )

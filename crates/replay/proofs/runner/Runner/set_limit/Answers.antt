@@ -1,8 +1,8 @@
 use Rattle.replay.proofs.RunnerLemmas.{limit_same, sound_same, keeps_same, all_stand}
 use Rattle.replay.proofs.runner.Runner.set_limit.Goals as goal
 
-pub returns-then-limit-gt4000000000-clause-stand : goal.returns-then-limit-gt4000000000-clause-stand
-returns-then-limit-gt4000000000-clause-stand c = rw (← c.self.view_is) (all_stand _ _ _ c.self.invariant.stands)
+pub returns-then-limit-gt-STEP_LIMIT-clause-stand : goal.returns-then-limit-gt-STEP_LIMIT-clause-stand
+returns-then-limit-gt-STEP_LIMIT-clause-stand c = rw (← c.self.view_is) (all_stand _ _ _ c.self.invariant.stands)
 
 pub invariant_of-self : goal.invariant_of-self
 invariant_of-self c = rw c.set_limit.ensures (sound_same c.self.inside.shown.session _ _ _ _ _ (limit_same c.self.inside.shown.session c.args.limit) c.self.invariant)
