@@ -66,22 +66,22 @@ BreaksOffWith f held holds =
     (left : Option (List ℕ)) × (first : Session) × (last : Session) × (bytes : List ℕ)
     × (first.script ≡ []) × (first.limit ≡ 1000000) × Faults left first held bytes last holds f
 
--- what stands on the output after a fault, and how often writing it has failed: what stood there, or what the replay left; and a
--- fault of writing only where writing failed
-abbrev pub Leaves : Option (List ℕ) → Option (List ℕ) → ℕ → ℕ → Fault → Type 0
-Leaves held holds failed fails Use = holds ≡ held
-Leaves held holds failed fails (CannotRead p) = (holds ≡ held) ⊎ BreaksOffWith replay_fault.Read held holds
-Leaves held holds failed fails CannotWrite = BreaksOffWith replay_fault.Write held holds × (failed < fails)
-Leaves held holds failed fails (Refused n) = holds ≡ held
-Leaves held holds failed fails (Malformed k) = BreaksOffWith (replay_fault.Malformed k) held holds
-Leaves held holds failed fails (TooLong k) = BreaksOffWith (replay_fault.LineTooLong k) held holds
-Leaves held holds failed fails OutOfMemory = (holds ≡ held) ⊎ BreaksOffWith replay_fault.OutOfMemory held holds
+-- what stands on the output after a fault, and how often writing it has failed: what stood there, or what the replay left; a
+-- fault of writing only where writing failed, and one of reading that broke off the replay only of the file of edit lines
+abbrev pub Leaves : List (List ℕ) → Option (List ℕ) → Option (List ℕ) → ℕ → ℕ → Fault → Type 0
+Leaves words held holds failed fails Use = holds ≡ held
+Leaves words held holds failed fails (CannotRead p) = (holds ≡ held) ⊎ (BreaksOffWith replay_fault.Read held holds × ((program : List ℕ) × AreWords words program p.now))
+Leaves words held holds failed fails CannotWrite = BreaksOffWith replay_fault.Write held holds × (failed < fails)
+Leaves words held holds failed fails (Refused n) = holds ≡ held
+Leaves words held holds failed fails (Malformed k) = BreaksOffWith (replay_fault.Malformed k) held holds
+Leaves words held holds failed fails (TooLong k) = BreaksOffWith (replay_fault.LineTooLong k) held holds
+Leaves words held holds failed fails OutOfMemory = (holds ≡ held) ⊎ BreaksOffWith replay_fault.OutOfMemory held holds
 
 -- a fault that fits the words left the output so, and it was told, or want of memory where there was none to tell it
 pub record EndsByFault (words : List (List ℕ)) (status : ℕ) (held holds : Option (List ℕ)) (failed fails : ℕ) (told tells : Option (List ℕ)) : Type 0 where
   pub fault : Fault
   pub fits : FitsWords words fault
-  pub leaves : Leaves held holds failed fails fault
+  pub leaves : Leaves words held holds failed fails fault
   pub telling : Tells fault status told tells ⊎ Tells OutOfMemory status told tells
 
 -- the text was written that some lines give, replayed to their end from a session of some program, no script and this limit

@@ -187,7 +187,7 @@ fn run<'a, R: Files + AllocGlobal + Clone + Drop, O: Writer>(
     requires { O.failures out.old < 2 ^ 63 }
     ensures done { OnOk result (WritesReplay (O.holds out.old) (O.holds out.new)) }
     ensures fault { IfErr result (FitsWords (map string_bytes words.now)) }
-    ensures leaves { IfErr result (Leaves (O.holds out.old) (O.holds out.new) (O.failures out.old) (O.failures out.new)) }
+    ensures leaves { IfErr result (Leaves (map string_bytes words.now) (O.holds out.old) (O.holds out.new) (O.failures out.old) (O.failures out.new)) }
 {
     let Some(words) = read_words(words) else {
         return Err(Fault::Use);
