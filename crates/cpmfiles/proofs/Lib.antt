@@ -1,0 +1,2 @@
+pub mod DeleteLaws
+pub mod LookLaws

@@ -1,0 +1,52 @@
+-- The calls of a table.
+use Rattle.std.specs.Prelude.{◌≡◌, ℕ, Bool, ◌&&◌, ◌==◌, not, Some, length, drop, filter, slice_index, if◌then◌else◌}
+use Rattle.std.specs.Ordering.{nat_cmp, eq_by_cmp}
+use Rattle.std.specs.List.{list_any}
+use Rattle.std.specs.Cmp.Lexicographic.{slice_cmp}
+use Rattle.std.specs.FinMap.{get, entries}
+use Rattle.filenames.specs.Names.{is_sayable}
+use Rattle.directory.specs.Entries.{is_match}
+use Rattle.hostfiles.specs.Hosts.{Key, Host}
+use Rattle.hostfiles.specs.Files.{Own, has, nothing, shapes}
+use Rattle.hostfiles.specs.Looks.{look_has, look_directory}
+use Rattle.hostfiles.specs.declared.looks.Looks.{Looks}
+
+-- `?` among the bytes of a name
+abbrev pub has_wildcard : Key → Bool
+has_wildcard key = list_any (λ b. b == 63) (drop 1 key)
+
+abbrev pub can_make : Host → Own → Key → Bool
+can_make host own key = is_sayable key && not (has host own key)
+
+-- whether there is a file is asked of a key that can be said
+abbrev pub look_made : Own → Key → Looks → Looks
+look_made own key l = if is_sayable key then look_has own key l else l
+
+-- a key without `?` may be renamed to one that can be said
+abbrev pub is_rename : Key → Key → Bool
+is_rename old new = not (has_wildcard old) && is_sayable new
+
+abbrev pub can_rename : Host → Own → Key → Key → Bool
+can_rename host own old new = is_rename old new && has host own old && not (has host own new)
+
+-- both keys are asked, the old one first, whatever it answers
+abbrev pub look_renamed : Own → Key → Key → Looks → Looks
+look_renamed own old new l = if is_rename old new then look_has own new (look_has own old l) else l
+
+-- whether a call deletes the file of a key: a pattern with `?` names all keys that match, one without itself alone
+abbrev pub is_named : Key → Key → Bool
+is_named pattern q = if has_wildcard pattern then is_match pattern q else eq_by_cmp (slice_cmp nat_cmp) q pattern
+
+-- what is owned after: of the keys that are named, and have files, that they are gone
+pub record Deletes (host : Host) (own : Own) (pattern : Key) (after : Own) : Type 0 where
+  pub at : (q : Key) → get after q ≡ (if is_named pattern q && has host own q then Some nothing else get own q)
+
+-- how many files are named
+abbrev pub count_deleted : Host → Own → Key → ℕ
+count_deleted host own pattern =
+    if has_wildcard pattern then length (filter (λ e. is_match pattern e.0) (entries (shapes host own)))
+    else (if has host own pattern then 1 else 0)
+
+-- a pattern with `?` asks the directory of its drive, one without whether the file is there
+abbrev pub look_deleted : Own → Key → Looks → Looks
+look_deleted own pattern l = if has_wildcard pattern then look_directory (slice_index pattern 0) l else look_has own pattern l

@@ -1,0 +1,12 @@
+//! Files of a program: names, control blocks, host files, what a run does to them, and both joined as a table.
+#![tactic(auto)]
+
+pub mod laws;
+pub mod table;
+#[cfg(test)]
+mod tests;
+
+pub use filenames::{Fcb, Key, Name, NameError};
+pub use hostfiles::{Ask, Changes, FilesError, HostFiles, Journal, Looks};
+pub use records::{Record, Records};
+pub use table::Table;

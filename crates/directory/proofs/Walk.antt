@@ -1,0 +1,244 @@
+-- The first match in the directory, from one key to the next.
+use Rattle.std.proofs.Common.{◌≡◌, ℕ, zero, suc, ◌+◌, ◌-◌, ◌<◌, ◌≤◌, arith, Bool, true, false, cond, List, [], ◌∷◌, ◌++◌, Some, None, Option, refl, sym, ap, subst, ◌∙◌}
+use Rattle.std.proofs.Common.{rules, inl, inr}
+use Rattle.std.proofs.lemmas.Bool.{cases_lt}
+use Rattle.std.specs.Prelude.{T, ◌&&◌, ◌||◌, ◌==◌, flat_map, nat_lt}
+use Rattle.std.specs.declared.cmp.Ordering.TheVariants.{Less, Equal, Greater}
+use Rattle.std.specs.Ordering.{is_lt, is_eq, nat_cmp}
+use Rattle.std.specs.Cmp.Lexicographic.{slice_cmp, nat_list_cmp_total}
+use Rattle.std.specs.List.{filter, range_with_len}
+use Rattle.std.specs.FinMap.{find, is_sorted, get, entries, entries_sorted, get-entries}
+use Rattle.std.specs.FinMap.Entries.{below_all}
+use Rattle.keymaps.specs.Order.{Key, is_above}
+use Rattle.keymaps.proofs.Views.{same_key}
+use Rattle.keymaps.proofs.Left.{rises}
+use Rattle.directory.specs.declared.entry.Entry.{Entry}
+use Rattle.directory.specs.declared.entry.Position.{Position}
+use Rattle.directory.specs.Entries.{Shape, Shapes, entries_at, entries_of, count_in, count_by, with_entry, first_where, is_after, is_match, matches, chunk_from, fitting, above, next_entry}
+use Rattle.keymaps.proofs.Rising.{first_of_both, second_of_both, here, begins, ends, find_below, below_less}
+
+abbrev pub or_else : {X : Type 0} → Option X → Option X → Option X
+or_else None b = b
+or_else (Some a) b = Some a
+
+pub first_append : {X : Type 0} (p : X → Bool) (xs ys : List X) → first_where p (xs ++ ys) ≡ or_else (first_where p xs) (first_where p ys)
+first_append p [] ys = refl
+first_append p (x ∷ xs) ys = elim (p x) as (λ b. cond b (Some x) (first_where p (xs ++ ys)) ≡ or_else (cond b (Some x) (first_where p xs)) (first_where p ys)) [ true ↦ refl | false ↦ first_append p xs ys ]
+
+-- two tests that answer alike at each entry of a key
+abbrev Alike : Key → (Entry → Bool) → (Entry → Bool) → Type 0
+Alike k p q = (n c : ℕ) → p (record { key = k; extent = n; count = c }) ≡ q (record { key = k; extent = n; count = c })
+
+alike_with : (k : Key) (e : ℕ) (n : Option ℕ) (p q : Entry → Bool) → Alike k p q → (xs : List Entry) → first_where p xs ≡ first_where q xs → first_where p (with_entry k e n xs) ≡ first_where q (with_entry k e n xs)
+alike_with k e None p q h xs same = same
+alike_with k e (Some n) p q h xs same = rw (h e n) (ap (cond (q (record { key = k; extent = e; count = n })) (Some (record { key = k; extent = e; count = n }))) same)
+
+alike_at : (k : Key) (c : ℕ → Option ℕ) (p q : Entry → Bool) → Alike k p q → (es : List ℕ) → first_where p (entries_at k c es) ≡ first_where q (entries_at k c es)
+alike_at k c p q h [] = refl
+alike_at k c p q h (e ∷ es) = alike_with k e (c e) p q h (entries_at k c es) (alike_at k c p q h es)
+
+pub alike_of : (k : Key) (s : Shape) (p q : Entry → Bool) → Alike k p q → first_where p (entries_of k s) ≡ first_where q (entries_of k s)
+unfolding entries_of
+alike_of k s p q h = alike_at k (count_in s) p q h (range_with_len 0 512)
+
+nowhere : {X : Type 0} (xs : List X) → first_where (λ x. false) xs ≡ None
+nowhere [] = refl
+nowhere (x ∷ xs) = nowhere xs
+
+-- the entries of the file at a key, if there is one
+abbrev pub chunk : Key → Option Shape → List Entry
+chunk k None = []
+chunk k (Some s) = entries_of k s
+
+abbrev pub listed : List (Key × Shape) → List Entry
+listed es = flat_map (λ e. entries_of e.0 e.1) es
+
+pub listed_here : (p : Entry → Bool) (k : Key) (v : Option Shape) (es : List (Key × Shape)) → first_where p (listed (here k v ++ es)) ≡ or_else (first_where p (chunk k v)) (first_where p (listed es))
+listed_here p k None es = refl
+listed_here p k (Some s) es = first_append p (entries_of k s) (listed es)
+
+-- a turn of the walk over keys: k is the least key that passes, in whichever tree; the map may have no file there
+pub turn : (m : Shapes) (test : Entry → Bool) (p : Key → Bool) → ((x y : Key) → p x ≡ true → slice_cmp nat_cmp x y ≡ Less → p y ≡ true) → (k : Key) → p k ≡ true
+    → ((x : Key) → p x ≡ true → slice_cmp nat_cmp x k ≡ Less → get m x ≡ None)
+    → first_where test (listed (filter (λ e. p e.0) (entries m))) ≡ or_else (first_where test (chunk k (get m k))) (first_where test (listed (filter (λ e. is_lt (slice_cmp nat_cmp k e.0)) (entries m))))
+turn m test p up k pk none =
+    ap (λ es. first_where test (listed es)) (begins nat_list_cmp_total same_key p up k pk (entries m) (entries_sorted m) (λ x px l. sym (get-entries m x) ∙ none x px l))
+    ∙ listed_here test k _ _
+    ∙ ap (λ v. or_else (first_where test (chunk k v)) (first_where test (listed (filter (λ e. is_lt (slice_cmp nat_cmp k e.0)) (entries m))))) (sym (get-entries m k))
+
+-- the end of the walk
+pub past_all : (m : Shapes) (test : Entry → Bool) (p : Key → Bool) → ((x : Key) → p x ≡ true → get m x ≡ None) → first_where test (listed (filter (λ e. p e.0) (entries m))) ≡ None
+past_all m test p none =
+    ap (λ es. first_where test (listed es)) (ends nat_list_cmp_total same_key p (entries m) (λ x px. sym (get-entries m x) ∙ none x px))
+
+-- an entry of a later extent
+abbrev pub later : ℕ → Key → ℕ → Entry → Bool
+later n pattern ex e = nat_lt n e.extent && matches pattern ex e
+
+parts : (d : Position) (pattern : Key) (ex : ℕ) (es : List (Key × Shape)) → T (is_sorted (slice_cmp nat_cmp) es)
+    → first_where (λ e. is_after (Some d) e && matches pattern ex e) (listed es)
+    ≡ or_else (first_where (later d.extent pattern ex) (chunk d.key (find (slice_cmp nat_cmp) d.key es))) (first_where (matches pattern ex) (listed (filter (λ e. is_lt (slice_cmp nat_cmp d.key e.0)) es)))
+parts d pattern ex [] h = refl
+parts d pattern ex (e ∷ es) h =
+    let test : Entry → Bool = λ x. is_after (Some d) x && matches pattern ex x in
+    let above = first_of_both (below_all (slice_cmp nat_cmp) e.0 es) (is_sorted (slice_cmp nat_cmp) es) h in
+    let rest = second_of_both (below_all (slice_cmp nat_cmp) e.0 es) (is_sorted (slice_cmp nat_cmp) es) h in
+    let found = first_where (later d.extent pattern ex) in
+    let fits = first_where (matches pattern ex) in
+    let more : List (Key × Shape) = filter (λ e. is_lt (slice_cmp nat_cmp d.key e.0)) es in
+    first_append test (entries_of e.0 e.1) (listed es)
+    ∙ ap (or_else (first_where test (entries_of e.0 e.1))) (parts d pattern ex es rest)
+    ∙ elim (slice_cmp nat_cmp d.key e.0) as (λ r. slice_cmp nat_cmp d.key e.0 ≡ r → or_else (first_where test (entries_of e.0 e.1)) (or_else (found (chunk d.key (find (slice_cmp nat_cmp) d.key es))) (fits (listed more)))
+    ≡ or_else (found (chunk d.key (cond (is_eq r) (Some e.1) (find (slice_cmp nat_cmp) d.key es)))) (fits (listed (cond (is_lt r) (e ∷ more) more)))) [
+      | Less ↦ λ r.
+          let none = find_below nat_list_cmp_total same_key d.key es (below_less nat_list_cmp_total same_key d.key e.0 es r above) in
+          ap (λ v. or_else v (or_else (found (chunk d.key (find (slice_cmp nat_cmp) d.key es))) (fits (listed more)))) (alike_of e.0 e.1 test (matches pattern ex) (λ n c. ap (λ r. (is_lt r || (is_eq r && nat_lt d.extent n)) && matches pattern ex (record { key = e.0; extent = n; count = c })) r))
+          ∙ ap (λ v. or_else (fits (entries_of e.0 e.1)) (or_else (found (chunk d.key v)) (fits (listed more)))) none
+          ∙ sym (first_append (matches pattern ex) (entries_of e.0 e.1) (listed more))
+          ∙ ap (λ v. or_else (found (chunk d.key v)) (fits (listed (e ∷ more)))) (sym none)
+      | Equal ↦ λ r.
+          let none = subst (λ x. find (slice_cmp nat_cmp) x es ≡ None) (sym (same_key d.key e.0 r)) (find_below nat_list_cmp_total same_key e.0 es above) in
+          ap (λ v. or_else v (or_else (found (chunk d.key (find (slice_cmp nat_cmp) d.key es))) (fits (listed more)))) (alike_of e.0 e.1 test (later d.extent pattern ex) (λ n c. ap (λ r. (is_lt r || (is_eq r && nat_lt d.extent n)) && matches pattern ex (record { key = e.0; extent = n; count = c })) r))
+          ∙ ap (λ v. or_else (found (entries_of e.0 e.1)) (or_else (found (chunk d.key v)) (fits (listed more)))) none
+          ∙ ap (λ x. or_else (found (entries_of x e.1)) (fits (listed more))) (sym (same_key d.key e.0 r))
+      | Greater ↦ λ r.
+          ap (λ v. or_else v (or_else (found (chunk d.key (find (slice_cmp nat_cmp) d.key es))) (fits (listed more))))
+          (alike_of e.0 e.1 test (λ x. false) (λ n c. ap (λ r. (is_lt r || (is_eq r && nat_lt d.extent n)) && matches pattern ex (record { key = e.0; extent = n; count = c })) r) ∙ nowhere (entries_of e.0 e.1))
+    ] refl
+
+-- search next: first the later extents of the file of the entry given last, as that file is now, then the keys above it
+pub next_after : (d : Position) (pattern : Key) (ex : ℕ) (m : Shapes)
+    → next_entry pattern ex (Some d) m ≡ or_else (first_where (later d.extent pattern ex) (chunk d.key (get m d.key))) (first_where (matches pattern ex) (listed (filter (λ e. is_lt (slice_cmp nat_cmp d.key e.0)) (entries m))))
+next_after d pattern ex m =
+    parts d pattern ex (entries m) (entries_sorted m)
+    ∙ ap (λ v. or_else (first_where (later d.extent pattern ex) (chunk d.key v)) (first_where (matches pattern ex) (listed (filter (λ e. is_lt (slice_cmp nat_cmp d.key e.0)) (entries m))))) (sym (get-entries m d.key))
+
+all_pass : (es : List (Key × Shape)) → filter (λ e. true) es ≡ es
+all_pass [] = refl
+all_pass (e ∷ es) = ap (λ fs. e ∷ fs) (all_pass es)
+
+-- search first: all keys
+pub next_first : (pattern : Key) (ex : ℕ) (m : Shapes) → next_entry pattern ex None m ≡ first_where (matches pattern ex) (listed (filter (λ e. true) (entries m)))
+next_first pattern ex m = ap (λ es. first_where (matches pattern ex) (listed es)) (sym (all_pass (entries m)))
+
+-- ---- the extents of one file
+
+no_entries : (k : Key) (es : List ℕ) → entries_at k (count_by None) es ≡ []
+no_entries k [] = refl
+no_entries k (e ∷ es) = no_entries k es
+
+pub chunk_start : (k : Key) (v : Option Shape) → chunk k v ≡ chunk_from k v 0
+unfolding chunk_from entries_of
+chunk_start k None = sym (no_entries k (range_with_len 0 512))
+chunk_start k (Some s) = refl
+
+pub chunk_more : (k : Key) (v : Option Shape) (n : ℕ) → n < 512 → chunk_from k v n ≡ with_entry k n (count_by v n) (chunk_from k v (n + 1))
+unfolding chunk_from
+chunk_more k v n l =
+    let left : 512 - n ≡ suc (512 - (n + 1)) = omega arith in
+    ap (λ m. entries_at k (count_by v) (range_with_len n m)) left
+
+pub chunk_end : (k : Key) (v : Option Shape) (n : ℕ) → 512 ≤ n → chunk_from k v n ≡ []
+unfolding chunk_from
+chunk_end k v n l =
+    let left : 512 - n ≡ 0 = omega arith in
+    ap (λ m. entries_at k (count_by v) (range_with_len n m)) left
+
+pub is_later : (n a : ℕ) → n < a → nat_lt n a ≡ true
+is_later n a l = search (rules)
+
+pub not_later : (n a : ℕ) → a ≤ n → nat_lt n a ≡ false
+not_later n a l = search (rules)
+
+passed : (k : Key) (n : ℕ) (pattern : Key) (ex : ℕ) (a : ℕ) (x : Option ℕ) (xs : List Entry) → a ≤ n → first_where (later n pattern ex) (with_entry k a x xs) ≡ first_where (later n pattern ex) xs
+passed k n pattern ex a None xs l = refl
+passed k n pattern ex a (Some m) xs l = ap (λ b. cond (b && matches pattern ex (record { key = k; extent = a; count = m })) (Some (record { key = k; extent = a; count = m })) (first_where (later n pattern ex) xs)) (not_later n a l)
+
+met : (k : Key) (n : ℕ) (pattern : Key) (ex : ℕ) (a : ℕ) (x : Option ℕ) (xs : List Entry) → n < a → first_where (later n pattern ex) xs ≡ first_where (matches pattern ex) xs
+    → first_where (later n pattern ex) (with_entry k a x xs) ≡ first_where (matches pattern ex) (with_entry k a x xs)
+met k n pattern ex a None xs l same = same
+met k n pattern ex a (Some m) xs l same =
+    let e : Entry = record { key = k; extent = a; count = m } in
+    ap (λ b. cond (b && matches pattern ex e) (Some e) (first_where (later n pattern ex) xs)) (is_later n a l) ∙ ap (cond (matches pattern ex e) (Some e)) same
+
+-- in a list that begins past the extent all are later
+all_later : (k : Key) (c : ℕ → Option ℕ) (n : ℕ) (pattern : Key) (ex : ℕ) (a b : ℕ) → n < a → first_where (later n pattern ex) (entries_at k c (range_with_len a b)) ≡ first_where (matches pattern ex) (entries_at k c (range_with_len a b))
+all_later k c n pattern ex a zero l = refl
+all_later k c n pattern ex a (suc b) l = met k n pattern ex a (c a) (entries_at k c (range_with_len (a + 1) b)) l (all_later k c n pattern ex (a + 1) b (omega arith))
+
+-- the entries of the extents after one, in a list that begins at most there
+later_in : (k : Key) (c : ℕ → Option ℕ) (n : ℕ) (pattern : Key) (ex : ℕ) (b a : ℕ) → a ≤ n + 1
+    → first_where (later n pattern ex) (entries_at k c (range_with_len a b)) ≡ first_where (matches pattern ex) (entries_at k c (range_with_len (n + 1) (a + b - (n + 1))))
+later_in k c n pattern ex zero a low =
+    let none : a + 0 - (n + 1) ≡ 0 = omega arith in
+    sym (ap (λ m. first_where (matches pattern ex) (entries_at k c (range_with_len (n + 1) m))) none)
+later_in k c n pattern ex (suc b) a low = elim (cases_lt n a) [
+  | inl l ↦
+      let at : a ≡ n + 1 = omega arith in
+      let all : suc b ≡ a + suc b - (n + 1) = omega arith in
+      all_later k c n pattern ex a (suc b) l
+      ∙ ap (λ m. first_where (matches pattern ex) (entries_at k c (range_with_len a m))) all
+      ∙ ap (λ x. first_where (matches pattern ex) (entries_at k c (range_with_len x (a + suc b - (n + 1))))) at
+  | inr l ↦
+      let same : a + 1 + b - (n + 1) ≡ a + suc b - (n + 1) = omega arith in
+      passed k n pattern ex a (c a) (entries_at k c (range_with_len (a + 1) b)) l
+      ∙ later_in k c n pattern ex b (a + 1) (omega arith)
+      ∙ ap (λ m. first_where (matches pattern ex) (entries_at k c (range_with_len (n + 1) m))) same
+]
+
+pub chunk_later : (k : Key) (v : Option Shape) (n : ℕ) (pattern : Key) (ex : ℕ) → first_where (later n pattern ex) (chunk k v) ≡ first_where (matches pattern ex) (chunk_from k v (n + 1))
+unfolding chunk_from entries_of
+chunk_later k None n pattern ex = sym (ap (first_where (matches pattern ex)) (no_entries k (range_with_len (n + 1) (512 - (n + 1)))))
+chunk_later k (Some s) n pattern ex = later_in k (count_in s) n pattern ex 512 0 (omega arith)
+
+-- ---- as the code goes
+
+no_match_at : (k : Key) (c : ℕ → Option ℕ) (pattern : Key) (ex : ℕ) → is_match pattern k ≡ false → (es : List ℕ) → first_where (matches pattern ex) (entries_at k c es) ≡ None
+no_match_at k c pattern ex differs es = alike_at k c (matches pattern ex) (λ x. false) (λ n m. ap (λ b. b && (ex == 63 || ex == n)) differs) es ∙ nowhere (entries_at k c es)
+
+pub no_match : (k : Key) (v : Option Shape) (n : ℕ) (pattern : Key) (ex : ℕ) → is_match pattern k ≡ false → first_where (matches pattern ex) (chunk_from k v n) ≡ None
+unfolding chunk_from
+no_match k v n pattern ex differs = no_match_at k (count_by v) pattern ex differs (range_with_len n (512 - n))
+
+fits_first : (k : Key) (e : ℕ) (x : Option ℕ) (pattern : Key) (ex : ℕ) (xs : List Entry) → is_match pattern k ≡ true
+    → first_where (matches pattern ex) (with_entry k e x xs) ≡ or_else (fitting k e ex x) (first_where (matches pattern ex) xs)
+fits_first k e None pattern ex xs same = refl
+fits_first k e (Some n) pattern ex xs same =
+    let d : Entry = record { key = k; extent = e; count = n } in
+    ap (λ b. cond (b && (ex == 63 || ex == e)) (Some d) (first_where (matches pattern ex) xs)) same
+    ∙ elim (ex == 63 || ex == e) as (λ b. cond b (Some d) (first_where (matches pattern ex) xs) ≡ or_else (cond b (Some d) None) (first_where (matches pattern ex) xs)) [ true ↦ refl | false ↦ refl ]
+
+pub extent_turn : (k : Key) (v : Option Shape) (n : ℕ) (pattern : Key) (ex : ℕ) → is_match pattern k ≡ true → n < 512
+    → first_where (matches pattern ex) (chunk_from k v n) ≡ or_else (fitting k n ex (count_by v n)) (first_where (matches pattern ex) (chunk_from k v (n + 1)))
+extent_turn k v n pattern ex same l = ap (first_where (matches pattern ex)) (chunk_more k v n l) ∙ fits_first k n (count_by v n) pattern ex (chunk_from k v (n + 1)) same
+
+pub key_turn : (m : Shapes) (pattern : Key) (ex : ℕ) (after : Option Key) (k : Key) → is_above after k ≡ true
+    → ((x : Key) → is_above after x ≡ true → slice_cmp nat_cmp x k ≡ Less → get m x ≡ None)
+    → first_where (matches pattern ex) (above after m) ≡ or_else (first_where (matches pattern ex) (chunk_from k (get m k) 0)) (first_where (matches pattern ex) (above (Some k) m))
+unfolding above
+key_turn m pattern ex after k pk none =
+    turn m (matches pattern ex) (is_above after) (rises after) k pk none
+    ∙ ap (λ c. or_else (first_where (matches pattern ex) c) (first_where (matches pattern ex) (listed (filter (λ e. is_above (Some k) e.0) (entries m))))) (chunk_start k (get m k))
+
+pub key_end : (m : Shapes) (pattern : Key) (ex : ℕ) (after : Option Key) → ((x : Key) → is_above after x ≡ true → get m x ≡ None) → first_where (matches pattern ex) (above after m) ≡ None
+unfolding above
+key_end m pattern ex after none = past_all m (matches pattern ex) (is_above after) none
+
+pub search_first : (pattern : Key) (ex : ℕ) (m : Shapes) → next_entry pattern ex None m ≡ first_where (matches pattern ex) (above None m)
+unfolding above
+search_first pattern ex m = next_first pattern ex m
+
+pub search_next : (d : Position) (pattern : Key) (ex : ℕ) (m : Shapes)
+    → next_entry pattern ex (Some d) m ≡ or_else (first_where (matches pattern ex) (chunk_from d.key (get m d.key) (d.extent + 1))) (first_where (matches pattern ex) (above (Some d.key) m))
+unfolding above
+search_next d pattern ex m =
+    next_after d pattern ex m
+    ∙ ap (λ v. or_else v (first_where (matches pattern ex) (listed (filter (λ e. is_above (Some d.key) e.0) (entries m))))) (chunk_later d.key (get m d.key) d.extent pattern ex)
+
+-- ---- what is found, and what is not
+
+pub taken : {X : Type 0} (a : Option X) (x : X) (b : Option X) → a ≡ Some x → or_else a b ≡ Some x
+taken a x b h = ap (λ a. or_else a b) h
+
+pub left_out : {X : Type 0} (a b : Option X) → a ≡ None → or_else a b ≡ b
+left_out a b h = ap (λ a. or_else a b) h

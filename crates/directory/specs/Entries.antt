@@ -1,0 +1,99 @@
+-- The directory, entry by entry: the CP/M 2.2 Interface Guide.
+use Rattle.std.specs.Prelude.{ℕ, ◌+◌, ◌-◌, ◌*◌, ◌/◌, ◌%◌, Bool, true, false, ◌&&◌, ◌||◌, ◌==◌, List, [], ◌∷◌, ◌++◌, Option, Some, None, nat_lt, if◌then◌else◌, take, drop, replicate, slice_index, flat_map}
+use Rattle.std.specs.Ordering.{nat_cmp, is_lt, is_eq}
+use Rattle.std.specs.List.{range_with_len, filter}
+use Rattle.std.specs.Cmp.Lexicographic.{slice_cmp}
+use Rattle.std.specs.FinMap.{FinMap, entries}
+use Rattle.keymaps.specs.Order.{Key, is_above}
+use Rattle.directory.specs.declared.entry.Entry.{Entry}
+use Rattle.directory.specs.declared.entry.Position.{Position}
+
+-- for each place of a file in order whether a record stands there
+abbrev pub Shape : Type 0
+Shape = List Bool
+
+abbrev pub Shapes : Type 0
+Shapes = FinMap (slice_cmp nat_cmp) Shape
+
+-- the greatest place of an extent that holds a record, plus one; 0 where none does
+abbrev pub count_of : Shape → ℕ
+count_of [] = 0
+count_of (b ∷ bs) = if nat_lt 0 (count_of bs) then count_of bs + 1 else (if b then 1 else 0)
+
+-- an extent has 128 places
+abbrev pub count_at : Shape → ℕ → ℕ
+count_at s e = count_of (take 128 (drop (128 * e) s))
+
+-- the count of an extent's entry; none where it has no entry. A file with no place has one of extent 0
+abbrev pub count_in : Shape → ℕ → Option ℕ
+count_in [] e = if e == 0 then Some 0 else None
+count_in (b ∷ bs) e = if nat_lt 0 (count_at (b ∷ bs) e) then Some (count_at (b ∷ bs) e) else None
+
+abbrev pub count_by : Option Shape → ℕ → Option ℕ
+count_by None e = None
+count_by (Some s) e = count_in s e
+
+abbrev pub with_entry : Key → ℕ → Option ℕ → List Entry → List Entry
+with_entry key e None rest = rest
+with_entry key e (Some n) rest = record { key = key; extent = e; count = n } ∷ rest
+
+abbrev pub entries_at : Key → (ℕ → Option ℕ) → List ℕ → List Entry
+entries_at key count [] = []
+entries_at key count (e ∷ es) = with_entry key e (count e) (entries_at key count es)
+
+-- the entries of a file, by extent
+unfoldable pub entries_of : Key → Shape → List Entry
+entries_of key s = entries_at key (count_in s) (range_with_len 0 512)
+
+-- all entries, by key
+abbrev pub directory : Shapes → List Entry
+directory m = flat_map (λ e. entries_of e.0 e.1) (entries m)
+
+abbrev pub first_where : {X : Type 0} → (X → Bool) → List X → Option X
+first_where p [] = None
+first_where p (x ∷ xs) = if p x then Some x else first_where p xs
+
+-- by the key, then by the extent
+abbrev pub is_after : Option Position → Entry → Bool
+is_after None e = true
+is_after (Some d) e = is_lt (slice_cmp nat_cmp d.key e.key) || (is_eq (slice_cmp nat_cmp d.key e.key) && nat_lt d.extent e.extent)
+
+-- 63 is `?`
+abbrev pub fits_name : List ℕ → List ℕ → Bool
+fits_name [] name = true
+fits_name (p ∷ ps) [] = false
+fits_name (p ∷ ps) (b ∷ bs) = (p == 63 || p == b) && fits_name ps bs
+
+-- the drive exactly, and the name
+abbrev pub is_match : Key → Key → Bool
+is_match pattern key = slice_index pattern 0 == slice_index key 0 && fits_name (drop 1 pattern) (drop 1 key)
+
+abbrev pub matches : Key → ℕ → Entry → Bool
+matches pattern ex e = is_match pattern e.key && (ex == 63 || ex == e.extent)
+
+-- the first match after a position
+abbrev pub next_entry : Key → ℕ → Option Position → Shapes → Option Entry
+next_entry pattern ex after m = first_where (λ e. is_after after e && matches pattern ex e) (directory m)
+
+-- ---- entries as bytes
+
+abbrev pub entry_bytes : Entry → List ℕ
+entry_bytes e = 0 ∷ drop 1 e.key ++ (e.extent % 32) ∷ 0 ∷ (e.extent / 32) ∷ e.count ∷ replicate 16 0
+
+abbrev pub position_in : ℕ → List ℕ → Position
+position_in drive bytes = record { key = drive ∷ take 11 (drop 1 bytes); extent = slice_index bytes 12 + 32 * slice_index bytes 14 }
+
+-- ---- parts of the directory
+
+-- the entries of a file's extents from one on
+unfoldable pub chunk_from : Key → Option Shape → ℕ → List Entry
+chunk_from k v n = entries_at k (count_by v) (range_with_len n (512 - n))
+
+-- the entries of the files above a key
+unfoldable pub above : Option Key → Shapes → List Entry
+above after m = flat_map (λ e. entries_of e.0 e.1) (filter (λ e. is_above after e.0) (entries m))
+
+-- an extent's entry, if it has one and the pattern's byte fits
+abbrev pub fitting : Key → ℕ → ℕ → Option ℕ → Option Entry
+fitting key e ex None = None
+fitting key e ex (Some n) = if ex == 63 || ex == e then Some (record { key = key; extent = e; count = n }) else None

@@ -1,0 +1,10 @@
+//! The directory of files, one entry after another: the CP/M 2.2 Interface Guide.
+#![tactic(auto)]
+
+pub mod entry;
+pub mod pattern;
+pub mod search;
+
+pub use entry::{Entry, Position};
+pub use pattern::is_match;
+pub use search::{Files, next_entry};

@@ -1,0 +1,93 @@
+-- Names of files. A name has up to 8 bytes, and a type of up to 3: the CP/M 2.2 Interface Guide.
+use Rattle.std.specs.Prelude.{◌≡◌, ℕ, ◌+◌, ◌-◌, ◌==◌, ◌&&◌, ◌||◌, Bool, true, if◌then◌else◌, nat_lt, nat_le, List, [], ◌∷◌, ◌++◌, length, map, take, drop, replicate, slice_index, Result, Ok, Err, Option, Some, None}
+use Rattle.std.specs.List.{list_all, before_first, after_first}
+use Rattle.std.specs.Char.{to_ascii_uppercase, is_ascii_uppercase, is_ascii_digit}
+
+abbrev pub Key : Type 0
+Key = List ℕ
+
+abbrev pub is_dot : ℕ → Bool
+is_dot b = b == 46
+
+abbrev pub is_colon : ℕ → Bool
+is_colon b = b == 58
+
+abbrev pub is_blank : ℕ → Bool
+is_blank b = b == 32
+
+-- A to Z, 0 to 9, `$`, `#`, `@`, `-`, `_`
+abbrev pub is_allowed : ℕ → Bool
+is_allowed b = is_ascii_uppercase b || is_ascii_digit b || b == 36 || b == 35 || b == 64 || b == 45 || b == 95
+
+-- a text with blanks up to n bytes
+abbrev pub padded : ℕ → List ℕ → List ℕ
+padded n text = text ++ replicate (n - length text) 32
+
+-- the key of a name and a type on a drive, their letters raised
+abbrev pub key_of : ℕ → List ℕ → List ℕ → Key
+key_of drive name kind = drive ∷ padded 8 (map to_ascii_uppercase name) ++ padded 3 (map to_ascii_uppercase kind)
+
+abbrev pub is_valid : List ℕ → Bool
+is_valid text = list_all is_allowed (map to_ascii_uppercase text)
+
+-- the same, or the number of the refusal that is tested first
+unfoldable pub named : ℕ → List ℕ → List ℕ → Result Key ℕ
+named drive name kind =
+    if length name == 0 then Err 1
+    else if nat_lt 8 (length name) || nat_lt 3 (length kind) then Err 2
+    else if is_valid name && is_valid kind then Ok (key_of drive name kind)
+    else Err 3
+
+-- the name before the first `.`, and the type behind it
+abbrev pub plain_name : ℕ → List ℕ → Result Key ℕ
+plain_name drive text = named drive (before_first is_dot text) (after_first is_dot text)
+
+-- the drive that a letter A to D names, in either case
+abbrev pub drive_of : ℕ → Option ℕ
+drive_of letter = if nat_le 65 (to_ascii_uppercase letter) && nat_le (to_ascii_uppercase letter) 68 then Some (to_ascii_uppercase letter - 65) else None
+
+abbrev pub on_drive : Option ℕ → List ℕ → Result Key ℕ
+on_drive None text = Err 4
+on_drive (Some drive) text = plain_name drive text
+
+-- whether a text's second byte is `:`
+abbrev pub has_drive : List ℕ → Bool
+has_drive text = nat_lt 1 (length text) && is_colon (slice_index text 1)
+
+-- the key of a text, or the number of its refusal; without a letter and `:` the drive is A
+unfoldable pub name_of : List ℕ → Result Key ℕ
+name_of text = if has_drive text then on_drive (drive_of (slice_index text 0)) (drop 2 text) else plain_name 0 text
+
+-- ---- keys of names
+
+-- bytes of a name, and blanks behind them
+abbrev pub is_field : List ℕ → Bool
+is_field [] = true
+is_field (b ∷ bs) = if is_allowed b then is_field bs else list_all is_blank (b ∷ bs)
+
+abbrev pub name_field : Key → List ℕ
+name_field key = take 8 (drop 1 key)
+
+abbrev pub type_field : Key → List ℕ
+type_field key = take 3 (drop 9 key)
+
+-- whether a key is that of a name
+unfoldable pub is_sayable : Key → Bool
+is_sayable key = nat_lt (slice_index key 0) 4 && is_allowed (slice_index key 1) && is_field (name_field key) && is_field (type_field key)
+
+-- ---- what is printed
+
+abbrev pub drive_text : ℕ → List ℕ
+drive_text drive = if drive == 0 then [] else (65 + drive) ∷ 58 ∷ []
+
+abbrev pub type_text : List ℕ → List ℕ
+type_text [] = []
+type_text (b ∷ bs) = 46 ∷ b ∷ bs
+
+-- a name as it is printed: `NAME`, or `NAME.TYP`, with its letter and `:` on B to D
+unfoldable pub printed : Key → List ℕ
+printed key = drive_text (slice_index key 0) ++ before_first is_blank (name_field key) ++ type_text (before_first is_blank (type_field key))
+
+-- a key that can be said, and has its twelve bytes, is that of its printed text
+abbrev pub SaidAsPrinted : Type 0
+SaidAsPrinted = (key : Key) → length key ≡ 12 → is_sayable key ≡ true → name_of (printed key) ≡ Ok key

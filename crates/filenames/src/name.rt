@@ -1,0 +1,219 @@
+// Names of files.
+
+ghost use Rattle.std.specs.Prelude.{◌≡◌, ◌<◌, ◌≤◌, ◌↔◌, length, true, IsSome, IfSome};
+ghost use Rattle.filenames.specs.Names.{name_of, plain_name, named, key_of, drive_of, drive_text, is_sayable, SaidAsPrinted};
+
+use crate::field::{all_allowed, field_text, fill, halves, is_allowed, is_field};
+use std::fmt;
+use std::marker::Model;
+use thiserror::Error;
+
+/// The drive of a file, 0 to 3 for A to D, and the eleven bytes of its name: 8 of the name and 3 of the type, each filled up with blanks.
+pub type Key = [u8; 12];
+
+/// The name of a file on one of the drives A to D.
+#[derive(Clone, Copy, PartialEq, Eq)]
+pub struct Name {
+    key: Key,
+}
+
+impl Model for Name {
+    ghost use Rattle.std.specs.Prelude.{List, ℕ, true, ◌≡◌};
+    ghost use Rattle.filenames.specs.Names.{is_sayable};
+
+    ghost Value = { List ℕ };
+
+    ghost view = { λ a. a.key };
+
+    ghost invariant = { λ a. is_sayable a.key ≡ true };
+
+    ghost inverse = { λ key. record { key = key } };
+}
+
+/// Why a text is no name.
+#[derive(Clone, Copy, Debug, PartialEq, Eq, Error)]
+pub enum NameError {
+    /// There is no byte before the first `.`.
+    #[error("the name is empty")]
+    Empty,
+    /// There are more than 8 bytes before the first `.`, or more than 3 behind it.
+    #[error("the name or its type is too long")]
+    TooLong,
+    /// A byte is none of A to Z, 0 to 9, `$`, `#`, `@`, `-` and `_`, where a to z count as A to Z.
+    #[error("the name has a byte that no name may have")]
+    BadByte,
+    /// The second byte is `:`, and the first is none of A to D and a to d.
+    #[error("the drive is none of A to D")]
+    BadLetter,
+}
+
+impl NameError {
+    ghost use Rattle.filenames.specs.NameError.{number_of};
+
+    /// The refusal's number: 1 to 4.
+    pub fn number(self) -> u8
+        ensures { result ≡ number_of self }
+    {
+        match self {
+            NameError::Empty => 1,
+            NameError::TooLong => 2,
+            NameError::BadByte => 3,
+            NameError::BadLetter => 4,
+        }
+    }
+}
+
+impl Name {
+    ghost use Rattle.filenames.specs.NameError.{NamedAs};
+
+    /// The name that a text says: 1 to 8 bytes, and behind a `.` up to 3 of a type, with a letter A to D and `:` before it
+    /// or on drive A. Letters are raised. Else the refusal: of the letter, else the first of the others that fits.
+    #[tactic(auto, unfolding(crate::specs::Names::name_of))]
+    pub fn parse(text: &str) -> Result<Name, NameError>
+        ensures { NamedAs (name_of text.now) result }
+    {
+        let bytes = text.as_bytes();
+        if bytes.len() > 1 && bytes[1] == b':' {
+            return match drive_of(bytes[0]) {
+                Some(drive) => Name::on_drive(drive, &bytes[2..]),
+                None => Err(NameError::BadLetter),
+            };
+        }
+        Name::on_drive(0, bytes)
+    }
+
+    // The name that a text without a letter says on a drive.
+    fn on_drive(drive: u8, text: &[u8]) -> Result<Name, NameError>
+        requires { drive < 4 }
+        ensures { NamedAs (plain_name drive text.now) result }
+    {
+        let (name, kind) = halves(text);
+        Name::named(drive, name, kind)
+    }
+
+    // The name of a name and a type on a drive.
+    #[tactic(auto, unfolding(crate::specs::Names::named))]
+    fn named(drive: u8, name: &[u8], kind: &[u8]) -> Result<Name, NameError>
+        requires { drive < 4 }
+        ensures { NamedAs (named drive name.now kind.now) result }
+    {
+        if name.is_empty() {
+            return Err(NameError::Empty);
+        }
+        if name.len() > 8 {
+            return Err(NameError::TooLong);
+        }
+        if kind.len() > 3 {
+            return Err(NameError::TooLong);
+        }
+        if !all_allowed(name) {
+            return Err(NameError::BadByte);
+        }
+        if !all_allowed(kind) {
+            return Err(NameError::BadByte);
+        }
+        Ok(Name {
+            key: key_of(drive, name, kind),
+        })
+    }
+
+    /// The drive, 0 to 3 for A to D, and the eleven bytes of the name.
+    pub fn key(&self) -> Key
+        ensures key { result ≡ self.now }
+        ensures sayable { is_sayable result ≡ true }
+    {
+        self.key
+    }
+
+    /// The name of a key: where its first byte is 0 to 3, and at least one byte of a name and then blanks fill the next eight, and bytes
+    /// of a name and then blanks the last three.
+    pub fn from_key(key: &Key) -> Option<Name>
+        ensures some { IfSome result (λ name. name ≡ key.now) }
+        ensures exactly { IsSome result ↔ (is_sayable key.now ≡ true) }
+    {
+        if is_sayable(key) {
+            return Some(Name { key: *key });
+        }
+        None
+    }
+}
+
+impl fmt::Display for Name {
+    ghost use Rattle.std.specs.Prelude.{Some};
+    ghost use Rattle.filenames.specs.Names.{printed};
+
+    ghost output = { λ name. Some (printed name) };
+
+    fn fmt<W: fmt::Write>(&self, f: &mut fmt::Formatter<W>) -> fmt::Result {
+        let letter = drive_text(self.key[0]);
+        let name = field_text(&self.key[1..9]);
+        let kind = field_text(&self.key[9..12]);
+        if kind.is_empty() {
+            return write!(f, "{letter}{name}");
+        }
+        write!(f, "{letter}{name}.{kind}")
+    }
+}
+
+/// Whether a key is that of a name.
+#[tactic(auto, unfolding(crate::specs::Names::is_sayable))]
+pub fn is_sayable(key: &Key) -> bool
+    ensures { result ≡ is_sayable key.now }
+{
+    if key[0] >= 4 {
+        return false;
+    }
+    if !is_allowed(key[1]) {
+        return false;
+    }
+    if !is_field(&key[1..9]) {
+        return false;
+    }
+    is_field(&key[9..12])
+}
+
+// The letter and `:` of a drive; none of drive A.
+fn drive_text(drive: u8) -> &'static str
+    requires { drive < 4 }
+    ensures { result.now ≡ drive_text drive }
+{
+    match drive {
+        0 => "",
+        1 => "B:",
+        2 => "C:",
+        3 => "D:",
+        _ => unreachable!(),
+    }
+}
+
+// The drive that a letter names.
+fn drive_of(letter: u8) -> Option<u8>
+    ensures value { result ≡ drive_of letter }
+    ensures within { IfSome result (λ drive. drive < 4) }
+{
+    match letter.to_ascii_uppercase() {
+        b'A' => Some(0),
+        b'B' => Some(1),
+        b'C' => Some(2),
+        b'D' => Some(3),
+        _ => None,
+    }
+}
+
+// The key of a name and a type that fit.
+fn key_of(drive: u8, name: &[u8], kind: &[u8]) -> Key
+    requires name { length name.now ≤ 8 }
+    requires kind { length kind.now ≤ 3 }
+    ensures { result ≡ key_of drive name.now kind.now }
+{
+    let mut key = [b' '; 12];
+    key[0] = drive;
+    fill(&mut key[1..9], name);
+    fill(&mut key[9..12], kind);
+    key
+}
+
+/// Carries the law that a key of twelve bytes that can be said is that of its printed text.
+pub fn names_say_their_keys()
+    ensures { SaidAsPrinted }
+{}

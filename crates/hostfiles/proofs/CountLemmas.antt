@@ -1,0 +1,67 @@
+-- The count of an extent.
+use Rattle.std.proofs.Common.{◌≡◌, ◌<◌, ◌≤◌, ◌+◌, ◌*◌, ℕ, zero, suc, true, false, cond, is_some, List, [], ◌∷◌, length, map, take, drop, get_or, nat_lt, Option, None, rules, refl, ap, ◌∙◌, arith, inl, inr}
+use Rattle.std.proofs.lemmas.Bool.{cases_lt}
+use Rattle.std.proofs.lemmas.List.{get_or-take, get_or-drop, get_or_past, get_or-map}
+use Rattle.std.proofs.lemmas.List.FromFn.{get_or-map-range_with_len, length-map-range_with_len}
+use Rattle.std.specs.List.{range_with_len}
+use Rattle.directory.specs.Entries.{Shape, count_of, count_at}
+
+-- no record
+pub count_none : (xs : Shape) → ((k : ℕ) → get_or xs k false ≡ false) → count_of xs ≡ 0
+count_none [] h = refl
+count_none (b ∷ bs) h =
+    ap (λ n. cond (nat_lt 0 n) (n + 1) (cond b 1 0)) (count_none bs (λ k. h (suc k))) ∙ ap (λ c. cond c 1 0) (h 0)
+
+-- a record, and none behind it
+pub count_some : (xs : Shape) (i : ℕ) → get_or xs i false ≡ true → ((k : ℕ) → i < k → get_or xs k false ≡ false) → count_of xs ≡ i + 1
+count_some [] i h none = cc
+count_some (b ∷ bs) zero h none =
+    ap (λ n. cond (nat_lt 0 n) (n + 1) (cond b 1 0)) (count_none bs (λ k. none (suc k) (omega arith))) ∙ ap (λ c. cond c 1 0) h
+count_some (b ∷ bs) (suc i) h none =
+    let rest = count_some bs i h (λ k l. none (suc k) (omega arith)) in
+    let more : nat_lt 0 (i + 1) ≡ true = search rules in
+    let next : i + 1 + 1 ≡ suc i + 1 = omega arith in
+    ap (λ n. cond (nat_lt 0 n) (n + 1) (cond b 1 0)) rest ∙ ap (λ c. cond c (i + 1 + 1) (cond b 1 0)) more ∙ next
+
+short : {X : Type 0} (n : ℕ) (xs : List X) → length (take n xs) ≤ n
+short zero xs = omega arith
+short (suc n) [] = omega arith
+short (suc n) (x ∷ xs) = let h = short n xs in omega arith
+
+mapped : {X Y : Type 0} (f : X → Y) (xs : List X) → length (map f xs) ≡ length xs
+mapped f [] = refl
+mapped f (x ∷ xs) = ap suc (mapped f xs)
+
+-- whether a record stands at a place of an extent
+pub in_extent : (s : Shape) (e i : ℕ) → i < 128 → get_or (take 128 (drop (128 * e) s)) i false ≡ get_or s (128 * e + i) false
+in_extent s e i h = get_or-take 128 (drop (128 * e) s) i false h ∙ get_or-drop (128 * e) s i false
+
+pub past_extent : (s : Shape) (e i : ℕ) → 128 ≤ i → get_or (take 128 (drop (128 * e) s)) i false ≡ false
+past_extent s e i h = get_or_past (take 128 (drop (128 * e) s)) i false (let l = short 128 (drop (128 * e) s) in omega arith)
+
+-- as a search from the extent's end goes
+pub none_behind : (s : Shape) (e i : ℕ) → i < 128 → get_or s (128 * e + i) false ≡ false → ((k : ℕ) → i + 1 ≤ k → get_or (take 128 (drop (128 * e) s)) k false ≡ false)
+    → (k : ℕ) → i ≤ k → get_or (take 128 (drop (128 * e) s)) k false ≡ false
+none_behind s e i h here behind k l = elim (cases_lt i k) [
+  | inl over ↦ behind k (omega arith)
+  | inr under ↦ let same : k ≡ i = omega arith in ap (λ j. get_or (take 128 (drop (128 * e) s)) j false) same ∙ in_extent s e i h ∙ here
+]
+
+pub count_found : (s : Shape) (e i : ℕ) → i < 128 → get_or s (128 * e + i) false ≡ true → ((k : ℕ) → i + 1 ≤ k → get_or (take 128 (drop (128 * e) s)) k false ≡ false) → count_at s e ≡ i + 1
+count_found s e i h here behind = count_some (take 128 (drop (128 * e) s)) i (in_extent s e i h ∙ here) (λ k l. behind k (omega arith))
+
+pub count_empty : (s : Shape) (e : ℕ) → ((k : ℕ) → 0 ≤ k → get_or (take 128 (drop (128 * e) s)) k false ≡ false) → count_at s e ≡ 0
+count_empty s e none = count_none (take 128 (drop (128 * e) s)) (λ k. none k (omega arith))
+
+-- whether a record stands at a place of a file of n places
+pub place_shape : (f : ℕ → Option (List ℕ)) (n p : ℕ) → p < n → get_or (map is_some (map f (range_with_len 0 n))) p false ≡ is_some (f p)
+place_shape f n p h =
+    let count = length-map-range_with_len f 0 n in
+    let at : 0 + p ≡ p = omega arith in
+    get_or-map is_some (map f (range_with_len 0 n)) p None false (omega arith) ∙ ap is_some (get_or-map-range_with_len f 0 n p p None h at)
+
+pub past_shape : (f : ℕ → Option (List ℕ)) (n p : ℕ) → n ≤ p → get_or (map is_some (map f (range_with_len 0 n))) p false ≡ false
+past_shape f n p h =
+    let all = mapped is_some (map f (range_with_len 0 n)) in
+    let count = length-map-range_with_len f 0 n in
+    get_or_past (map is_some (map f (range_with_len 0 n))) p false (omega arith)

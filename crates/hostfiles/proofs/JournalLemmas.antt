@@ -1,0 +1,14 @@
+-- Laws of what a run did to the files.
+use Rattle.std.proofs.Common.{◌≡◌, ◌≢◌, ap, ◌∙◌, unwrap_or}
+use Rattle.std.specs.FinMap.{insert}
+use Rattle.std.specs.Cmp.Lexicographic.{nat_list_cmp_total}
+use Rattle.hostfiles.specs.Hosts.{Key}
+use Rattle.hostfiles.specs.Files.{Own, untouched, nothing, moved, renamed, entry_at}
+use Rattle.hostfiles.specs.declared.journal.Entry.{Entry}
+use Rattle.keymaps.proofs.Views.{insert_over, get_apart, same_key}
+
+-- an entry that a rename overwrites doesn't matter
+pub renamed_over : (m : Own) (old new : Key) (x : Entry) → old ≢ new → renamed (insert m new x) old new ≡ renamed m old new
+renamed_over m old new x apart =
+    insert_over nat_list_cmp_total same_key m new old x nothing (moved old (entry_at (insert m new x) old))
+    ∙ ap (λ e. insert (insert m old nothing) new (moved old (unwrap_or e untouched))) (get_apart nat_list_cmp_total same_key m new x old apart)

@@ -1,0 +1,10 @@
+pub mod HostLemmas
+pub mod JournalLemmas
+pub mod FileLemmas
+pub mod LookLemmas
+pub mod CountLemmas
+pub mod DeleteLemmas
+pub mod NameWalk
+pub mod LaidLemmas
+pub mod EndLemmas
+pub mod FilledLemmas

@@ -1,0 +1,94 @@
+-- No question is forgotten.
+use Rattle.std.proofs.Common.{◌≡◌, ℕ, zero, suc, Bool, List, [], ◌∷◌, true, false, is_some, get_or, slice_set, Option, Some, None, refl, sym, ap, subst, ◌∙◌}
+use Rattle.std.specs.Cmp.Lexicographic.{nat_list_cmp_total}
+use Rattle.std.specs.FinMap.{get, insert}
+use Rattle.keymaps.proofs.Views.{same_key, same_place, places_total, there_still}
+use Rattle.hostfiles.specs.Hosts.{Key}
+use Rattle.hostfiles.specs.Looks.{Extends, is_looked, look_has_by, look_length_by, look_record_by, look_directory}
+use Rattle.hostfiles.specs.declared.journal.Base.{Base}
+use Rattle.hostfiles.specs.declared.journal.Base.TheVariants.{Same, Gone, New, Moved}
+use Rattle.hostfiles.specs.declared.journal.Grown.{Grown}
+use Rattle.hostfiles.specs.declared.looks.Looks.{Looks}
+use Rattle.hostfiles.specs.declared.looks.Ask.{Ask}
+use Rattle.hostfiles.specs.declared.looks.Ask.TheVariants.{Has, Length, Rec, Directory}
+
+pub extends_same : (l m : Looks) → m ≡ l → Extends l m
+extends_same l m e = record { kept = λ q h. ap (λ x. is_looked x q) e ∙ h }
+
+pub extends_trans : (l m n : Looks) → Extends l m → Extends m n → Extends l n
+extends_trans l m n a b = record { kept = λ q h. b.kept q (a.kept q h) }
+
+abbrev pub Keeps : Looks → Looks → Type 0
+Keeps l m = (q : Ask) → is_looked l q ≡ true → is_looked m q ≡ true
+
+with_has : (l : Looks) (key : Key) → Keeps l (record l { has = insert l.has key tt })
+with_has l key (Has k) h = there_still nat_list_cmp_total same_key l.has key tt k h
+with_has l key (Length k) h = h
+with_has l key (Rec k n) h = h
+with_has l key (Directory d) h = h
+
+with_length : (l : Looks) (key : Key) → Keeps l (record l { lengths = insert l.lengths key tt })
+with_length l key (Has k) h = h
+with_length l key (Length k) h = there_still nat_list_cmp_total same_key l.lengths key tt k h
+with_length l key (Rec k n) h = h
+with_length l key (Directory d) h = h
+
+with_record : (l : Looks) (key : Key) (place : ℕ) → Keeps l (record l { records = insert l.records (key, place) tt })
+with_record l key place (Has k) h = h
+with_record l key place (Length k) h = h
+with_record l key place (Rec k n) h = there_still places_total same_place l.records (key, place) tt (k, n) h
+with_record l key place (Directory d) h = h
+
+by_has : (b : Base) (key : Key) (l : Looks) → Keeps l (look_has_by b key l)
+by_has Same key l = with_has l key
+by_has Gone key l = λ q h. h
+by_has New key l = λ q h. h
+by_has (Moved old) key l = λ q h. h
+
+by_length : (b : Base) (g : Option Grown) (key : Key) (l : Looks) → Keeps l (look_length_by b g key l)
+by_length b (Some g) key l = λ q h. h
+by_length Same None key l = with_length l key
+by_length Gone None key l = λ q h. h
+by_length New None key l = λ q h. h
+by_length (Moved old) None key l = with_length l old
+
+by_record : (b : Base) (key : Key) (k : ℕ) (l : Looks) → Keeps l (look_record_by b key k l)
+by_record Same key k l = with_record l key k
+by_record Gone key k l = λ q h. h
+by_record New key k l = λ q h. h
+by_record (Moved old) key k l = with_record l old k
+
+pub extends_by_has : (b : Base) (key : Key) (l m : Looks) → m ≡ look_has_by b key l → Extends l m
+extends_by_has b key l m e = record { kept = subst (Keeps l) (sym e) (by_has b key l) }
+
+pub extends_by_length : (b : Base) (g : Option Grown) (key : Key) (l m : Looks) → m ≡ look_length_by b g key l → Extends l m
+extends_by_length b g key l m e = record { kept = subst (Keeps l) (sym e) (by_length b g key l) }
+
+pub extends_by_record : (b : Base) (key : Key) (k : ℕ) (l m : Looks) → m ≡ look_record_by b key k l → Extends l m
+extends_by_record b key k l m e = record { kept = subst (Keeps l) (sym e) (by_record b key k l) }
+
+pub nothing_looked : (l : Looks) → ((x : Key) → get l.has x ≡ None) → ((x : Key) → get l.lengths x ≡ None) → ((p : Key × ℕ) → get l.records p ≡ None) → ((d : ℕ) → get_or l.directories d false ≡ false)
+    → (q : Ask) → is_looked l q ≡ false
+nothing_looked l a b c d (Has k) = ap is_some (a k)
+nothing_looked l a b c d (Length k) = ap is_some (b k)
+nothing_looked l a b c d (Rec k n) = ap is_some (c (k, n))
+nothing_looked l a b c d (Directory n) = d n
+
+pub same_looks : (l m : Looks) → m.has ≡ l.has → m.lengths ≡ l.lengths → m.records ≡ l.records → m.directories ≡ l.directories → m ≡ l
+same_looks l m a b c d = ap (λ x. record m { has = x }) a ∙ ap (λ x. record m { has = l.has; lengths = x }) b ∙ ap (λ x. record m { has = l.has; lengths = l.lengths; records = x }) c ∙ ap (λ x. record l { directories = x }) d
+
+looked_still : (ds : List Bool) (drive d : ℕ) → get_or ds d false ≡ true → get_or (slice_set ds drive true) d false ≡ true
+looked_still [] drive d h = h
+looked_still (b ∷ bs) zero zero h = refl
+looked_still (b ∷ bs) zero (suc d) h = h
+looked_still (b ∷ bs) (suc n) zero h = h
+looked_still (b ∷ bs) (suc n) (suc d) h = looked_still bs n d h
+
+pub with_directory : (l : Looks) (drive : ℕ) → Keeps l (look_directory drive l)
+with_directory l drive (Has k) h = h
+with_directory l drive (Length k) h = h
+with_directory l drive (Rec k n) h = h
+with_directory l drive (Directory d) h = looked_still l.directories drive d h
+
+pub extends_by_directory : (drive : ℕ) (l m : Looks) → m ≡ look_directory drive l → Extends l m
+extends_by_directory drive l m e = record { kept = subst (Keeps l) (sym e) (with_directory l drive) }

@@ -1,0 +1,24 @@
+use Rattle.std.proofs.Common.{sym, ◌∙◌, ◌≤◌, ◌+◌, ◌-◌, ◌*◌, ◌≡◌, true, false, get_or, arith}
+use Rattle.hostfiles.specs.Files.{entry_at, file_of, shape_of}
+use Rattle.hostfiles.proofs.CountLemmas.{past_extent, none_behind, count_found, count_empty}
+use Rattle.hostfiles.proofs.joined.count.Goals as goal
+
+pub loop-i-init : goal.loop-i-init
+loop-i-init c = (omega arith, past_extent (shape_of (file_of c.args.host.now c.args.key.now (entry_at c.args.journal.now.entries c.args.key.now))) c.args.extent)
+
+pub returns-then-holds-clause-value : goal.returns-then-holds-clause-value
+returns-then-holds-clause-value c =
+    let here : get_or (shape_of (file_of c.args.host.now c.args.key.now (entry_at c.args.journal.now.entries c.args.key.now))) (128 * c.args.extent + (c.loop-i.i - 1)) false ≡ true = sym c.holds.ensures ∙ c.if-holds.true in
+    sym (count_found (shape_of (file_of c.args.host.now c.args.key.now (entry_at c.args.journal.now.entries c.args.key.now))) c.args.extent (c.loop-i.i - 1)
+    (let within = c.loop-i.invariant.0 in omega arith) here (λ k l. let beyond : c.loop-i.i ≤ k = omega arith in c.loop-i.invariant.1 k beyond))
+
+pub loop-i-preserved : goal.loop-i-preserved
+loop-i-preserved c =
+    let here : get_or (shape_of (file_of c.args.host.now c.args.key.now (entry_at c.args.journal.now.entries c.args.key.now))) (128 * c.args.extent + (c.loop-i.i - 1)) false ≡ false = sym c.holds.ensures ∙ c.if-holds.false in (
+      let within = c.loop-i.invariant.0 in omega arith,
+      none_behind (shape_of (file_of c.args.host.now c.args.key.now (entry_at c.args.journal.now.entries c.args.key.now))) c.args.extent (c.loop-i.i - 1)
+          (let within = c.loop-i.invariant.0 in omega arith) here (λ k l. let beyond : c.loop-i.i ≤ k = omega arith in c.loop-i.invariant.1 k beyond),
+    )
+
+pub returns-clause-value : goal.returns-clause-value
+returns-clause-value c = sym (count_empty (shape_of (file_of c.args.host.now c.args.key.now (entry_at c.args.journal.now.entries c.args.key.now))) c.args.extent (λ k l. let beyond : c.loop-i.i ≤ k = omega arith in c.loop-i.invariant.1 k beyond))

@@ -1,0 +1,13 @@
+use Rattle.std.proofs.Common.{◌≤◌, ◌+◌}
+use Rattle.keymaps.specs.Order.{left}
+use Rattle.hostfiles.proofs.DeleteLemmas.{DeletedTo, CountedTo}
+use Rattle.hostfiles.proofs.listed.without_matches.Given as goal
+
+abbrev pub invariant-loop-key : goal.invariant-loop-key
+invariant-loop-key l =
+    (l.count + left l.host l.after + left l.journal.entries l.after ≤ l.most)
+    × DeletedTo l.host l.journal.entries l.pattern l.after l.left.entries
+    × CountedTo l.host l.journal.entries l.pattern l.after l.count
+
+abbrev pub decreases-loop-key : goal.decreases-loop-key
+decreases-loop-key l = left l.host l.after + left l.journal.entries l.after

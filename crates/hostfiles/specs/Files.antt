@@ -1,0 +1,187 @@
+-- The files that a program sees: what a run did to them, laid over the host files.
+use Rattle.std.specs.Prelude.{ℕ, ◌+◌, ◌-◌, Bool, true, false, ◌&&◌, List, [], ◌∷◌, ◌++◌, length, map, Option, Some, None, unwrap_or, slice_get, nat_lt, if◌then◌else◌, option_map, is_some}
+use Rattle.std.specs.Ordering.{nat_cmp}
+use Rattle.std.specs.List.{range_with_len}
+use Rattle.std.specs.Cmp.Lexicographic.{slice_cmp}
+use Rattle.std.specs.FinMap.{FinMap, get, insert, empty, contains_key, keys}
+use Rattle.directory.specs.Entries.{Shape, Shapes, count_at}
+use Rattle.filenames.specs.Names.{is_sayable}
+use Rattle.records.specs.Extents.{Kept, zeros, zeros_at}
+use Rattle.hostfiles.specs.Hosts.{Key, Record, Host}
+use Rattle.hostfiles.specs.declared.journal.Base.{Base}
+use Rattle.hostfiles.specs.declared.journal.Base.TheVariants.{Same, Gone, New, Moved}
+use Rattle.hostfiles.specs.declared.journal.Grown.{Grown}
+use Rattle.hostfiles.specs.declared.journal.Entry.{Entry}
+
+-- a file's places, in order; no record stands in a hole
+abbrev pub File : Type 0
+File = List (Option Record)
+
+-- what a run did to the files, by their keys; nothing to a file without an entry
+abbrev pub Own : Type 0
+Own = FinMap (slice_cmp nat_cmp) Entry
+
+-- ---- one file
+
+-- the host key on which the file stands
+abbrev pub stands_on : Key → Base → Option Key
+stands_on key Same = Some key
+stands_on key Gone = None
+stands_on key New = None
+stands_on key (Moved old) = Some old
+
+abbrev pub records_of : Host → Option Key → List Record
+records_of host None = []
+records_of host (Some key) = unwrap_or (get host key) []
+
+-- the host's records under the file
+abbrev pub under : Host → Key → Entry → List Record
+under host key e = records_of host (stands_on key e.base)
+
+abbrev pub is_there : Host → Key → Base → Bool
+is_there host key Same = contains_key host key
+is_there host key Gone = false
+is_there host key New = true
+is_there host key (Moved old) = true
+
+abbrev pub length_by : ℕ → Option Grown → ℕ
+length_by n None = n
+length_by n (Some g) = g.to
+
+-- the host's places count, up to where a write past the end began
+abbrev pub is_below : ℕ → Option Grown → Bool
+is_below k None = true
+is_below k (Some g) = nat_lt k g.from
+
+-- of the host's records, the record that was written at the place, and whether the host's place counts; a place that a write past the
+-- end left between is a hole
+abbrev pub place_by : List Record → ℕ → Option Record → Bool → Option Record
+place_by host k (Some r) b = Some r
+place_by host k None true = slice_get host k
+place_by host k None false = None
+
+abbrev pub limit_by : ℕ → Option Grown → ℕ
+limit_by n None = n
+limit_by n (Some g) = g.from
+
+abbrev pub length_of : Host → Key → Entry → ℕ
+length_of host key e = length_by (length (under host key e)) e.grown
+
+abbrev pub place_of : Host → Key → Entry → ℕ → Option Record
+place_of host key e k = place_by (under host key e) k (get e.records k) (is_below k e.grown)
+
+abbrev pub file_of : Host → Key → Entry → File
+file_of host key e = map (place_of host key e) (range_with_len 0 (length_of host key e))
+
+-- ---- what a run did
+
+-- nothing was done to the file of a key
+abbrev pub untouched : Entry
+untouched = record { base = Same; grown = None; records = empty }
+
+abbrev pub entry_at : Own → Key → Entry
+entry_at own key = unwrap_or (get own key) untouched
+
+-- a file that was made
+abbrev pub fresh : Entry
+fresh = record { base = New; grown = Some (record { from = 0; to = 0 }); records = empty }
+
+-- a file that is gone
+abbrev pub nothing : Entry
+nothing = record { base = Gone; grown = None; records = empty }
+
+abbrev pub moved_base : Key → Base → Base
+moved_base key Same = Moved key
+moved_base key Gone = Gone
+moved_base key New = New
+moved_base key (Moved old) = Moved old
+
+-- the file as it stands under another key
+abbrev pub moved : Key → Entry → Entry
+moved key e = record { base = moved_base key e.base; grown = e.grown; records = e.records }
+
+-- the length after a write at k of a file of n places, and from where no record is the host's
+abbrev pub grown_by : ℕ → ℕ → Option Grown → Option Grown
+grown_by n k g = if nat_lt k n then g else Some (record { from = limit_by n g; to = k + 1 })
+
+abbrev pub wrote_entry : ℕ → ℕ → Record → Entry → Entry
+wrote_entry n k r e = record { base = e.base; grown = grown_by n k e.grown; records = insert e.records k r }
+
+-- zeros from the end of a file of n places up to k, where there is a gap
+abbrev pub filled_gap : ℕ → ℕ → Kept → Kept
+filled_gap n k m = if nat_lt n k then zeros_at m n (k - n) else m
+
+abbrev pub wrote_filled_entry : ℕ → ℕ → Record → Entry → Entry
+wrote_filled_entry n k r e = record { base = e.base; grown = grown_by n k e.grown; records = insert (filled_gap n k e.records) k r }
+
+abbrev pub made : Own → Key → Own
+made own key = insert own key fresh
+
+abbrev pub deleted : Own → Key → Own
+deleted own key = insert own key nothing
+
+abbrev pub renamed : Own → Key → Key → Own
+renamed own old new = insert (insert own old nothing) new (moved old (entry_at own old))
+
+-- a record written at k of a file of n places
+abbrev pub wrote : ℕ → Own → Key → ℕ → Record → Own
+wrote n own key k r = insert own key (wrote_entry n k r (entry_at own key))
+
+abbrev pub wrote_filled : ℕ → Own → Key → ℕ → Record → Own
+wrote_filled n own key k r = insert own key (wrote_filled_entry n k r (entry_at own key))
+
+-- ---- the files that both give
+
+abbrev pub has : Host → Own → Key → Bool
+has host own key = is_there host key (entry_at own key).base
+
+abbrev pub length_at : Host → Own → Key → ℕ
+length_at host own key = length_of host key (entry_at own key)
+
+abbrev pub place_at : Host → Own → Key → ℕ → Option Record
+place_at host own key k = if nat_lt k (length_at host own key) then place_of host key (entry_at own key) k else None
+
+abbrev pub file_at : Host → Own → Key → Option File
+file_at host own key = if has host own key then Some (file_of host key (entry_at own key)) else None
+
+abbrev pub records : Host → Own → Key → Option ℕ
+records host own key = if has host own key then Some (length_at host own key) else None
+
+-- the record at a place, if the file is there, has that many, and has no hole there
+abbrev pub place : Host → Own → Key → ℕ → Option Record
+place host own key k = if has host own key then place_at host own key k else None
+
+-- the same as it is told: a hole as zeros
+abbrev pub told_record : Host → Own → Key → ℕ → Option Record
+told_record host own key k =
+    if has host own key
+    then (if nat_lt k (length_at host own key) then Some (unwrap_or (place_of host key (entry_at own key) k) zeros) else None)
+    else None
+
+-- whether there is a file of the key, and it is that of a name
+abbrev pub is_listed : Host → Own → Key → Bool
+is_listed host own key = has host own key && is_sayable key
+
+-- what f has at the keys of a list
+abbrev pub among : {X : Type 0} → (Key → Option X) → List Key → FinMap (slice_cmp nat_cmp) X
+among f [] = empty
+among f (key ∷ ks) = unwrap_or (option_map (insert (among f ks) key) (f key)) (among f ks)
+
+-- all files
+unfoldable pub files : Host → Own → FinMap (slice_cmp nat_cmp) File
+files host own = among (file_at host own) (keys host ++ keys own)
+
+-- for each place of a file whether a record stands there
+abbrev pub shape_of : File → Shape
+shape_of f = map is_some f
+
+abbrev pub shape_at : Host → Own → Key → Option Shape
+shape_at host own key = option_map shape_of (file_at host own key)
+
+-- the shapes of all files
+unfoldable pub shapes : Host → Own → Shapes
+shapes host own = among (shape_at host own) (keys host ++ keys own)
+
+-- of the file of a key, the greatest place of an extent that holds a record, plus one
+abbrev pub extent_count : Host → Own → Key → ℕ → Option ℕ
+extent_count host own key e = option_map (λ s. count_at s e) (shape_at host own key)

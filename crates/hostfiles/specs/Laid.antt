@@ -1,0 +1,42 @@
+-- How the map of all files changes by what a run does.
+use Rattle.std.specs.Prelude.{◌≡◌, ℕ, ◌+◌, ◌-◌, ◌≤◌, [], ◌++◌, length, replicate, slice_set, get_or, Some, None}
+use Rattle.std.specs.Option.{option_map, option_and_then}
+use Rattle.std.specs.FinMap.{insert, remove, empty, get}
+use Rattle.records.specs.Extents.{zeros}
+use Rattle.hostfiles.specs.Hosts.{Key, Record, Host}
+use Rattle.hostfiles.specs.Files.{File, Own, entry_at, place_of, length_at, file_at, records, place, files, made, deleted, renamed, wrote, wrote_filled}
+
+-- a record written into a file: a file that is too short is made longer by holes
+abbrev pub written : ℕ → Record → File → File
+written k r f = slice_set (f ++ replicate (k + 1 - length f) None) k (Some r)
+
+-- the same, made longer by zeros
+abbrev pub written_filled : ℕ → Record → File → File
+written_filled k r f = slice_set (f ++ replicate (k + 1 - length f) (Some zeros)) k (Some r)
+
+-- no record stands at or past the end of the file of a key
+abbrev pub Ends : Host → Own → Key → Type 0
+Ends host own key = (p : ℕ) → length_at host own key ≤ p → place_of host key (entry_at own key) p ≡ None
+
+-- what a run did, laid over the host files, is the map of all files: each thing that it does changes the map at the keys that it names
+pub record FilesAreLaid (host : Host) (own : Own) : Type 0 where
+  pub at : (key : Key) → get (files host own) key ≡ file_at host own key
+  pub counted : (key : Key) → records host own key ≡ option_map length (get (files host own) key)
+  pub read : (key : Key) (k : ℕ) → place host own key k ≡ option_and_then (λ f. get_or f k None) (get (files host own) key)
+  pub made_one : (key : Key) → files host (made own key) ≡ insert (files host own) key []
+  pub deleted_one : (key : Key) → files host (deleted own key) ≡ remove (files host own) key
+  pub written_one : (key : Key) (k : ℕ) (r : Record) (f : File) → Ends host own key → get (files host own) key ≡ Some f
+      → files host (wrote (length_at host own key) own key k r) ≡ insert (files host own) key (written k r f)
+  pub filled_one : (key : Key) (k : ℕ) (r : Record) (f : File) → get (files host own) key ≡ Some f
+      → files host (wrote_filled (length_at host own key) own key k r) ≡ insert (files host own) key (written_filled k r f)
+  pub renamed_one : (old new : Key) (f : File) → get (files host own) old ≡ Some f
+      → files host (renamed own old new) ≡ insert (remove (files host own) old) new f
+
+-- no record stands at or past the end of any file: so it is with nothing done, and so it stays by each thing that a run does
+pub record FilesEnd (host : Host) : Type 0 where
+  pub start : (q : Key) → Ends host empty q
+  pub made_one : (own : Own) → ((q : Key) → Ends host own q) → (key q : Key) → Ends host (made own key) q
+  pub deleted_one : (own : Own) → ((q : Key) → Ends host own q) → (key q : Key) → Ends host (deleted own key) q
+  pub written_one : (own : Own) → ((q : Key) → Ends host own q) → (key : Key) (k : ℕ) (r : Record) (q : Key) → Ends host (wrote (length_at host own key) own key k r) q
+  pub filled_one : (own : Own) → ((q : Key) → Ends host own q) → (key : Key) (k : ℕ) (r : Record) (q : Key) → Ends host (wrote_filled (length_at host own key) own key k r) q
+  pub renamed_one : (own : Own) → ((q : Key) → Ends host own q) → (old new q : Key) → Ends host (renamed own old new) q

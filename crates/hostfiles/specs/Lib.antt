@@ -1,0 +1,5 @@
+pub mod Hosts
+pub mod FilesError
+pub mod Files
+pub mod Looks
+pub mod Laid

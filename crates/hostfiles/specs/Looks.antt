@@ -1,0 +1,85 @@
+-- The questions that a run asks of the host files, and those that what it did answers.
+use Rattle.std.specs.Prelude.{◌≡◌, ℕ, Bool, true, false, Option, Some, None, is_some, nat_lt, if◌then◌else◌, replicate, slice_set, get_or}
+use Rattle.std.specs.FinMap.{get, insert, remove, empty, contains_key}
+use Rattle.hostfiles.specs.Hosts.{Key, Host}
+use Rattle.hostfiles.specs.Files.{Own, entry_at, has, length_at, is_below}
+use Rattle.hostfiles.specs.declared.journal.Base.{Base}
+use Rattle.hostfiles.specs.declared.journal.Base.TheVariants.{Same, Gone, New, Moved}
+use Rattle.hostfiles.specs.declared.journal.Grown.{Grown}
+use Rattle.hostfiles.specs.declared.looks.Looks.{Looks}
+use Rattle.hostfiles.specs.declared.looks.Ask.{Ask}
+use Rattle.hostfiles.specs.declared.looks.Ask.TheVariants.{Has, Length, Rec, Directory}
+
+abbrev pub no_looks : Looks
+no_looks = record { has = empty; lengths = empty; records = empty; directories = replicate 256 false }
+
+-- whether a question was asked
+abbrev pub is_looked : Looks → Ask → Bool
+is_looked l (Has key) = contains_key l.has key
+is_looked l (Length key) = contains_key l.lengths key
+is_looked l (Rec key k) = contains_key l.records (key, k)
+is_looked l (Directory drive) = get_or l.directories drive false
+
+-- without a question
+abbrev pub forgot : Ask → Looks → Looks
+forgot (Has key) l = record l { has = remove l.has key }
+forgot (Length key) l = record l { lengths = remove l.lengths key }
+forgot (Rec key k) l = record l { records = remove l.records (key, k) }
+forgot (Directory drive) l = record l { directories = slice_set l.directories drive false }
+
+-- ---- one question of a program, by what was done to the file; a file that was made, deleted or renamed answers whether it is there
+
+abbrev pub look_has_by : Base → Key → Looks → Looks
+look_has_by Same key l = record l { has = insert l.has key tt }
+look_has_by Gone key l = l
+look_has_by New key l = l
+look_has_by (Moved old) key l = l
+
+-- a file that was made, or made longer, answers its length
+abbrev pub look_length_by : Base → Option Grown → Key → Looks → Looks
+look_length_by base (Some g) key l = l
+look_length_by Same None key l = record l { lengths = insert l.lengths key tt }
+look_length_by Gone None key l = l
+look_length_by New None key l = l
+look_length_by (Moved old) None key l = record l { lengths = insert l.lengths old tt }
+
+abbrev pub look_record_by : Base → Key → ℕ → Looks → Looks
+look_record_by Same key k l = record l { records = insert l.records (key, k) tt }
+look_record_by Gone key k l = l
+look_record_by New key k l = l
+look_record_by (Moved old) key k l = record l { records = insert l.records (old, k) tt }
+
+-- ---- the questions of a program
+
+-- whether there is a file
+abbrev pub look_has : Own → Key → Looks → Looks
+look_has own key l = look_has_by (entry_at own key).base key l
+
+abbrev pub look_length : Own → Key → Looks → Looks
+look_length own key l = look_length_by (entry_at own key).base (entry_at own key).grown key l
+
+-- whether there is a file, and how long it is
+abbrev pub look_records : Host → Own → Key → Looks → Looks
+look_records host own key l = if has host own key then look_length own key (look_has own key l) else look_has own key l
+
+-- the record at a place below the length: a place that was written, or that a write past the end left, answers itself
+abbrev pub look_content : Own → Key → ℕ → Looks → Looks
+look_content own key k l =
+    if is_some (get (entry_at own key).records k) then l
+    else if is_below k (entry_at own key).grown then look_record_by (entry_at own key).base key k l
+    else l
+
+-- whether there is a file, how long it is, and its record at a place
+abbrev pub look_read : Host → Own → Key → ℕ → Looks → Looks
+look_read host own key k l =
+    if has host own key
+    then (if nat_lt k (length_at host own key) then look_content own key k (look_records host own key l) else look_records host own key l)
+    else look_records host own key l
+
+-- the files of a drive, always
+abbrev pub look_directory : ℕ → Looks → Looks
+look_directory drive l = record l { directories = slice_set l.directories drive true }
+
+-- no question of the first is forgotten in the second
+pub record Extends (l m : Looks) : Type 0 where
+  pub kept : (q : Ask) → is_looked l q ≡ true → is_looked m q ≡ true

@@ -1,0 +1,320 @@
+// The host files of a session.
+
+ghost use Rattle.std.specs.Prelude.{◌≡◌, ◌<◌, ◌≤◌, ◌*◌, ℕ, List, true, false, length, IfOk, OnOk, OnErr, IfSome, IfNone, None, slice_get, option_copied};
+ghost use Rattle.std.specs.Option.{option_map, option_and_then};
+ghost use Rattle.std.specs.declared.cmp.Ordering.TheVariants.{Less};
+ghost use Rattle.std.specs.FinMap as finmap;
+ghost use Rattle.std.specs.Ordering.{nat_cmp};
+ghost use Rattle.std.specs.Cmp.Lexicographic.{slice_cmp};
+ghost use Rattle.keymaps.specs.Order.{is_above};
+ghost use Rattle.hostfiles.specs.Files.{records, told_record, is_listed};
+ghost use Rattle.hostfiles.specs.Hosts.{records_in, record_in, filled_up, refusal_of, has_room, IsHost};
+
+use crate::changes::Changes;
+use crate::joined;
+use crate::listed::next_name;
+use filenames::{Key, Name};
+use keymaps::KeyMap;
+use records::Record;
+use std::alloc::{AllocError, Global};
+use std::marker::Model;
+use thiserror::Error;
+
+/// The most bytes of a file: 65,536 records.
+pub const FILE_LIMIT: usize = 8_388_608;
+
+/// The most host files, over all drives.
+pub const COUNT_LIMIT: usize = 512;
+
+/// The records of a host file, in order.
+#[derive(Drop)]
+pub struct HostFile {
+    records: Vec<Record>,
+}
+
+impl Model for HostFile {
+    ghost use Rattle.std.specs.Prelude.{List, ℕ, length, ◌≤◌};
+    ghost use Rattle.std.specs.Coded.{coded_ℕ, coded_list};
+
+    ghost Value = { List (List ℕ) };
+
+    ghost coded = { coded_list (coded_list coded_ℕ) };
+
+    ghost view = { λ a. a.records.items };
+
+    ghost invariant = { λ a. length a.records.items ≤ 65536 };
+}
+
+impl HostFile {
+    /// The records of these bytes, the last filled up with 1AH. No bytes give no record.
+    fn new(alloc: Global, bytes: &[u8]) -> Result<HostFile, AllocError>
+        requires { length bytes.now ≤ 8388608 }
+        ensures { IfOk result (λ file. file ≡ records_in bytes.now) }
+    {
+        let count = (bytes.len() + 127) / 128;
+        let mut records = Vec::with_capacity(alloc, count)?;
+        for i in 0..count {
+            records.push(record_at(bytes, i))?;
+        }
+        Ok(HostFile { records })
+    }
+
+    /// The record at a place, if the file has that many.
+    pub fn get(&self, place: u32) -> Option<&Record>
+        ensures { option_copied result ≡ slice_get self.now place }
+    {
+        self.records.get(place as usize)
+    }
+
+    /// How many records there are, at most 65,536.
+    pub fn len(&self) -> u32
+        ensures { result ≡ length self.now }
+    {
+        self.records.len() as u32
+    }
+}
+
+// A record of bytes, filled up with 1AH.
+fn record_at(bytes: &[u8], i: usize) -> Record
+    requires { 128 * i < length bytes.now }
+    ensures { result ≡ record_in bytes.now i }
+{
+    let start = 128 * i;
+    if bytes.len() - start > 128 {
+        return filled_up(&bytes[start..start + 128]);
+    }
+    filled_up(&bytes[start..])
+}
+
+// Up to 128 bytes, filled up with 1AH.
+fn filled_up(piece: &[u8]) -> Record
+    requires { length piece.now ≤ 128 }
+    ensures { result ≡ filled_up piece.now }
+{
+    let mut record = [0x1a; 128];
+    record[..piece.len()].copy_from_slice(piece);
+    record
+}
+
+/// Host files by their names, at most 512 on all drives.
+#[derive(Drop)]
+pub struct HostFiles {
+    files: KeyMap<HostFile>,
+    alloc: Global,
+}
+
+impl Model for HostFiles {
+    ghost use Rattle.std.specs.Prelude.{List, ℕ, ◌≡◌, ◌≤◌, true};
+    ghost use Rattle.std.specs.Ordering.{nat_cmp};
+    ghost use Rattle.std.specs.Cmp.Lexicographic.{slice_cmp};
+    ghost use Rattle.std.specs.FinMap as finmap;
+    ghost use Rattle.std.specs.Coded.{coded_ℕ, coded_list};
+    ghost use Rattle.hostfiles.specs.Files.{records, told_record, is_listed};
+    ghost use Rattle.hostfiles.specs.Hosts.{IsHost};
+
+    ghost Value = { finmap.FinMap (slice_cmp nat_cmp) (List (List ℕ)) };
+
+    ghost coded = { finmap.code (coded_list coded_ℕ) (coded_list (coded_list coded_ℕ)) };
+
+    ghost view = { λ a. a.files };
+
+    ghost invariant = { λ a. IsHost a.files };
+}
+
+/// Why a host file is not set.
+#[derive(Clone, Copy, Debug, PartialEq, Eq, Error)]
+pub enum FilesError {
+    /// The file has more than 8,388,608 bytes.
+    #[error("the file is too long")]
+    FileTooLong,
+    /// There are 512 files, and this would be one more.
+    #[error("there are too many files")]
+    TooManyFiles,
+    /// A growth was refused.
+    #[error("out of memory")]
+    OutOfMemory,
+}
+
+impl FilesError {
+    ghost use Rattle.hostfiles.specs.FilesError.{number_of};
+
+    /// The refusal's number: 1, 2 or 3.
+    pub fn number(self) -> u8
+        ensures { result ≡ number_of self }
+    {
+        match self {
+            FilesError::FileTooLong => 1,
+            FilesError::TooManyFiles => 2,
+            FilesError::OutOfMemory => 3,
+        }
+    }
+}
+
+impl HostFiles {
+    ghost use Rattle.hostfiles.specs.FilesError.{RefusedAs};
+
+    /// No file. Takes no memory.
+    pub fn new(alloc: Global) -> HostFiles
+        ensures { result ≡ finmap.empty }
+    {
+        HostFiles {
+            files: KeyMap::new(alloc),
+            alloc,
+        }
+    }
+
+    /// Sets or exchanges a file: its bytes, filled up with 1AH to whole records. A refusal changes nothing.
+    pub fn set(&mut self, name: Name, bytes: &[u8]) -> Result<(), FilesError>
+        ensures ok { OnOk result (self.new ≡ finmap.insert self.old name (records_in bytes.now)) }
+        ensures err { OnErr result (self.new ≡ self.old) }
+        ensures refusal { RefusedAs (refusal_of self.old name bytes.now) result }
+    {
+        let key = name.key();
+        if bytes.len() > FILE_LIMIT {
+            return Err(FilesError::FileTooLong);
+        }
+        if !self.has_room(&key) {
+            return Err(FilesError::TooManyFiles);
+        }
+        match self.put(&name, bytes) {
+            Ok(()) => Ok(()),
+            Err(AllocError) => Err(FilesError::OutOfMemory),
+        }
+    }
+
+    // Whether a file of the key may be set.
+    fn has_room(&self, key: &Key) -> bool
+        ensures { result ≡ has_room self.now key.now }
+    {
+        if self.files.contains_key(key) {
+            return true;
+        }
+        self.files.len() < COUNT_LIMIT
+    }
+
+    // Sets a file for which there is room.
+    fn put(&mut self, name: &Name, bytes: &[u8]) -> Result<(), AllocError>
+        requires few { length bytes.now ≤ 8388608 }
+        requires room { has_room self.old name.now ≡ true }
+        ensures ok { OnOk result (self.new ≡ finmap.insert self.old name.now (records_in bytes.now)) }
+        ensures err { OnErr result (self.new ≡ self.old) }
+    {
+        let file = HostFile::new(self.alloc, bytes)?;
+        self.files.insert(name.key(), file)
+    }
+
+    /// How many files there are.
+    pub fn len(&self) -> usize
+        ensures len { result ≡ finmap.len self.now }
+        ensures limits { IsHost self.now }
+    {
+        self.files.len()
+    }
+
+    /// Takes a file out, and says whether it was there. Takes no memory.
+    pub fn remove(&mut self, name: &Name) -> bool
+        ensures there { result ≡ finmap.contains_key self.old name.now }
+        ensures removed { self.new ≡ finmap.remove self.old name.now }
+    {
+        self.files.remove(&name.key()).is_some()
+    }
+
+    /// How many records a file has, if it is there.
+    pub fn records(&self, name: &Name) -> Option<u32>
+        ensures { result ≡ option_map length (finmap.get self.now name.now) }
+    {
+        match self.files.get(&name.key()) {
+            Some(file) => Some(file.len()),
+            None => None,
+        }
+    }
+
+    /// A record of a file; none where the file is not there or has fewer.
+    pub fn record(&self, name: &Name, place: u32) -> Option<Record>
+        ensures { result ≡ option_and_then (λ file. slice_get file place) (finmap.get self.now name.now) }
+    {
+        match self.files.get(&name.key()) {
+            Some(file) => file.get(place).copied(),
+            None => None,
+        }
+    }
+
+    /// The least name by key, after the one given if there is one.
+    pub fn next(&self, after: Option<&Name>) -> Option<Name>
+        ensures above { IfSome result (λ k. is_above (option_copied after.entry) k ≡ true) }
+        ensures there { IfSome result (λ k. finmap.contains_key self.now k ≡ true) }
+        ensures least { IfSome result (λ k. (x : List ℕ) → is_above (option_copied after.entry) x ≡ true → slice_cmp nat_cmp x k ≡ Less → finmap.get self.now x ≡ None) }
+        ensures none { IfNone result ((x : List ℕ) → is_above (option_copied after.entry) x ≡ true → finmap.get self.now x ≡ None) }
+    {
+        let low = match after {
+            Some(name) => Some(name.key()),
+            None => None,
+        };
+        let Some(key) = self.files.next_key(low) else {
+            return None;
+        };
+        match Name::from_key(&key) {
+            Some(name) => Some(name),
+            None => unreachable!(),
+        }
+    }
+
+    /// How many records a file has after these changes, if it is there. No look is marked.
+    pub fn records_with(&self, changes: &Changes, name: &Name) -> Option<u32>
+        ensures { result ≡ records self.now changes.now.journal.entries name.now }
+    {
+        joined::records(self, &changes.journal, &name.key())
+    }
+
+    /// A record of a file after these changes, zeros in a hole; none where the file is not there or has fewer. No look is marked.
+    pub fn record_with(&self, changes: &Changes, name: &Name, place: u32) -> Option<Record>
+        ensures { result ≡ told_record self.now changes.now.journal.entries name.now place }
+    {
+        let key = name.key();
+        if !joined::has(self, &changes.journal, &key) {
+            return None;
+        }
+        if place >= joined::length(self, &changes.journal, &key) {
+            return None;
+        }
+        match joined::content(self, &changes.journal, &key, place) {
+            Some(content) => Some(content),
+            None => Some([0; 128]),
+        }
+    }
+
+    /// The least name of a file after these changes, by key, after the one given if there is one. No look is marked.
+    pub fn next_with(&self, changes: &Changes, after: Option<&Name>) -> Option<Name>
+        ensures above { IfSome result (λ k. is_above (option_copied after.entry) k ≡ true) }
+        ensures there { IfSome result (λ k. is_listed self.now changes.now.journal.entries k ≡ true) }
+        ensures least { IfSome result (λ k. (x : List ℕ) → is_above (option_copied after.entry) x ≡ true → slice_cmp nat_cmp x k ≡ Less → is_listed self.now changes.now.journal.entries x ≡ false) }
+        ensures none { IfNone result ((x : List ℕ) → is_above (option_copied after.entry) x ≡ true → is_listed self.now changes.now.journal.entries x ≡ false) }
+    {
+        let low = match after {
+            Some(name) => Some(name.key()),
+            None => None,
+        };
+        next_name(self, &changes.journal, low)
+    }
+
+    /// The file of a key.
+    pub fn file(&self, key: &Key) -> Option<&HostFile>
+        ensures { option_copied result ≡ finmap.get self.now key.now }
+    {
+        self.files.get(key)
+    }
+
+    /// Whether there is a file of the key.
+    pub fn has(&self, key: &Key) -> bool
+        ensures { result ≡ finmap.contains_key self.now key.now }
+    {
+        self.files.contains_key(key)
+    }
+
+    /// All files by their keys.
+    pub fn files(&self) -> &KeyMap<HostFile>
+        ensures { result.now ≡ self.now }
+    {
+        &self.files
+    }
+}

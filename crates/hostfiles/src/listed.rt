@@ -1,0 +1,127 @@
+// The directory of host files with what was done to them.
+
+ghost use Rattle.std.specs.Prelude.{◌≡◌, ◌&&◌, ℕ, List, true, false, Some, IfOk, IfSome, IfNone, if◌then◌else◌, filter, length};
+ghost use Rattle.std.specs.declared.cmp.Ordering.TheVariants.{Less};
+ghost use Rattle.std.specs.FinMap as finmap;
+ghost use Rattle.std.specs.Ordering.{nat_cmp};
+ghost use Rattle.std.specs.Cmp.Lexicographic.{slice_cmp};
+ghost use Rattle.keymaps.specs.Order.{is_above};
+ghost use Rattle.directory.specs.Entries.{count_by, is_match};
+ghost use Rattle.hostfiles.specs.Files.{has, is_listed, nothing, shape_at, shapes};
+
+use crate::host::HostFiles;
+use crate::joined;
+use crate::journal::Journal;
+use directory::{Files, is_match};
+use filenames::{Key, Name, is_sayable};
+use keymaps::next_of_both;
+use std::alloc::AllocError;
+
+/// Host files with what was done to them, as a search of the directory sees them.
+#[derive(Clone, Copy)]
+pub struct Listed<'a> {
+    /// The host files.
+    pub host: &'a HostFiles,
+    /// What was done to them.
+    pub journal: &'a Journal,
+}
+
+impl Files for Listed<'_> {
+    ghost use Rattle.std.specs.Prelude.{◌+◌};
+    ghost use Rattle.keymaps.specs.Order.{left};
+    ghost use Rattle.hostfiles.specs.Files.{shapes};
+
+    ghost files = { λ l. shapes l.host.now l.journal.now.entries };
+
+    ghost left = { λ l a. left l.host.now a + left l.journal.now.entries a };
+
+    fn next_key(&self, after: Option<Key>) -> Option<Key> {
+        next_of_both(self.host.files(), &self.journal.entries, after)
+    }
+
+    fn count(&self, key: &Key, extent: u32) -> Option<u8> {
+        entry_count(self.host, self.journal, key, extent)
+    }
+}
+
+// The count of an extent's entry, if it has one.
+fn entry_count(host: &HostFiles, journal: &Journal, key: &Key, extent: u32) -> Option<u8>
+    ensures { result ≡ count_by (shape_at host.now journal.now.entries key.now) extent }
+{
+    if !joined::has(host, journal, key) {
+        return None;
+    }
+    if joined::length(host, journal, key) == 0 {
+        return if extent == 0 { Some(0) } else { None };
+    }
+    let count = joined::count(host, journal, key, extent);
+    if count == 0 {
+        return None;
+    }
+    Some(count)
+}
+
+/// The least name of a file by key, after the key given if there is one. A file whose key is that of no name is passed over.
+pub fn next_name(host: &HostFiles, journal: &Journal, after: Option<Key>) -> Option<Name>
+    ensures above { IfSome result (λ k. is_above after k ≡ true) }
+    ensures there { IfSome result (λ k. is_listed host.now journal.now.entries k ≡ true) }
+    ensures least { IfSome result (λ k. (x : List ℕ) → is_above after x ≡ true → slice_cmp nat_cmp x k ≡ Less → is_listed host.now journal.now.entries x ≡ false) }
+    ensures none { IfNone result ((x : List ℕ) → is_above after x ≡ true → is_listed host.now journal.now.entries x ≡ false) }
+{
+    let mut low = after;
+    while let Some(key) = next_of_both(host.files(), &journal.entries, low) {
+        if let Some(name) = name_of(host, journal, &key) {
+            return Some(name);
+        }
+        low = Some(key);
+    }
+    None
+}
+
+// The name of a key, where there is a file of it.
+fn name_of(host: &HostFiles, journal: &Journal, key: &Key) -> Option<Name>
+    ensures some { IfSome result (λ name. (name ≡ key.now) × (is_listed host.now journal.now.entries key.now ≡ true)) }
+    ensures none { IfNone result (is_listed host.now journal.now.entries key.now ≡ false) }
+{
+    if !joined::has(host, journal, key) {
+        return None;
+    }
+    if !is_sayable(key) {
+        return None;
+    }
+    Name::from_key(key)
+}
+
+/// What was done to the files, and beside it each file whose key matches a pattern deleted; and how many these are.
+pub fn without_matches(
+    host: &HostFiles,
+    journal: &Journal,
+    pattern: &Key,
+) -> Result<(Journal, u64), AllocError>
+    ensures done { IfOk result (λ r. (q : List ℕ) → finmap.get r.0.entries q ≡ (if is_match pattern.now q && has host.now journal.now.entries q then Some nothing else finmap.get journal.now.entries q)) }
+    ensures count { IfOk result (λ r. r.1 ≡ length (filter (λ e. is_match pattern.now e.0) (finmap.entries (shapes host.now journal.now.entries)))) }
+{
+    // This bounds the count, which is at most the count of all keys.
+    let most = host.files().len() + journal.entries.len();
+    let mut left = journal.snapshot()?;
+    let mut count: u64 = 0;
+    let mut after = None;
+    while let Some(key) = next_of_both(host.files(), &journal.entries, after) {
+        if is_deleted(host, journal, pattern, &key) {
+            left.delete(&key)?;
+            count += 1;
+        }
+        after = Some(key);
+    }
+    Ok((left, count))
+}
+
+// Whether there is a file of the key, and it matches a pattern.
+fn is_deleted(host: &HostFiles, journal: &Journal, pattern: &Key, key: &Key) -> bool
+    ensures { result ≡ (is_match pattern.now key.now && has host.now journal.now.entries key.now) }
+{
+    if !is_match(pattern, key) {
+        return false;
+    }
+    joined::has(host, journal, key)
+}

@@ -1,0 +1,165 @@
+// The questions that a run asked of the host files.
+
+ghost use Rattle.std.specs.Prelude.{◌≡◌, ℕ, true, false, OnOk, OnErr, IfOk, IfSome, IfNone, get_or, length, slice_set};
+ghost use Rattle.hostfiles.specs.Looks.{is_looked, look_has_by, look_length_by, look_record_by, look_directory, no_looks, forgot};
+
+use crate::journal::{Base, Grown};
+use filenames::Key;
+use keymaps::{KeyMap, PlaceSet};
+use std::alloc::{AllocError, Global};
+
+/// A question that a run asks of the host files.
+#[derive(Clone, Copy)]
+pub enum Ask {
+    /// Whether there is a file of the key.
+    Has(Key),
+    /// How many records the file of the key has.
+    Length(Key),
+    /// What a record of the file of the key holds.
+    Rec(Key, u32),
+    /// Which files there are on a drive, and how many records each has.
+    Directory(u8),
+}
+
+/// The questions that a run asked of the host files, each once.
+#[derive(Drop)]
+pub struct Looks {
+    /// The keys whose presence was asked.
+    pub has: KeyMap<()>,
+    /// The keys whose lengths were asked.
+    pub lengths: KeyMap<()>,
+    /// The records that were asked.
+    pub records: PlaceSet,
+    /// For each drive whether its directory was asked.
+    pub directories: [bool; 256],
+}
+
+impl Looks {
+    /// No question. Takes no memory.
+    pub fn new(alloc: Global) -> Self
+        ensures { result ≡ no_looks }
+    {
+        Self {
+            has: KeyMap::new(alloc),
+            lengths: KeyMap::new(alloc),
+            records: PlaceSet::new(alloc),
+            directories: [false; 256],
+        }
+    }
+
+    /// Whether a question was asked.
+    pub fn looked(&self, ask: &Ask) -> bool
+        ensures { result ≡ is_looked self.now ask.now }
+    {
+        match *ask {
+            Ask::Has(key) => self.has.contains_key(&key),
+            Ask::Length(key) => self.lengths.contains_key(&key),
+            Ask::Rec(key, k) => self.records.contains(&key, k),
+            Ask::Directory(drive) => self.directories[drive as usize],
+        }
+    }
+
+    /// Whether there is a file of the key: a question where the file stands on its own host file. An `Err` changes nothing.
+    pub fn mark_has(&mut self, base: Base, key: &Key) -> Result<(), AllocError>
+        ensures ok { OnOk result (self.new ≡ look_has_by base key.now self.old) }
+        ensures err { OnErr result (self.new ≡ self.old) }
+    {
+        match base {
+            Base::Same => self.has.insert(*key, ()),
+            Base::Gone => Ok(()),
+            Base::New => Ok(()),
+            Base::Moved(_) => Ok(()),
+        }
+    }
+
+    /// The length of a file: a question where it stands on a host file and was not made longer. An `Err` changes nothing.
+    pub fn mark_length(
+        &mut self,
+        base: Base,
+        grown: Option<Grown>,
+        key: &Key,
+    ) -> Result<(), AllocError>
+        ensures ok { OnOk result (self.new ≡ look_length_by base grown key.now self.old) }
+        ensures err { OnErr result (self.new ≡ self.old) }
+    {
+        if let Some(_) = grown {
+            return Ok(());
+        }
+        match base {
+            Base::Same => self.lengths.insert(*key, ()),
+            Base::Moved(old) => self.lengths.insert(old, ()),
+            Base::Gone => Ok(()),
+            Base::New => Ok(()),
+        }
+    }
+
+    /// A record of a file: a question where the file stands on a host file. An `Err` changes nothing.
+    pub fn mark_record(&mut self, base: Base, key: &Key, k: u32) -> Result<(), AllocError>
+        ensures ok { OnOk result (self.new ≡ look_record_by base key.now k self.old) }
+        ensures err { OnErr result (self.new ≡ self.old) }
+    {
+        match base {
+            Base::Same => self.records.insert(*key, k),
+            Base::Moved(old) => self.records.insert(old, k),
+            Base::Gone => Ok(()),
+            Base::New => Ok(()),
+        }
+    }
+
+    /// The directory of a drive. Takes no memory.
+    pub fn mark_directory(&mut self, drive: u8)
+        ensures { self.new ≡ look_directory drive self.old }
+    {
+        self.directories[drive as usize] = true;
+    }
+
+    /// The same questions.
+    pub fn snapshot(&self) -> Result<Looks, AllocError>
+        ensures { IfOk result (λ l. l ≡ self.now) }
+    {
+        Ok(Looks {
+            has: self.has.snapshot()?,
+            lengths: self.lengths.snapshot()?,
+            records: self.records.snapshot()?,
+            directories: self.directories,
+        })
+    }
+
+    /// Gives one of the questions and forgets it; none where there is none. Takes no memory.
+    pub fn take(&mut self) -> Option<Ask>
+        ensures there { IfSome result (λ q. is_looked self.old q ≡ true) }
+        ensures some { IfSome result (λ q. self.new ≡ forgot q self.old) }
+        ensures none { IfNone result ((self.new ≡ self.old) × ((q : Ask) → is_looked self.old q ≡ false)) }
+    {
+        if let Some(key) = self.has.pop() {
+            return Some(Ask::Has(key));
+        }
+        if let Some(key) = self.lengths.pop() {
+            return Some(Ask::Length(key));
+        }
+        if let Some(place) = self.records.pop() {
+            let key = place.0;
+            return Some(Ask::Rec(key, place.1));
+        }
+        if let Some(drive) = take_drive(&mut self.directories) {
+            return Some(Ask::Directory(drive));
+        }
+        None
+    }
+}
+
+// Gives a drive whose directory was asked and forgets it.
+fn take_drive(directories: &mut [bool]) -> Option<u8>
+    requires { length directories.old ≡ 256 }
+    ensures there { IfSome result (λ drive. get_or directories.old drive false ≡ true) }
+    ensures some { IfSome result (λ drive. directories.new ≡ slice_set directories.old drive false) }
+    ensures none { IfNone result ((directories.new ≡ directories.old) × ((drive : ℕ) → get_or directories.old drive false ≡ false)) }
+{
+    for drive in 0..256 {
+        if directories[drive] {
+            directories[drive] = false;
+            return Some(drive as u8);
+        }
+    }
+    None
+}

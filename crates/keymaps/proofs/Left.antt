@@ -1,0 +1,113 @@
+-- How many keys lie above one.
+use Rattle.std.proofs.Common.{◌≡◌, ◌+◌, ◌<◌, ◌≤◌, arith, Bool, true, false, cond, is_some, List, [], ◌∷◌, ◌++◌, Some, None, Option, refl, sym, ap, subst, ◌∙◌, length}
+use Rattle.std.specs.declared.cmp.Ordering.{Ordering}
+use Rattle.std.specs.declared.cmp.Ordering.TheVariants.{Less, Equal, Greater}
+use Rattle.std.specs.Ordering.{is_lt, nat_cmp, ordering_reverse}
+use Rattle.std.specs.Option.{IfSome}
+use Rattle.std.specs.Prelude.{IfNone}
+use Rattle.std.specs.Cmp.Lexicographic.{slice_cmp, nat_list_cmp_total}
+use Rattle.std.specs.List.{filter}
+use Rattle.std.specs.FinMap.{FinMap, find, get, len, len-entries, entries, entries_sorted, get-entries}
+use Rattle.keymaps.specs.Order.{Key}
+use Rattle.keymaps.specs.Order.{is_above, left, lesser}
+use Rattle.keymaps.proofs.Rising.{here, begins}
+use Rattle.keymaps.proofs.Views.{same_key}
+
+pub is_less : (r : Ordering) → is_lt r ≡ true → r ≡ Less
+is_less Less h = refl
+is_less Equal h = cc
+is_less Greater h = cc
+
+-- what lies above a key that lies above a bound lies above the bound
+pub rises : (after : Option Key) (x y : Key) → is_above after x ≡ true → slice_cmp nat_cmp x y ≡ Less → is_above after y ≡ true
+rises None x y h l = refl
+rises (Some k) x y h l = ap is_lt (nat_list_cmp_total.trans k x y (is_less (slice_cmp nat_cmp k x) h) l)
+
+one : {K X : Type 0} (k : K) (v : Option X) → is_some v ≡ true → (es : List (K × X)) → length es < length (here k v ++ es)
+one k None h es = cc
+one k (Some v) h es = omega arith
+
+-- past the least key above a bound there are fewer
+pub fewer : {X : Type 0} (m : FinMap (slice_cmp nat_cmp) X) (after : Option Key) (k : Key) → is_above after k ≡ true → is_some (get m k) ≡ true
+    → ((x : Key) → is_above after x ≡ true → slice_cmp nat_cmp x k ≡ Less → get m x ≡ None) → left m (Some k) < left m after
+unfolding left
+fewer m after k pk there none =
+    let split = begins nat_list_cmp_total same_key (is_above after) (rises after) k pk (entries m) (entries_sorted m) (λ x px l. sym (get-entries m x) ∙ none x px l) in
+    rw split (one k (find (slice_cmp nat_cmp) k (entries m)) (ap is_some (sym (get-entries m k)) ∙ there) (filter (λ e. is_lt (slice_cmp nat_cmp k e.0)) (entries m)))
+
+filter_fewer : {X : Type 0} (p q : X → Bool) → ((x : X) → p x ≡ true → q x ≡ true) → (xs : List X) → length (filter p xs) ≤ length (filter q xs)
+filter_fewer p q h [] = omega arith
+filter_fewer p q h (x ∷ xs) =
+    let rest = filter_fewer p q h xs in
+    elim (p x) as (λ b. p x ≡ b → length (cond b (x ∷ filter p xs) (filter p xs)) ≤ length (cond (q x) (x ∷ filter q xs) (filter q xs))) [
+      | true ↦ λ e. rw (h x e) (omega (arith, rest))
+      | false ↦ λ e. elim (q x) as (λ b. length (filter p xs) ≤ length (cond b (x ∷ filter q xs) (filter q xs))) [ true ↦ omega (arith, rest) | false ↦ rest ]
+    ] refl
+
+-- there are no more past any key above it
+pub no_more : {X : Type 0} (m : FinMap (slice_cmp nat_cmp) X) (after : Option Key) (k : Key) → is_above after k ≡ true → left m (Some k) ≤ left m after
+unfolding left
+no_more m after k pk = filter_fewer (λ e. is_above (Some k) e.0) (λ e. is_above after e.0) (λ e h. rises after k e.0 pk (is_less (slice_cmp nat_cmp k e.0) h)) (entries m)
+
+-- ---- of two maps
+
+pub lesser_first : (a b : Option Key) (x y : Key) → a ≡ Some x → b ≡ Some y → is_lt (slice_cmp nat_cmp x y) ≡ true → Some x ≡ lesser a b
+lesser_first a b x y p q l = sym (ap (λ a. lesser a b) p ∙ ap (lesser (Some x)) q ∙ ap (λ t. cond t (Some x) (Some y)) l)
+
+pub lesser_second : (a b : Option Key) (x y : Key) → a ≡ Some x → b ≡ Some y → is_lt (slice_cmp nat_cmp x y) ≡ false → Some y ≡ lesser a b
+lesser_second a b x y p q l = sym (ap (λ a. lesser a b) p ∙ ap (lesser (Some x)) q ∙ ap (λ t. cond t (Some x) (Some y)) l)
+
+-- what is below y is below x, where x is not below y
+below_other : (q x y : Key) → is_lt (slice_cmp nat_cmp x y) ≡ false → slice_cmp nat_cmp q y ≡ Less → slice_cmp nat_cmp q x ≡ Less
+below_other q x y h l = elim (slice_cmp nat_cmp x y) as (λ r. slice_cmp nat_cmp x y ≡ r → is_lt r ≡ false → slice_cmp nat_cmp q x ≡ Less) [
+  | Less ↦ λ r e. cc
+  | Equal ↦ λ r e. subst (λ z. slice_cmp nat_cmp q z ≡ Less) (sym (same_key x y r)) l
+  | Greater ↦ λ r e. nat_list_cmp_total.trans q y x l (nat_list_cmp_total.antisymm y x ∙ ap ordering_reverse r)
+] refl h
+
+abbrev Least : {X : Type 0} → FinMap (slice_cmp nat_cmp) X → Option Key → Key → Type 0
+Least m after k = (x : Key) → is_above after x ≡ true → slice_cmp nat_cmp x k ≡ Less → get m x ≡ None
+
+abbrev Nothing : {X : Type 0} → FinMap (slice_cmp nat_cmp) X → Option Key → Type 0
+Nothing m after = (x : Key) → is_above after x ≡ true → get m x ≡ None
+
+pub both_least : {X Y : Type 0} (m : FinMap (slice_cmp nat_cmp) X) (n : FinMap (slice_cmp nat_cmp) Y) (after a b : Option Key)
+    → IfSome a (Least m after) → IfNone a (Nothing m after) → IfSome b (Least n after) → IfNone b (Nothing n after)
+    → IfSome (lesser a b) (λ k. (x : Key) → is_above after x ≡ true → slice_cmp nat_cmp x k ≡ Less → (get m x ≡ None) × (get n x ≡ None))
+both_least m n after None None am an bm bn = tt
+both_least m n after None (Some y) am an bm bn = λ x px l. (an x px, bm x px l)
+both_least m n after (Some x) None am an bm bn = λ z pz l. (am z pz l, bn z pz)
+both_least m n after (Some x) (Some y) am an bm bn =
+    elim (is_lt (slice_cmp nat_cmp x y)) as (λ b. is_lt (slice_cmp nat_cmp x y) ≡ b → IfSome (cond b (Some x) (Some y)) (λ k. (z : Key) → is_above after z ≡ true → slice_cmp nat_cmp z k ≡ Less → (get m z ≡ None) × (get n z ≡ None))) [
+      | true ↦ λ e z pz l. (am z pz l, bm z pz (nat_list_cmp_total.trans z x y l (is_less (slice_cmp nat_cmp x y) e)))
+      | false ↦ λ e z pz l. (am z pz (below_other z x y e l), bm z pz l)
+    ] refl
+
+pub both_fewer : {X Y : Type 0} (m : FinMap (slice_cmp nat_cmp) X) (n : FinMap (slice_cmp nat_cmp) Y) (after a b : Option Key)
+    → IfSome a (λ k. is_above after k ≡ true) → IfSome b (λ k. is_above after k ≡ true) → IfSome a (λ k. left m (Some k) < left m after) → IfSome b (λ k. left n (Some k) < left n after)
+    → IfSome (lesser a b) (λ k. left m (Some k) + left n (Some k) < left m after + left n after)
+both_fewer m n after None None pa pb fa fb = tt
+both_fewer m n after None (Some y) pa pb fa fb = let h = no_more m after y pb in omega (arith, h, fb)
+both_fewer m n after (Some x) None pa pb fa fb = let h = no_more n after x pa in omega (arith, h, fa)
+both_fewer m n after (Some x) (Some y) pa pb fa fb =
+    let h = no_more m after y pb in
+    let k = no_more n after x pa in
+    elim (is_lt (slice_cmp nat_cmp x y)) as (λ b. IfSome (cond b (Some x) (Some y)) (λ k. left m (Some k) + left n (Some k) < left m after + left n after)) [ true ↦ omega (arith, k, fa) | false ↦ omega (arith, h, fb) ]
+
+pub fewer_first : {X : Type 0} (m : FinMap (slice_cmp nat_cmp) X) (r : Option Key) → IfSome r (λ k. is_some (get m k) ≡ true) → IfSome r (λ k. (x : Key) → slice_cmp nat_cmp x k ≡ Less → get m x ≡ None) → IfSome r (λ k. left m (Some k) < left m None)
+fewer_first m None there none = tt
+fewer_first m (Some k) there none = fewer m None k refl there (λ x px l. none x l)
+
+pub fewer_above : {X : Type 0} (m : FinMap (slice_cmp nat_cmp) X) (low : Key) (r : Option Key) → IfSome r (λ k. slice_cmp nat_cmp low k ≡ Less) → IfSome r (λ k. is_some (get m k) ≡ true)
+    → IfSome r (λ k. (x : Key) → slice_cmp nat_cmp low x ≡ Less → slice_cmp nat_cmp x k ≡ Less → get m x ≡ None) → IfSome r (λ k. left m (Some k) < left m (Some low))
+fewer_above m low None p there none = tt
+fewer_above m low (Some k) p there none = fewer m (Some low) k (ap is_lt p) there (λ x px l. none x (is_less (slice_cmp nat_cmp low x) px) l)
+
+all_pass : {X : Type 0} (es : List (Key × X)) → filter (λ e. true) es ≡ es
+all_pass [] = refl
+all_pass (e ∷ es) = ap (λ fs. e ∷ fs) (all_pass es)
+
+-- above no bound lie all keys
+pub left_all : {X : Type 0} (m : FinMap (slice_cmp nat_cmp) X) → left m None ≡ len m
+unfolding left
+left_all m = ap length (all_pass (entries m)) ∙ sym (len-entries m)

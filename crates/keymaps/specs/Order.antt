@@ -1,0 +1,29 @@
+-- The order of keys, and of places of files.
+use Rattle.std.specs.Prelude.{ℕ, Bool, true, List, Option, Some, None, if◌then◌else◌, length}
+use Rattle.std.specs.declared.cmp.Ordering.{Ordering}
+use Rattle.std.specs.Ordering.{nat_cmp, is_lt, ordering_then}
+use Rattle.std.specs.List.{filter}
+use Rattle.std.specs.Cmp.Lexicographic.{slice_cmp}
+use Rattle.std.specs.FinMap.{FinMap, entries}
+
+-- the drive first, then the eleven bytes of the name
+abbrev pub Key : Type 0
+Key = List ℕ
+
+-- by the key, then by the place
+abbrev pub place_cmp : Key × ℕ → Key × ℕ → Ordering
+place_cmp a b = ordering_then (slice_cmp nat_cmp a.0 b.0) (nat_cmp a.1 b.1)
+
+-- above a key, if there is one
+abbrev pub is_above : Option Key → Key → Bool
+is_above None q = true
+is_above (Some k) q = is_lt (slice_cmp nat_cmp k q)
+
+-- how many keys of a map lie above one
+unfoldable pub left : {X : Type 0} → FinMap (slice_cmp nat_cmp) X → Option Key → ℕ
+left m after = length (filter (λ e. is_above after e.0) (entries m))
+
+abbrev pub lesser : Option Key → Option Key → Option Key
+lesser None b = b
+lesser (Some x) None = Some x
+lesser (Some x) (Some y) = if is_lt (slice_cmp nat_cmp x y) then Some x else Some y

@@ -1,0 +1,202 @@
+// A map from keys.
+
+ghost use Rattle.std.specs.Prelude.{◌≡◌, ◌<◌, ◌+◌, ℕ, List, true, IfOk, OnOk, OnErr, IfSome, IfNone, IsSome, None, option_copied};
+ghost use Rattle.std.specs.declared.cmp.Ordering.TheVariants.{Less};
+ghost use Rattle.std.specs.FinMap as finmap;
+ghost use Rattle.std.specs.Ordering.{nat_cmp};
+ghost use Rattle.std.specs.Cmp.Lexicographic.{slice_cmp};
+ghost use Rattle.keymaps.specs.Order.{is_above, left, lesser};
+
+use std::alloc::{AllocError, Global};
+use std::cmp::Ordering;
+use std::collections::BTreeMap;
+use std::marker::Model;
+use std::mem::replace;
+use std::ops::Bound;
+
+/// A drive, 0 to 3, and the eleven bytes of a name and its type.
+pub type Key = [u8; 12];
+
+/// A map from keys, in the order of their bytes.
+#[derive(Drop)]
+pub struct KeyMap<V> {
+    map: BTreeMap<Key, V>,
+}
+
+impl<V> Model for KeyMap<V> {
+    ghost use Rattle.std.specs.Ordering.{nat_cmp};
+    ghost use Rattle.std.specs.Cmp.Lexicographic.{slice_cmp};
+    ghost use Rattle.std.specs.FinMap as finmap;
+    ghost use Rattle.std.specs.Coded.{coded_ℕ, coded_list};
+
+    ghost Value = { finmap.FinMap (slice_cmp nat_cmp) V };
+
+    ghost coded = { finmap.code (coded_list coded_ℕ) V.code };
+
+    ghost view = { λ a. finmap.from_entries a.map.entries };
+}
+
+impl<V: Clone> KeyMap<V> {
+    /// The same map, where a clone of a value equals it.
+    pub fn snapshot(&self) -> Result<KeyMap<V>, AllocError>
+        ensures { ((x y : V) → V.is_clone x y → y ≡ x) → IfOk result (λ m. m ≡ self.now) }
+    {
+        Ok(KeyMap {
+            map: self.map.clone()?,
+        })
+    }
+}
+
+impl<V: Drop> KeyMap<V> {
+    /// No key. Takes no memory.
+    pub fn new(alloc: Global) -> Self
+        ensures { result ≡ finmap.empty }
+    {
+        Self {
+            map: BTreeMap::new(alloc),
+        }
+    }
+
+    /// How many keys there are.
+    pub fn len(&self) -> usize
+        ensures len { result ≡ finmap.len self.now }
+        ensures small { result < 9223372036854775808 }
+    {
+        self.map.len()
+    }
+
+    /// The value at a key.
+    pub fn get(&self, key: &Key) -> Option<&V>
+        ensures { option_copied result ≡ finmap.get self.now key.now }
+    {
+        self.map.get(key)
+    }
+
+    /// Whether a key is there.
+    pub fn contains_key(&self, key: &Key) -> bool
+        ensures { result ≡ finmap.contains_key self.now key.now }
+    {
+        self.map.contains_key(key)
+    }
+
+    /// The value at the key, in place of the one before. An `Err` changes nothing.
+    pub fn insert(&mut self, key: Key, value: V) -> Result<(), AllocError>
+        ensures ok { OnOk result (self.new ≡ finmap.insert self.old key value) }
+        ensures err { OnErr result (self.new ≡ self.old) }
+    {
+        self.map.insert(key, value)?;
+        Ok(())
+    }
+
+    /// Takes a key out, and gives the value that was there.
+    pub fn remove(&mut self, key: &Key) -> Option<V>
+        ensures value { result ≡ finmap.get self.old key.now }
+        ensures removed { self.new ≡ finmap.remove self.old key.now }
+    {
+        self.map.remove(key)
+    }
+
+    /// Another value at a key that is there. Takes no memory.
+    pub fn put(&mut self, key: &Key, value: V)
+        requires { finmap.contains_key self.old key.now ≡ true }
+        ensures { self.new ≡ finmap.insert self.old key.now value }
+    {
+        self.replace(key, value);
+    }
+
+    /// Another value at a key that is there, and the one before. Takes no memory.
+    pub fn replace(&mut self, key: &Key, value: V) -> Option<V>
+        ensures value { result ≡ finmap.get self.old key.now }
+        ensures some { IsSome result → self.new ≡ finmap.insert self.old key.now value }
+        ensures none { IfNone result (self.new ≡ self.old) }
+    {
+        let Some(place) = self.map.get_mut(key) else {
+            return None;
+        };
+        Some(replace(place, value))
+    }
+
+    /// Takes one of the keys out, where there is one. Takes no memory.
+    pub fn pop(&mut self) -> Option<Key>
+        ensures there { IfSome result (λ key. finmap.contains_key self.old key ≡ true) }
+        ensures some { IfSome result (λ key. self.new ≡ finmap.remove self.old key) }
+        ensures none { IfNone result ((self.new ≡ self.old) × ((x : List ℕ) → finmap.get self.old x ≡ None)) }
+    {
+        let Some(key) = self.first() else {
+            return None;
+        };
+        self.remove(&key);
+        Some(key)
+    }
+
+    // The least key.
+    fn first(&self) -> Option<Key>
+        ensures there { IfSome result (λ k. finmap.contains_key self.now k ≡ true) }
+        ensures least { IfSome result (λ k. (x : List ℕ) → slice_cmp nat_cmp x k ≡ Less → finmap.get self.now x ≡ None) }
+        ensures none { IfNone result ((x : List ℕ) → finmap.get self.now x ≡ None) }
+    {
+        let mut all = self.map.range(..);
+        match all.next() {
+            Some((key, _)) => Some(*key),
+            None => None,
+        }
+    }
+
+    // The least key above one.
+    fn above(&self, low: Key) -> Option<Key>
+        ensures above { IfSome result (λ k. slice_cmp nat_cmp low k ≡ Less) }
+        ensures there { IfSome result (λ k. finmap.contains_key self.now k ≡ true) }
+        ensures least { IfSome result (λ k. (x : List ℕ) → slice_cmp nat_cmp low x ≡ Less → slice_cmp nat_cmp x k ≡ Less → finmap.get self.now x ≡ None) }
+        ensures none { IfNone result ((x : List ℕ) → slice_cmp nat_cmp low x ≡ Less → finmap.get self.now x ≡ None) }
+    {
+        let mut rest = self.map.range((Bound::Excluded(low), Bound::Unbounded));
+        match rest.next() {
+            Some((key, _)) => Some(*key),
+            None => None,
+        }
+    }
+
+    /// The least key, above the one given if there is one.
+    pub fn next_key(&self, after: Option<Key>) -> Option<Key>
+        ensures above { IfSome result (λ k. is_above after k ≡ true) }
+        ensures there { IfSome result (λ k. finmap.contains_key self.now k ≡ true) }
+        ensures least { IfSome result (λ k. (x : List ℕ) → is_above after x ≡ true → slice_cmp nat_cmp x k ≡ Less → finmap.get self.now x ≡ None) }
+        ensures fewer { IfSome result (λ k. left self.now (Some k) < left self.now after) }
+        ensures none { IfNone result ((x : List ℕ) → is_above after x ≡ true → finmap.get self.now x ≡ None) }
+    {
+        match after {
+            None => self.first(),
+            Some(low) => self.above(low),
+        }
+    }
+}
+
+// Of two keys the lesser, where there are two.
+fn lesser(a: Option<Key>, b: Option<Key>) -> Option<Key>
+    ensures { result ≡ lesser a b }
+{
+    let Some(x) = a else {
+        return b;
+    };
+    let Some(y) = b else {
+        return a;
+    };
+    match x.cmp(&y) {
+        Ordering::Less => a,
+        _ => b,
+    }
+}
+
+/// The least key in either of two maps, above the one given if there is one.
+pub fn next_of_both<V: Drop, W: Drop>(
+    first: &KeyMap<V>,
+    second: &KeyMap<W>,
+    after: Option<Key>,
+) -> Option<Key>
+    ensures above { IfSome result (λ k. is_above after k ≡ true) }
+    ensures least { IfSome result (λ k. (x : List ℕ) → is_above after x ≡ true → slice_cmp nat_cmp x k ≡ Less → (finmap.get first.now x ≡ None) × (finmap.get second.now x ≡ None)) }
+    ensures fewer { IfSome result (λ k. left first.now (Some k) + left second.now (Some k) < left first.now after + left second.now after) }
+    ensures none { IfNone result ((x : List ℕ) → is_above after x ≡ true → (finmap.get first.now x ≡ None) × (finmap.get second.now x ≡ None)) }
+{
+    lesser(first.next_key(after), second.next_key(after))
+}

@@ -1,0 +1,62 @@
+-- What extents hold, as a finite map and as a function of the place.
+use Rattle.std.proofs.Common.{inl, inr, ◌≡◌, ℕ, zero, suc, ◌<◌, ◌≤◌, ◌≢◌, Option, Some, None, refl, sym, ◌∙◌, ap, arith, cond, eqb}
+use Rattle.std.proofs.lemmas.Bool.Decides.{eqb_tells, leb_tells}
+use Rattle.std.proofs.lemmas.Cmp.{nat_cmp_total}
+use Rattle.std.specs.Cmp.{unsigned_tied}
+use Rattle.std.specs.Ordering.{nat_cmp}
+use Rattle.std.specs.FinMap as finmap
+use Rattle.records.specs.Extents.{Kept, Record, kept, kept_below, with_entry, place_count, place_count-is}
+
+pub get_insert : (m : Kept) (a : ℕ) (r : Record) (q : ℕ) → finmap.get (finmap.insert m a r) q ≡ cond (eqb q a) (Some r) (finmap.get m q)
+get_insert m a r q = finmap.get-insert nat_cmp_total m a r q ∙ ap (λ b. cond b (Some r) (finmap.get m q)) (unsigned_tied q a)
+
+entry_same : (m : Kept) (a : ℕ) (o : Option Record) → finmap.get m a ≡ None → finmap.get (with_entry m a o) a ≡ o
+entry_same m a None h = h
+entry_same m a (Some v) h = elim (eqb_tells a a) [ inl same ↦ get_insert m a v a ∙ rw same.0 refl | inr other ↦ absurd (other.1 refl) ]
+
+entry_other : (m : Kept) (a : ℕ) (o : Option Record) (q : ℕ) → q ≢ a → finmap.get (with_entry m a o) q ≡ finmap.get m q
+entry_other m a None q h = refl
+entry_other m a (Some v) q h = elim (eqb_tells q a) [ inl same ↦ absurd (h same.1) | inr other ↦ get_insert m a v q ∙ rw other.0 refl ]
+
+past : (n : ℕ) (own : ℕ → Option Record) (q : ℕ) → n ≤ q → finmap.get (kept_below n own) q ≡ None
+past zero own q h = finmap.get-empty nat_cmp q
+past (suc n) own q h = entry_other _ n (own n) q (λ e. let f : q ≡ n = e in omega arith) ∙ past n own q (omega arith)
+
+within : (n : ℕ) (own : ℕ → Option Record) (q : ℕ) → q < n → finmap.get (kept_below n own) q ≡ own q
+within zero own q h = absurd (omega arith)
+within (suc n) own q h = elim (eqb_tells q n) [
+  | inl same ↦ rw same.1 (entry_same (kept_below n own) n (own n) (past n own n (omega arith)))
+  | inr other ↦ entry_other _ n (own n) q other.1 ∙ within n own q (let far : q ≢ n = other.1 in omega arith)
+]
+
+-- the record at a place of the file is found, and past its last place there is none
+pub get_kept : (own : ℕ → Option Record) (q : ℕ) → q < 65536 → finmap.get (kept own) q ≡ own q
+unfolding kept
+get_kept own q h = within place_count own q (rw place_count-is h)
+
+pub get_past : (own : ℕ → Option Record) (q : ℕ) → 65536 ≤ q → finmap.get (kept own) q ≡ None
+unfolding kept
+get_past own q h = past place_count own q (rw place_count-is h)
+
+pub kept_is : (own : ℕ → Option Record) (m : Kept) → ((q : ℕ) → q < 65536 → finmap.get m q ≡ own q) → ((q : ℕ) → 65536 ≤ q → finmap.get m q ≡ None) → kept own ≡ m
+kept_is own m below above = finmap.same_map nat_cmp_total finmap.nat_cmp-IsAntisymmetric _ _ (λ q. elim (leb_tells 65536 q) [
+  | inl over ↦ get_past own q over.1 ∙ sym (above q over.1)
+  | inr under ↦ get_kept own q under.1 ∙ sym (below q under.1)
+])
+
+-- nothing written
+pub kept_none : (own : ℕ → Option Record) → ((q : ℕ) → own q ≡ None) → kept own ≡ finmap.empty
+kept_none own h = kept_is own finmap.empty (λ q _. finmap.get-empty nat_cmp q ∙ sym (h q)) (λ q _. finmap.get-empty nat_cmp q)
+
+-- the same records
+pub kept_same : (own own' : ℕ → Option Record) → ((q : ℕ) → own' q ≡ own q) → kept own' ≡ kept own
+kept_same own own' h = kept_is own' (kept own) (λ q b. get_kept own q b ∙ sym (h q)) (get_past own)
+
+-- one record more
+pub kept_put : (own own' : ℕ → Option Record) (a : ℕ) (r : Record) → a < 65536 → ((q : ℕ) → own' q ≡ cond (eqb q a) (Some r) (own q)) → kept own' ≡ finmap.insert (kept own) a r
+kept_put own own' a r h e = kept_is own' _ (λ q b. get_insert (kept own) a r q ∙ ap (λ o. cond (eqb q a) (Some r) o) (get_kept own q b) ∙ sym (e q)) above where
+  above : (q : ℕ) → 65536 ≤ q → finmap.get (finmap.insert (kept own) a r) q ≡ None
+  above q b = elim (eqb_tells q a) [
+    | inl same ↦ absurd (let f : q ≡ a = same.1 in omega arith)
+    | inr other ↦ get_insert (kept own) a r q ∙ rw other.0 (get_past own q b)
+  ]

@@ -1,0 +1,15 @@
+-- Zeros at one place more.
+use Rattle.std.proofs.Common.{◌≡◌, ◌≤◌, ◌+◌, ◌-◌, ℕ, suc, sym, ap, ◌∙◌, refl, arith}
+use Rattle.std.specs.FinMap as finmap
+use Rattle.records.specs.Extents.{Kept, zeros, zeros_at}
+
+pub zeros_none : (m : Kept) (from : ℕ) → m ≡ zeros_at m from (from - from)
+unfolding zeros_at
+zeros_none m from = let none : from - from ≡ 0 = omega arith in rw none refl
+
+pub zeros_more : (m : Kept) (from place : ℕ) → from ≤ place → finmap.insert (zeros_at m from (place - from)) place zeros ≡ zeros_at m from (place + 1 - from)
+unfolding zeros_at
+zeros_more m from place above =
+    let count : place + 1 - from ≡ suc (place - from) = omega arith in
+    let there : from + (place - from) ≡ place = omega arith in
+    ap (λ p. finmap.insert (zeros_at m from (place - from)) p zeros) (sym there) ∙ ap (zeros_at m from) (sym count)

@@ -1,0 +1,51 @@
+-- What extents hold, by place, and as data. A file has at most 65,536 records, and an extent is 128 of them: the CP/M 2.2 Interface Guide.
+use Rattle.std.specs.Prelude.{◌≡◌, refl, ℕ, zero, suc, ◌+◌, ◌/◌, ◌%◌, List, Option, Some, None, get_or, replicate}
+use Rattle.std.specs.FinMap as finmap
+use Rattle.std.specs.Map.{lookup}
+use Rattle.std.specs.BTreeMap.{is_at}
+use Rattle.std.specs.Ordering.{nat_cmp}
+
+abbrev pub Record : Type 0
+Record = List ℕ
+
+-- records by their places
+abbrev pub Kept : Type 0
+Kept = finmap.FinMap nat_cmp Record
+
+abbrev pub zeros : Record
+zeros = replicate 128 0
+
+-- these records with zeros at n places from one on
+unfoldable pub zeros_at : Kept → ℕ → ℕ → Kept
+zeros_at m from zero = m
+zeros_at m from (suc n) = finmap.insert (zeros_at m from n) (from + n) zeros
+
+-- the record at a place of an extent
+abbrev pub place_in : Option (List (Option Record)) → ℕ → Option Record
+place_in None i = None
+place_in (Some places) i = get_or places i None
+
+-- the record at each place, by extents of 128
+unfoldable pub own_of : List (ℕ × List (Option Record)) → ℕ → Option Record
+own_of extents place = place_in (lookup (is_at (nat_cmp (place / 128))) extents) (place % 128)
+
+-- how many places a file may have; a word of its own, so that nothing counts up to it
+pub place_count : ℕ
+place_count = 65536
+
+pub place_count-is : place_count ≡ 65536
+unfolding place_count
+place_count-is = refl
+
+abbrev pub with_entry : Kept → ℕ → Option Record → Kept
+with_entry m a None = m
+with_entry m a (Some r) = finmap.insert m a r
+
+-- the records below n
+abbrev pub kept_below : ℕ → (ℕ → Option Record) → Kept
+kept_below zero own = finmap.empty
+kept_below (suc n) own = with_entry (kept_below n own) n (own n)
+
+-- the records of a file
+unfoldable pub kept : (ℕ → Option Record) → Kept
+kept own = kept_below place_count own

@@ -1,0 +1,107 @@
+// What a run wrote into a file.
+
+ghost use Rattle.std.specs.Prelude.{◌≡◌, ◌<◌, ◌≤◌, ◌+◌, ◌-◌, OnOk, OnErr, IfOk, option_copied};
+ghost use Rattle.std.specs.FinMap as finmap;
+ghost use Rattle.records.specs.Extents.{zeros_at};
+
+use crate::extent::Extent;
+use std::alloc::{AllocError, Global};
+use std::collections::BTreeMap;
+use std::marker::Model;
+
+/// A record: 128 bytes of a file (CP/M 2.2 Interface Guide).
+pub type Record = [u8; 128];
+
+/// The records that were written into a file of up to 65,536 places, by their places.
+#[derive(Drop)]
+pub struct Records {
+    extents: BTreeMap<u32, Extent>,
+    alloc: Global,
+}
+
+impl Model for Records {
+    ghost use Rattle.std.specs.Prelude.{List, ℕ};
+    ghost use Rattle.std.specs.Ordering.{nat_cmp};
+    ghost use Rattle.std.specs.FinMap as finmap;
+    ghost use Rattle.std.specs.Coded.{coded_ℕ, coded_list};
+    ghost use Rattle.records.specs.Extents.{kept, own_of};
+
+    ghost Value = { finmap.FinMap nat_cmp (List ℕ) };
+
+    ghost coded = { finmap.code coded_ℕ (coded_list coded_ℕ) };
+
+    ghost view = { λ a. kept (own_of a.extents.entries) };
+}
+
+impl Records {
+    /// No record. Takes no memory.
+    pub fn new(alloc: Global) -> Records
+        ensures { result ≡ finmap.empty }
+    {
+        Records {
+            extents: BTreeMap::new(alloc),
+            alloc,
+        }
+    }
+
+    /// The record at a place, if one was written there.
+    pub fn get(&self, place: u32) -> Option<&Record>
+        ensures { option_copied result ≡ finmap.get self.now place }
+    {
+        let extents = &self.extents;
+        if place >= 65536 {
+            return None;
+        }
+        match extents.get(&(place / 128)) {
+            Some(extent) => extent.get((place % 128) as usize),
+            None => None,
+        }
+    }
+
+    /// The record at a place, instead of the one before. An `Err` changes nothing.
+    pub fn put(&mut self, place: u32, content: &Record) -> Result<(), AllocError>
+        requires { place < 65536 }
+        ensures ok { OnOk result (self.new ≡ finmap.insert self.old place content.now) }
+        ensures err { OnErr result (self.new ≡ self.old) }
+    {
+        let alloc = self.alloc;
+        let at = (place % 128) as usize;
+        if let Some(extent) = self.extents.get_mut(&(place / 128)) {
+            return extent.put(alloc, at, content);
+        }
+        let extent = Extent::new(alloc, at, content)?;
+        self.extents.insert(place / 128, extent)?;
+        Ok(())
+    }
+
+    /// These records with zeros at the places from `from` on, below `to`; at `Err` nothing is known of what was made.
+    pub fn with_zeros(&self, from: u32, to: u32) -> Result<Records, AllocError>
+        requires ordered { from ≤ to }
+        requires within { to < 65536 }
+        ensures { IfOk result (λ r. r ≡ zeros_at self.now from (to - from)) }
+    {
+        let mut records = self.snapshot()?;
+        for place in from..to {
+            records.put(place, &[0; 128])?;
+        }
+        Ok(records)
+    }
+
+    /// The same records, at the cost of a reference for each extent.
+    pub fn snapshot(&self) -> Result<Records, AllocError>
+        ensures { IfOk result (λ r. r ≡ self.now) }
+    {
+        Ok(Records {
+            extents: self.extents.clone()?,
+            alloc: self.alloc,
+        })
+    }
+}
+
+impl Clone for Records {
+    ghost is_clone = { λ r copy. copy ≡ r };
+
+    fn clone(&self) -> Result<Records, AllocError> {
+        self.snapshot()
+    }
+}
