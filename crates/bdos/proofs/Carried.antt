@@ -1,140 +1,162 @@
 -- From what the parts of a call leave to what the call leaves.
-use Rattle.std.proofs.Common.{◌≡◌, ℕ, Bool, true, false, List, [], ◌++◌, Option, Some, None, is_some, Result, Ok, refl, sym, ap, subst, ◌∙◌}
+use Rattle.std.proofs.Common.{◌≡◌, ℕ, Bool, ◌||◌, List, [], Result, Ok, Err, IfOk, OnOk, OnErr, ◌==◌, Option, slice_get, sym, ap, subst, ◌∙◌}
 use Rattle.std.specs.declared.alloc.AllocError.{AllocError}
-use Rattle.interaction_trees.specs.Tree.{result_of, asked}
+use Rattle.interaction_trees.specs.Tree.{Query, result_of, asked}
 use Rattle.i8080.specs.declared.registers.Regs.{Regs}
-use Rattle.i8080.specs.Memory.{Memory, Own, Looks, bytes, look, look_all}
-use Rattle.i8080.specs.Reading.{Done, end_of}
+use Rattle.i8080.specs.Memory.{Memory, Own, Looks, Extends, is_among, bytes, look_all}
+use Rattle.i8080.specs.Reading.{Reading, end_of, looks_after}
 use Rattle.i8080.specs.Reading as reading
-use Rattle.i8080.specs.Registers.{word, onward}
-use Rattle.i8080.specs.Instruction.{word_at}
 use Rattle.i8080.specs.End.{Reads}
+use Rattle.i8080.proofs.LookLemmas.{extends_past}
+use Rattle.i8080.proofs.BoundLemmas.{bound_all}
 use Rattle.bdos.specs.declared.served.Served.{Served}
-use Rattle.bdos.specs.declared.served.Served.TheVariants as served
-use Rattle.bdos.specs.declared.cause.Cause.TheVariants.{NoDollar}
-use Rattle.bdos.specs.Desk.{Desk, printed}
-use Rattle.bdos.specs.Questions.{StateAnswers, StateTree}
-use Rattle.bdos.specs.Strings.{string_at}
-use Rattle.bdos.specs.Printing.{Prints, string_in, printed_if}
-use Rattle.bdos.specs.Calls.{CallEnd, Returned, Stopped, CarriesOut, Serves, call, returning_with, returned, print_string, printing, answers, addresses, served_of, regs_of, desk_of, own_of}
+use Rattle.bdos.specs.Desk.{Desk}
+use Rattle.bdos.specs.Questions.{Input, StateTree, reads, followed_by, answers, addresses, script_places}
+use Rattle.bdos.specs.Calls.{CallEnd, FulfilsBy, served_of, regs_after, desk_after, own_after}
 use Rattle.bdos.proofs.Scanning.{same_bytes}
-use Rattle.bdos.proofs.Trees.{result_of-reads, addresses-reads, look_all-append}
+use Rattle.bdos.proofs.Trees.{result_of-reads, addresses-reads, places-reads, look_all-append, or_assoc, result_of-followed_by, addresses-followed_by, places-followed_by}
 
-module _ {script : List ℕ} {r : Regs} {m : Memory} {d : Desk} {result : Result Served AllocError} {r' : Regs} {m' : Memory} {d' : Desk} where
-  -- a call whose tree was carried out
-  pub serves : (t : StateTree CallEnd) → call r d ≡ t → CarriesOut t script r m d result r' m' d' → Serves script r m d result r' m' d'
-  serves t e h =
-      let w : CarriesOut (call r d) script r m d result r' m' d' = subst (λ t. CarriesOut t script r m d result r' m' d') (sym e) h in
+module _ {script : List ℕ} {r : Regs} {m : Memory} {d : Desk} {was is : ℕ → Bool} {result : Result Served AllocError} {r' : Regs} {m' : Memory} {d' : Desk} where
+  -- a tree by another name
+  pub named : {t t' : StateTree CallEnd} → t' ≡ t → FulfilsBy t script r m d was result r' m' d' is → FulfilsBy t' script r m d was result r' m' d' is
+  named e w = subst (λ t. FulfilsBy t script r m d was result r' m' d' is) (sym e) w
+
+on_err : {P Q : Type 0} (result : Result Served AllocError) → (P → Q) → OnErr result P → OnErr result Q
+on_err (Ok s) f h = tt
+on_err (Err e) f h = f h
+
+-- ---- the looks of a tree
+
+module _ {E : Type 0} (script : List ℕ) (m m1 : Memory) (t : Reading E) (k : E → StateTree CallEnd) where
+  -- the looks of what follows a reading are those of the whole
+  looks_of_rest : (e : E) → e ≡ end_of t (bytes m) → m1.looks ≡ looks_after t m → m1.own ≡ m.own → m1.beneath ≡ m.beneath
+      → look_all m1.own (addresses (asked (answers (bytes m1) script) (k e))) m1.looks ≡ look_all m.own (addresses (asked (answers (bytes m) script) (reads t k))) m.looks
+  looks_of_rest e value looks own beneath =
+      let same : bytes m1 ≡ bytes m = same_bytes m m1 own beneath in
+      ap (λ (o : Own). look_all o (addresses (asked (answers (bytes m1) script) (k e))) m1.looks) own
+      ∙ ap (λ (b : ℕ → ℕ). look_all m.own (addresses (asked (answers b script) (k e))) m1.looks) same
+      ∙ ap (λ x. look_all m.own (addresses (asked (answers (bytes m) script) (k x))) m1.looks) value
+      ∙ ap (look_all m.own (addresses (asked (answers (bytes m) script) (k (end_of t (bytes m)))))) looks
+      ∙ sym (look_all-append m.own (reading.asked t (bytes m)) (addresses (asked (answers (bytes m) script) (k (end_of t (bytes m))))) m.looks)
+      ∙ ap (λ (at : List ℕ). look_all m.own at m.looks) (sym (addresses-reads (answers (bytes m) script) t k))
+
+  pub bound_rest : {new : Looks} (e : E) → e ≡ end_of t (bytes m) → m1.looks ≡ looks_after t m → m1.own ≡ m.own → m1.beneath ≡ m.beneath
+      → Extends new (look_all m1.own (addresses (asked (answers (bytes m1) script) (k e))) m1.looks) → Extends new (look_all m.own (addresses (asked (answers (bytes m) script) (reads t k))) m.looks)
+  bound_rest {new = new} e value looks own beneath h = subst (λ (l : Looks). Extends new l) (looks_of_rest e value looks own beneath) h
+
+-- some of the looks of a reading are some of those of the whole
+pub bound_first : {E : Type 0} (script : List ℕ) (m : Memory) (t : Reading E) (k : E → StateTree CallEnd) {new : Looks} → Extends new (looks_after t m) → Extends new (look_all m.own (addresses (asked (answers (bytes m) script) (reads t k))) m.looks)
+bound_first script m t k {new = new} h =
+    let rest : List ℕ = addresses (asked (answers (bytes m) script) (k (end_of t (bytes m)))) in
+    subst (λ (at : List ℕ). Extends new (look_all m.own at m.looks)) (sym (addresses-reads (answers (bytes m) script) t k))
+    (subst (λ (l : Looks). Extends new l) (sym (look_all-append m.own (reading.asked t (bytes m)) rest m.looks)) (bound_all m.own rest new (looks_after t m) h))
+
+module _ {script : List ℕ} {r : Regs} {m m1 : Memory} {d : Desk} {was is : ℕ → Bool} {result : Result Served AllocError} {r' : Regs} {m' : Memory} {d' : Desk} where
+  -- a reading, and what follows its end
+  pub after_reading : {E : Type 0} (t : Reading E) (k : E → StateTree CallEnd) (e : E) → e ≡ end_of t (bytes m) → m1.looks ≡ looks_after t m
+      → m1.own ≡ m.own → m1.beneath ≡ m.beneath → m1.lender ≡ m.lender
+      → FulfilsBy (k e) script r m1 d was result r' m' d' is → FulfilsBy (reads t k) script r m d was result r' m' d' is
+  after_reading t k e value looks own beneath lender w =
+      let same : bytes m1 ≡ bytes m = same_bytes m m1 own beneath in
+      let tree : result_of (answers (bytes m1) script) (k e) ≡ result_of (answers (bytes m) script) (reads t k) =
+      ap (λ (b : ℕ → ℕ). result_of (answers b script) (k e)) same ∙ ap (λ x. result_of (answers (bytes m) script) (k x)) value ∙ sym (result_of-reads (answers (bytes m) script) t k) in
+      let all = looks_of_rest script m m1 t k e value looks own beneath in
+      let asked_places : script_places (asked (answers (bytes m1) script) (k e)) ≡ script_places (asked (answers (bytes m) script) (reads t k)) =
+      ap (λ (b : ℕ → ℕ). script_places (asked (answers b script) (k e))) same
+      ∙ ap (λ x. script_places (asked (answers (bytes m) script) (k x))) value
+      ∙ sym (places-reads (answers (bytes m) script) t k) in
       record {
-        served = w.served;
-        regs = w.regs;
-        desk = w.desk;
-        own = w.own;
-        looks = w.looks;
+        served = subst (λ (x : CallEnd). IfOk result (λ s. s ≡ served_of x)) tree w.served;
+        regs = subst (λ (x : CallEnd). OnOk result (r' ≡ regs_after x r)) tree w.regs;
+        desk = subst (λ (x : CallEnd). OnOk result (d' ≡ desk_after x d)) tree w.desk;
+        own = subst (λ (x : CallEnd). OnOk result (m'.own ≡ own_after x m.own)) tree (subst (λ (o : Own). OnOk result (m'.own ≡ own_after (result_of (answers (bytes m1) script) (k e)) o)) own w.own);
+        looks = subst (λ (l : Looks). OnOk result (m'.looks ≡ l)) all w.looks;
+        places = subst (λ (ks : List ℕ). OnOk result ((j : ℕ) → is j ≡ (was j || is_among j ks))) asked_places w.places;
+        err_looks = on_err result (extends_past m.own (reading.asked t (bytes m)) m.looks m1.looks m'.looks looks) w.err_looks;
+        err_bound = subst (λ (l : Looks). OnErr result (Extends m'.looks l)) all w.err_bound;
         err_regs = w.err_regs;
         err_desk = w.err_desk;
-        err_own = w.err_own;
+        err_own = subst (λ (o : Own). OnErr result (m'.own ≡ o)) own w.err_own;
+        err_places = w.err_places;
+        beneath = w.beneath ∙ beneath;
+        lender = w.lender ∙ lender;
+      }
+
+  pub after_read : (t : Reading ℕ) (k : ℕ → StateTree CallEnd) (e : ℕ) → Reads t m (Ok e) m1
+      → FulfilsBy (k e) script r m1 d was result r' m' d' is → FulfilsBy (reads t k) script r m d was result r' m' d' is
+  after_read t k e h w = after_reading t k e h.value h.looks h.own h.beneath h.lender w
+
+-- the script byte at a place, and what follows it
+module _ {script : List ℕ} {r : Regs} {m : Memory} {d : Desk} {was is : ℕ → Bool} {s : Served} {r' : Regs} {m' : Memory} {d' : Desk} where
+  pub after_input : (k : ℕ) (next : Option ℕ → StateTree CallEnd)
+      → FulfilsBy (next (slice_get script k)) script r m d (λ j. was j || j == k) (Ok s) r' m' d' is
+      → FulfilsBy (Query (Input k) next) script r m d was (Ok s) r' m' d' is
+  after_input k next w = record {
+    served = w.served;
+    regs = w.regs;
+    desk = w.desk;
+    own = w.own;
+    looks = w.looks;
+    places = λ j. w.places j ∙ or_assoc (was j) (j == k) _;
+    err_looks = tt;
+    err_bound = tt;
+    err_regs = tt;
+    err_desk = tt;
+    err_own = tt;
+    err_places = tt;
+    beneath = w.beneath;
+    lender = w.lender;
+  }
+
+  -- a tree that asks for script places alone, and what follows its end
+  pub after_asking : {E : Type 0} (t : StateTree E) (k : E → StateTree CallEnd) (e : E) (ahead : ℕ → Bool)
+      → result_of (answers (bytes m) script) t ≡ e → addresses (asked (answers (bytes m) script) t) ≡ [] → ((j : ℕ) → is_among j (script_places (asked (answers (bytes m) script) t)) ≡ ahead j)
+      → FulfilsBy (k e) script r m d (λ j. was j || ahead j) (Ok s) r' m' d' is
+      → FulfilsBy (followed_by t k) script r m d was (Ok s) r' m' d' is
+  after_asking t k e ahead ends none places w =
+      let tree : result_of (answers (bytes m) script) (k e) ≡ result_of (answers (bytes m) script) (followed_by t k) =
+      ap (λ x. result_of (answers (bytes m) script) (k x)) (sym ends) ∙ sym (result_of-followed_by (answers (bytes m) script) t k) in
+      let cells : addresses (asked (answers (bytes m) script) (k e)) ≡ addresses (asked (answers (bytes m) script) (followed_by t k)) =
+      ap (λ x. addresses (asked (answers (bytes m) script) (k x))) (sym ends) ∙ sym (addresses-followed_by (answers (bytes m) script) t k none) in
+      record {
+        served = w.served ∙ ap served_of tree;
+        regs = w.regs ∙ ap (λ (x : CallEnd). regs_after x r) tree;
+        desk = w.desk ∙ ap (λ (x : CallEnd). desk_after x d) tree;
+        own = w.own ∙ ap (λ (x : CallEnd). own_after x m.own) tree;
+        looks = w.looks ∙ ap (λ (at : List ℕ). look_all m.own at m.looks) cells;
+        places = λ j.
+            w.places j
+            ∙ or_assoc (was j) (ahead j) (is_among j (script_places (asked (answers (bytes m) script) (k e))))
+            ∙ ap (λ b. was j || (b || is_among j (script_places (asked (answers (bytes m) script) (k e))))) (sym (places j))
+            ∙ ap (λ x. was j || (is_among j (script_places (asked (answers (bytes m) script) t)) || is_among j (script_places (asked (answers (bytes m) script) (k x))))) (sym ends)
+            ∙ ap (λ b. was j || b) (sym (places-followed_by (answers (bytes m) script) t k j));
+        err_looks = tt;
+        err_bound = tt;
+        err_regs = tt;
+        err_desk = tt;
+        err_own = tt;
+        err_places = tt;
         beneath = w.beneath;
         lender = w.lender;
       }
 
--- which tree the number names
-pub call_2 : (r : Regs) (d : Desk) → r.c ≡ 2 → call r d ≡ returning_with 0 r (printed d r.e) []
-unfolding call
-call_2 r d h = rw h refl
-
-pub call_9 : (r : Regs) (d : Desk) → r.c ≡ 9 → call r d ≡ print_string r d
-unfolding call
-call_9 r d h = rw h refl
-
--- function 9: the return address was read, then the string
-ended : (f : StateAnswers) (r : Regs) (d : Desk) (to : ℕ) (string : Option (List ℕ)) → true ≡ is_some string
-    → result_of f (printing r d to string) ≡ Returned (returned 0 to r) (printed_if d string) []
-ended f r d to None h = cc
-ended f r d to (Some s) h = refl
-
-stopped : (f : StateAnswers) (r : Regs) (d : Desk) (to : ℕ) (string : Option (List ℕ)) → false ≡ is_some string
-    → result_of f (printing r d to string) ≡ Stopped NoDollar
-stopped f r d to None h = refl
-stopped f r d to (Some s) h = cc
-
-stays : (d : Desk) (string : Option (List ℕ)) → false ≡ is_some string → printed_if d string ≡ d
-stays d None h = refl
-stays d (Some s) h = cc
-
-no_more : (f : StateAnswers) (r : Regs) (d : Desk) (to : ℕ) (string : Option (List ℕ)) → addresses (asked f (printing r d to string)) ≡ []
-no_more f r d to None = refl
-no_more f r d to (Some s) = refl
-
-module _ (script : List ℕ) (r : Regs) (d d' : Desk) (m m1 m2 : Memory) (to place : ℕ) (found : Bool)
-    (address : Reads (word_at r.sp Done) m (Ok to) m1) (prints : Prints place m1 d (Ok found) m2 d') (de : place ≡ word r.e r.d) where
-  abbrev string : Option (List ℕ)
-  string = string_in (word r.e r.d) m
-
-  abbrev at : ℕ
-  at = word (bytes m r.sp) (bytes m (onward r.sp 1))
-
-  abbrev f : StateAnswers
-  f = answers (bytes m) script
-
-  abbrev first_looks : Looks
-  first_looks = look m.own (look m.own m.looks r.sp) (onward r.sp 1)
-
-  same : bytes m1 ≡ bytes m
-  same = same_bytes m m1 address.own address.beneath
-
-  same_string : string_in place m1 ≡ string
-  same_string = ap (λ a. string_in a m1) de ∙ ap (end_of (string_at 65536 (word r.e r.d))) same
-
-  result : result_of f (print_string r d) ≡ result_of f (printing r d at string)
-  result = result_of-reads f (string_at 65536 (word r.e r.d)) (printing r d at)
-
-  string_looks : look_all m.own (reading.asked (string_at 65536 (word r.e r.d)) (bytes m)) first_looks
-      ≡ look_all m.own (addresses (asked f (print_string r d))) m.looks
-  string_looks =
-      sym (look_all-append m.own (reading.asked (string_at 65536 (word r.e r.d)) (bytes m)) [] first_looks)
-      ∙ ap (λ (more : List ℕ). look_all m.own (reading.asked (string_at 65536 (word r.e r.d)) (bytes m) ++ more) first_looks) (sym (no_more f r d at string))
-      ∙ ap (λ (all : List ℕ). look_all m.own all first_looks) (sym (addresses-reads f (string_at 65536 (word r.e r.d)) (printing r d at)))
-
-  looks_are : m2.looks ≡ look_all m.own (addresses (asked f (print_string r d))) m.looks
-  looks_are =
-      prints.looks
-      ∙ ap (λ a. look_all m1.own (reading.asked (string_at 65536 a) (bytes m1)) m1.looks) de
-      ∙ ap (λ (b : ℕ → ℕ). look_all m1.own (reading.asked (string_at 65536 (word r.e r.d)) b) m1.looks) same
-      ∙ ap (λ (o : Own). look_all o (reading.asked (string_at 65536 (word r.e r.d)) (bytes m)) m1.looks) address.own
-      ∙ ap (look_all m.own (reading.asked (string_at 65536 (word r.e r.d)) (bytes m))) address.looks
-      ∙ string_looks
-
-  pub string_stops : found ≡ false → CarriesOut (print_string r d) script r m d (Ok (served.Stop NoDollar)) r m2 d'
-  string_stops h =
-      let none : false ≡ is_some (string_in place m1) = sym h ∙ prints.found in
-      let e : result_of f (print_string r d) ≡ Stopped NoDollar = result ∙ stopped f r d at string (none ∙ ap is_some same_string) in
-      record {
-        served = sym (ap served_of e);
-        regs = sym (ap (λ x. regs_of x r) e);
-        desk = prints.desk ∙ stays d _ none ∙ sym (ap (λ x. desk_of x d) e);
-        own = prints.own ∙ address.own ∙ sym (ap (λ x. own_of x m.own) e);
-        looks = looks_are;
-        err_regs = tt;
-        err_desk = tt;
-        err_own = tt;
-        beneath = prints.beneath ∙ address.beneath;
-        lender = prints.lender ∙ address.lender;
-      }
-
-  pub string_goes : (r' : Regs) → found ≡ true → r' ≡ returned 0 to r → CarriesOut (print_string r d) script r m d (Ok served.Went) r' m2 d'
-  string_goes r' h back =
-      let e : result_of f (print_string r d) ≡ Returned (returned 0 at r) (printed_if d string) [] =
-      result ∙ ended f r d at string (sym h ∙ prints.found ∙ ap is_some same_string) in
-      record {
-        served = sym (ap served_of e);
-        regs = back ∙ ap (λ to. returned 0 to r) address.value ∙ sym (ap (λ x. regs_of x r) e);
-        desk = prints.desk ∙ ap (printed_if d) same_string ∙ sym (ap (λ x. desk_of x d) e);
-        own = prints.own ∙ address.own ∙ sym (ap (λ x. own_of x m.own) e);
-        looks = looks_are;
-        err_regs = tt;
-        err_desk = tt;
-        err_own = tt;
-        beneath = prints.beneath ∙ address.beneath;
-        lender = prints.lender ∙ address.lender;
-      }
+-- a call that fails
+module _ {t : StateTree CallEnd} {script : List ℕ} {r : Regs} {m : Memory} {d : Desk} {was is : ℕ → Bool} {e : AllocError} {r' : Regs} {m' : Memory} {d' : Desk} where
+  pub fails : Extends m.looks m'.looks → Extends m'.looks (look_all m.own (addresses (asked (answers (bytes m) script) t)) m.looks) → r' ≡ r → d' ≡ d → m'.own ≡ m.own → ((j : ℕ) → is j ≡ was j) → m'.beneath ≡ m.beneath → m'.lender ≡ m.lender
+      → FulfilsBy t script r m d was (Err e) r' m' d' is
+  fails extends bound regs desk own same beneath lender = record {
+    served = tt;
+    regs = tt;
+    desk = tt;
+    own = tt;
+    looks = tt;
+    places = tt;
+    err_looks = extends;
+    err_bound = bound;
+    err_regs = regs;
+    err_desk = desk;
+    err_own = own;
+    err_places = same;
+    beneath = beneath;
+    lender = lender;
+  }

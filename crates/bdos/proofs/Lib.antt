@@ -1,3 +1,9 @@
-mod Carried
 mod Scanning
+mod Looking
 pub mod Trees
+mod Carried
+mod Strings
+mod Numbers
+mod Leaves
+mod Typing
+mod Lines

@@ -1,13 +1,14 @@
 -- Printing a string byte by byte, one cell after another.
-use Rattle.std.proofs.Common.{◌≡◌, ◌≢◌, ℕ, suc, ◌+◌, ◌-◌, ◌<◌, ◌≤◌, ◌==◌, Bool, true, false, List, [], ◌∷◌, ◌++◌, Option, Some, None, is_some, length, take, Ok, refl, ap, sym, ◌∙◌, arith, cond}
+use Rattle.std.proofs.Common.{◌≡◌, ◌≢◌, ℕ, suc, ◌+◌, ◌-◌, ◌<◌, ◌≤◌, true, false, List, [], ◌∷◌, ◌++◌, Option, Some, None, is_some, length, take, Ok, refl, ap, sym, subst, ◌∙◌, arith, cond, ◌==◌}
 use Rattle.std.proofs.lemmas.Bool.{eq-eqb, ne_eqb}
-use Rattle.std.proofs.lemmas.List.{take-append-le, length-append}
+use Rattle.std.proofs.lemmas.List.{take-append-le, length-append, append_assoc, append-nil}
 use Rattle.std.specs.Option.{option_map}
-use Rattle.i8080.specs.Memory.{Memory, Own, Looks, bytes, look, look_all}
+use Rattle.i8080.specs.Memory.{Memory, Own, Looks, Extends, bytes, look, look_all}
 use Rattle.i8080.specs.Reading.{Reading, Done, Cell, end_of, asked}
 use Rattle.i8080.specs.Registers.{onward}
 use Rattle.i8080.specs.End.{Reads}
-use Rattle.bdos.specs.Desk.{Desk, printed, printed_all, tabbed, sent}
+use Rattle.i8080.proofs.BoundLemmas.{bound_all}
+use Rattle.bdos.specs.Desk.{Desk, Shown, printed, printed_all, desk_showing, desk_printing}
 use Rattle.bdos.specs.Strings.{ending, string_at}
 use Rattle.bdos.specs.Printing.{Grown, printed_if}
 
@@ -51,13 +52,13 @@ nothing_asked : (byte : ℕ → ℕ) (a : ℕ) → asked (string_at 0 a) byte �
 unfolding string_at
 nothing_asked byte a = refl
 
-print_first : (d : Desk) (v : ℕ) (rest : Option (List ℕ)) → option_map (printed_all d) (option_map (λ r. v ∷ r) rest) ≡ option_map (printed_all (printed d v)) rest
+print_first : (d : Desk) (v : ℕ) (rest : Option (List ℕ)) → option_map (desk_printing d) (option_map (λ r. v ∷ r) rest) ≡ option_map (desk_printing (desk_showing d (printed d.spot.column v))) rest
 print_first d v None = refl
-print_first d v (Some rest) = refl
+print_first d v (Some rest) = ap (λ text. Some (record { spot = record d.spot { column = (printed_all d.spot.column (v ∷ rest)).column }; text = text })) (sym (append_assoc d.text (printed d.spot.column v).bytes (printed_all (printed d.spot.column v).column rest).bytes))
 
 -- one turn: a byte that is no `$` was read and printed
-pub desk_on : (byte : ℕ → ℕ) (n i a v : ℕ) (d d' : Desk) → i < n → v ≡ byte a → v ≢ 0x24 → d' ≡ printed d v
-    → option_map (printed_all d') (end_of (string_at (n - (i + 1)) (onward a 1)) byte) ≡ option_map (printed_all d) (end_of (string_at (n - i) a) byte)
+pub desk_on : (byte : ℕ → ℕ) (n i a v : ℕ) (d d' : Desk) → i < n → v ≡ byte a → v ≢ 0x24 → d' ≡ desk_showing d (printed d.spot.column v)
+    → option_map (desk_printing d') (end_of (string_at (n - (i + 1)) (onward a 1)) byte) ≡ option_map (desk_printing d) (end_of (string_at (n - i) a) byte)
 desk_on byte n i a v d d' h e other p =
     rw (p, one_less n i h, goes_on byte (n - (i + 1)) a (rw (← e) other), e) (sym (print_first d (byte a) _))
 
@@ -68,15 +69,15 @@ looks_on byte own looks looks' n i a v h e other l =
 
 -- at the `$`
 pub desk_here : (byte : ℕ → ℕ) (n i a v : ℕ) (d : Desk) → i < n → v ≡ byte a → v ≡ 0x24
-    → option_map (printed_all d) (end_of (string_at (n - i) a) byte) ≡ Some d
-desk_here byte n i a v d h e dollar = rw (one_less n i h, ends_here byte (n - (i + 1)) a (sym e ∙ dollar)) refl
+    → option_map (desk_printing d) (end_of (string_at (n - i) a) byte) ≡ Some d
+desk_here byte n i a v d h e dollar = rw (one_less n i h, ends_here byte (n - (i + 1)) a (sym e ∙ dollar)) (ap (λ text. Some (record { spot = d.spot; text = text })) (append-nil d.text))
 
 pub looks_here : (byte : ℕ → ℕ) (own : Own) (looks : Looks) (n i a v : ℕ) → i < n → v ≡ byte a → v ≡ 0x24
     → look_all own (asked (string_at (n - i) a) byte) looks ≡ look own looks a
 looks_here byte own looks n i a v h e dollar = rw (one_less n i h, asked_here byte (n - (i + 1)) a (sym e ∙ dollar)) refl
 
 -- after the last cell
-pub desk_end : (byte : ℕ → ℕ) (n i a : ℕ) (d : Desk) → n ≤ i → option_map (printed_all d) (end_of (string_at (n - i) a) byte) ≡ None
+pub desk_end : (byte : ℕ → ℕ) (n i a : ℕ) (d : Desk) → n ≤ i → option_map (desk_printing d) (end_of (string_at (n - i) a) byte) ≡ None
 desk_end byte n i a d h = rw (none_left n i h, nothing_left byte a) refl
 
 pub looks_end : (byte : ℕ → ℕ) (own : Own) (looks : Looks) (n i a : ℕ) → n ≤ i → look_all own (asked (string_at (n - i) a) byte) looks ≡ looks
@@ -94,15 +95,15 @@ module _ (first now next : Memory) (a v : ℕ) (h : Reads (Cell a Done) now (Ok 
   looked_at = h.looks ∙ ap (λ (o : Own). look o now.looks a) own
 
 -- what the desk tells of the string
-pub found_some : (d d' : Desk) (string : Option (List ℕ)) → Some d' ≡ option_map (printed_all d) string → true ≡ is_some string
+pub found_some : (d d' : Desk) (string : Option (List ℕ)) → Some d' ≡ option_map (desk_printing d) string → true ≡ is_some string
 found_some d d' None h = cc
 found_some d d' (Some s) h = refl
 
-pub found_none : (d : Desk) (string : Option (List ℕ)) → None ≡ option_map (printed_all d) string → false ≡ is_some string
+pub found_none : (d : Desk) (string : Option (List ℕ)) → None ≡ option_map (desk_printing d) string → false ≡ is_some string
 found_none d None h = refl
 found_none d (Some s) h = cc
 
-pub desk_is : (d d' : Desk) (string : Option (List ℕ)) → Some d' ≡ option_map (printed_all d) string → d' ≡ printed_if d string
+pub desk_is : (d d' : Desk) (string : Option (List ℕ)) → Some d' ≡ option_map (desk_printing d) string → d' ≡ printed_if d string
 desk_is d d' None h = cc
 desk_is d d' (Some s) h = cc
 
@@ -111,8 +112,16 @@ grown_by : (d : Desk) (text more : List ℕ) → length d.text ≤ length text �
     → (length d.text ≤ length (text ++ more)) × (take (length d.text) (text ++ more) ≡ d.text)
 grown_by d text more h e = (omega (arith, length-append text more), take-append-le (length d.text) text more h ∙ e)
 
-pub grown_on : (d d1 : Desk) (v : ℕ) → Grown d d1 → Grown d (printed d1 v)
-grown_on d d1 v h = by (v == 0x09) where
-  by : (b : Bool) → Grown d (cond b (tabbed d1) (sent d1 v))
-  by true = let both = grown_by d d1.text _ h.longer h.since in record { longer = both.0; since = both.1 }
-  by false = let both = grown_by d d1.text _ h.longer h.since in record { longer = both.0; since = both.1 }
+pub grown_on : (d d1 : Desk) (s : Shown) → Grown d d1 → Grown d (desk_showing d1 s)
+grown_on d d1 s h = let both = grown_by d d1.text s.bytes h.longer h.since in record { longer = both.0; since = both.1; cursor = h.cursor }
+
+-- the cell that comes next is looked at, whatever it holds
+first_asked : (byte : ℕ → ℕ) (n a : ℕ) → (rest : List ℕ) × (asked (string_at (suc n) a) byte ≡ a ∷ rest)
+unfolding string_at
+first_asked byte n a = (asked (cond (byte a == 0x24) (Done (Some [])) (ending (option_map (λ rest. byte a ∷ rest)) (string_at n (onward a 1)))) byte, refl)
+
+-- a failure at a cell, or after it
+pub bound_at : (byte : ℕ → ℕ) (own : Own) (looks new whole : Looks) (n i a : ℕ) → i < n → look_all own (asked (string_at (n - i) a) byte) looks ≡ whole → Extends new (look own looks a) → Extends new whole
+bound_at byte own looks new whole n i a h e bound =
+    let first = first_asked byte (n - (i + 1)) a in
+    subst (λ (l : Looks). Extends new l) (sym (rw (one_less n i h) (ap (λ (at : List ℕ). look_all own at looks) first.1)) ∙ e) (bound_all own first.0 new (look own looks a) bound)

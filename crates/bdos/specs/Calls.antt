@@ -1,109 +1,179 @@
--- The BDOS calls: what each asks of the state, and what it then does. (CP/M 2.2 Interface Guide; what is asked, what a
--- call leaves in the registers and that other numbers stop: this project's profile.)
-use Rattle.std.specs.Prelude.{◌≡◌, ℕ, ◌==◌, if◌then◌else◌, List, [], ◌∷◌, Option, Some, None, IfOk, OnOk, OnErr, slice_get}
+-- The BDOS calls: what each asks of the state, and what it then does. (CP/M 2.2 Interface Guide.)
+use Rattle.std.specs.Prelude.{◌≡◌, ℕ, ◌==◌, ◌+◌, ◌||◌, Bool, is_some, if◌then◌else◌, List, [], ◌∷◌, ◌++◌, Option, Some, None, IfOk, OnOk, OnErr, suc, length, reverse}
 use Rattle.std.specs.declared.result.Result.{Result}
 use Rattle.std.specs.declared.alloc.AllocError.{AllocError}
-use Rattle.interaction_trees.specs.Tree.{Return, result_of, asked}
+use Rattle.interaction_trees.specs.Tree.{Return, Query, result_of, asked}
 use Rattle.i8080.specs.declared.registers.Regs.{Regs}
-use Rattle.i8080.specs.Memory.{Memory, Own, Looks, bytes, look_all, write_all}
-use Rattle.i8080.specs.Reading.{Done}
+use Rattle.i8080.specs.Memory.{Memory, Own, Extends, is_among, bytes, look_all, write_all}
+use Rattle.i8080.specs.Reading.{Done, Cell}
 use Rattle.i8080.specs.Registers.{word, high, low, onward}
 use Rattle.i8080.specs.Instruction.{word_at}
+use Rattle.i8080.specs.End.{cells_from}
 use Rattle.bdos.specs.declared.cause.Cause.{Cause}
-use Rattle.bdos.specs.declared.cause.Cause.TheVariants.{WarmBoot, NoDollar, Unsupported}
+use Rattle.bdos.specs.declared.cause.Cause.TheVariants.{WarmBoot, ConsoleExhausted, NoDollar, Unsupported}
 use Rattle.bdos.specs.declared.served.Served.{Served}
 use Rattle.bdos.specs.declared.served.Served.TheVariants as served
-use Rattle.bdos.specs.Desk.{Desk, printed, printed_all}
-use Rattle.bdos.specs.Questions.{StateQuestion, Byte, Input, StateAnswers, StateTree, reads}
+use Rattle.bdos.specs.declared.desk.Spot.{Spot}
+use Rattle.bdos.specs.declared.function.Function.{Function}
+use Rattle.bdos.specs.declared.function.Function.TheVariants.{SystemReset, ConsoleInput, ConsoleOutput, DirectConsole, GetIoByte, SetIoByte, PrintString, ReadConsoleBuffer, ConsoleStatus, VersionNumber}
+use Rattle.bdos.specs.Functions.{function_of}
+use Rattle.bdos.specs.Desk.{Desk, printed, echoed, printed_all, spot_showing, column_after_all}
+use Rattle.bdos.specs.Places.{Watched, is_within}
+use Rattle.bdos.specs.Questions.{Input, StateTree, reads, followed_by, answers, addresses, script_places}
 use Rattle.bdos.specs.Strings.{string_at}
+use Rattle.bdos.specs.Line.{LineEnd, Ended, Booted, Short, no_line, typing}
 
--- it went back to its caller with these registers and this desk, after these writes; or it stopped, and changed nothing
+-- what a call wrote: bytes of cells, in order
+pub record Written : Type 0 where
+  pub cells : List (ℕ × ℕ)
+
+abbrev pub nothing : Written
+nothing = record { cells = [] }
+
+-- it went back to its caller with these registers and this spot, after it sent these bytes and wrote that; or it stopped, and
+-- changed nothing
 pub data CallEnd : Type 0 where
-  Returned : Regs → Desk → List (ℕ × ℕ) → CallEnd
+  Completed : Regs → Spot → List ℕ → Written → CallEnd
   Stopped : Cause → CallEnd
 
--- the registers after the return to an address with a value: HL is the value, A is L and B is H, and the stack is popped
--- (CP/M 2.2 Interface Guide; that the other registers stay: this project's profile)
-abbrev pub returned : ℕ → ℕ → Regs → Regs
-returned value to r = record r { a = low value; b = high value; h = high value; l = low value; sp = onward r.sp 2; pc = to }
+-- the registers back at the caller, at an address, with a value: HL is the value, A is L and B is H, and the stack is popped
+-- (CP/M 2.2 Interface Guide)
+abbrev pub at_caller : ℕ → ℕ → Regs → Regs
+at_caller value to r = record r { a = low value; b = high value; h = high value; l = low value; sp = onward r.sp 2; pc = to }
 
--- a return with a value, after this desk and these writes
-abbrev pub returning_with : ℕ → Regs → Desk → List (ℕ × ℕ) → StateTree CallEnd
-returning_with value r d writes = reads (word_at r.sp Done) (λ to. Return (Returned (returned value to r) d writes))
+-- the return address is read, and the call is completed with a value, this spot, these bytes sent and this written
+abbrev pub completing : ℕ → Regs → Spot → List ℕ → Written → StateTree CallEnd
+completing value r spot bytes written = reads (word_at r.sp Done) (λ to. Return (Completed (at_caller value to r) spot bytes written))
 
--- function 9: the return address is read first, then the string at DE (CP/M 2.2 Interface Guide, function 9; the order, and
--- that a string with no `$` stops: this project's profile)
-abbrev pub printing : Regs → Desk → ℕ → Option (List ℕ) → StateTree CallEnd
-printing r d to None = Return (Stopped NoDollar)
-printing r d to (Some string) = Return (Returned (returned 0 to r) (printed_all d string) [])
+-- function 1 takes the script byte at the cursor, prints it, and gives it; the end of the script stops (CP/M 2.2 Interface
+-- Guide, function 1)
+abbrev pub taking : Regs → Spot → Option ℕ → StateTree CallEnd
+taking r spot None = Return (Stopped ConsoleExhausted)
+taking r spot (Some byte) = let s = echoed spot.column byte in completing byte r (record spot { cursor = spot.cursor + 1; column = s.column }) s.bytes nothing
 
-abbrev pub print_string : Regs → Desk → StateTree CallEnd
-print_string r d = reads (word_at r.sp Done) (λ to. reads (string_at 65536 (word r.e r.d)) (printing r d to))
+abbrev pub console_input : Regs → Spot → StateTree CallEnd
+console_input r spot = Query (Input spot.cursor) (taking r spot)
 
--- the call whose number is in C (CP/M 2.2 Interface Guide, functions 0, 2 and 9; that other numbers stop: this project's
--- profile)
-unfoldable pub call : Regs → Desk → StateTree CallEnd
-call r d =
-    if r.c == 0 then Return (Stopped WarmBoot)
-    else if r.c == 2 then returning_with 0 r (printed d r.e) []
-    else if r.c == 9 then print_string r d
-    else Return (Stopped (Unsupported r.c))
+-- function 6: with 0FFH in E it takes the script byte at the cursor and gives it, or 0 where none is left; else it sends E, and
+-- the column stays (CP/M 2.2 Interface Guide, function 6)
+abbrev pub given : Regs → Spot → Option ℕ → StateTree CallEnd
+given r spot None = completing 0 r spot [] nothing
+given r spot (Some byte) = completing byte r (record spot { cursor = spot.cursor + 1 }) [] nothing
+
+abbrev pub direct_input : Regs → Spot → StateTree CallEnd
+direct_input r spot = Query (Input spot.cursor) (given r spot)
+
+abbrev pub direct_output : Regs → Spot → StateTree CallEnd
+direct_output r spot = completing 0 r spot (r.e ∷ []) nothing
+
+abbrev pub direct_console : Regs → Spot → StateTree CallEnd
+direct_console r spot = if r.e == 0xff then direct_input r spot else direct_output r spot
+
+-- function 11 tells whether a script byte is left (CP/M 2.2 Interface Guide, function 11)
+abbrev pub console_status : Regs → Spot → StateTree CallEnd
+console_status r spot = Query (Input spot.cursor) (λ answer. completing (if is_some answer then 0xff else 0) r spot [] nothing)
+
+-- function 10: the capacity at DE is read first, then the line is taken from the script, then the return address is read. The
+-- count goes to the next cell, the text to those after it; a warm boot and the end of the script stop (CP/M 2.2 Interface
+-- Guide, function 10)
+abbrev pub line_cells : ℕ → List ℕ → List (ℕ × ℕ)
+line_cells at text = (onward at 1, length text) ∷ cells_from (onward at 2) text
+
+abbrev pub line_ended : Regs → Spot → LineEnd → StateTree CallEnd
+line_ended r spot Short = Return (Stopped ConsoleExhausted)
+line_ended r spot Booted = Return (Stopped WarmBoot)
+line_ended r spot (Ended l k) = completing 0 r (record spot { cursor = k; column = column_after_all spot.column l.sends }) l.sends (record { cells = line_cells (word r.e r.d) (reverse l.stored) })
+
+abbrev pub line_input : ℕ → Regs → Spot → StateTree CallEnd
+line_input n r spot = reads (Cell (word r.e r.d) Done) (λ capacity. followed_by (typing (suc n) capacity spot.cursor no_line) (line_ended r spot))
+
+-- function 2 prints E (CP/M 2.2 Interface Guide, function 2)
+abbrev pub console_output : Regs → Spot → StateTree CallEnd
+console_output r spot = let s = printed spot.column r.e in completing 0 r (spot_showing spot s) s.bytes nothing
+
+-- function 9 prints the string at DE, which is read after the return address; a string with no `$` stops (CP/M 2.2 Interface
+-- Guide, function 9)
+abbrev pub printing : Regs → Spot → ℕ → Option (List ℕ) → CallEnd
+printing r spot to None = Stopped NoDollar
+printing r spot to (Some string) = let s = printed_all spot.column string in Completed (at_caller 0 to r) (spot_showing spot s) s.bytes nothing
+
+abbrev pub string_output : Regs → Spot → StateTree CallEnd
+string_output r spot = reads (word_at r.sp Done) (λ to. reads (string_at 65536 (word r.e r.d)) (λ string. Return (printing r spot to string)))
+
+-- functions 7 and 8 give and set the I/O byte, at 0003H (CP/M 2.2 Interface Guide, functions 7 and 8)
+abbrev pub io_byte : ℕ
+io_byte = 0x0003
+
+abbrev pub get_io_byte : Regs → Spot → StateTree CallEnd
+get_io_byte r spot = reads (Cell io_byte Done) (λ byte. completing byte r spot [] nothing)
+
+abbrev pub set_io_byte : Regs → Spot → StateTree CallEnd
+set_io_byte r spot = completing 0 r spot [] (record { cells = (io_byte, r.e) ∷ [] })
+
+-- function 12 gives the version, 2.2 (CP/M 2.2 Interface Guide, function 12)
+abbrev pub version_number : Regs → Spot → StateTree CallEnd
+version_number r spot = completing 0x0022 r spot [] nothing
+
+-- a function that is carried out, over a script of at most n bytes
+abbrev pub carried_out : ℕ → Function → Regs → Spot → StateTree CallEnd
+carried_out n SystemReset r spot = Return (Stopped WarmBoot)
+carried_out n ConsoleInput r spot = console_input r spot
+carried_out n ConsoleOutput r spot = console_output r spot
+carried_out n DirectConsole r spot = direct_console r spot
+carried_out n GetIoByte r spot = get_io_byte r spot
+carried_out n SetIoByte r spot = set_io_byte r spot
+carried_out n PrintString r spot = string_output r spot
+carried_out n ReadConsoleBuffer r spot = line_input n r spot
+carried_out n ConsoleStatus r spot = console_status r spot
+carried_out n VersionNumber r spot = version_number r spot
+
+abbrev pub called : ℕ → Option Function → Regs → Spot → StateTree CallEnd
+called n None r spot = Return (Stopped (Unsupported r.c))
+called n (Some f) r spot = carried_out n f r spot
+
+-- the call whose number is in C, over a script of at most n bytes; other numbers stop (CP/M 2.2 Interface Guide)
+unfoldable pub call : ℕ → Regs → Spot → StateTree CallEnd
+call n r spot = called n (function_of r.c) r spot
 
 abbrev pub served_of : CallEnd → Served
-served_of (Returned r d writes) = served.Went
+served_of (Completed r spot bytes written) = served.Went
 served_of (Stopped cause) = served.Stop cause
 
-abbrev pub regs_of : CallEnd → Regs → Regs
-regs_of (Returned r d writes) old = r
-regs_of (Stopped cause) old = old
+abbrev pub regs_after : CallEnd → Regs → Regs
+regs_after (Completed r spot bytes written) old = r
+regs_after (Stopped cause) old = old
 
-abbrev pub desk_of : CallEnd → Desk → Desk
-desk_of (Returned r d writes) old = d
-desk_of (Stopped cause) old = old
+abbrev pub desk_after : CallEnd → Desk → Desk
+desk_after (Completed r spot bytes written) old = record { spot = spot; text = old.text ++ bytes }
+desk_after (Stopped cause) old = old
 
-abbrev pub own_of : CallEnd → Own → Own
-own_of (Returned r d writes) own = write_all own writes
-own_of (Stopped cause) own = own
-
--- what a memory and a script answer
-abbrev pub answers : (ℕ → ℕ) → List ℕ → StateAnswers
-answers byte script (Byte a) = byte a
-answers byte script (Input k) = slice_get script k
-
--- the addresses among the questions
-abbrev pub addresses : List StateQuestion → List ℕ
-addresses [] = []
-addresses (Byte a ∷ rest) = a ∷ addresses rest
-addresses (Input k ∷ rest) = addresses rest
-
-abbrev pub end_at : Regs → Desk → Memory → List ℕ → CallEnd
-end_at r d m script = result_of (answers (bytes m) script) (call r d)
-
-abbrev pub looks_after : Regs → Desk → Memory → List ℕ → Looks
-looks_after r d m script = look_all m.own (addresses (asked (answers (bytes m) script) (call r d))) m.looks
+abbrev pub own_after : CallEnd → Own → Own
+own_after (Completed r spot bytes written) own = write_all own written.cells
+own_after (Stopped cause) own = own
 
 -- what a call leaves that carries out a tree of questions and its end
-pub record CarriesOut (t : StateTree CallEnd) (script : List ℕ) (r : Regs) (m : Memory) (d : Desk) (result : Result Served AllocError) (r' : Regs) (m' : Memory) (d' : Desk) : Type 0 where
+pub record FulfilsBy (t : StateTree CallEnd) (script : List ℕ) (r : Regs) (m : Memory) (d : Desk) (was : ℕ → Bool) (result : Result Served AllocError) (r' : Regs) (m' : Memory) (d' : Desk) (is : ℕ → Bool) : Type 0 where
   pub served : IfOk result (λ s. s ≡ served_of (result_of (answers (bytes m) script) t))
-  pub regs : OnOk result (r' ≡ regs_of (result_of (answers (bytes m) script) t) r)
-  pub desk : OnOk result (d' ≡ desk_of (result_of (answers (bytes m) script) t) d)
-  pub own : OnOk result (m'.own ≡ own_of (result_of (answers (bytes m) script) t) m.own)
+  pub regs : OnOk result (r' ≡ regs_after (result_of (answers (bytes m) script) t) r)
+  pub desk : OnOk result (d' ≡ desk_after (result_of (answers (bytes m) script) t) d)
+  pub own : OnOk result (m'.own ≡ own_after (result_of (answers (bytes m) script) t) m.own)
   pub looks : OnOk result (m'.looks ≡ look_all m.own (addresses (asked (answers (bytes m) script) t)) m.looks)
+  -- the script places that were looked at are the old ones and those that were asked
+  pub places : OnOk result ((k : ℕ) → is k ≡ (was k || is_among k (script_places (asked (answers (bytes m) script) t))))
+  -- at a failure: the looks before, and some of those of the whole call
+  pub err_looks : OnErr result (Extends m.looks m'.looks)
+  pub err_bound : OnErr result (Extends m'.looks (look_all m.own (addresses (asked (answers (bytes m) script) t)) m.looks))
   pub err_regs : OnErr result (r' ≡ r)
   pub err_desk : OnErr result (d' ≡ d)
   pub err_own : OnErr result (m'.own ≡ m.own)
+  pub err_places : OnErr result ((k : ℕ) → is k ≡ was k)
   pub beneath : m'.beneath ≡ m.beneath
   pub lender : m'.lender ≡ m.lender
 
--- what a call leaves
-pub record Serves (script : List ℕ) (r : Regs) (m : Memory) (d : Desk) (result : Result Served AllocError) (r' : Regs) (m' : Memory) (d' : Desk) : Type 0 where
-  pub served : IfOk result (λ s. s ≡ served_of (end_at r d m script))
-  pub regs : OnOk result (r' ≡ regs_of (end_at r d m script) r)
-  pub desk : OnOk result (d' ≡ desk_of (end_at r d m script) d)
-  pub own : OnOk result (m'.own ≡ own_of (end_at r d m script) m.own)
-  pub looks : OnOk result (m'.looks ≡ looks_after r d m script)
-  pub err_regs : OnErr result (r' ≡ r)
-  pub err_desk : OnErr result (d' ≡ d)
-  pub err_own : OnErr result (m'.own ≡ m.own)
-  pub beneath : m'.beneath ≡ m.beneath
-  pub lender : m'.lender ≡ m.lender
+-- a tree of a call, carried out at a desk whose looked-at places are kept
+abbrev pub Fulfils : StateTree CallEnd → List ℕ → Regs → Memory → Watched → Result Served AllocError → Regs → Memory → Watched → Type 0
+Fulfils t script r m d result r' m' d' = FulfilsBy t script r m d.desk (is_within d.places) result r' m' d'.desk (is_within d'.places)
+
+-- what a call leaves, over a script of at most n bytes
+abbrev pub Serves : ℕ → List ℕ → Regs → Memory → Watched → Result Served AllocError → Regs → Memory → Watched → Type 0
+Serves n script r m d result r' m' d' = Fulfils (call n r d.desk.spot) script r m d result r' m' d'

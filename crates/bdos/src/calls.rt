@@ -1,62 +1,196 @@
-// The calls, by their numbers.
-
-ghost use Rattle.std.specs.Prelude.{◌≡◌, ◌≤◌, ◌∷◌, [], ℕ, List};
-ghost use Rattle.i8080.specs.Reading.{Done};
-ghost use Rattle.i8080.specs.Instruction.{word_at};
-ghost use Rattle.i8080.specs.End.{Reads};
-ghost use Rattle.bdos.specs.Calls.{Serves, CarriesOut, returned, returning_with, print_string};
-ghost use Rattle.bdos.specs.Desk.{printed};
+ghost use Rattle.std.specs.Prelude.{◌≡◌, ◌≤◌, ◌<◌, ◌+◌, ◌∷◌, [], ℕ, List, length, slice_get, is_some, IsSome, IsTrue, OnOk, if◌then◌else◌};
+ghost use Rattle.i8080.specs.Memory.{write_all};
+ghost use Rattle.i8080.specs.Registers.{onward};
+ghost use Rattle.bdos.specs.Calls as calls;
+ghost use Rattle.bdos.specs.Calls.{Serves, Fulfils, at_caller, line_cells};
 ghost use Rattle.bdos.specs.Printing.{Prints, Scans};
 
 use crate::cause::Cause;
 use crate::desk::Desk;
+use crate::function::Function;
+use crate::line::{LineEnd, take_line};
 use crate::served::Served;
-use i8080::bus::{Bus, fetch};
-use i8080::registers::{Regs, word_of};
+use i8080::{Bus, Regs, fetch, fetch_word, ready_cells, word_of, write_cells};
 use std::alloc::AllocError;
 
-/// Carries out the call whose number is in C. A call that stops, and an `Err`, leave the registers, the written cells and
-/// the desk as they were. No call takes a byte of the script yet.
+/// Where the I/O byte stands.
+const IO_BYTE: u16 = 0x0003;
+
+/// CP/M 2.2.
+const VERSION: u16 = 0x0022;
+
+/// Carries out the call whose number is in C. A call that stops, and an `Err` (a want of memory), leave the registers, the
+/// written cells and the desk as they were; a call that stops has looked at cells and script places. (CP/M 2.2 Interface Guide.)
 #[tactic(auto, unfolding(crate::specs::Calls::call))]
 pub fn call<B: Bus>(
     regs: &mut Regs,
     bus: &mut B,
     desk: &mut Desk,
-    _script: &[u8],
+    script: &[u8],
 ) -> Result<Served, AllocError>
-    ensures { Serves _script.now regs.old (B.memory bus.old) desk.old result regs.new (B.memory bus.new) desk.new }
+    ensures { (n : ℕ) → length script.now ≤ n → Serves n script.now regs.old (B.memory bus.old) desk.old result regs.new (B.memory bus.new) desk.new }
 {
-    match regs.c {
-        0 => Ok(Served::Stop(Cause::WarmBoot)),
-        2 => console_output(regs, bus, desk),
-        9 => string_output(regs, bus, desk),
-        number => Ok(Served::Stop(Cause::Unsupported(number))),
+    let Some(function) = Function::decode(regs.c) else {
+        return Ok(Served::Stop(Cause::Unsupported(regs.c)));
+    };
+    match function {
+        Function::SystemReset => Ok(Served::Stop(Cause::WarmBoot)),
+        Function::ConsoleInput => console_input(regs, bus, desk, script),
+        Function::ConsoleOutput => console_output(regs, bus, desk),
+        Function::DirectConsole => direct_console(regs, bus, desk, script),
+        Function::GetIoByte => get_io_byte(regs, bus, desk),
+        Function::SetIoByte => set_io_byte(regs, bus, desk),
+        Function::PrintString => string_output(regs, bus, desk),
+        Function::ReadConsoleBuffer => line_input(regs, bus, desk, script),
+        Function::ConsoleStatus => console_status(regs, bus, desk, script),
+        Function::VersionNumber => version_number(regs, bus, desk),
     }
 }
 
+// Function 1, which takes a byte of the script.
+#[tactic(auto, using(crate::proofs::Looking::by_two, crate::proofs::Looking::past_two, crate::proofs::Looking::here, crate::proofs::Looking::more, crate::proofs::Looking::all))]
+fn console_input<B: Bus>(
+    regs: &mut Regs,
+    bus: &mut B,
+    desk: &mut Desk,
+    script: &[u8],
+) -> Result<Served, AllocError>
+    ensures { Fulfils (calls.console_input regs.old desk.old.desk.spot) script.now regs.old (B.memory bus.old) desk.old result regs.new (B.memory bus.new) desk.new }
+{
+    let Some(byte) = byte_at(script, desk.cursor()) else {
+        desk.look(1);
+        return Ok(Served::Stop(Cause::ConsoleExhausted));
+    };
+    let to = fetch_word(bus, regs.sp)?;
+    desk.echo(byte)?;
+    desk.take(1);
+    give_back(regs, byte as u16, to);
+    Ok(Served::Went)
+}
+
+// Function 6, by E.
+fn direct_console<B: Bus>(
+    regs: &mut Regs,
+    bus: &mut B,
+    desk: &mut Desk,
+    script: &[u8],
+) -> Result<Served, AllocError>
+    ensures { Fulfils (calls.direct_console regs.old desk.old.desk.spot) script.now regs.old (B.memory bus.old) desk.old result regs.new (B.memory bus.new) desk.new }
+{
+    if regs.e == 0xff {
+        return direct_input(regs, bus, desk, script);
+    }
+    direct_output(regs, bus, desk)
+}
+
+// Function 6 with FFH in E, which takes a byte of the script where one is left.
+fn direct_input<B: Bus>(
+    regs: &mut Regs,
+    bus: &mut B,
+    desk: &mut Desk,
+    script: &[u8],
+) -> Result<Served, AllocError>
+    ensures { Fulfils (calls.direct_input regs.old desk.old.desk.spot) script.now regs.old (B.memory bus.old) desk.old result regs.new (B.memory bus.new) desk.new }
+{
+    let to = fetch_word(bus, regs.sp)?;
+    let Some(byte) = byte_at(script, desk.cursor()) else {
+        desk.look(1);
+        give_back(regs, 0, to);
+        return Ok(Served::Went);
+    };
+    desk.take(1);
+    give_back(regs, byte as u16, to);
+    Ok(Served::Went)
+}
+
+// Function 6 with another E, which sends it.
+#[tactic(auto, using(crate::proofs::Looking::by_two, crate::proofs::Looking::past_two, crate::proofs::Looking::here, crate::proofs::Looking::more, crate::proofs::Looking::all))]
+fn direct_output<B: Bus>(
+    regs: &mut Regs,
+    bus: &mut B,
+    desk: &mut Desk,
+) -> Result<Served, AllocError>
+    ensures { (script : List ℕ) → Fulfils (calls.direct_output regs.old desk.old.desk.spot) script regs.old (B.memory bus.old) desk.old result regs.new (B.memory bus.new) desk.new }
+{
+    let to = fetch_word(bus, regs.sp)?;
+    desk.append(regs.e)?;
+    give_back(regs, 0, to);
+    Ok(Served::Went)
+}
+
+// Function 11, which tells whether a byte of the script is left.
+fn console_status<B: Bus>(
+    regs: &mut Regs,
+    bus: &mut B,
+    desk: &mut Desk,
+    script: &[u8],
+) -> Result<Served, AllocError>
+    ensures { Fulfils (calls.console_status regs.old desk.old.desk.spot) script.now regs.old (B.memory bus.old) desk.old result regs.new (B.memory bus.new) desk.new }
+{
+    let to = fetch_word(bus, regs.sp)?;
+    let status = console_state(script, desk.cursor());
+    desk.look(1);
+    give_back(regs, status, to);
+    Ok(Served::Went)
+}
+
 // Function 2, which prints E.
+#[tactic(auto, using(crate::proofs::Looking::by_two, crate::proofs::Looking::past_two, crate::proofs::Looking::here, crate::proofs::Looking::more, crate::proofs::Looking::all))]
 fn console_output<B: Bus>(
     regs: &mut Regs,
     bus: &mut B,
     desk: &mut Desk,
 ) -> Result<Served, AllocError>
-    ensures { (script : List ℕ) → CarriesOut (returning_with 0 regs.old (printed desk.old regs.old.e) []) script regs.old (B.memory bus.old) desk.old result regs.new (B.memory bus.new) desk.new }
+    ensures { (script : List ℕ) → Fulfils (calls.console_output regs.old desk.old.desk.spot) script regs.old (B.memory bus.old) desk.old result regs.new (B.memory bus.new) desk.new }
 {
-    let to = return_address(bus, regs.sp)?;
+    let to = fetch_word(bus, regs.sp)?;
     desk.print(regs.e)?;
     give_back(regs, 0, to);
     Ok(Served::Went)
 }
 
+// Function 7, which gives the I/O byte.
+#[tactic(auto, using(crate::proofs::Looking::by_one, crate::proofs::Looking::past_one, crate::proofs::Looking::here, crate::proofs::Looking::more, crate::proofs::Looking::all))]
+fn get_io_byte<B: Bus>(regs: &mut Regs, bus: &mut B, desk: &Desk) -> Result<Served, AllocError>
+    ensures { (script : List ℕ) → Fulfils (calls.get_io_byte regs.old desk.now.desk.spot) script regs.old (B.memory bus.old) desk.now result regs.new (B.memory bus.new) desk.now }
+{
+    let byte = fetch(bus, IO_BYTE)?;
+    let to = fetch_word(bus, regs.sp)?;
+    give_back(regs, u16::from(byte), to);
+    Ok(Served::Went)
+}
+
+// Function 8, which sets the I/O byte to E.
+#[tactic(auto, using(crate::proofs::Looking::by_two, crate::proofs::Looking::here, crate::proofs::Looking::more, crate::proofs::Looking::all))]
+fn set_io_byte<B: Bus>(regs: &mut Regs, bus: &mut B, desk: &Desk) -> Result<Served, AllocError>
+    ensures { (script : List ℕ) → Fulfils (calls.set_io_byte regs.old desk.now.desk.spot) script regs.old (B.memory bus.old) desk.now result regs.new (B.memory bus.new) desk.now }
+{
+    let to = fetch_word(bus, regs.sp)?;
+    bus.ready(IO_BYTE)?;
+    bus.write(IO_BYTE, regs.e);
+    give_back(regs, 0, to);
+    Ok(Served::Went)
+}
+
+// Function 12, which gives the version.
+fn version_number<B: Bus>(regs: &mut Regs, bus: &mut B, desk: &Desk) -> Result<Served, AllocError>
+    ensures { (script : List ℕ) → Fulfils (calls.version_number regs.old desk.now.desk.spot) script regs.old (B.memory bus.old) desk.now result regs.new (B.memory bus.new) desk.now }
+{
+    let to = fetch_word(bus, regs.sp)?;
+    give_back(regs, VERSION, to);
+    Ok(Served::Went)
+}
+
 // Function 9, which prints the string at DE.
+#[tactic(auto, using(crate::proofs::Looking::by_two, crate::proofs::Looking::past_two, crate::proofs::Looking::here, crate::proofs::Looking::more, crate::proofs::Looking::all))]
 fn string_output<B: Bus>(
     regs: &mut Regs,
     bus: &mut B,
     desk: &mut Desk,
 ) -> Result<Served, AllocError>
-    ensures { (script : List ℕ) → CarriesOut (print_string regs.old desk.old) script regs.old (B.memory bus.old) desk.old result regs.new (B.memory bus.new) desk.new }
+    ensures { (script : List ℕ) → Fulfils (calls.string_output regs.old desk.old.desk.spot) script regs.old (B.memory bus.old) desk.old result regs.new (B.memory bus.new) desk.new }
 {
-    let to = return_address(bus, regs.sp)?;
+    let to = fetch_word(bus, regs.sp)?;
     if !print_string(bus, desk, word_of(regs.e, regs.d))? {
         return Ok(Served::Stop(Cause::NoDollar));
     }
@@ -64,18 +198,84 @@ fn string_output<B: Bus>(
     Ok(Served::Went)
 }
 
-// The word at SP.
-fn return_address<B: Bus>(bus: &mut B, sp: u16) -> Result<u16, AllocError>
-    ensures { Reads (word_at sp Done) (B.memory bus.old) result (B.memory bus.new) }
+// The script byte at a place, or that there is none.
+fn byte_at(script: &[u8], place: usize) -> Option<u8>
+    ensures byte { result ≡ slice_get script.now place }
+    ensures within { IsSome result → place < length script.now }
 {
-    let low = fetch(bus, sp)?;
-    let high = fetch(bus, sp.wrapping_add(1))?;
-    Ok(word_of(low, high))
+    script.get(place).copied()
+}
+
+// What function 11 gives where a place comes next.
+fn console_state(script: &[u8], place: usize) -> u16
+    ensures { result ≡ (if is_some (slice_get script.now place) then 0xff else 0) }
+{
+    if byte_at(script, place).is_some() {
+        0xff
+    } else {
+        0
+    }
+}
+
+// Function 10, which takes a line of the script.
+#[tactic(auto, using(crate::proofs::Looking::by_one, crate::proofs::Looking::at_first, crate::proofs::Looking::after_first))]
+fn line_input<B: Bus>(
+    regs: &mut Regs,
+    bus: &mut B,
+    desk: &mut Desk,
+    script: &[u8],
+) -> Result<Served, AllocError>
+    ensures { (n : ℕ) → length script.now ≤ n → Fulfils (calls.line_input n regs.old desk.old.desk.spot) script.now regs.old (B.memory bus.old) desk.old result regs.new (B.memory bus.new) desk.new }
+{
+    let at = word_of(regs.e, regs.d);
+    let capacity = fetch(bus, at)?;
+    let (line, taken) = match take_line(desk.allocator(), script, desk.cursor(), capacity)? {
+        LineEnd::Ended(line, taken) => (line, taken),
+        LineEnd::Booted(looks) => {
+            desk.look(looks);
+            return Ok(Served::Stop(Cause::WarmBoot));
+        }
+        LineEnd::Short(looks) => {
+            desk.look(looks);
+            return Ok(Served::Stop(Cause::ConsoleExhausted));
+        }
+    };
+    let to = fetch_word(bus, regs.sp)?;
+    ready_line(bus, at, line.len() as u8)?;
+    desk.send_all(line.sends())?;
+    desk.take(taken);
+    store_line(bus, at, line.text());
+    give_back(regs, 0, to);
+    Ok(Served::Went)
+}
+
+// Makes the cells of a line ready: the count's, and one for each byte.
+fn ready_line<B: Bus>(bus: &mut B, at: u16, count: u8) -> Result<(), AllocError>
+    ensures count { OnOk result (IsTrue (B.is_ready bus.new (onward at 1))) }
+    ensures text { OnOk result ((i : ℕ) → i < count → IsTrue (B.is_ready bus.new (onward (onward at 2) i))) }
+    ensures memory { B.memory bus.new ≡ B.memory bus.old }
+{
+    bus.ready(at.wrapping_add(1))?;
+    ready_cells(bus, at.wrapping_add(2), u16::from(count))
+}
+
+// Writes a line's cells, which are ready: the count's, and one for each byte.
+fn store_line<B: Bus>(bus: &mut B, at: u16, text: &[u8])
+    requires short { length text.now ≤ 255 }
+    requires count { IsTrue (B.is_ready bus.old (onward at 1)) }
+    requires text { (i : ℕ) → i < length text.now → IsTrue (B.is_ready bus.old (onward (onward at 2) i)) }
+    ensures own { (B.memory bus.new).own ≡ write_all (B.memory bus.old).own (line_cells at text.now) }
+    ensures looks { (B.memory bus.new).looks ≡ (B.memory bus.old).looks }
+    ensures beneath { (B.memory bus.new).beneath ≡ (B.memory bus.old).beneath }
+    ensures lender { (B.memory bus.new).lender ≡ (B.memory bus.old).lender }
+{
+    bus.write(at.wrapping_add(1), text.len() as u8);
+    write_cells(bus, at.wrapping_add(2), text);
 }
 
 // Returns with a value to an address.
 fn give_back(regs: &mut Regs, value: u16, to: u16)
-    ensures { regs.new ≡ returned value to regs.old }
+    ensures { regs.new ≡ at_caller value to regs.old }
 {
     let low = (value % 256) as u8;
     let high = (value / 256) as u8;
@@ -90,7 +290,8 @@ fn give_back(regs: &mut Regs, value: u16, to: u16)
 // Prints the string at an address, up to its `$`, and tells whether there is one. Where there is none, and on an `Err`,
 // the desk stays.
 fn print_string<B: Bus>(bus: &mut B, desk: &mut Desk, at: u16) -> Result<bool, AllocError>
-    ensures { Prints at (B.memory bus.old) desk.old result (B.memory bus.new) desk.new }
+    ensures prints { Prints at (B.memory bus.old) desk.old.desk result (B.memory bus.new) desk.new.desk }
+    ensures places { desk.new.places ≡ desk.old.places }
 {
     let mark = desk.mark();
     let found = print_until_dollar(bus, desk, at);
@@ -101,8 +302,10 @@ fn print_string<B: Bus>(bus: &mut B, desk: &mut Desk, at: u16) -> Result<bool, A
 }
 
 // Prints the bytes from an address on up to the first `$`, and tells whether there is one.
+#[tactic(auto, using(crate::proofs::Looking::one_more, crate::proofs::Looking::some_more, crate::proofs::Looking::here, crate::proofs::Scanning::bound_at))]
 fn print_until_dollar<B: Bus>(bus: &mut B, desk: &mut Desk, at: u16) -> Result<bool, AllocError>
-    ensures { Scans at (B.memory bus.old) desk.old result (B.memory bus.new) desk.new }
+    ensures scans { Scans at (B.memory bus.old) desk.old.desk result (B.memory bus.new) desk.new.desk }
+    ensures places { desk.new.places ≡ desk.old.places }
 {
     let mut address = at;
     for _cell in 0..65_536u32 {

@@ -1,12 +1,17 @@
 //! The calls of the BDOS of CP/M 2.2, over any memory.
 #![tactic(auto)]
 
-pub mod calls;
-pub mod cause;
-pub mod desk;
-pub mod served;
+mod calls;
+mod cause;
+mod desk;
+mod function;
+mod line;
+mod places;
+mod served;
 
 pub use calls::call;
 pub use cause::Cause;
 pub use desk::{Desk, Spot};
+pub use function::Function;
+pub use places::Places;
 pub use served::Served;

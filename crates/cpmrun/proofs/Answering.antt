@@ -4,8 +4,8 @@ use Rattle.std.proofs.lemmas.List.{append-nil}
 use Rattle.std.specs.Io.KnownBytes.{Appends, Consumes, IsAtEnd}
 use Rattle.std.proofs.KnownBytes.{Consumes-trans}
 use Rattle.machine.specs.Views.{Session}
-use Rattle.cpmrun.specs.declared.stream.Ending.{Ending}
-use Rattle.cpmrun.specs.declared.stream.ReplayFault.{ReplayFault}
+use Rattle.cpmrun.specs.declared.ending.Ending.{Ending}
+use Rattle.cpmrun.specs.declared.ending.ReplayFault.{ReplayFault}
 use Rattle.cpmrun.specs.Pieces.{lines_of}
 use Rattle.cpmrun.specs.Replay.{Finished, Replays}
 use Rattle.cpmrun.specs.Progress.{Faults, Finishes}

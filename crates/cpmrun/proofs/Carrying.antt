@@ -1,5 +1,5 @@
 -- Lines that are carried out one after the other.
-use Rattle.std.proofs.Common.{◌≡◌, ℕ, ◌+◌, ◌-◌, ◌≤◌, List, [], ◌∷◌, ◌++◌, length, take, drop, refl, sym, ap, ◌∙◌, arith, append_assoc, length-append, take-append-drop, Option, Some, Err}
+use Rattle.std.proofs.Common.{◌≡◌, ℕ, ◌+◌, ◌-◌, ◌≤◌, List, [], ◌∷◌, ◌++◌, length, take, drop, refl, sym, ap, subst, ◌∙◌, arith, append_assoc, length-append, take-append-drop, Option, Some, Err}
 use Rattle.std.proofs.lemmas.List.{append-nil}
 use Rattle.std.proofs.lemmas.List.Folds.{concat-append}
 use Rattle.std.proofs.Math.Seq.{take-append_seam}
@@ -8,16 +8,16 @@ use Rattle.std.specs.Io.KnownBytes.{Appends}
 use Rattle.std.proofs.KnownBytes.{Appends-trans}
 use Rattle.machine.specs.Views.{Session}
 use Rattle.cpmrun.specs.declared.line.Command.{Command}
-use Rattle.cpmrun.specs.declared.stream.ReplayFault.{ReplayFault}
-use Rattle.cpmrun.specs.declared.stream.ReplayFault.TheVariants.{Malformed, LineTooLong, Read, Write, OutOfMemory}
-use Rattle.cpmrun.specs.EditLine.{EditLine}
+use Rattle.cpmrun.specs.declared.ending.ReplayFault.{ReplayFault}
+use Rattle.cpmrun.specs.declared.ending.ReplayFault.TheVariants.{Malformed, LineTooLong, Read, Write, OutOfMemory}
+use Rattle.cpmrun.specs.EditLine.{EditLine, MayWantMemory}
 use Rattle.cpmrun.specs.Pieces.{lines_of, past_lines}
-use Rattle.cpmrun.specs.Replay.{Carries, Replays, MalformedAt, none, more, reply, after}
+use Rattle.cpmrun.specs.Replay.{Carries, Replays, MalformedAt, none, more, reply, session_after}
 use Rattle.cpmrun.specs.Progress.{BreaksOff, Faults, CarriesOut}
 
 -- one more line is carried out
 pub Carries-snoc : {s t : Session} {ls rs : List (List ℕ)} (l : List ℕ) (c : Command) → Carries s ls rs t → length l ≤ 65536
-    → EditLine l c → Carries s (ls ++ l ∷ []) (rs ++ reply t c ∷ []) (after t c)
+    → EditLine l c → Carries s (ls ++ l ∷ []) (rs ++ reply t c ∷ []) (session_after t c)
 Carries-snoc l c none short is = more c short is none
 Carries-snoc l c (more d short' is' rest) short is = more d short' is' (Carries-snoc l c rest short is)
 
@@ -40,15 +40,16 @@ take_most rs r =
 module _ (left : Option (List ℕ)) (first s t : Session) (held h₀ h₁ : Option (List ℕ)) (whole line : List ℕ) (done replies : List (List ℕ))
     (carried : Carries first done replies s) (written : Appends held h₀ (concat replies)) (few : length done ≤ 1000000) where
   -- no line more was carried out
-  pub stays_there : (others : List (List ℕ)) → lines_of whole ≡ done ++ others → length (past_lines (length done) whole) ≤ 131072
-      → BreaksOff first held whole s h₀
-  stays_there others cut near = record {
+  pub stays_there : (others : List (List ℕ)) → lines_of whole ≡ done ++ others
+      → ((rest : List ℕ) → left ≡ Some rest → (others : List (List ℕ)) × (lines_of (whole ++ rest) ≡ done ++ others))
+      → length (past_lines (length done) whole) ≤ 131072 → BreaksOff left first held whole s h₀
+  stays_there others cut cuts near = record {
     text = concat replies;
     written = written;
     done = done;
-    left = others;
     replies = replies;
-    cut = cut;
+    read = (others, cut);
+    cut = cuts;
     few = few;
     carried = carried;
     begins = ([], sym (append-nil (concat replies)));
@@ -91,13 +92,19 @@ module _ (left : Option (List ℕ)) (first s t : Session) (held h₀ h₁ : Opti
         text = concat replies ++ take m r;
         written = Appends-trans held h₀ h₁ (concat replies) (take m r) written h.4.1;
         done = done ++ line ∷ [];
-        left = others;
         replies = replies ++ r ∷ [];
-        cut = cut ∙ sym (append_assoc done (line ∷ []) others);
+        read = (others, cut ∙ sym (append_assoc done (line ∷ []) others));
+        cut = λ rest e. let more = cuts rest e in (more.0, more.1 ∙ sym (append_assoc done (line ∷ []) more.0));
         few = omega (arith, h.2, number, length-append done (line ∷ []));
         carried = rw h.3 (Carries-snoc line c carried short h.1);
         begins = (drop m r, concat-snoc replies r ∙ ap (λ x. concat replies ++ x) (sym (take-append-drop m r)) ∙ sym (append_assoc (concat replies) (take m r) (drop m r)));
         contains = (take m r, ap (λ x. concat x ++ take m r) (sym (take_most replies r)));
         near = let e : length (done ++ line ∷ []) ≡ length done + 1 = omega (arith, length-append done (line ∷ [])) in rw e near';
       }
-  Faults-from U n OutOfMemory number short others cut cuts near near' h = rw (h.0, h.1) (stays_there (line ∷ others) cut near)
+  Faults-from U n OutOfMemory number short others cut cuts near near' h = rw (h.2, h.3) (stays_there (line ∷ others) cut
+      (λ rest e. let more = cuts rest e in (line ∷ more.0, more.1)) near)
+
+-- want of memory is of a line that may want it
+pub wants : (U : Type 0) (n : ℕ) (line given : List ℕ) (s t : Session) (a b : Option (List ℕ)) (f : ReplayFault)
+    → given ≡ line → CarriesOut {U = U} n given s t a b (Err f) → f ≡ OutOfMemory → MayWantMemory line
+wants U n line given s t a b f same h e = subst MayWantMemory same (subst (λ x. CarriesOut {U = U} n given s t a b (Err x)) e h).1

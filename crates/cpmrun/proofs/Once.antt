@@ -4,7 +4,7 @@ use Rattle.std.specs.List.{concat}
 use Rattle.machine.specs.Views.{Session}
 use Rattle.cpmrun.specs.declared.line.Command.{Command}
 use Rattle.cpmrun.specs.EditLine.{EditLine}
-use Rattle.cpmrun.specs.Replay.{Carries, none, more, End, Finished, MalformedAt, TooLongAt, EndsAt, Replays, reply, after}
+use Rattle.cpmrun.specs.Replay.{Carries, none, more, End, Finished, MalformedAt, TooLongAt, EndsAt, Replays, reply, session_after}
 use Rattle.cpmrun.proofs.Grammar.{one_command_lem}
 
 ends_once : (n : ℕ) (left : List (List ℕ)) (d e : End) → EndsAt n left d → EndsAt n left e → d ≡ e
@@ -45,7 +45,7 @@ carried_once s t u (l ∷ ds) (l' ∷ es) _ _ n m k left others d e (more c shor
     let line : l' ≡ l = cc in
     let tail : ds ++ left ≡ es ++ others = cc in
     let one : c' ≡ c = sym (one_command_lem l c c' is (subst (λ z. EditLine z c') line is')) in
-    let again = carried_once (after s c) t u ds es _ _ (n + 1) m k left others d e rest (rw one at rest')
+    let again = carried_once (session_after s c) t u ds es _ _ (n + 1) m k left others d e rest (rw one at rest')
     tail (omega (arith, p)) (omega (arith, q)) few few' x y in
     (rw one (ap (λ rs. reply s c ∷ rs) again.0), again.1, again.2)
 

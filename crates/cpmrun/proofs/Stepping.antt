@@ -1,5 +1,5 @@
 -- What one more byte, and the end of the input, do to a replay.
-use Rattle.std.proofs.Common.{◌≡◌, ℕ, suc, ◌+◌, ◌-◌, ◌≤◌, ◌<◌, List, [], ◌∷◌, ◌++◌, length, refl, sym, ap, subst, ◌∙◌, arith, append_assoc, length-append, inl, inr, Option, Some, None, Err, false, eqb, eqb-true}
+use Rattle.std.proofs.Common.{◌≡◌, ℕ, suc, ◌+◌, ◌-◌, ◌≤◌, ◌<◌, List, [], ◌∷◌, ◌++◌, length, refl, sym, ap, subst, ◌∙◌, arith, append_assoc, length-append, inl, inr, Option, Some, Err, false, eqb, eqb-true}
 use Rattle.std.proofs.lemmas.Bool.{cases_Bool}
 use Rattle.std.proofs.lemmas.List.{append-nil}
 use Rattle.std.specs.List.{concat}
@@ -7,11 +7,11 @@ use Rattle.std.specs.Io.KnownBytes.{Appends, IsAtEnd}
 use Rattle.std.proofs.KnownBytes.{Appends-trans, Appends-nil}
 use Rattle.machine.specs.Views.{Session}
 use Rattle.cpmrun.specs.declared.line.Command.{Command}
-use Rattle.cpmrun.specs.declared.stream.ReplayFault.{ReplayFault}
+use Rattle.cpmrun.specs.declared.ending.ReplayFault.{ReplayFault}
 use Rattle.cpmrun.specs.EditLine.{EditLine}
 use Rattle.cpmrun.specs.Pieces.{first_piece, other_pieces, pieces, without_empty_last, lines_of, past_lines}
-use Rattle.cpmrun.specs.Replay.{none, Finished, TooLongAt, EndsAt, Replays, reply, after}
-use Rattle.cpmrun.specs.Progress.{Reached, EndsWith, BreaksOff, Faults, CarriesOut}
+use Rattle.cpmrun.specs.Replay.{none, Finished, TooLongAt, EndsAt, Replays, reply, session_after}
+use Rattle.cpmrun.specs.Progress.{StandsAt, EndsWith, BreaksOff, Faults, CarriesOut}
 use Rattle.cpmrun.proofs.Cutting.{pieces-append, past_lines-pieces, past_lines-last, lines_of-append, lines_of-pieces}
 use Rattle.cpmrun.proofs.Carrying.{Carries-snoc, concat-snoc, Faults-from, stays_there}
 
@@ -26,7 +26,7 @@ at_end : (left : Option (List ℕ)) (more : List ℕ) → IsAtEnd left → left 
 at_end left more end e = rw e at end
 
 -- nothing was read, and nothing written
-pub at_start : (s : Session) (held : Option (List ℕ)) → Reached s held [] s held [] 0
+pub at_start : (s : Session) (held : Option (List ℕ)) → StandsAt s held [] s held [] 0
 at_start s held = record {
   done = [];
   replies = [];
@@ -37,14 +37,14 @@ at_start s held = record {
 }
 
 -- nothing was read, and nothing will be
-pub at_once : (s : Session) (held : Option (List ℕ)) → BreaksOff s held [] s held
-at_once s held = record {
+pub at_once : (left : Option (List ℕ)) (s : Session) (held : Option (List ℕ)) → BreaksOff left s held [] s held
+at_once left s held = record {
   text = [];
   written = Appends-nil held;
   done = [];
-  left = [];
   replies = [];
-  cut = refl;
+  read = ([], refl);
+  cut = λ rest e. (lines_of rest, refl);
   few = omega arith;
   carried = none;
   begins = ([], refl);
@@ -59,7 +59,7 @@ ends_long n (b ∷ q) [] h = (refl, h)
 ends_long n (b ∷ q) (p ∷ qs) h = (refl, h)
 
 module _ (first : Session) (held : Option (List ℕ)) (bytes : List ℕ) (now : Session) (holds : Option (List ℕ)) (line : List ℕ) (count : ℕ)
-    (r : Reached first held bytes now holds line count) (few : count ≤ 1000000) (short : length line ≤ 65536) where
+    (r : StandsAt first held bytes now holds line count) (few : count ≤ 1000000) (short : length line ≤ 65536) where
   enough : length r.done ≤ 1000000
   enough = omega (arith, r.counted)
 
@@ -67,7 +67,7 @@ module _ (first : Session) (held : Option (List ℕ)) (bytes : List ℕ) (now : 
   cut_beside b ne = let f = not_cut b ne in let p = pieces-append 10 bytes (b ∷ []) r.done line r.cut in rw f at p
 
   -- the line goes on
-  pub line_grows : (b : ℕ) → (b ≡ 10 → ⊥) → Reached first held (bytes ++ b ∷ []) now holds (line ++ b ∷ []) count
+  pub line_grows : (b : ℕ) → (b ≡ 10 → ⊥) → StandsAt first held (bytes ++ b ∷ []) now holds (line ++ b ∷ []) count
   line_grows b ne = record {
     done = r.done;
     replies = r.replies;
@@ -91,8 +91,8 @@ module _ (first : Session) (held : Option (List ℕ)) (bytes : List ℕ) (now : 
   )
 
   -- its command was carried out
-  pub line_done : (t : Session) (h₁ : Option (List ℕ)) (c : Command) → EditLine line c → t ≡ after now c → Appends holds h₁ (reply now c)
-      → Reached first held (bytes ++ 10 ∷ []) t h₁ [] (count + 1)
+  pub line_done : (t : Session) (h₁ : Option (List ℕ)) (c : Command) → EditLine line c → t ≡ session_after now c → Appends holds h₁ (reply now c)
+      → StandsAt first held (bytes ++ 10 ∷ []) t h₁ [] (count + 1)
   line_done t h₁ c is e w = record {
     done = r.done ++ line ∷ [];
     replies = r.replies ++ reply now c ∷ [];
@@ -149,14 +149,22 @@ module _ (first : Session) (held : Option (List ℕ)) (bytes : List ℕ) (now : 
               (omega (arith, length-append (line ++ b ∷ []) (first_piece 10 (rest ++ more)), length-append line (b ∷ []))));
         }
 
+  -- the lines, where the line goes on with this byte and more
+  lines_on : (b : ℕ) (more : List ℕ) → (others : List (List ℕ)) × (lines_of ((bytes ++ b ∷ []) ++ more) ≡ r.done ++ others)
+  lines_on b more = (
+    without_empty_last ((line ++ first_piece 10 (b ∷ more)) ∷ other_pieces 10 (b ∷ more)),
+    ap lines_of (append_assoc bytes (b ∷ []) more) ∙ lines_of-append bytes (b ∷ more) r.done line r.cut,
+  )
+
   -- no memory for one more byte
-  pub line_stays : (b : ℕ) (rest : List ℕ) → length rest ≤ 65535 → BreaksOff first held ((bytes ++ b ∷ []) ++ rest) now holds
-  line_stays b rest few_more =
+  pub line_stays : (left : Option (List ℕ)) (b : ℕ) (rest : List ℕ) → length rest ≤ 65535
+      → BreaksOff left first held ((bytes ++ b ∷ []) ++ rest) now holds
+  line_stays left b rest few_more =
       let past : past_lines (length r.done) ((bytes ++ b ∷ []) ++ rest) ≡ line ++ (b ∷ rest) =
       ap (past_lines (length r.done)) (append_assoc bytes (b ∷ []) rest) ∙ past_lines-pieces bytes (b ∷ rest) r.done line r.cut in
-      stays_there None first now now held holds holds ((bytes ++ b ∷ []) ++ rest) line r.done r.replies r.carried r.written enough
-      (without_empty_last ((line ++ first_piece 10 (b ∷ rest)) ∷ other_pieces 10 (b ∷ rest)))
-      (ap lines_of (append_assoc bytes (b ∷ []) rest) ∙ lines_of-append bytes (b ∷ rest) r.done line r.cut)
+      stays_there left first now now held holds holds ((bytes ++ b ∷ []) ++ rest) line r.done r.replies r.carried r.written enough
+      (lines_on b rest).0 (lines_on b rest).1
+      (λ more e. let on = lines_on b (rest ++ more) in (on.0, ap lines_of (append_assoc (bytes ++ b ∷ []) rest more) ∙ on.1))
       (rw past (omega (arith, length-append line (b ∷ rest))))
 
   -- the input ends after a whole line
@@ -177,7 +185,7 @@ module _ (first : Session) (held : Option (List ℕ)) (bytes : List ℕ) (now : 
   lines_there some = lines_of-pieces bytes r.done line r.cut ∙ ap (λ ls. r.done ++ ls) (one_line line some)
 
   -- whose command was carried out
-  pub ends_done : 0 < length line → (t : Session) (h₁ : Option (List ℕ)) (c : Command) → EditLine line c → t ≡ after now c
+  pub ends_done : 0 < length line → (t : Session) (h₁ : Option (List ℕ)) (c : Command) → EditLine line c → t ≡ session_after now c
       → Appends holds h₁ (reply now c) → count + 1 ≤ 1000000
       → (text : List ℕ) × Appends held h₁ text × Replays first (lines_of bytes) text t (Finished (count + 1))
   ends_done some t h₁ c is e w fits = (

@@ -1,8 +1,8 @@
 -- The words of the program, and messages that are written whole or in part.
-use Rattle.std.proofs.Common.{◌≡◌, ℕ, ◌≤◌, ◌<◌, List, [], ◌∷◌, length, take, get_or, arith, Option, Result, Ok, Err, OnOk, OnErr, IfSome, Some, None}
+use Rattle.std.proofs.Common.{◌≡◌, ℕ, ◌+◌, ◌≤◌, ◌<◌, inl, inr, List, [], ◌∷◌, length, take, get_or, arith, Option, Result, Ok, Err, OnOk, OnErr, IfSome, Some, None}
 use Rattle.std.specs.Option.{option_map}
-use Rattle.std.proofs.lemmas.List.{take_all}
 use Rattle.std.specs.Io.KnownBytes.{Appends}
+use Rattle.cpmrun.specs.Program.{WritesOrFails}
 
 -- a list of three members is its members
 pub three_members : {A : Type 0} (xs : List A) (a b c : A) → 3 ≤ length xs → length xs < 4
@@ -13,11 +13,11 @@ three_members (x ∷ y ∷ []) a b c h k e f g = absurd (omega arith)
 three_members (x ∷ y ∷ z ∷ []) a b c h k e f g = cc
 three_members (x ∷ y ∷ z ∷ w ∷ xs) a b c h k e f g = absurd (omega arith)
 
--- a whole text or a part of it is a beginning of it
-pub begun : {U F : Type 0} (r : Result U F) (a b : Option (List ℕ)) (text : List ℕ) → OnOk r (Appends a b text)
-    → OnErr r ((n : ℕ) × Appends a b (take n text)) → (n : ℕ) × Appends a b (take n text)
-begun (Ok u) a b text whole part = (length text, rw (take_all (length text) text (omega arith)) whole)
-begun (Err f) a b text whole part = part
+-- what was written whole, or in part where writing failed
+pub written_or_failed : {U F : Type 0} (r : Result U F) (a b : Option (List ℕ)) (m n : ℕ) (text : List ℕ) → OnOk r (Appends a b text)
+    → OnErr r ((k : ℕ) × Appends a b (take k text)) → OnErr r (n ≡ m + 1) → WritesOrFails a b m n text
+written_or_failed (Ok u) a b m n text whole part more = inl whole
+written_or_failed (Err f) a b m n text whole part more = inr (omega (arith, more), part)
 
 -- what a reader of so many bytes gives
 pub up_to : (r : Option (List ℕ)) (n : ℕ) (got : List ℕ) → IfSome (option_map (take n) r) (λ xs. got ≡ xs)

@@ -1,5 +1,4 @@
--- A text cut at a byte: its lines and its words. (That a line ends with 0AH and that one blank stands between words:
--- this project's profile.)
+-- A text cut at a byte: its lines, which end with 0AH, and the words of a line, between which one blank stands.
 use Rattle.std.specs.Prelude.{ℕ, ◌==◌, if◌then◌else◌, List, [], ◌∷◌}
 use Rattle.std.proofs.Common.{zero, suc}
 

@@ -1,18 +1,18 @@
--- Where a replay stands, and what holds after each fault. (What is promised after a fault: this project's profile.)
+-- Where a replay stands, and what holds after each fault.
 use Rattle.std.specs.Prelude.{◌≡◌, ℕ, ◌-◌, ◌≤◌, List, [], ◌∷◌, ◌++◌, length, take, Option, Some, Result, Ok, Err}
 use Rattle.std.specs.List.{concat}
 use Rattle.std.specs.Io.KnownBytes.{Appends, IsAtEnd}
 use Rattle.machine.specs.Views.{Session}
 use Rattle.cpmrun.specs.declared.line.Command.{Command}
-use Rattle.cpmrun.specs.declared.stream.Ending.{Ending}
-use Rattle.cpmrun.specs.declared.stream.ReplayFault.{ReplayFault}
-use Rattle.cpmrun.specs.declared.stream.ReplayFault.TheVariants.{Malformed, LineTooLong, Read, Write, OutOfMemory}
-use Rattle.cpmrun.specs.EditLine.{EditLine}
+use Rattle.cpmrun.specs.declared.ending.Ending.{Ending}
+use Rattle.cpmrun.specs.declared.ending.ReplayFault.{ReplayFault}
+use Rattle.cpmrun.specs.declared.ending.ReplayFault.TheVariants.{Malformed, LineTooLong, Read, Write, OutOfMemory}
+use Rattle.cpmrun.specs.EditLine.{EditLine, WantsMemory, MayWantMemory}
 use Rattle.cpmrun.specs.Pieces.{pieces, lines_of, past_lines}
-use Rattle.cpmrun.specs.Replay.{Carries, End, Finished, MalformedAt, TooLongAt, IsMalformed, Replays, reply, after}
+use Rattle.cpmrun.specs.Replay.{Carries, End, Finished, MalformedAt, TooLongAt, IsMalformed, Replays, reply, session_after}
 
 -- the bytes read so far are whole lines, all carried out, and the beginning of one more
-pub record Reached (first : Session) (held : Option (List ℕ)) (bytes : List ℕ) (now : Session) (holds : Option (List ℕ)) (line : List ℕ) (count : ℕ) : Type 0 where
+pub record StandsAt (first : Session) (held : Option (List ℕ)) (bytes : List ℕ) (now : Session) (holds : Option (List ℕ)) (line : List ℕ) (count : ℕ) : Type 0 where
   pub done : List (List ℕ)
   pub replies : List (List ℕ)
   pub cut : pieces 10 bytes ≡ done ++ line ∷ []
@@ -29,14 +29,15 @@ pub record EndsWith (left : Option (List ℕ)) (first : Session) (held : Option 
   pub some : (rest : List ℕ) × Replays first (lines_of (bytes ++ rest)) text now end
   pub near : length (past_lines (k - 1) bytes) ≤ 131072
 
--- some first lines were carried out, and all their replies but the last were written whole, that one in part
-pub record BreaksOff (first : Session) (held : Option (List ℕ)) (bytes : List ℕ) (now : Session) (holds : Option (List ℕ)) : Type 0 where
+-- some first lines were read and carried out, and all their replies but the last were written whole, that one in part; they
+-- are the first lines of the bytes that were read, and of these and those that are left where the reader tells that
+pub record BreaksOff (left : Option (List ℕ)) (first : Session) (held : Option (List ℕ)) (bytes : List ℕ) (now : Session) (holds : Option (List ℕ)) : Type 0 where
   pub text : List ℕ
   pub written : Appends held holds text
   pub done : List (List ℕ)
-  pub left : List (List ℕ)
   pub replies : List (List ℕ)
-  pub cut : lines_of bytes ≡ done ++ left
+  pub read : (others : List (List ℕ)) × (lines_of bytes ≡ done ++ others)
+  pub cut : (rest : List ℕ) → left ≡ Some rest → (others : List (List ℕ)) × (lines_of (bytes ++ rest) ≡ done ++ others)
   pub few : length done ≤ 1000000
   pub carried : Carries first done replies now
   pub begins : (rest : List ℕ) × (concat replies ≡ text ++ rest)
@@ -58,14 +59,14 @@ abbrev pub Faults : Option (List ℕ) → Session → Option (List ℕ) → List
 Faults left first held bytes now holds (Malformed k) = EndsWith left first held bytes now holds k (MalformedAt k)
 Faults left first held bytes now holds (LineTooLong k) = EndsWith left first held bytes now holds k (TooLongAt k)
 Faults left first held bytes now holds Read = ReadsNoMore first held bytes now holds
-Faults left first held bytes now holds Write = BreaksOff first held bytes now holds
-Faults left first held bytes now holds OutOfMemory = BreaksOff first held bytes now holds
+Faults left first held bytes now holds Write = BreaksOff left first held bytes now holds
+Faults left first held bytes now holds OutOfMemory = BreaksOff left first held bytes now holds
 
--- what carrying out a command answers: its reply is written, whole or in part, or nothing was done
+-- what carrying out a command answers: its reply is written, whole or in part, or memory was wanted and nothing was done
 abbrev pub Does : {U : Type 0} → Command → Session → Session → Option (List ℕ) → Option (List ℕ) → Result U ReplayFault → Type 0
-Does c s t held holds (Ok _) = (t ≡ after s c) × Appends held holds (reply s c)
-Does c s t held holds (Err Write) = (t ≡ after s c) × ((m : ℕ) × Appends held holds (take m (reply s c)))
-Does c s t held holds (Err OutOfMemory) = (t ≡ s) × (holds ≡ held)
+Does c s t held holds (Ok _) = (t ≡ session_after s c) × Appends held holds (reply s c)
+Does c s t held holds (Err Write) = (t ≡ session_after s c) × ((m : ℕ) × Appends held holds (take m (reply s c)))
+Does c s t held holds (Err OutOfMemory) = WantsMemory c × (t ≡ s) × (holds ≡ held)
 Does c s t held holds (Err (Malformed k)) = ⊥
 Does c s t held holds (Err (LineTooLong k)) = ⊥
 Does c s t held holds (Err Read) = ⊥
@@ -73,17 +74,17 @@ Does c s t held holds (Err Read) = ⊥
 -- what carrying out line number n answers
 abbrev pub CarriesOut : {U : Type 0} → ℕ → List ℕ → Session → Session → Option (List ℕ) → Option (List ℕ) → Result U ReplayFault → Type 0
 CarriesOut n line s t held holds (Ok u) =
-    (c : Command) × EditLine line c × (n ≤ 1000000) × (t ≡ after s c) × Appends held holds (reply s c)
+    (c : Command) × EditLine line c × (n ≤ 1000000) × (t ≡ session_after s c) × Appends held holds (reply s c)
 CarriesOut n line s t held holds (Err Write) =
-    (c : Command) × EditLine line c × (n ≤ 1000000) × (t ≡ after s c) × ((m : ℕ) × Appends held holds (take m (reply s c)))
-CarriesOut n line s t held holds (Err OutOfMemory) = (t ≡ s) × (holds ≡ held)
+    (c : Command) × EditLine line c × (n ≤ 1000000) × (t ≡ session_after s c) × ((m : ℕ) × Appends held holds (take m (reply s c)))
+CarriesOut n line s t held holds (Err OutOfMemory) = (n ≤ 1000000) × MayWantMemory line × (t ≡ s) × (holds ≡ held)
 CarriesOut n line s t held holds (Err (Malformed k)) = (k ≡ n) × IsMalformed n line × (t ≡ s) × (holds ≡ held)
 CarriesOut n line s t held holds (Err (LineTooLong k)) = ⊥
 CarriesOut n line s t held holds (Err Read) = ⊥
 
 -- what a step over some bytes answers, where the rest was read too
 abbrev pub Goes : {U : Type 0} → Session → Option (List ℕ) → List ℕ → List ℕ → Session → Option (List ℕ) → List ℕ → ℕ → Result U ReplayFault → Type 0
-Goes first held bytes rest now holds line count (Ok _) = Reached first held bytes now holds line count
+Goes first held bytes rest now holds line count (Ok _) = StandsAt first held bytes now holds line count
 Goes first held bytes rest now holds line count (Err f) = (left : Option (List ℕ)) → length rest ≤ 65535 → Faults left first held (bytes ++ rest) now holds f
 
 -- what the end of the input answers

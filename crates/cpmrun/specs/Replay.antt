@@ -1,5 +1,5 @@
 -- What a replay of an edit text does: a reply to each line in turn, up to the first line that is too long or malformed.
--- (The replies, and 65,536 bytes a line and 1,000,000 lines at most: this project's profile.)
+-- A line has 65,536 bytes at most, and a text 1,000,000 lines.
 use Rattle.std.specs.Prelude.{◌≡◌, ℕ, ◌+◌, ◌<◌, ◌≤◌, ◌⊎◌, List, [], ◌∷◌, ◌++◌, length, codes, Result, Ok, Err}
 use Rattle.std.specs.Fmt.{decimal}
 use Rattle.std.specs.List.{concat}
@@ -7,7 +7,7 @@ use Rattle.machine.specs.Views.{Session}
 use Rattle.replay.specs.Cold.{cold}
 use Rattle.replay.specs.Edits.{edited}
 use Rattle.cpmrun.specs.declared.line.Command.{Command}
-use Rattle.cpmrun.specs.declared.line.Command.TheVariants.{Change, Run, Forget}
+use Rattle.cpmrun.specs.declared.line.Command.TheVariants.{Edit, Run, DropOldest}
 use Rattle.cpmrun.specs.EditLine.{EditLine}
 use Rattle.cpmrun.specs.ReportText.{line, report_text}
 
@@ -23,20 +23,20 @@ edit_after s (Err n) = s
 
 -- the reply to a command, and the session after it
 abbrev pub reply : Session → Command → List ℕ
-reply s (Change e) = edit_reply (edited s e)
+reply s (Edit e) = edit_reply (edited s e)
 reply s Run = report_text (cold s)
-reply s (Forget n) = line (codes "ok")
+reply s (DropOldest n) = line (codes "ok")
 
-abbrev pub after : Session → Command → Session
-after s (Change e) = edit_after s (edited s e)
-after s Run = s
-after s (Forget n) = s
+abbrev pub session_after : Session → Command → Session
+session_after s (Edit e) = edit_after s (edited s e)
+session_after s Run = s
+session_after s (DropOldest n) = s
 
 -- the lines are carried out in turn, each with its reply, from the first session to the last
 pub data Carries : Session → List (List ℕ) → List (List ℕ) → Session → Type 0 where
   none : {s : Session} → Carries s [] [] s
   more : {s t : Session} {l : List ℕ} {ls rs : List (List ℕ)} (c : Command) → length l ≤ 65536 → EditLine l c
-      → Carries (after s c) ls rs t → Carries s (l ∷ ls) (reply s c ∷ rs) t
+      → Carries (session_after s c) ls rs t → Carries s (l ∷ ls) (reply s c ∷ rs) t
 
 -- how a replay ends: after so many lines, or at a line
 pub data End : Type 0 where

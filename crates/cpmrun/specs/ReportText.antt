@@ -1,4 +1,4 @@
--- The texts that a replay writes. (The report and its lines: this project's profile.)
+-- The texts that a replay writes: the report and its lines.
 use Rattle.std.specs.Prelude.{ℕ, ◌/◌, ◌%◌, List, [], ◌∷◌, ◌++◌, codes}
 use Rattle.std.specs.Fmt.{decimal}
 use Rattle.hex.specs.Hex.{encode_lower, encode_upper}

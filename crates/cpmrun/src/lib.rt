@@ -2,14 +2,20 @@
 //! the program but for its `main`.
 #![tactic(auto)]
 
-pub mod ends;
-pub mod line;
-pub mod program;
-pub mod reply;
-pub mod stream;
+mod carry_out;
+mod command_line;
+mod ending;
+mod ends;
+mod fault;
+mod line;
+mod program_file;
+mod reply;
+mod stream;
 
+pub use command_line::command;
+pub use ending::{Ending, ReplayFault};
 pub use ends::{Failed, Over, Reader, Writer, write_all};
+pub use fault::{Fault, complain};
 pub use line::{Command, one_command, parse_line};
-pub use program::{Fault, command, complain};
 pub use reply::{cause_text, refused, report_of};
-pub use stream::{Ending, ReplayFault, one_replay, replay};
+pub use stream::{one_replay, replay};

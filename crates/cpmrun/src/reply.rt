@@ -1,10 +1,8 @@
-// The texts that a replay writes.
-
 ghost use Rattle.std.specs.Prelude.{◌≡◌, ◌<◌, ◌++◌, IfOk, OnOk, codes, string_bytes};
 ghost use Rattle.std.specs.Fmt.{decimal};
 ghost use Rattle.cpmrun.specs.ReportText as texts;
 ghost use Rattle.cpmrun.specs.ReportText.{byte_text, word_text, hex_text, line, regs_text, report_text};
-ghost use Rattle.replay.specs.Report.{shown};
+ghost use Rattle.replay.specs.Report.{reported_run};
 
 use machine::{Cause, Regs};
 use replay::Report;
@@ -111,7 +109,7 @@ fn regs_line(alloc: Global, regs: Regs) -> Result<String, AllocError>
 /// The reply to `run`: the lines `stop`, `steps`, `regs`, `text` and `end`, each with its 0AH. An
 /// error is want of memory for the text.
 pub fn report_of(alloc: Global, report: &Report<'_>) -> Result<String, AllocError>
-    ensures { IfOk result (λ s. string_bytes s ≡ report_text (shown report.now)) }
+    ensures { IfOk result (λ s. string_bytes s ≡ report_text (reported_run report.now)) }
 {
     let cause = cause_text(alloc, report.cause())?;
     let steps = report.steps();

@@ -1,140 +1,17 @@
-// The replay of edit lines from a reader, with their replies to a writer.
-
-ghost use Rattle.std.specs.Prelude.{◌≡◌, ℕ, ◌+◌, ◌*◌, ◌^◌, ◌<◌, ◌≤◌, List, Option, ◌∷◌, ◌++◌, [], length, drop, IfOk, OnOk, IfErr, vec_len};
+ghost use Rattle.std.specs.Prelude.{◌≡◌, ℕ, ◌+◌, ◌*◌, ◌^◌, ◌<◌, ◌≤◌, ◌⊎◌, List, Option, ◌∷◌, ◌++◌, [], length, IfOk, OnOk, IfErr, vec_len};
 ghost use Rattle.std.specs.Io.KnownBytes.{Appends, Consumes, IsAtEnd};
 ghost use Rattle.machine.specs.Views.{Session};
+ghost use Rattle.cpmrun.specs.EditLine.{MayWantMemory};
 ghost use Rattle.cpmrun.specs.Pieces.{lines_of};
 ghost use Rattle.cpmrun.specs.Replay.{End, Finished, Replays};
-ghost use Rattle.cpmrun.specs.Progress.{CarriesOut, Does, Faults, Finishes, Goes, Reached};
+ghost use Rattle.cpmrun.specs.Progress.{Faults, Finishes, Goes, StandsAt};
 
-use crate::ends::{Failed, Reader, Writer, write_all};
-use crate::line::{Command, parse_line};
-use crate::reply::{refused, report_of};
-use machine::Meter;
-use replay::{Edit, EditError, Runner};
+use crate::carry_out::carry_out;
+use crate::ending::{Ending, ReplayFault};
+use crate::ends::{Reader, Writer};
+use machine::{Meter, STEP_LIMIT};
+use replay::Runner;
 use std::alloc::Global;
-use thiserror::Error;
-
-/// How a replay ends without a fault.
-#[derive(Clone, Copy, Debug)]
-pub struct Ending {
-    /// The count of lines, all of which were carried out: at most 1,000,000.
-    pub lines: u64,
-}
-
-/// Why a replay ends early. Lines are numbered from 1.
-#[derive(Clone, Copy, Debug, PartialEq, Eq, Error)]
-pub enum ReplayFault {
-    /// The line of this number is no edit line, or it is past the 1,000,000th. The lines before it
-    /// were carried out, and exactly their replies written.
-    #[error("line {0} is malformed")]
-    Malformed(u64),
-    /// The line of this number has more than 65,536 bytes. The lines before it were carried out, and
-    /// exactly their replies written.
-    #[error("line {0} is too long")]
-    LineTooLong(u64),
-    /// The reader failed. The lines whose 0AH was read were carried out, and exactly their replies
-    /// written.
-    #[error("the edit lines could not be read")]
-    Read,
-    /// The writer failed. Some first lines were carried out, and a beginning of their replies written.
-    #[error("the replies could not be written")]
-    Write,
-    /// Memory was wanted and refused. Some first lines were carried out, and a beginning of their
-    /// replies written.
-    #[error("out of memory")]
-    OutOfMemory,
-}
-
-/// Carries out an edit and writes its reply.
-fn change<W: Writer>(runner: &mut Runner, edit: Edit, writer: &mut W) -> Result<(), ReplayFault>
-    requires { W.failures writer.old < 2 ^ 63 }
-    ensures does { Does (Command.Change edit) runner.old.session runner.new.session (W.holds writer.old) (W.holds writer.new) result }
-    ensures fine { OnOk result (W.failures writer.new ≡ W.failures writer.old) }
-    ensures failed { result ≡ Err ReplayFault.Write → W.failures writer.old < W.failures writer.new }
-{
-    let written = match runner.edit(edit) {
-        Ok(()) => write_all(writer, b"ok\n".as_slice()),
-        Err(EditError::OutOfMemory) => return Err(ReplayFault::OutOfMemory),
-        Err(refusal) => write_all(writer, refused(refusal.number()).as_slice()),
-    };
-    match written {
-        Ok(()) => Ok(()),
-        Err(Failed) => Err(ReplayFault::Write),
-    }
-}
-
-/// Drops some of the oldest checkpoints and writes the reply.
-fn forget<W: Writer>(runner: &mut Runner, count: u64, writer: &mut W) -> Result<(), ReplayFault>
-    requires { W.failures writer.old < 2 ^ 63 }
-    ensures does { Does (Command.Forget count) runner.old.session runner.new.session (W.holds writer.old) (W.holds writer.new) result }
-    ensures dropped { runner.new ≡ record runner.old { checkpoints = drop count runner.old.checkpoints } }
-    ensures fine { OnOk result (W.failures writer.new ≡ W.failures writer.old) }
-    ensures failed { result ≡ Err ReplayFault.Write → W.failures writer.old < W.failures writer.new }
-{
-    runner.drop_oldest(count);
-    match write_all(writer, b"ok\n".as_slice()) {
-        Ok(()) => Ok(()),
-        Err(Failed) => Err(ReplayFault::Write),
-    }
-}
-
-/// Runs the session and writes its report.
-fn run<W: Writer>(
-    alloc: Global,
-    runner: &mut Runner,
-    meter: &mut Meter,
-    writer: &mut W,
-) -> Result<(), ReplayFault>
-    requires writer { W.failures writer.old < 2 ^ 63 }
-    requires meter { meter.old ≤ 2 ^ 63 }
-    ensures does { Does Command.Run runner.old.session runner.new.session (W.holds writer.old) (W.holds writer.new) result }
-    ensures fine { OnOk result (W.failures writer.new ≡ W.failures writer.old) }
-    ensures failed { result ≡ Err ReplayFault.Write → W.failures writer.old < W.failures writer.new }
-    ensures meter { meter.new ≤ meter.old + 4000000000 }
-{
-    let Ok(report) = runner.rerun(meter) else {
-        return Err(ReplayFault::OutOfMemory);
-    };
-    let Ok(text) = report_of(alloc, &report) else {
-        return Err(ReplayFault::OutOfMemory);
-    };
-    match write_all(writer, text.as_bytes()) {
-        Ok(()) => Ok(()),
-        Err(Failed) => Err(ReplayFault::Write),
-    }
-}
-
-/// Carries out a line by its number.
-fn carry_out<W: Writer>(
-    alloc: Global,
-    line: &[u8],
-    number: u64,
-    runner: &mut Runner,
-    meter: &mut Meter,
-    writer: &mut W,
-) -> Result<(), ReplayFault>
-    requires writer { W.failures writer.old < 2 ^ 63 }
-    requires meter { meter.old ≤ 2 ^ 63 }
-    ensures carries { CarriesOut number line.now runner.old.session runner.new.session (W.holds writer.old) (W.holds writer.new) result }
-    ensures fine { OnOk result (W.failures writer.new ≡ W.failures writer.old) }
-    ensures failed { result ≡ Err ReplayFault.Write → W.failures writer.old < W.failures writer.new }
-    ensures reads { result ≡ Err ReplayFault.Read → ⊥ }
-    ensures meter { meter.new ≤ meter.old + 4000000000 }
-{
-    if number > 1_000_000 {
-        return Err(ReplayFault::Malformed(number));
-    }
-    let Ok(parsed) = parse_line(alloc, line) else {
-        return Err(ReplayFault::OutOfMemory);
-    };
-    match parsed {
-        None => Err(ReplayFault::Malformed(number)),
-        Some(Command::Change(edit)) => change(runner, edit, writer),
-        Some(Command::Run) => run(alloc, runner, meter, writer),
-        Some(Command::Forget(count)) => forget(runner, count, writer),
-    }
-}
 
 /// The beginning of a line that was read, and how many lines were carried out.
 #[derive(Drop)]
@@ -155,15 +32,16 @@ fn take_byte<W: Writer>(
     byte: u8,
 ) -> Result<(), ReplayFault>
     requires writer { W.failures writer.old < 2 ^ 63 }
-    requires meter { meter.old ≤ 4000000000 * place.old.lines }
+    requires meter { meter.old ≤ STEP_LIMIT * place.old.lines }
     ensures goes { (first : Session) (held : Option (List ℕ)) (bytes rest : List ℕ)
-        → Reached first held bytes runner.old.session (W.holds writer.old) place.old.line.items place.old.lines
+        → StandsAt first held bytes runner.old.session (W.holds writer.old) place.old.line.items place.old.lines
         → Goes first held (bytes ++ byte ∷ []) rest runner.new.session (W.holds writer.new) place.new.line.items place.new.lines result }
     ensures fine { OnOk result (W.failures writer.new ≡ W.failures writer.old) }
     ensures failed { result ≡ Err ReplayFault.Write → W.failures writer.old < W.failures writer.new }
     ensures reads { result ≡ Err ReplayFault.Read → ⊥ }
-    ensures meter { OnOk result (meter.new ≤ 4000000000 * place.new.lines) }
+    ensures meter { OnOk result (meter.new ≤ STEP_LIMIT * place.new.lines) }
     ensures on { OnOk result (65537 * place.old.lines + vec_len place.old.line < 65537 * place.new.lines + vec_len place.new.line) }
+    ensures memory { result ≡ Err ReplayFault.OutOfMemory → ((byte ≡ 10 → ⊥) × (vec_len place.old.line < 65536)) ⊎ ((byte ≡ 10) × MayWantMemory place.old.line.items) }
 {
     if byte != b'\n' {
         if place.line.len() == 65_536 {
@@ -197,15 +75,15 @@ fn take_piece<W: Writer>(
     piece: &[u8],
 ) -> Result<(), ReplayFault>
     requires writer { W.failures writer.old < 2 ^ 63 }
-    requires meter { meter.old ≤ 4000000000 * place.old.lines }
+    requires meter { meter.old ≤ STEP_LIMIT * place.old.lines }
     requires small { length piece.now ≤ 65535 }
     ensures goes { (first : Session) (held : Option (List ℕ)) (bytes : List ℕ)
-        → Reached first held bytes runner.old.session (W.holds writer.old) place.old.line.items place.old.lines
+        → StandsAt first held bytes runner.old.session (W.holds writer.old) place.old.line.items place.old.lines
         → Goes first held (bytes ++ piece.now) [] runner.new.session (W.holds writer.new) place.new.line.items place.new.lines result }
     ensures fine { OnOk result (W.failures writer.new ≡ W.failures writer.old) }
     ensures failed { result ≡ Err ReplayFault.Write → W.failures writer.old < W.failures writer.new }
     ensures reads { result ≡ Err ReplayFault.Read → ⊥ }
-    ensures meter { OnOk result (meter.new ≤ 4000000000 * place.new.lines) }
+    ensures meter { OnOk result (meter.new ≤ STEP_LIMIT * place.new.lines) }
     ensures on { OnOk result (65537 * place.old.lines + vec_len place.old.line + length piece.now ≤ 65537 * place.new.lines + vec_len place.new.line) }
 {
     for byte in piece {
@@ -223,10 +101,11 @@ fn finish<W: Writer>(
     writer: &mut W,
 ) -> Result<Ending, ReplayFault>
     requires writer { W.failures writer.old < 2 ^ 63 }
-    requires meter { meter.old ≤ 4000000000 * place.lines }
+    requires meter { meter.old ≤ STEP_LIMIT * place.lines }
     ensures ends { (first : Session) (held : Option (List ℕ)) (bytes : List ℕ)
-        → Reached first held bytes runner.old.session (W.holds writer.old) place.line.items place.lines
+        → StandsAt first held bytes runner.old.session (W.holds writer.old) place.line.items place.lines
         → Finishes first held bytes runner.new.session (W.holds writer.new) result }
+    ensures memory { result ≡ Err ReplayFault.OutOfMemory → MayWantMemory place.line.items }
     ensures failed { result ≡ Err ReplayFault.Write → W.failures writer.old < W.failures writer.new }
     ensures reads { result ≡ Err ReplayFault.Read → ⊥ }
 {

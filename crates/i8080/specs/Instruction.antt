@@ -1,5 +1,5 @@
 -- What each instruction reads, and what it then does: the Intel 8080 Microcomputer Systems User's Manual, instruction set.
--- Where this project's profile takes the place of the manual, the definition says so.
+-- Where something else takes the place of the manual, the definition says so.
 use Rattle.std.specs.Prelude.{ℕ, ◌+◌, ◌-◌, ◌*◌, ◌/◌, ◌%◌, ◌^◌, ◌==◌, ◌||◌, not, nat_le, nat_lt, if◌then◌else◌, Bool, true, false, bit_and, bit_or, bit_xor, List, [], ◌∷◌, Option, Some, None}
 use Rattle.i8080.specs.declared.registers.Regs.{Regs}
 use Rattle.i8080.specs.declared.flags.Flags.{Flags}
@@ -47,7 +47,7 @@ difference_into x borrow r =
 abbrev pub logic_into : ℕ → Bool → Regs → Regs
 logic_into v ac r = record r { a = v; flags = flags_after v ac false }
 
--- XRA and ORA clear AC. AC of ANA and ANI is the OR of bit 3 of both operands: this project's profile
+-- XRA and ORA clear AC. AC of ANA and ANI is the OR of bit 3 of both operands, beyond the manual
 abbrev pub accumulate : Arithmetic → ℕ → Regs → Regs
 accumulate Add x r = sum_into x 0 r
 accumulate Adc x r = sum_into x (bit r.flags.cy) r
@@ -160,7 +160,7 @@ popped r = record r { sp = onward r.sp 2 }
 abbrev pub jumped : ℕ → Regs → Regs
 jumped to r = record r { pc = to }
 
--- an instruction, from the registers before it. IN gives 0FFH, and OUT, DI and EI do nothing: this project's profile
+-- an instruction, from the registers before it. Beyond the manual, IN gives 0FFH, and OUT, DI and EI do nothing
 abbrev pub operation : Op → Regs → Reading End
 operation Nop r = went (advance 1 r)
 operation Hlt r = Done Halt

@@ -1,6 +1,6 @@
--- Memory as an instruction sees it: bytes by address, as in the Intel 8080 Microcomputer Systems User's Manual. What counts
--- as a look: this project's profile.
-use Rattle.std.specs.Prelude.{◌==◌, ◌||◌, if◌then◌else◌, ℕ, Bool, false, List, [], ◌∷◌, ◌++◌, Option, Some, is_some, unwrap_or}
+-- Memory as an instruction sees it: bytes by address, as in the Intel 8080 Microcomputer Systems User's Manual; and what counts
+-- as a look.
+use Rattle.std.specs.Prelude.{◌≡◌, ◌==◌, ◌||◌, if◌then◌else◌, ℕ, Bool, false, List, [], ◌∷◌, ◌++◌, length, take, Option, Some, is_some, unwrap_or}
 use Rattle.std.specs.Borrow.{GName}
 
 -- what was written at each address, if anything was
@@ -40,6 +40,10 @@ write own a v = λ q. if q == a then Some v else own q
 abbrev pub look_all : Own → List ℕ → Looks → Looks
 look_all own [] looks = looks
 look_all own (a ∷ rest) looks = look_all own rest (look own looks a)
+
+-- more addresses after these
+abbrev pub Extends : List ℕ → List ℕ → Type 0
+Extends old new = take (length old) new ≡ old
 
 -- several writes, in order
 abbrev pub write_all : Own → List (ℕ × ℕ) → Own

@@ -1,18 +1,19 @@
-// A memory of 65,536 cells, behind whatever keeps it.
-
-ghost use Rattle.std.specs.Prelude.{◌≡◌, ℕ, Bool, IsTrue, OnOk, OnErr, Option};
-ghost use Rattle.i8080.specs.Memory.{Memory, bytes, look, write};
+ghost use Rattle.std.specs.Prelude.{◌≡◌, ◌<◌, ℕ, Bool, IsTrue, OnOk, OnErr, Option, length};
+ghost use Rattle.i8080.specs.Memory.{Memory, bytes, look, write, write_all};
 ghost use Rattle.i8080.specs.Reading.{Cell, Done};
-ghost use Rattle.i8080.specs.End.{Reads};
+ghost use Rattle.i8080.specs.Registers.{onward};
+ghost use Rattle.i8080.specs.Instruction.{word_at};
+ghost use Rattle.i8080.specs.End.{Reads, cells_from};
 
+use crate::registers::word_of;
 use std::alloc::AllocError;
 
-/// A memory that may have to make a cell ready before it is read or written.
+/// A memory that may have to make a cell ready before it is written.
 pub trait Bus {
     /// What was written, the bytes beneath it, and what was looked at.
     ghost memory: { Self → Memory };
 
-    /// Whether a cell may be read and written.
+    /// Whether a cell may be written.
     ghost is_ready: { Self → ℕ → Bool };
 
     /// Makes a cell ready. At `Err` the same cells are ready as before.
@@ -22,9 +23,8 @@ pub trait Bus {
         ensures kept { (q : ℕ) → IsTrue (is_ready self.old q) → IsTrue (is_ready self.new q) }
         ensures memory { memory self.new ≡ memory self.old };
 
-    /// The byte of a ready cell. That is a look, unless the cell was written.
+    /// The byte of a cell. That is a look, unless the cell was written.
     fn read(&mut self, a: u16) -> u8
-        requires { IsTrue (is_ready self.old a) }
         ensures value { result ≡ bytes (memory self.old) a }
         ensures kept { (q : ℕ) → IsTrue (is_ready self.old q) → IsTrue (is_ready self.new q) }
         ensures looks { (memory self.new).looks ≡ look (memory self.old).own (memory self.old).looks a }
@@ -42,11 +42,52 @@ pub trait Bus {
         ensures lender { (memory self.new).lender ≡ (memory self.old).lender };
 }
 
-/// The byte of a cell, made ready first.
+/// The byte of a cell.
+#[tactic(auto, using(crate::proofs::BoundLemmas::bound_here, crate::proofs::BoundLemmas::bound_more))]
 #[inline(always)]
 pub fn fetch<B: Bus>(bus: &mut B, a: u16) -> Result<u8, AllocError>
     ensures { Reads (Cell a Done) (B.memory bus.old) result (B.memory bus.new) }
 {
-    bus.ready(a)?;
     Ok(bus.read(a))
+}
+
+/// The word at an address: its low byte there, its high byte in the next cell. The cell after 0FFFFH is 0000H.
+#[tactic(auto, using(crate::proofs::LookLemmas::extends_past, crate::proofs::LookLemmas::extends_past_one, crate::proofs::LookLemmas::extends_past_two, crate::proofs::BoundLemmas::bound_here, crate::proofs::BoundLemmas::bound_more, crate::proofs::BoundLemmas::bound_all))]
+#[inline(always)]
+pub fn fetch_word<B: Bus>(bus: &mut B, a: u16) -> Result<u16, AllocError>
+    ensures { Reads (word_at a Done) (B.memory bus.old) result (B.memory bus.new) }
+{
+    let low = fetch(bus, a)?;
+    let high = fetch(bus, a.wrapping_add(1))?;
+    Ok(word_of(low, high))
+}
+
+/// Makes `count` cells ready, from an address on; the cell after 0FFFFH is 0000H. No byte changes,
+/// and cells that were ready stay so, at `Err` too.
+pub fn ready_cells<B: Bus>(bus: &mut B, at: u16, count: u16) -> Result<(), AllocError>
+    ensures ready { OnOk result ((i : ℕ) → i < count → IsTrue (B.is_ready bus.new (onward at i))) }
+    ensures kept { (q : ℕ) → IsTrue (B.is_ready bus.old q) → IsTrue (B.is_ready bus.new q) }
+    ensures memory { B.memory bus.new ≡ B.memory bus.old }
+{
+    for i in 0..count {
+        bus.ready(at.wrapping_add(i))?;
+    }
+    Ok(())
+}
+
+/// Writes bytes into cells that are ready, from an address on; the cell after 0FFFFH is 0000H.
+/// It takes no memory.
+pub fn write_cells<B: Bus>(bus: &mut B, at: u16, values: &[u8])
+    requires ready { (i : ℕ) → i < length values.now → IsTrue (B.is_ready bus.old (onward at i)) }
+    ensures kept { (q : ℕ) → IsTrue (B.is_ready bus.old q) → IsTrue (B.is_ready bus.new q) }
+    ensures own { (B.memory bus.new).own ≡ write_all (B.memory bus.old).own (cells_from at values.now) }
+    ensures looks { (B.memory bus.new).looks ≡ (B.memory bus.old).looks }
+    ensures beneath { (B.memory bus.new).beneath ≡ (B.memory bus.old).beneath }
+    ensures lender { (B.memory bus.new).lender ≡ (B.memory bus.old).lender }
+{
+    let mut address = at;
+    for value in values {
+        bus.write(address, *value);
+        address = address.wrapping_add(1);
+    }
 }

@@ -1,5 +1,3 @@
-// From a byte to the instruction that it stands for.
-
 ghost use Rattle.std.specs.Prelude.{◌≡◌, ◌≢◌, ◌<◌, ◌/◌, ◌%◌, ℕ, true, false, None, MatchOption};
 ghost use Rattle.i8080.specs.declared.opcode.Op.{Op};
 ghost use Rattle.i8080.specs.Opcodes.{opcode_of, place_code, pair_code, arithmetic_code, condition_code, decoded, is_undefined, NoneHas, OneHas};

@@ -1,5 +1,3 @@
-// The five flags, and the conditions on them.
-
 ghost use Rattle.std.specs.Prelude.{◌≡◌};
 ghost use Rattle.i8080.specs.Flags.{byte_of, flags_in, flags_after};
 ghost use Rattle.i8080.specs.Instruction.{holds};

@@ -9,7 +9,7 @@ ghost use Rattle.i8080.specs.Instruction.{operation, from_place, to_place, base_
 ghost use Rattle.i8080.specs.declared.opcode.Source.TheVariants.{At, Immediate};
 ghost use Rattle.i8080.specs.declared.opcode.Op.TheVariants.{Nop, Mov, MovToMemory, Mvi, Lxi, Lda, Sta, Lhld, Shld, Ldax, Stax, Xchg, Accumulate, Inr, Dcr, Inx, Dcx, Dad, Rotate, Daa, Cma, Stc, Cmc, Jmp, JumpIf, Call, CallIf, Ret, RetIf, Rst, Pchl, Push, Pop, Xthl, Sphl, In, Out};
 
-use crate::bus::{Bus, fetch};
+use crate::bus::{Bus, fetch, fetch_word};
 use crate::flags::Flags;
 use crate::opcode::{Arithmetic, Base, Condition, Pair, Place, Register, Restart, Rotation, Saved};
 use crate::outcome::Did;
@@ -20,17 +20,8 @@ use std::alloc::AllocError;
 type Ended = Result<Did, AllocError>;
 
 // What is rare and long stands apart, in functions that end in `_apart`, so that the rest fits into one piece of a step. Each
-// is called by a function that takes its answer out of memory, so that no other answer has to lie there.
-
-// The word at an address.
-#[inline(always)]
-fn fetch_word<B: Bus>(bus: &mut B, a: u16) -> Result<u16, AllocError>
-    ensures { Reads (word_at a Done) (B.memory bus.old) result (B.memory bus.new) }
-{
-    let low = fetch(bus, a)?;
-    let high = fetch(bus, a.wrapping_add(1))?;
-    Ok(word_of(low, high))
-}
+// is called by a function that lends it a copy of the registers and takes its answer out of memory, so that the registers and
+// the answers of all others need not lie in memory.
 
 // The byte in a register, or in the cell at HL.
 #[inline(always)]
@@ -134,6 +125,7 @@ pub fn mov_to_memory<B: Bus>(regs: &mut Regs, bus: &mut B, from: Register) -> En
     advance(regs, 1)
 }
 
+#[tactic(auto, using(crate::proofs::LookLemmas::extends_past, crate::proofs::LookLemmas::extends_past_one, crate::proofs::LookLemmas::extends_past_two, crate::proofs::BoundLemmas::bound_here, crate::proofs::BoundLemmas::bound_more, crate::proofs::BoundLemmas::bound_all))]
 #[inline(always)]
 pub fn mvi<B: Bus>(regs: &mut Regs, bus: &mut B, to: Place) -> Ended
     ensures { Performs (operation (Mvi to) regs.old) regs.old (B.memory bus.old) result regs.new (B.memory bus.new) }
@@ -152,6 +144,7 @@ pub fn lxi<B: Bus>(regs: &mut Regs, bus: &mut B, to: Pair) -> Ended
     advance(regs, 3)
 }
 
+#[tactic(auto, using(crate::proofs::LookLemmas::extends_past, crate::proofs::LookLemmas::extends_past_one, crate::proofs::LookLemmas::extends_past_two, crate::proofs::BoundLemmas::bound_here, crate::proofs::BoundLemmas::bound_more, crate::proofs::BoundLemmas::bound_all))]
 #[inline(always)]
 pub fn lda<B: Bus>(regs: &mut Regs, bus: &mut B) -> Ended
     ensures { Performs (operation Lda regs.old) regs.old (B.memory bus.old) result regs.new (B.memory bus.new) }
@@ -161,6 +154,7 @@ pub fn lda<B: Bus>(regs: &mut Regs, bus: &mut B) -> Ended
     advance(regs, 3)
 }
 
+#[tactic(auto, using(crate::proofs::WriteLookLemmas::extends_by_two, crate::proofs::BoundLemmas::bound_here, crate::proofs::BoundLemmas::bound_more, crate::proofs::BoundLemmas::bound_all))]
 #[inline(always)]
 pub fn sta<B: Bus>(regs: &mut Regs, bus: &mut B) -> Ended
     ensures { Performs (operation Sta regs.old) regs.old (B.memory bus.old) result regs.new (B.memory bus.new) }
@@ -174,10 +168,13 @@ pub fn sta<B: Bus>(regs: &mut Regs, bus: &mut B) -> Ended
 pub fn lhld<B: Bus>(regs: &mut Regs, bus: &mut B) -> Ended
     ensures { Performs (operation Lhld regs.old) regs.old (B.memory bus.old) result regs.new (B.memory bus.new) }
 {
-    let did = lhld_apart(regs, bus)?;
+    let mut copy = *regs;
+    let did = lhld_apart(&mut copy, bus)?;
+    *regs = copy;
     Ok(did)
 }
 
+#[tactic(auto, using(crate::proofs::LookLemmas::extends_past, crate::proofs::LookLemmas::extends_past_one, crate::proofs::LookLemmas::extends_past_two, crate::proofs::BoundLemmas::bound_here, crate::proofs::BoundLemmas::bound_more, crate::proofs::BoundLemmas::bound_all))]
 #[inline(never)]
 fn lhld_apart<B: Bus>(regs: &mut Regs, bus: &mut B) -> Ended
     ensures { Performs (operation Lhld regs.old) regs.old (B.memory bus.old) result regs.new (B.memory bus.new) }
@@ -192,10 +189,13 @@ fn lhld_apart<B: Bus>(regs: &mut Regs, bus: &mut B) -> Ended
 pub fn shld<B: Bus>(regs: &mut Regs, bus: &mut B) -> Ended
     ensures { Performs (operation Shld regs.old) regs.old (B.memory bus.old) result regs.new (B.memory bus.new) }
 {
-    let did = shld_apart(regs, bus)?;
+    let mut copy = *regs;
+    let did = shld_apart(&mut copy, bus)?;
+    *regs = copy;
     Ok(did)
 }
 
+#[tactic(auto, using(crate::proofs::WriteLookLemmas::extends_by_two, crate::proofs::BoundLemmas::bound_here, crate::proofs::BoundLemmas::bound_more, crate::proofs::BoundLemmas::bound_all))]
 #[inline(never)]
 fn shld_apart<B: Bus>(regs: &mut Regs, bus: &mut B) -> Ended
     ensures { Performs (operation Shld regs.old) regs.old (B.memory bus.old) result regs.new (B.memory bus.new) }
@@ -249,6 +249,7 @@ pub fn accumulate_immediate<B: Bus>(regs: &mut Regs, bus: &mut B, function: Arit
     advance(regs, 2)
 }
 
+#[tactic(auto, using(crate::proofs::LookLemmas::extends_past, crate::proofs::LookLemmas::extends_past_one, crate::proofs::LookLemmas::extends_past_two, crate::proofs::BoundLemmas::bound_here, crate::proofs::BoundLemmas::bound_more, crate::proofs::BoundLemmas::bound_all))]
 #[inline(always)]
 pub fn inr<B: Bus>(regs: &mut Regs, bus: &mut B, at: Place) -> Ended
     ensures { Performs (operation (Inr at) regs.old) regs.old (B.memory bus.old) result regs.new (B.memory bus.new) }
@@ -260,6 +261,7 @@ pub fn inr<B: Bus>(regs: &mut Regs, bus: &mut B, at: Place) -> Ended
     advance(regs, 1)
 }
 
+#[tactic(auto, using(crate::proofs::LookLemmas::extends_past, crate::proofs::LookLemmas::extends_past_one, crate::proofs::LookLemmas::extends_past_two, crate::proofs::BoundLemmas::bound_here, crate::proofs::BoundLemmas::bound_more, crate::proofs::BoundLemmas::bound_all))]
 #[inline(always)]
 pub fn dcr<B: Bus>(regs: &mut Regs, bus: &mut B, at: Place) -> Ended
     ensures { Performs (operation (Dcr at) regs.old) regs.old (B.memory bus.old) result regs.new (B.memory bus.new) }
@@ -376,6 +378,7 @@ pub fn jump_if<B: Bus>(regs: &mut Regs, bus: &mut B, condition: Condition) -> En
     Ok(Did::Went)
 }
 
+#[tactic(auto, using(crate::proofs::LookLemmas::extends_past, crate::proofs::LookLemmas::extends_past_one, crate::proofs::LookLemmas::extends_past_two, crate::proofs::BoundLemmas::bound_here, crate::proofs::BoundLemmas::bound_more, crate::proofs::BoundLemmas::bound_all))]
 #[inline(always)]
 pub fn call<B: Bus>(regs: &mut Regs, bus: &mut B) -> Ended
     ensures { Performs (operation Call regs.old) regs.old (B.memory bus.old) result regs.new (B.memory bus.new) }
@@ -390,10 +393,13 @@ pub fn call<B: Bus>(regs: &mut Regs, bus: &mut B) -> Ended
 pub fn call_if<B: Bus>(regs: &mut Regs, bus: &mut B, condition: Condition) -> Ended
     ensures { Performs (operation (CallIf condition) regs.old) regs.old (B.memory bus.old) result regs.new (B.memory bus.new) }
 {
-    let did = call_if_apart(regs, bus, condition)?;
+    let mut copy = *regs;
+    let did = call_if_apart(&mut copy, bus, condition)?;
+    *regs = copy;
     Ok(did)
 }
 
+#[tactic(auto, using(crate::proofs::LookLemmas::extends_past, crate::proofs::LookLemmas::extends_past_one, crate::proofs::LookLemmas::extends_past_two, crate::proofs::BoundLemmas::bound_here, crate::proofs::BoundLemmas::bound_more, crate::proofs::BoundLemmas::bound_all))]
 #[inline(never)]
 fn call_if_apart<B: Bus>(regs: &mut Regs, bus: &mut B, condition: Condition) -> Ended
     ensures { Performs (operation (CallIf condition) regs.old) regs.old (B.memory bus.old) result regs.new (B.memory bus.new) }
@@ -420,7 +426,9 @@ pub fn ret<B: Bus>(regs: &mut Regs, bus: &mut B) -> Ended
 pub fn ret_if<B: Bus>(regs: &mut Regs, bus: &mut B, condition: Condition) -> Ended
     ensures { Performs (operation (RetIf condition) regs.old) regs.old (B.memory bus.old) result regs.new (B.memory bus.new) }
 {
-    let did = ret_if_apart(regs, bus, condition)?;
+    let mut copy = *regs;
+    let did = ret_if_apart(&mut copy, bus, condition)?;
+    *regs = copy;
     Ok(did)
 }
 
@@ -438,7 +446,9 @@ fn ret_if_apart<B: Bus>(regs: &mut Regs, bus: &mut B, condition: Condition) -> E
 pub fn rst<B: Bus>(regs: &mut Regs, bus: &mut B, restart: Restart) -> Ended
     ensures { Performs (operation (Rst restart) regs.old) regs.old (B.memory bus.old) result regs.new (B.memory bus.new) }
 {
-    let did = rst_apart(regs, bus, restart)?;
+    let mut copy = *regs;
+    let did = rst_apart(&mut copy, bus, restart)?;
+    *regs = copy;
     Ok(did)
 }
 
@@ -495,10 +505,13 @@ pub fn pop<B: Bus>(regs: &mut Regs, bus: &mut B, what: Saved) -> Ended
 pub fn xthl<B: Bus>(regs: &mut Regs, bus: &mut B) -> Ended
     ensures { Performs (operation Xthl regs.old) regs.old (B.memory bus.old) result regs.new (B.memory bus.new) }
 {
-    let did = xthl_apart(regs, bus)?;
+    let mut copy = *regs;
+    let did = xthl_apart(&mut copy, bus)?;
+    *regs = copy;
     Ok(did)
 }
 
+#[tactic(auto, using(crate::proofs::WriteLookLemmas::extends_by_two, crate::proofs::BoundLemmas::bound_here, crate::proofs::BoundLemmas::bound_more, crate::proofs::BoundLemmas::bound_all))]
 #[inline(never)]
 fn xthl_apart<B: Bus>(regs: &mut Regs, bus: &mut B) -> Ended
     ensures { Performs (operation Xthl regs.old) regs.old (B.memory bus.old) result regs.new (B.memory bus.new) }
@@ -521,7 +534,9 @@ pub fn sphl<B: Bus>(regs: &mut Regs, _bus: &mut B) -> Ended
 pub fn input<B: Bus>(regs: &mut Regs, bus: &mut B) -> Ended
     ensures { Performs (operation In regs.old) regs.old (B.memory bus.old) result regs.new (B.memory bus.new) }
 {
-    let did = input_apart(regs, bus)?;
+    let mut copy = *regs;
+    let did = input_apart(&mut copy, bus)?;
+    *regs = copy;
     Ok(did)
 }
 
@@ -538,7 +553,9 @@ fn input_apart<B: Bus>(regs: &mut Regs, bus: &mut B) -> Ended
 pub fn output<B: Bus>(regs: &mut Regs, bus: &mut B) -> Ended
     ensures { Performs (operation Out regs.old) regs.old (B.memory bus.old) result regs.new (B.memory bus.new) }
 {
-    let did = output_apart(regs, bus)?;
+    let mut copy = *regs;
+    let did = output_apart(&mut copy, bus)?;
+    *regs = copy;
     Ok(did)
 }
 

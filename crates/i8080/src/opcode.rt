@@ -1,5 +1,3 @@
-// The instructions, without the bytes that follow the opcode.
-
 /// A register of 8 bits.
 #[derive(Clone, Copy, Debug, PartialEq, Eq)]
 pub enum Register {

@@ -1,5 +1,3 @@
-// The registers, and the operations on the accumulator.
-
 ghost use Rattle.std.specs.Prelude.{◌≡◌, ◌≤◌};
 ghost use Rattle.i8080.specs.Instruction.{accumulate, sum_into, difference_into, logic_into};
 ghost use Rattle.i8080.specs.Registers.{value_of, with_value, pair_of, with_pair, word};

@@ -1,5 +1,6 @@
 pub mod AfterLemmas
-pub mod KeptLemmas
+pub mod WrittenCellLemmas
 pub mod StepLemmas
+pub mod StretchLemmas
 pub mod WholeLemmas
 pub mod TextLemmas

@@ -12,15 +12,14 @@ use Rattle.interaction_trees.specs.Tree.{result_of}
 use Rattle.interaction_trees.specs.Dependence.{Outcome, Step, Stop, state_of}
 use Rattle.interaction_trees.specs.Dependence as dependence
 use Rattle.interaction_trees.proofs.DependenceLemmas.{same_everywhere}
-use Rattle.pagemem.specs.Image.{image_at}
 use Rattle.bdos.specs.declared.cause.Cause.{Cause}
 use Rattle.bdos.specs.Questions.{StateQuestion, Byte, Input}
 use Rattle.machine.specs.Views.{Session, Cells, State}
-use Rattle.machine.specs.Session.{page_zero, IsSession}
-use Rattle.machine.specs.Machine.{Answers, ask, Reached, Went, Stopped, next, part, laid, stored, stored_all, made, start, outcome, after}
-use Rattle.machine.specs.Kept.{cell_count, cell_count-is}
+use Rattle.machine.specs.Session.{image_of, IsSession}
+use Rattle.machine.specs.Machine.{Answers, ask, Reached, Went, Stopped, desk_with, next, part, laid, stored, stored_all, made, start, outcome, after}
+use Rattle.machine.specs.WrittenCells.{cell_count, cell_count-is}
 use Rattle.machine.specs.Whole.{Whole, memory_of, tells, written, whole_made, whole_outcome, whole_then, whole_after, laid_over, whole_of, WholeIsLaid}
-use Rattle.machine.proofs.KeptLemmas.{get_stored, stored_past}
+use Rattle.machine.proofs.WrittenCellLemmas.{get_stored, stored_past}
 use Rattle.machine.proofs.AfterLemmas.{step_before}
 use Rattle.machine.proofs.StepLemmas.{answered}
 
@@ -46,13 +45,13 @@ memory_is byte m e same = sym (fill_by_all byte m cell_count 0 e same)
 
 -- a state's cell: what was written, else the session's
 abbrev cell_of : Session → Cells → ℕ → ℕ
-cell_of s m a = unwrap_or (finmap.get m a) (image_at page_zero s.program a)
+cell_of s m a = unwrap_or (finmap.get m a) (image_of s a)
 
 -- nothing is stored past the last cell
 abbrev pub Inside : Cells → Type 0
 Inside m = (q : ℕ) → 65536 ≤ q → finmap.get m q ≡ None
 
-image_past : (s : Session) (q : ℕ) → IsSession s → 65536 ≤ q → image_at page_zero s.program q ≡ 0
+image_past : (s : Session) (q : ℕ) → IsSession s → 65536 ≤ q → image_of s q ≡ 0
 image_past s q limits h = let short = limits.program in rw (low, high) refl where
   low : nat_lt q 256 ≡ false
   low = search (rules)
@@ -62,7 +61,7 @@ image_past s q limits h = let short = limits.program in rw (low, high) refl wher
 
 same_tell : (s : Session) (m : Cells) → IsSession s → Inside m → (q : StateQuestion) → tells (memory_of (cell_of s m)) s.script q ≡ laid (record { cells = m }) (ask s) q
 same_tell s m limits inside (Byte a) = elim (leb_tells 65536 a) [
-  | inl over ↦ get_past (cell_of s m) a over.1 ∙ sym (answered (ask s) (finmap.get m a) a ∙ ap (λ (o : Option ℕ). unwrap_or o (image_at page_zero s.program a)) (inside a over.1) ∙ image_past s a limits over.1)
+  | inl over ↦ get_past (cell_of s m) a over.1 ∙ sym (answered (ask s) (finmap.get m a) a ∙ ap (λ (o : Option ℕ). unwrap_or o (image_of s a)) (inside a over.1) ∙ image_past s a limits over.1)
   | inr under ↦ get_memory (cell_of s m) a under.1 ∙ sym (answered (ask s) (finmap.get m a) a)
 ]
 same_tell s m limits inside (Input k) = refl
@@ -82,7 +81,7 @@ write_one s m a v = sym (memory_is (cell_of s (stored m a v)) (slice_set (memory
     let below : q < 65536 = rw cell_count-is at h in
     get_set (memory_of (cell_of s m)) a v q (rw (length_memory (cell_of s m)) h)
     ∙ ap (cond (eqb q a) v) (get_memory (cell_of s m) q below)
-    ∙ sym (ap (λ (o : Option ℕ). unwrap_or o (image_at page_zero s.program q)) (get_stored m a v q below) ∙ pick (eqb q a) v _ (finmap.get m q))))
+    ∙ sym (ap (λ (o : Option ℕ). unwrap_or o (image_of s q)) (get_stored m a v q below) ∙ pick (eqb q a) v _ (finmap.get m q))))
 
 write_all : (s : Session) (ws : List (ℕ × ℕ)) (m : Cells) → written (memory_of (cell_of s m)) ws ≡ memory_of (cell_of s (stored_all m ws))
 write_all s [] m = refl
@@ -95,7 +94,7 @@ inside_all (w ∷ ws) m h = inside_all ws (stored m w.0 w.1) (λ q over. stored_
 -- ---- a step, and a run
 
 made_whole : (s : Session) (st : State) (e : Reached) → whole_made (laid_over s st) e ≡ whole_of s (made st e)
-made_whole s st (Went c ws) = ap (λ (l : List ℕ). Step (record { core = c; memory = l })) (write_all s ws st.own.cells)
+made_whole s st (Went r spot bytes wrote) = ap (λ (l : List ℕ). Step (record { core = record { regs = r; desk = desk_with st.core.desk spot bytes }; memory = l })) (write_all s wrote.cells st.own.cells)
 made_whole s st (Stopped cause) = refl
 
 same_outcome : (s : Session) (st : State) → IsSession s → Inside st.own.cells → whole_outcome s (laid_over s st) ≡ whole_of s (outcome (ask s) st)
@@ -105,8 +104,9 @@ same_outcome s st limits inside =
     ∙ made_whole s st (result_of (laid st.own (ask s)) (next st.core))
 
 step_inside : (st next : State) (e : Reached) → Inside st.own.cells → made st e ≡ Step next → Inside next.own.cells
-step_inside st next (Went c ws) h e = let same : record { core = c; own = record { cells = stored_all st.own.cells ws } } ≡ next = cc in
-    subst (λ (x : State). Inside x.own.cells) same (inside_all ws st.own.cells h)
+step_inside st next (Went r spot bytes wrote) h e =
+    let same : record { core = record { regs = r; desk = desk_with st.core.desk spot bytes }; own = record { cells = stored_all st.own.cells wrote.cells } } ≡ next = cc in
+    subst (λ (x : State). Inside x.own.cells) same (inside_all wrote.cells st.own.cells h)
 step_inside st next (Stopped cause) h e = absurd (cc)
 
 -- what was written lies below the last cell
@@ -129,7 +129,7 @@ one_more s limits (Some st) inside = went_on s _ (outcome (ask s) st) (same_outc
 
 same_after : (s : Session) → IsSession s → (n : ℕ) → whole_after s n ≡ option_map (laid_over s) (after (ask s) n)
 unfolding whole_after dependence.after
-same_after s limits zero = ap (λ (l : List ℕ). Some (record { core = start.core; memory = l })) (ap memory_of (fun_ext (λ a. sym (ap (λ (o : Option ℕ). unwrap_or o (image_at page_zero s.program a)) (finmap.get-empty nat_cmp a)))))
+same_after s limits zero = ap (λ (l : List ℕ). Some (record { core = start.core; memory = l })) (ap memory_of (fun_ext (λ a. sym (ap (λ (o : Option ℕ). unwrap_or o (image_of s a)) (finmap.get-empty nat_cmp a)))))
 same_after s limits (suc n) = ap (whole_then s) (same_after s limits n) ∙ one_more s limits (after (ask s) n) (after_inside (ask s) n)
 
 -- the law of the whole machine

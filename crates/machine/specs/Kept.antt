@@ -1,31 +1,19 @@
--- What pages hold, as data.
-use Rattle.std.specs.Prelude.{◌≡◌, refl, ℕ, zero, suc, Option, Some, None}
-use Rattle.std.specs.FinMap as map
+-- A state without its text.
+use Rattle.std.specs.Prelude.{ℕ, List, length}
 use Rattle.i8080.specs.declared.registers.Regs.{Regs}
-use Rattle.bdos.specs.Desk.{Desk}
-use Rattle.machine.specs.Views.{Cells, State}
+use Rattle.bdos.specs.declared.desk.Spot.{Spot}
+use Rattle.machine.specs.Views.{Own, State}
 
--- how many cells there are (8080 manual); a word of its own, so that nothing counts up to it
-pub cell_count : ℕ
-cell_count = 65536
+-- what is kept of a state: all of it but the text, of which the length is kept
+pub record Kept : Type 0 where
+  pub regs : Regs
+  pub spot : Spot
+  pub length : ℕ
+  pub own : Own
 
-pub cell_count-is : cell_count ≡ 65536
-unfolding cell_count
-cell_count-is = refl
+-- the state again, with its text
+abbrev pub whole : Kept → List ℕ → State
+whole k text = record { core = record { regs = k.regs; desk = record { spot = k.spot; text = text } }; own = k.own }
 
-abbrev pub with_entry : Cells → ℕ → Option ℕ → Cells
-with_entry m a None = m
-with_entry m a (Some v) = map.insert m a v
-
--- the written cells below n
-abbrev pub kept_below : ℕ → (ℕ → Option ℕ) → Cells
-kept_below zero own = map.empty
-kept_below (suc n) own = with_entry (kept_below n own) n (own n)
-
--- the written cells of a memory
-unfoldable pub kept : (ℕ → Option ℕ) → Cells
-kept own = kept_below cell_count own
-
--- the state with these registers and this desk, which wrote this
-abbrev pub held : Regs → Desk → (ℕ → Option ℕ) → State
-held r d own = record { core = record { regs = r; desk = d }; own = record { cells = kept own } }
+abbrev pub kept_of : State → Kept
+kept_of st = record { regs = st.core.regs; spot = st.core.desk.spot; length = length st.core.desk.text; own = st.own }

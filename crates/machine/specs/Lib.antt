@@ -4,6 +4,7 @@ pub mod SessionError
 pub mod Machine
 pub mod Kept
 pub mod Steps
+pub mod Stretch
 pub mod Whole
 pub mod Stops
-pub mod Part
+pub mod WrittenCells

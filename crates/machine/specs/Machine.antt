@@ -1,6 +1,5 @@
--- The machine: what a step asks, and what it makes of the answers. (8080 manual; CP/M 2.2 Interface Guide; the order of
--- the stops: this project's profile.)
-use Rattle.std.specs.Prelude.{◌≡◌, ℕ, ◌==◌, ◌||◌, nat_le, nat_lt, if◌then◌else◌, Bool, false, List, [], ◌∷◌, ◌++◌, Option, Some, None, slice_get}
+-- The machine: what a step asks, and what it makes of the answers. (8080 manual; CP/M 2.2 Interface Guide.)
+use Rattle.std.specs.Prelude.{◌≡◌, ℕ, ◌==◌, ◌||◌, nat_le, nat_lt, if◌then◌else◌, refl, Bool, true, false, List, [], ◌∷◌, ◌++◌, Option, Some, None, slice_get}
 use Rattle.std.specs.FinMap as map
 use Rattle.interaction_trees.specs.Tree.{Tree, Return, Query, returning}
 use Rattle.interaction_trees.specs.Dependence.{Outcome, Step, Stop}
@@ -8,19 +7,23 @@ use Rattle.interaction_trees.specs.Dependence as dependence
 use Rattle.i8080.specs.declared.registers.Regs.{Regs}
 use Rattle.i8080.specs.End as end
 use Rattle.i8080.specs.Memory.{is_among}
+use Rattle.i8080.specs.Memory as memory
 use Rattle.i8080.specs.Instruction.{instruction}
-use Rattle.pagemem.specs.Image.{image_at}
 use Rattle.bdos.specs.declared.cause.Cause.{Cause}
 use Rattle.bdos.specs.declared.cause.Cause.TheVariants.{WarmBoot, Halt, Undefined, SystemArea}
+use Rattle.bdos.specs.declared.desk.Spot.{Spot}
 use Rattle.bdos.specs.Desk.{Desk, first_desk}
+use Rattle.bdos.specs.Places.{is_within}
 use Rattle.bdos.specs.Questions.{StateQuestion, Byte, Input, StateAnswer, StateAnswers, StateTree, reads}
+use Rattle.bdos.specs.Calls.{Written}
 use Rattle.bdos.specs.Calls as calls
-use Rattle.machine.specs.Views.{Session, Core, Cells, Own, State}
-use Rattle.machine.specs.Session.{page_zero}
+use Rattle.machine.specs.Views.{Session, Core, Cells, Own, State, Looked}
+use Rattle.machine.specs.declared.session.TheConstants.{SCRIPT_LIMIT}
+use Rattle.machine.specs.Session.{image_of}
 
 -- ---- what the session is asked
 
--- the byte of a cell of the loaded image; the script byte at a place, or that there is none (this project's profile)
+-- the byte of a cell of the loaded image; the script byte at a place, or that there is none
 pub data Question : Type 0 where
   Cell : ℕ → Question
   Script : ℕ → Question
@@ -34,14 +37,13 @@ Answers = (q : Question) → Answer q
 
 -- the answers of a session as it was handed in
 abbrev pub ask : Session → Answers
-ask s (Cell a) = image_at page_zero s.program a
+ask s (Cell a) = image_of s a
 ask s (Script k) = slice_get s.script k
 
 abbrev pub same_question : Question → Question → Bool
 same_question (Cell a) (Cell b) = a == b
-same_question (Cell a) (Script k) = false
-same_question (Script k) (Cell a) = false
 same_question (Script k) (Script j) = k == j
+same_question q x = false
 
 abbrev pub is_in : Question → List Question → Bool
 is_in q [] = false
@@ -49,32 +51,39 @@ is_in q (x ∷ xs) = same_question q x || is_in q xs
 
 -- ---- a step
 
--- what a step makes of its answers: it goes on, after these writes, or it stops and changes nothing
+-- what a step makes of its answers: it goes on with these registers and this spot, after these bytes sent and this written, or it
+-- stops and changes nothing
 pub data Reached : Type 0 where
-  Went : Core → List (ℕ × ℕ) → Reached
+  Went : Regs → Spot → List ℕ → Written → Reached
   Stopped : Cause → Reached
 
--- the end of an instruction: HLT and a byte that is no opcode stop (which bytes are opcodes: 8080 manual; that both end a
--- run: this project's profile)
-abbrev pub reached : Desk → end.End → Reached
-reached d (end.Went r writes) = Went (record { regs = r; desk = d }) writes
-reached d end.Halt = Stopped Halt
-reached d (end.Undefined byte) = Stopped (Undefined byte)
+-- the end of an instruction: HLT and a byte that is no opcode stop (which bytes are opcodes: 8080 manual)
+abbrev pub reached : Spot → end.End → Reached
+reached spot (end.Went r writes) = Went r spot [] (record { cells = writes })
+reached spot end.Halt = Stopped Halt
+reached spot (end.Undefined byte) = Stopped (Undefined byte)
 
 -- the end of a call
 abbrev pub reached_by_call : calls.CallEnd → Reached
-reached_by_call (calls.Returned r d writes) = Went (record { regs = r; desk = d }) writes
+reached_by_call (calls.Completed r spot bytes written) = Went r spot bytes written
 reached_by_call (calls.Stopped cause) = Stopped cause
 
+-- the most bytes that a script may have; a word of its own, so that nothing counts up to it
+pub script_limit : ℕ
+script_limit = SCRIPT_LIMIT
+
+pub script_limit-is : script_limit ≡ SCRIPT_LIMIT
+unfolding script_limit
+script_limit-is = refl
+
 -- What a step asks of the state, and what it makes of the answers: the first line that fits decides. (That a jump to 0000H
--- is the warm start and a call to 0005H the BDOS: CP/M 2.2 Interface Guide. That page zero leads there to 0FF03H and to
--- 0FE06H, that the system's area begins at 0FE00H, and the order of the lines: this project's profile.)
+-- is the warm start and a call to 0005H the BDOS: CP/M 2.2 Interface Guide. Page zero leads there to 0FF03H and to 0FE06H.)
 unfoldable pub next : Core → StateTree Reached
 next c =
     if c.regs.pc == 0xff03 then Return (Stopped WarmBoot)
-    else if c.regs.pc == 0xfe06 then returning reached_by_call (calls.call c.regs c.desk)
+    else if c.regs.pc == 0xfe06 then returning reached_by_call (calls.call script_limit c.regs c.desk.spot)
     else if nat_le 0xfe00 c.regs.pc then Return (Stopped (SystemArea c.regs.pc))
-    else reads (instruction c.regs) (λ e. Return (reached c.desk e))
+    else reads (instruction c.regs) (λ e. Return (reached c.desk.spot e))
 
 -- ---- what was written, and what is asked instead
 
@@ -103,14 +112,18 @@ abbrev pub stored_all : Cells → List (ℕ × ℕ) → Cells
 stored_all m [] = m
 stored_all m (w ∷ rest) = stored_all (stored m w.0 w.1) rest
 
+-- the desk of a spot, after it sent some bytes more
+abbrev pub desk_with : Desk → Spot → List ℕ → Desk
+desk_with d spot bytes = record { spot = spot; text = d.text ++ bytes }
+
 abbrev pub made : State → Reached → Outcome State Cause
-made st (Went c writes) = Step (record { core = c; own = record { cells = stored_all st.own.cells writes } })
+made st (Went r spot bytes written) =
+    Step (record { core = record { regs = r; desk = desk_with st.core.desk spot bytes }; own = record { cells = stored_all st.own.cells written.cells } })
 made st (Stopped cause) = Stop cause
 
 -- ---- a run
 
--- the registers of a loaded program (that it begins at 0100H: CP/M 2.2 Interface Guide; that the stack begins at 0FDFEH
--- and that all else is 0: this project's profile)
+-- the registers of a loaded program (that it begins at 0100H: CP/M 2.2 Interface Guide)
 abbrev pub first_regs : Regs
 first_regs = record { a = 0; b = 0; c = 0; d = 0; e = 0; h = 0; l = 0; sp = 0xfdfe; pc = 0x0100; flags = record { s = false; z = false; ac = false; p = false; cy = false } }
 
@@ -145,11 +158,21 @@ PrefixDependence = dependence.PrefixDependence part (λ (st : State). st.own) (�
 
 -- ---- looks
 
--- whether a question was looked at, by the cells that were
-abbrev pub looked_at : List ℕ → Question → Bool
-looked_at cells (Cell a) = is_among a cells
-looked_at cells (Script k) = false
+-- whether a question was looked at
+abbrev pub looked_at : Looked → Question → Bool
+looked_at looked (Cell a) = is_among a looked.cells
+looked_at looked (Script k) = is_within looked.places k
 
--- some more was looked at, after what was before
-abbrev pub Extends : List ℕ → List ℕ → Type 0
-Extends old new = (more : List ℕ) × (new ≡ old ++ more)
+-- nothing was looked at
+pub record NothingLooked (looked : Looked) : Type 0 where
+  pub cells : looked.cells ≡ []
+  pub places : (k : ℕ) → is_within looked.places k ≡ false
+
+-- nothing more was looked at than before and among these
+abbrev pub IsBounded : Looked → List Question → Looked → Type 0
+IsBounded old qs new = (q : Question) → looked_at new q ≡ true → (looked_at old q || is_in q qs) ≡ true
+
+-- some more was looked at: more cells after those before, and the places before stay
+pub record Extends (old new : Looked) : Type 0 where
+  pub cells : memory.Extends old.cells new.cells
+  pub places : (k : ℕ) → is_within old.places k ≡ true → is_within new.places k ≡ true

@@ -1,10 +1,10 @@
--- Why a session is refused. (This project's profile.)
+-- Why a session is refused.
 use Rattle.std.specs.Prelude.{◌≡◌, ℕ, Result, Ok, Err}
 use Rattle.machine.specs.Views.{Session}
 use Rattle.machine.specs.declared.session.SessionError.{SessionError}
 use Rattle.machine.specs.declared.session.SessionError.TheVariants.{ProgramTooLong, ScriptTooLong, LimitTooLarge}
 
--- the number that tells a refusal (this project's profile)
+-- the number that tells a refusal
 abbrev pub number_of : SessionError → ℕ
 number_of ProgramTooLong = 1
 number_of ScriptTooLong = 4

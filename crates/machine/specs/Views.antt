@@ -4,9 +4,10 @@ use Rattle.std.specs.Ordering.{nat_cmp}
 use Rattle.std.specs.FinMap.{FinMap, code}
 use Rattle.std.specs.Coded.{Coded, coded_ℕ}
 use Rattle.i8080.specs.declared.registers.Regs.{Regs}
+use Rattle.bdos.specs.declared.places.Places.{Places}
 use Rattle.bdos.specs.Desk.{Desk}
 
--- what is handed in (this project's profile)
+-- what is handed in
 pub record Session : Type 0 where
   pub program : List ℕ
   pub script : List ℕ
@@ -32,7 +33,12 @@ pub record State : Type 0 where
   pub core : Core
   pub own : Own
 
--- a state, and the cells that were looked at, in the order of their first looks
+-- what was looked at: cells, in the order of their first looks, and places of the console script
+pub record Looked : Type 0 where
+  pub cells : List ℕ
+  pub places : Places
+
+-- a state, and what was looked at
 pub record Running : Type 0 where
   pub state : State
-  pub looked : List ℕ
+  pub looked : Looked

@@ -5,13 +5,12 @@ use Rattle.std.specs.List.{range_with_len}
 use Rattle.std.specs.FinMap as finmap
 use Rattle.interaction_trees.specs.Tree.{result_of}
 use Rattle.interaction_trees.specs.Dependence.{Outcome, Step, Stop}
-use Rattle.pagemem.specs.Image.{image_at}
 use Rattle.bdos.specs.declared.cause.Cause.{Cause}
 use Rattle.bdos.specs.Questions.{Byte, Input, StateAnswers}
 use Rattle.machine.specs.Views.{Session, Core, State}
-use Rattle.machine.specs.Session.{page_zero, IsSession}
-use Rattle.machine.specs.Machine.{ask, Reached, Went, Stopped, next, start, outcome, after}
-use Rattle.machine.specs.Kept.{cell_count}
+use Rattle.machine.specs.Session.{image_of, IsSession}
+use Rattle.machine.specs.Machine.{ask, Reached, Went, Stopped, desk_with, next, start, outcome, after}
+use Rattle.machine.specs.WrittenCells.{cell_count}
 
 pub record Whole : Type 0 where
   pub core : Core
@@ -21,10 +20,9 @@ pub record Whole : Type 0 where
 unfoldable pub memory_of : (ℕ → ℕ) → List ℕ
 memory_of byte = map byte (range_with_len 0 cell_count)
 
--- page zero, the program, and 0 in every other cell (where they stand: CP/M 2.2 Interface Guide; that the other cells are
--- 0: this project's profile)
+-- page zero, the program, and 0 in every other cell (CP/M 2.2 Interface Guide)
 abbrev pub loaded : Session → List ℕ
-loaded s = memory_of (image_at page_zero s.program)
+loaded s = memory_of (image_of s)
 
 -- what a memory and a script answer
 abbrev pub tells : List ℕ → List ℕ → StateAnswers
@@ -36,7 +34,7 @@ written memory [] = memory
 written memory (w ∷ rest) = written (slice_set memory w.0 w.1) rest
 
 abbrev pub whole_made : Whole → Reached → Outcome Whole Cause
-whole_made w (Went c writes) = Step (record { core = c; memory = written w.memory writes })
+whole_made w (Went r spot bytes wrote) = Step (record { core = record { regs = r; desk = desk_with w.core.desk spot bytes }; memory = written w.memory wrote.cells })
 whole_made w (Stopped cause) = Stop cause
 
 -- what follows a whole state
@@ -54,14 +52,15 @@ whole_after s (suc n) = whole_then s (whole_after s n)
 
 -- what a state wrote, laid over its session
 abbrev pub laid_over : Session → State → Whole
-laid_over s st = record { core = st.core; memory = memory_of (λ a. unwrap_or (finmap.get st.own.cells a) (image_at page_zero s.program a)) }
+laid_over s st = record { core = st.core; memory = memory_of (λ a. unwrap_or (finmap.get st.own.cells a) (image_of s a)) }
 
 abbrev pub whole_of : Session → Outcome State Cause → Outcome Whole Cause
 whole_of s (Step st) = Step (laid_over s st)
 whole_of s (Stop cause) = Stop cause
 
 -- The whole machine goes the same way: after each number of steps it has the same core, and its memory is what was written
--- laid over the session; and what follows is the same.
+-- laid over the session; and what follows is the same. With PrefixDependence: two sessions that agree on what the steps below
+-- n look at have memories after n steps that are the same writes, each laid over its own session.
 pub record WholeIsLaid : Type 0 where
   pub states : (s : Session) → IsSession s → (n : ℕ) → whole_after s n ≡ option_map (laid_over s) (after (ask s) n)
   pub outcomes : (s : Session) → IsSession s → (n : ℕ) (st : State) → after (ask s) n ≡ Some st → whole_outcome s (laid_over s st) ≡ whole_of s (outcome (ask s) st)

@@ -1,5 +1,3 @@
-// Bytes as a value.
-
 ghost use Rattle.std.specs.Prelude.{◌≡◌};
 
 use std::marker::Model;

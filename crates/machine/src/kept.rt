@@ -1,15 +1,13 @@
-// What is kept of a state.
-
 ghost use Rattle.std.specs.Prelude.{◌≡◌, [], IfOk, length, List, ℕ};
-ghost use Rattle.machine.specs.Kept.{kept};
-ghost use Rattle.machine.specs.Part.{whole, part_of};
+ghost use Rattle.machine.specs.Machine.{NothingLooked};
+ghost use Rattle.machine.specs.Kept.{whole, kept_of};
+ghost use Rattle.machine.specs.WrittenCells.{written_cells};
 
+use crate::running::Running;
 use crate::session::Session;
-use crate::state::State;
 use bdos::{Desk, Spot};
-use i8080::registers::Regs;
-use pagemem::cells::Cells;
-use pagemem::overlay::Overlay;
+use i8080::Regs;
+use pagemem::{Cells, Overlay};
 use std::alloc::{AllocError, Global};
 use std::marker::Model;
 
@@ -24,37 +22,35 @@ pub struct Kept {
 }
 
 impl Model for Kept {
-    ghost use Rattle.std.specs.Prelude.{◌≤◌};
     ghost use Rattle.std.specs.Coded.{codes};
     ghost use Rattle.pagemem.specs.Cells.{own_in};
+    ghost use Rattle.bdos.specs.Places.{IsSpotOf};
     ghost use Rattle.machine.specs.Views.{cells_code};
-    ghost use Rattle.machine.specs.Kept.{kept};
-    ghost use Rattle.machine.specs.Part.{Part};
+    ghost use Rattle.machine.specs.WrittenCells.{written_cells};
+    ghost use Rattle.machine.specs.Kept.{Kept};
 
-    ghost Value = { Part };
+    ghost Value = { Kept };
 
     ghost coded = { Prim.hlevel (codes, cells_code) };
 
     ghost view = { λ k. record {
       regs = k.regs;
-      cursor = k.spot.cursor;
-      column = k.spot.column;
-      buffer = k.spot.buffer;
+      spot = k.spot;
       length = k.text_length;
-      cells = kept (own_in k.cells);
+      own = record { cells = written_cells (own_in k.cells) };
     } };
 
-    ghost invariant = { λ k. k.spot.column ≤ k.text_length };
+    ghost invariant = { λ k. IsSpotOf k.spot k.text_length };
 }
 
-impl State {
-    /// What is kept of the state. Its pages are shared with it from now on; nothing that contracts see of the state changes.
+impl Running {
+    /// What is kept of the state. Its pages are shared with it from now on; nothing that contracts see of it changes.
+    /// `Err` where memory is refused.
     pub fn keep(&mut self) -> Result<Kept, AllocError>
-        ensures kept { IfOk result (λ k. k ≡ part_of self.old.state) }
+        ensures kept { IfOk result (λ k. k ≡ kept_of self.old.state) }
         ensures same { self.new ≡ self.old }
     {
-        self.overlay.share()?;
-        let cells = self.overlay.copied_cells()?;
+        let cells = self.overlay.shared_cells()?;
         Ok(Kept {
             regs: self.regs,
             cells,
@@ -65,10 +61,10 @@ impl State {
 
     /// What is kept of the state, and its text, both moved out.
     pub fn into_kept(self) -> (Kept, Vec<u8>)
-        ensures kept { result.0 ≡ part_of self.state }
+        ensures kept { result.0 ≡ kept_of self.state }
         ensures text { result.1.items ≡ self.state.core.desk.text }
     {
-        let State {
+        let Running {
             regs,
             overlay,
             desk,
@@ -105,7 +101,7 @@ impl Kept {
 
     /// What was written, again, with nothing looked at. `Err` where memory is refused.
     pub fn overlay(&self, alloc: Global) -> Result<Overlay, AllocError>
-        ensures own { IfOk result (λ o. kept (own_of o) ≡ self.now.cells) }
+        ensures own { IfOk result (λ o. written_cells (own_of o) ≡ self.now.own.cells) }
         ensures looks { IfOk result (λ o. looks_of o ≡ []) }
     {
         let cells = self.cells.snapshot()?;
@@ -113,13 +109,14 @@ impl Kept {
     }
 
     /// The state again, over what was written and the text. It takes no memory.
-    pub fn resume(&self, overlay: Overlay, text: Vec<u8>) -> State
-        requires own { kept (own_of overlay) ≡ self.now.cells }
+    pub fn resume(&self, overlay: Overlay, text: Vec<u8>) -> Running
+        requires own { written_cells (own_of overlay) ≡ self.now.own.cells }
         requires looks { looks_of overlay ≡ [] }
         requires text { length text.items ≡ self.now.length }
-        ensures { result ≡ record { state = whole self.now text.items; looked = [] } }
+        ensures state { result.state ≡ whole self.now text.items }
+        ensures looked { NothingLooked result.looked }
     {
-        State {
+        Running {
             regs: self.regs,
             overlay,
             desk: Desk::over(self.spot, text),

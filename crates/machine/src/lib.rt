@@ -1,18 +1,20 @@
-//! A session of one program, the state of its run, and one step.
+//! A session of one program, the state of its run, and its steps: one by one, or a stretch of them.
 #![tactic(auto)]
 
-pub mod bytes;
-pub mod kept;
-pub mod meter;
-pub mod session;
-pub mod state;
-pub mod steps;
+mod bytes;
+mod kept;
+mod meter;
+mod running;
+mod session;
+mod steps;
+mod stretch;
 
 pub use bdos::{Cause, Desk, Spot};
 pub use bytes::Bytes;
-pub use i8080::registers::Regs;
+pub use i8080::Regs;
 pub use kept::Kept;
 pub use meter::Meter;
-pub use session::{Session, SessionError};
-pub use state::State;
+pub use running::Running;
+pub use session::{PROGRAM_LIMIT, SCRIPT_LIMIT, STEP_LIMIT, Session, SessionError, limits};
 pub use steps::{step, whole_is_laid};
+pub use stretch::run_from;

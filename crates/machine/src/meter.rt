@@ -1,5 +1,3 @@
-// A count of steps.
-
 ghost use Rattle.std.specs.Prelude.{◌≡◌, ◌+◌, ◌<◌, ◌^◌};
 
 use std::marker::Model;
@@ -31,6 +29,14 @@ impl Meter {
         ensures { result ≡ self.now }
     {
         self.count
+    }
+
+    /// Counts so many steps more.
+    pub(crate) fn count_on(&mut self, steps: u64)
+        requires { self.old + steps < 2 ^ 64 }
+        ensures { self.new ≡ self.old + steps }
+    {
+        self.count += steps;
     }
 
     /// Counts one step more.

@@ -1,11 +1,9 @@
-// A session.
-
-ghost use Rattle.std.specs.Prelude.{◌≡◌, ◌+◌, ◌≤◌, length};
-ghost use Rattle.pagemem.specs.Image.{image_at};
+ghost use Rattle.std.specs.Prelude.{[], vec_len, OnOk, OnErr, ◌≡◌, ◌+◌, ◌-◌, ◌≤◌, length};
 ghost use Rattle.pagemem.specs.ImageView.{cells_of};
-ghost use Rattle.machine.specs.Session.{page_zero, made_of, written_over};
+ghost use Rattle.machine.specs.Session.{page_zero, image_of, made_of, spliced, written_over};
 
-use pagemem::image::Image;
+use pagemem::Image;
+use std::alloc::AllocError;
 use std::marker::Model;
 use thiserror::Error;
 
@@ -96,14 +94,15 @@ impl Session {
     /// The limit, in steps.
     pub fn limit(&self) -> u64
         ensures value { result ≡ self.now.limit }
-        ensures within { result ≤ 4000000000 }
+        ensures within { result ≤ STEP_LIMIT }
     {
         self.limit
     }
 
     /// The console script.
     pub fn script(&self) -> &[u8]
-        ensures { result.now ≡ self.now.script }
+        ensures value { result.now ≡ self.now.script }
+        ensures within { length result.now ≤ SCRIPT_LIMIT }
     {
         self.script.as_slice()
     }
@@ -111,7 +110,7 @@ impl Session {
     /// The program's bytes, which stand from 0100H on.
     pub fn program(&self) -> &[u8]
         ensures value { result.now ≡ self.now.program }
-        ensures within { length result.now ≤ 64512 }
+        ensures within { length result.now ≤ PROGRAM_LIMIT }
     {
         self.program.as_slice()
     }
@@ -119,7 +118,7 @@ impl Session {
     /// Page zero and the program as memory, borrowed.
     #[inline(always)]
     pub fn image(&self) -> Image<'_>
-        ensures { cells_of result ≡ image_at page_zero self.now.program }
+        ensures { cells_of result ≡ image_of self.now }
     {
         Image::new(&self.first_page, &self.program)
     }
@@ -133,13 +132,60 @@ impl Session {
         place.copy_from_slice(bytes);
     }
 
+    /// Puts bytes into the script before a place. `Err` where memory is refused: the session is as it was.
+    pub fn insert_script(&mut self, at: usize, bytes: &[u8]) -> Result<(), AllocError>
+        requires inside { at ≤ length self.old.script }
+        requires room { length self.old.script + length bytes.now ≤ SCRIPT_LIMIT }
+        ensures ok { OnOk result (self.new ≡ record self.old { script = spliced self.old.script at 0 bytes.now }) }
+        ensures err { OnErr result (self.new ≡ self.old) }
+    {
+        insert(&mut self.script, at, bytes)
+    }
+
+    /// Replaces the script's bytes from a place on.
+    pub fn replace_script(&mut self, at: usize, bytes: &[u8])
+        requires { at + length bytes.now ≤ length self.old.script }
+        ensures { self.new ≡ record self.old { script = spliced self.old.script at (length bytes.now) bytes.now } }
+    {
+        let place = &mut self.script[at..at + bytes.len()];
+        place.copy_from_slice(bytes);
+    }
+
+    /// Removes so many bytes of the script from a place on.
+    pub fn remove_script(&mut self, at: usize, count: usize)
+        requires { at + count ≤ length self.old.script }
+        ensures { self.new ≡ record self.old { script = spliced self.old.script at count [] } }
+    {
+        remove(&mut self.script, at, count);
+    }
+
     /// Sets the limit, in steps.
     pub fn set_limit(&mut self, limit: u64)
-        requires { limit ≤ 4000000000 }
+        requires { limit ≤ STEP_LIMIT }
         ensures { self.new ≡ record self.old { limit = limit } }
     {
         self.limit = limit;
     }
+}
+
+// Puts bytes before a place.
+fn insert(list: &mut Vec<u8>, at: usize, bytes: &[u8]) -> Result<(), AllocError>
+    requires { at ≤ vec_len list.old }
+    ensures ok { OnOk result (list.new.items ≡ spliced list.old.items at 0 bytes.now) }
+    ensures err { OnErr result (list.new.items ≡ list.old.items) }
+{
+    list.extend_from_slice(bytes)?;
+    list[at..].rotate_right(bytes.len());
+    Ok(())
+}
+
+// Takes out so many bytes from a place on.
+fn remove(list: &mut Vec<u8>, at: usize, count: usize)
+    requires { at + count ≤ vec_len list.old }
+    ensures { list.new.items ≡ spliced list.old.items at count [] }
+{
+    list[at..].rotate_left(count);
+    list.truncate(list.len() - count);
 }
 
 // Page zero of an empty tail: the jumps to the warm start and to the BDOS, and two names that are not there.
@@ -169,3 +215,10 @@ fn empty_page_zero() -> [u8; 256]
 {
     PAGE_ZERO
 }
+
+/// A law: how much a session may have.
+pub fn limits()
+    ensures program { PROGRAM_LIMIT ≡ 0xfd00 - 0x0100 }
+    ensures script { SCRIPT_LIMIT ≡ 1048576 }
+    ensures steps { STEP_LIMIT ≡ 4000000000 }
+{}

@@ -1,26 +1,21 @@
-// One step.
-
 ghost use Rattle.std.specs.Prelude.{◌≡◌, ◌≢◌, ◌+◌, ◌^◌, ◌<◌, ◌≤◌, ◌||◌, IfOk, IfSome, IfNone, OnOk, OnErr};
 ghost use Rattle.interaction_trees.specs.Tree.{Return};
 ghost use Rattle.interaction_trees.specs.Dependence.{Step, Stop};
 ghost use Rattle.i8080.specs.End.{Performs};
 ghost use Rattle.i8080.specs.Instruction.{instruction};
 ghost use Rattle.bdos.specs.Calls.{Serves};
-ghost use Rattle.bdos.specs.Desk.{Desk as DeskView};
-ghost use Rattle.machine.specs.Machine.{Question, ask, next, Stopped, outcome, looks_at, looked_at, is_in, Extends, IsReached};
-ghost use Rattle.machine.specs.Steps.{seen, CarriesOut};
-ghost use Rattle.machine.specs.Stops.{stop_by, stop_in};
+ghost use Rattle.bdos.specs.Places.{Watched};
+ghost use Rattle.machine.specs.Machine.{Question, ask, script_limit, next, Stopped, outcome, looks_at, looked_at, is_in, Extends, IsBounded, IsReached};
+ghost use Rattle.machine.specs.Steps.{seen, TakesStep};
+ghost use Rattle.machine.specs.Stops.{stop_of_instruction, stop_of_call};
 ghost use Rattle.machine.specs.Whole.{WholeIsLaid};
 
 use crate::meter::Meter;
+use crate::running::Running;
 use crate::session::Session;
-use crate::state::State;
 use bdos::{Cause, Desk, Served, call};
-use i8080::execute::execute;
-use i8080::outcome::Did;
-use i8080::registers::Regs;
-use pagemem::overlay::Overlay;
-use pagemem::view::View;
+use i8080::{Did, Regs, execute};
+use pagemem::{Overlay, View};
 use std::alloc::AllocError;
 
 /// Where a jump goes to the warm start.
@@ -30,7 +25,7 @@ const WARM_START: u16 = 0xff03;
 const BDOS_ENTRY: u16 = 0xfe06;
 
 /// The first cell of the system's area.
-const SYSTEM_AREA: u16 = 0xfe00;
+pub(crate) const SYSTEM_AREA: u16 = 0xfe00;
 
 // The instruction at PC, over a session's image.
 #[inline(always)]
@@ -49,17 +44,16 @@ fn serve(
     desk: &mut Desk,
     session: &Session,
 ) -> Result<Served, AllocError>
-    ensures { Serves session.now.script regs.old (seen session.now overlay.old) desk.old result regs.new (seen session.now overlay.new) desk.new }
+    ensures { Serves script_limit session.now.script regs.old (seen session.now overlay.old) desk.old result regs.new (seen session.now overlay.new) desk.new }
 {
     let mut view = View::new(session.image(), overlay);
-    let served = call(regs, &mut view, desk, session.script())?;
-    Ok(served)
+    call(regs, &mut view, desk, session.script())
 }
 
 // The stop that an instruction tells.
 #[inline(always)]
-fn stop_by(did: Did) -> Option<Cause>
-    ensures { result ≡ stop_by did }
+fn stop_of_instruction(did: Did) -> Option<Cause>
+    ensures { result ≡ stop_of_instruction did }
 {
     match did {
         Did::Went => None,
@@ -69,8 +63,8 @@ fn stop_by(did: Did) -> Option<Cause>
 }
 
 // The stop that a call tells.
-fn stop_in(served: Served) -> Option<Cause>
-    ensures { result ≡ stop_in served }
+fn stop_of_call(served: Served) -> Option<Cause>
+    ensures { result ≡ stop_of_call served }
 {
     match served {
         Served::Went => None,
@@ -86,10 +80,10 @@ fn carry_out(
     session: &Session,
 ) -> Result<Option<Cause>, AllocError>
     requires { regs.old.pc < 0xfe00 }
-    ensures { (d : DeskView) → CarriesOut session.now regs.old d overlay.old result regs.new d overlay.new }
+    ensures { (d : Watched) → TakesStep session.now regs.old d overlay.old result regs.new d overlay.new }
 {
     match instruct(regs, overlay, session) {
-        Ok(did) => Ok(stop_by(did)),
+        Ok(did) => Ok(stop_of_instruction(did)),
         Err(AllocError) => Err(AllocError),
     }
 }
@@ -97,14 +91,14 @@ fn carry_out(
 // What follows where PC is in the system's area: the call at the BDOS's entry, and a stop elsewhere.
 #[cold]
 #[inline(never)]
-fn enter_system(
+pub(crate) fn enter_system(
     regs: &mut Regs,
     overlay: &mut Overlay,
     desk: &mut Desk,
     session: &Session,
 ) -> Result<Option<Cause>, AllocError>
     requires { 0xfe00 ≤ regs.old.pc }
-    ensures { CarriesOut session.now regs.old desk.old overlay.old result regs.new desk.new overlay.new }
+    ensures { TakesStep session.now regs.old desk.old overlay.old result regs.new desk.new overlay.new }
 {
     if regs.pc == WARM_START {
         return Ok(Some(Cause::WarmBoot));
@@ -113,7 +107,7 @@ fn enter_system(
         return Ok(Some(Cause::SystemArea(regs.pc)));
     }
     match serve(regs, overlay, desk, session) {
-        Ok(served) => Ok(stop_in(served)),
+        Ok(served) => Ok(stop_of_call(served)),
         Err(AllocError) => Err(AllocError),
     }
 }
@@ -126,7 +120,7 @@ fn proceed(
     desk: &mut Desk,
     session: &Session,
 ) -> Result<Option<Cause>, AllocError>
-    ensures { CarriesOut session.now regs.old desk.old overlay.old result regs.new desk.new overlay.new }
+    ensures { TakesStep session.now regs.old desk.old overlay.old result regs.new desk.new overlay.new }
 {
     if regs.pc >= SYSTEM_AREA {
         return enter_system(regs, overlay, desk, session);
@@ -137,24 +131,25 @@ fn proceed(
 /// One step, or the cause of a stop. A stop or `Err` leaves the state, but for what was looked at.
 #[inline(always)]
 pub fn step(
-    state: &mut State,
+    running: &mut Running,
     session: &Session,
     meter: &mut Meter,
 ) -> Result<Option<Cause>, AllocError>
-    requires at { IsReached (ask session.now) state.old.state }
+    requires at { IsReached (ask session.now) running.old.state }
     requires room { meter.old + 1 < 2 ^ 64 }
-    ensures went { IfOk result (λ r. IfNone r (outcome (ask session.now) state.old.state ≡ Step state.new.state)) }
+    ensures went { IfOk result (λ r. IfNone r (outcome (ask session.now) running.old.state ≡ Step running.new.state)) }
     ensures ticked { IfOk result (λ r. IfNone r (meter.new ≡ meter.old + 1)) }
-    ensures looked { OnOk result ((q : Question) → looked_at state.new.looked q ≡ looked_at state.old.looked q || is_in q (looks_at (ask session.now) state.old.state)) }
-    ensures extends { OnOk result (Extends state.old.looked state.new.looked) }
-    ensures stopped { IfOk result (λ r. IfSome r (λ cause. outcome (ask session.now) state.old.state ≡ Stop cause)) }
-    ensures stays { IfOk result (λ r. IfSome r (λ _. (state.new.state ≡ state.old.state) × (meter.new ≡ meter.old))) }
-    ensures failed { OnErr result ((state.new.state ≡ state.old.state) × (meter.new ≡ meter.old)) }
+    ensures looked { OnOk result ((q : Question) → looked_at running.new.looked q ≡ looked_at running.old.looked q || is_in q (looks_at (ask session.now) running.old.state)) }
+    ensures extends { Extends running.old.looked running.new.looked }
+    ensures bounded { OnErr result (IsBounded running.old.looked (looks_at (ask session.now) running.old.state) running.new.looked) }
+    ensures stopped { IfOk result (λ r. IfSome r (λ cause. outcome (ask session.now) running.old.state ≡ Stop cause)) }
+    ensures stays { IfOk result (λ r. IfSome r (λ _. (running.new.state ≡ running.old.state) × (meter.new ≡ meter.old))) }
+    ensures failed { OnErr result ((running.new.state ≡ running.old.state) × (meter.new ≡ meter.old)) }
 {
     if let Some(cause) = proceed(
-        &mut state.regs,
-        &mut state.overlay,
-        &mut state.desk,
+        &mut running.regs,
+        &mut running.overlay,
+        &mut running.desk,
         session,
     )? {
         return Ok(Some(cause));

@@ -10,7 +10,7 @@ use Rattle.std.proofs.lemmas.List.{get_or_past, set-get_or}
 use Rattle.std.proofs.Common.{◌≤◌}
 use Rattle.i8080.specs.Memory.{Own, Looks, look, write, is_among}
 use Rattle.pagemem.specs.Plain.{plain_own}
-use Rattle.pagemem.specs.Pages.{SameOwn, is_owned, ready_at, page_own, slot_own, own_at}
+use Rattle.pagemem.specs.Pages.{SameOwn, SameOwned, is_owned, ready_at, page_own, slot_own, own_at}
 use Rattle.pagemem.specs.declared.page.Page.{Page}
 use Rattle.pagemem.specs.declared.page.Slot.{Slot}
 use Rattle.pagemem.specs.declared.page.Slot.TheVariants.{Empty}
@@ -122,6 +122,13 @@ own_alike n xs ys e f same = fun_ext (λ q. elim (leb_tells n (q / 256)) [
   | inl past ↦ rw (get_or_past xs (q / 256) Empty (let h : n ≤ q / 256 = past.1 in omega arith), get_or_past ys (q / 256) Empty (let h : n ≤ q / 256 = past.1 in omega arith)) refl
   | inr within ↦ ap (λ (g : ℕ → Option ℕ). g (q % 256)) (same (q / 256) within.1)
 ])
+
+-- slots that are owned alike, one by one
+pub ready_alike : (n : ℕ) (xs ys : List Slot) → length xs ≡ n → length ys ≡ n → SameOwned n xs ys → (q : ℕ) → ready_at xs q ≡ ready_at ys q
+ready_alike n xs ys e f same q = elim (leb_tells n (q / 256)) [
+  | inl past ↦ rw (get_or_past xs (q / 256) Empty (let h : n ≤ q / 256 = past.1 in omega arith), get_or_past ys (q / 256) Empty (let h : n ≤ q / 256 = past.1 in omega arith)) refl
+  | inr within ↦ same (q / 256) within.1
+]
 
 -- a slot exchanged for one that is not owned
 pub shared_kept : (slots : List Slot) (i : ℕ) (slot : Slot) → i < length slots → is_owned slot ≡ false → (j : ℕ) → is_owned (get_or slots j Empty) ≡ false → is_owned (get_or (set slots i slot) j Empty) ≡ false

@@ -6,9 +6,9 @@ use Rattle.i8080.proofs.LookLemmas.{is_among-append}
 use Rattle.pagemem.specs.Settled.{Rests}
 
 -- a cell at rest is not looked at again
-pub look_at_rest : (own : Own) (ready : ℕ → Bool) (looks : Looks) (a : ℕ) → Rests own ready looks a → looks ≡ look own looks a
+pub look_at_rest : (own : Own) (looks : Looks) (a : ℕ) → Rests own looks a → looks ≡ look own looks a
 unfolding look
-look_at_rest own ready looks a r = rw (r.unwritten, r.looked) refl
+look_at_rest own looks a r = rw (r.unwritten, r.looked) refl
 
 -- the looks with one more
 abbrev with_look : Looks → ℕ → Looks
@@ -31,28 +31,28 @@ looked_at looks a = pick (is_among a looks) refl where
   pick false e = is_among-append a looks (a ∷ []) ∙ at_end (is_among a looks)
 
 -- a cell is settled after its look
-pub settled_by_look : (own : Own) (ready was is : ℕ → Bool) (looks : Looks) (a : ℕ) → ((q : ℕ) → IsTrue (was q) → Rests own ready looks q) → ((q : ℕ) → is q ≡ cond (eqb q a) true (was q)) → IsTrue (ready a) → own a ≡ None
-    → (q : ℕ) → IsTrue (is q) → Rests own ready (with_look looks a) q
-settled_by_look own ready was is looks a rests e here unwritten q h = elim (eqb_tells q a) [
-  | inl same ↦ subst (λ (k : ℕ). Rests own ready (with_look looks a) k) (sym same.1) (record { ready = here; unwritten = unwritten; looked = looked_at looks a })
-  | inr other ↦ let r = rests q (sym (e q ∙ rw other.0 refl) ∙ h) in record { ready = r.ready; unwritten = r.unwritten; looked = after_look looks a q r.looked }
+pub settled_by_look : (own : Own) (was is : ℕ → Bool) (looks : Looks) (a : ℕ) → ((q : ℕ) → IsTrue (was q) → Rests own looks q) → ((q : ℕ) → is q ≡ cond (eqb q a) true (was q)) → own a ≡ None
+    → (q : ℕ) → IsTrue (is q) → Rests own (with_look looks a) q
+settled_by_look own was is looks a rests e unwritten q h = elim (eqb_tells q a) [
+  | inl same ↦ subst (λ (k : ℕ). Rests own (with_look looks a) k) (sym same.1) (record { unwritten = unwritten; looked = looked_at looks a })
+  | inr other ↦ let r = rests q (sym (e q ∙ rw other.0 refl) ∙ h) in record { unwritten = r.unwritten; looked = after_look looks a q r.looked }
 ]
 
 -- a cell that is written is taken out
-pub settled_by_write : (own : Own) (ready now was is : ℕ → Bool) (looks : Looks) (a v : ℕ) → ((q : ℕ) → IsTrue (was q) → Rests own ready looks q) → ((q : ℕ) → is q ≡ cond (eqb q a) false (was q)) → ((q : ℕ) → IsTrue (ready q) → IsTrue (now q))
-    → (q : ℕ) → IsTrue (is q) → Rests (write own a v) now looks q
+pub settled_by_write : (own : Own) (was is : ℕ → Bool) (looks : Looks) (a v : ℕ) → ((q : ℕ) → IsTrue (was q) → Rests own looks q) → ((q : ℕ) → is q ≡ cond (eqb q a) false (was q))
+    → (q : ℕ) → IsTrue (is q) → Rests (write own a v) looks q
 unfolding write
-settled_by_write own ready now was is looks a v rests e kept q h = elim (eqb_tells q a) [
+settled_by_write own was is looks a v rests e q h = elim (eqb_tells q a) [
   | inl same ↦ absurd (let no : false ≡ true = sym (e q ∙ rw same.0 refl) ∙ h in cc)
-  | inr other ↦ let r = rests q (sym (e q ∙ rw other.0 refl) ∙ h) in record { ready = kept q r.ready; unwritten = rw other.0 r.unwritten; looked = r.looked }
+  | inr other ↦ let r = rests q (sym (e q ∙ rw other.0 refl) ∙ h) in record { unwritten = rw other.0 r.unwritten; looked = r.looked }
 ]
 
 -- a cell whose look is taken away is taken out
-pub settled_by_take : (own : Own) (ready was is : ℕ → Bool) (looks left : Looks) (a : ℕ) → ((q : ℕ) → IsTrue (was q) → Rests own ready looks q) → ((q : ℕ) → is q ≡ cond (eqb q a) false (was q)) → looks ≡ left ++ a ∷ []
-    → (q : ℕ) → IsTrue (is q) → Rests own ready left q
-settled_by_take own ready was is looks left a rests e last q h = elim (eqb_tells q a) [
+pub settled_by_take : (own : Own) (was is : ℕ → Bool) (looks left : Looks) (a : ℕ) → ((q : ℕ) → IsTrue (was q) → Rests own looks q) → ((q : ℕ) → is q ≡ cond (eqb q a) false (was q)) → looks ≡ left ++ a ∷ []
+    → (q : ℕ) → IsTrue (is q) → Rests own left q
+settled_by_take own was is looks left a rests e last q h = elim (eqb_tells q a) [
   | inl same ↦ absurd (let no : false ≡ true = sym (e q ∙ rw same.0 refl) ∙ h in cc)
-  | inr other ↦ let r = rests q (sym (e q ∙ rw other.0 refl) ∙ h) in record { ready = r.ready; unwritten = r.unwritten; looked = without (is_among q left) (sym (ap (is_among q) last ∙ is_among-append q left (a ∷ []) ∙ rw other.0 refl) ∙ r.looked) }
+  | inr other ↦ let r = rests q (sym (e q ∙ rw other.0 refl) ∙ h) in record { unwritten = r.unwritten; looked = without (is_among q left) (sym (ap (is_among q) last ∙ is_among-append q left (a ∷ []) ∙ rw other.0 refl) ∙ r.looked) }
 ] where
   without : (b : Bool) → (b || (false || false)) ≡ true → b ≡ true
   without true s = refl

@@ -8,6 +8,6 @@ use Rattle.pagemem.specs.Pages.{own_at, ready_at}
 abbrev pub own_in : Cells → Own
 own_in c = own_at c.slots.items
 
--- whether a cell may be read and written
+-- whether a cell may be written
 abbrev pub is_ready_in : Cells → ℕ → Bool
 is_ready_in c = ready_at c.slots.items

@@ -7,3 +7,4 @@ pub mod Pages
 pub mod Cells
 pub mod Listing
 pub mod Overlay
+pub mod ViewParts

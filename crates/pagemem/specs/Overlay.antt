@@ -12,6 +12,6 @@ own_of o = own_in o.cells
 abbrev pub looks_of : Overlay → Looks
 looks_of o = o.looks
 
--- whether a cell may be read and written
+-- whether a cell may be written
 abbrev pub is_ready_at : Overlay → ℕ → Bool
 is_ready_at o = is_ready_in o.cells

@@ -8,7 +8,6 @@ abbrev pub is_settled : Settled → ℕ → Bool
 is_settled s q = get_or s.marks.items q false
 
 -- of such a cell a read gives what lies beneath and changes nothing
-pub record Rests (own : Own) (is_ready : ℕ → Bool) (looks : Looks) (q : ℕ) : Type 0 where
-  pub ready : IsTrue (is_ready q)
+pub record Rests (own : Own) (looks : Looks) (q : ℕ) : Type 0 where
   pub unwritten : own q ≡ None
   pub looked : IsTrue (is_among q looks)

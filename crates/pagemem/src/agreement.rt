@@ -1,5 +1,3 @@
-// What holds of all memories.
-
 ghost use Rattle.pagemem.specs.Agreement.{MemoriesAgree};
 
 /// A law: two memories with the same bytes give the same bytes in every run of reads and writes, whatever is read of them from

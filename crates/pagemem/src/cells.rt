@@ -1,5 +1,3 @@
-// What a run wrote.
-
 ghost use Rattle.std.specs.Prelude.{◌≡◌, false, ◌<◌, ℕ, vec_len, IsTrue, IfOk, OnOk, OnErr, None, get_or, length};
 ghost use Rattle.pagemem.specs.Pages.{own_at, ready_at, is_owned};
 ghost use Rattle.i8080.specs.Memory.{write};
@@ -7,7 +5,8 @@ ghost use Rattle.i8080.specs.Memory.{write};
 use crate::page::Slot;
 use std::alloc::{AllocError, Global};
 
-/// What was written, in 256 pages. A page is made at its first use; a cell that was not written has no byte here.
+/// What was written, in 256 pages. A page is made where one of its cells is first made ready to be
+/// written; a cell that was not written has no byte here.
 #[derive(Drop)]
 pub struct Cells {
     slots: Vec<Slot>,
@@ -26,7 +25,7 @@ impl Cells {
         Ok(Cells { slots, alloc })
     }
 
-    /// Makes the page of a cell owned, so that the cell may be read and written. No byte changes, and at `Err` nothing does.
+    /// Makes the page of a cell owned, so that the cell may be written. No byte changes, and at `Err` nothing does.
     #[inline(always)]
     pub fn ready(&mut self, a: u16) -> Result<(), AllocError>
         ensures ready { OnOk result (IsTrue (is_ready_in self.new a)) }
@@ -40,6 +39,7 @@ impl Cells {
 
     /// The last byte that was written at a cell; none where none was.
     #[tactic(auto, unfolding(crate::specs::Pages::own_at))]
+    #[inline(always)]
     pub fn written(&self, a: u16) -> Option<u8>
         ensures { result ≡ own_in self.now a }
     {
@@ -48,20 +48,6 @@ impl Cells {
             Slot::Empty => None,
             Slot::Owned(page) => page.get(at),
             Slot::Shared(page) => page.get(at),
-        }
-    }
-
-    /// The last byte that was written at a ready cell; none where none was.
-    #[tactic(auto, unfolding(crate::specs::Pages::own_at))]
-    #[inline(always)]
-    pub fn ready_byte(&self, a: u16) -> Option<u8>
-        requires { IsTrue (is_ready_in self.now a) }
-        ensures { result ≡ own_in self.now a }
-    {
-        match &self.slots[(a / 256) as usize] {
-            Slot::Owned(page) => page.get((a % 256) as u8),
-            Slot::Empty => unreachable!(),
-            Slot::Shared(_) => unreachable!(),
         }
     }
 
@@ -92,7 +78,8 @@ impl Cells {
 
     /// Cells in which the same is written. A shared page has one owner more, an owned one is copied.
     pub fn snapshot(&self) -> Result<Cells, AllocError>
-        ensures { IfOk result (λ c. own_in c ≡ own_in self.now) }
+        ensures own { IfOk result (λ c. own_in c ≡ own_in self.now) }
+        ensures ready { IfOk result (λ c. (q : ℕ) → is_ready_in c q ≡ is_ready_in self.now q) }
     {
         let slots = copied_slots(&self.slots, self.alloc)?;
         Ok(Cells {
@@ -158,6 +145,7 @@ fn blank_slots(alloc: Global, count: u16) -> Result<Vec<Slot>, AllocError>
 fn copied_slots(slots: &[Slot], alloc: Global) -> Result<Vec<Slot>, AllocError>
     ensures len { IfOk result (λ v. vec_len v ≡ length slots.now) }
     ensures own { IfOk result (λ v. own_at v.items ≡ own_at slots.now) }
+    ensures ready { IfOk result (λ v. (q : ℕ) → ready_at v.items q ≡ ready_at slots.now q) }
 {
     let mut copies = Vec::with_capacity(alloc, slots.len())?;
     for slot in slots {

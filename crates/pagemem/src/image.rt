@@ -1,5 +1,3 @@
-// The loaded image.
-
 ghost use Rattle.std.specs.Prelude.{◌≡◌, ◌≤◌, length};
 ghost use Rattle.pagemem.specs.Image.{image_at};
 

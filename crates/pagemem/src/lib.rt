@@ -1,15 +1,15 @@
 //! What a run wrote and looked at, in pages over a borrowed image; and plain memory.
 #![tactic(auto)]
 
-pub mod agreement;
-pub mod cells;
-pub mod image;
+mod agreement;
+mod cells;
+mod image;
 mod looks;
-pub mod overlay;
+mod overlay;
 mod page;
-pub mod plain;
+mod plain;
 mod settled;
-pub mod view;
+mod view;
 
 pub use agreement::memories_agree;
 pub use cells::Cells;

@@ -1,5 +1,3 @@
-// What a run looked at.
-
 ghost use Rattle.std.specs.Prelude.{◌≡◌, ◌<◌, ◌≤◌, ◌∷◌, ◌++◌, [], ℕ, IfOk, IfNone, IfSome, length, slice_index, false, get_or, count_by, vec_len, if◌then◌else◌};
 ghost use Rattle.i8080.specs.Memory.{is_among};
 

@@ -1,5 +1,3 @@
-// What a run wrote and looked at.
-
 ghost use Rattle.std.specs.Prelude.{◌≡◌, false, ◌<◌, ◌∷◌, ◌++◌, [], ℕ, IsTrue, IfOk, OnOk, OnErr, IfNone, IfSome, None, length, slice_index};
 ghost use Rattle.i8080.specs.Memory.{bytes, look, write, is_among, over};
 ghost use Rattle.pagemem.specs.Cells.{own_in, is_ready_in};
@@ -17,7 +15,7 @@ pub struct Overlay {
     cells: Cells,
     looks: Looks,
     settled: Settled,
-    ghost rests: { (q : ℕ) → IsTrue (is_settled settled q) → Rests (own_in cells) (is_ready_in cells) looks q },
+    ghost rests: { (q : ℕ) → IsTrue (is_settled settled q) → Rests (own_in cells) looks q },
 }
 
 impl Overlay {
@@ -59,14 +57,19 @@ impl Overlay {
         cells
     }
 
-    /// A copy of what was written. A shared page has one owner more, an owned one is copied.
-    pub fn copied_cells(&self) -> Result<Cells, AllocError>
-        ensures { IfOk result (λ c. own_in c ≡ own_of self.now) }
+    /// What was written, in pages that are shared with the overlay from now on: each costs a reference. Nothing that was written
+    /// or looked at changes, also at `Err`; cells may have to be made ready again.
+    pub fn shared_cells(&mut self) -> Result<Cells, AllocError>
+        ensures cells { IfOk result (λ c. own_in c ≡ own_of self.old) }
+        ensures shared { IfOk result (λ c. (q : ℕ) → is_ready_in c q ≡ false) }
+        ensures own { own_of self.new ≡ own_of self.old }
+        ensures looks { looks_of self.new ≡ looks_of self.old }
     {
+        self.share()?;
         self.cells.snapshot()
     }
 
-    /// Makes a cell ready to be read and written. No byte and no look changes, and at `Err` nothing does.
+    /// Makes a cell ready to be written. No byte and no look changes, and at `Err` nothing does.
     #[inline(always)]
     pub fn ready(&mut self, a: u16) -> Result<(), AllocError>
         ensures ready { OnOk result (IsTrue (is_ready_at self.new a)) }
@@ -75,9 +78,6 @@ impl Overlay {
         ensures own { own_of self.new ≡ own_of self.old }
         ensures looks { looks_of self.new ≡ looks_of self.old }
     {
-        if self.settled.contains(a) {
-            return Ok(());
-        }
         self.cells.ready(a)
     }
 
@@ -95,10 +95,9 @@ impl Overlay {
         self.looks.contains(a)
     }
 
-    /// The byte of a ready cell: what was written, else the image's, which is a look.
+    /// The byte of a cell: what was written, else the image's, which is a look.
     #[inline(always)]
     pub fn read(&mut self, image: Image<'_>, a: u16) -> u8
-        requires { IsTrue (is_ready_at self.old a) }
         ensures value { result ≡ over (own_of self.old) (cells_of image.entry) a }
         ensures kept { (q : ℕ) → IsTrue (is_ready_at self.old q) → IsTrue (is_ready_at self.new q) }
         ensures own { own_of self.new ≡ own_of self.old }
@@ -107,7 +106,7 @@ impl Overlay {
         if self.settled.contains(a) {
             return image.at(a);
         }
-        match self.cells.ready_byte(a) {
+        match self.cells.written(a) {
             Some(value) => value,
             None => {
                 self.look(a);
@@ -116,12 +115,11 @@ impl Overlay {
         }
     }
 
-    // A look at a ready cell that was not written, away from the path of most reads.
+    // A look at a cell that was not written, away from the path of most reads.
     #[cold]
     #[inline(never)]
     fn look(&mut self, a: u16)
-        requires ready { IsTrue (is_ready_at self.old a) }
-        requires unwritten { own_of self.old a ≡ None }
+        requires { own_of self.old a ≡ None }
         ensures kept { (q : ℕ) → IsTrue (is_ready_at self.old q) → IsTrue (is_ready_at self.new q) }
         ensures own { own_of self.new ≡ own_of self.old }
         ensures looks { looks_of self.new ≡ look (own_of self.old) (looks_of self.old) a }
@@ -177,7 +175,6 @@ impl Overlay {
         ensures own { own_of self.new ≡ own_of self.old }
         ensures looks { looks_of self.new ≡ looks_of self.old }
     {
-        self.settled.clear();
         self.cells.share()
     }
 

@@ -1,5 +1,3 @@
-// Pages of 256 cells.
-
 ghost use Rattle.std.specs.Prelude.{◌≡◌, false, None, IfOk, IsTrue, OnOk, OnErr};
 ghost use Rattle.pagemem.specs.Pages.{page_own, slot_own, is_owned};
 ghost use Rattle.i8080.specs.Memory.{write};
@@ -73,7 +71,7 @@ impl Slot {
         self.own(alloc)
     }
 
-    // The same, away from the path of most reads.
+    // The same where the page is not owned yet, away from the path of most writes.
     #[cold]
     #[inline(never)]
     fn own(&mut self, alloc: Global) -> Result<(), AllocError>
@@ -108,6 +106,7 @@ impl Slot {
     /// Another slot of the same content: a page that is shared has one more owner, one that is owned is copied.
     pub fn snapshot(&self, alloc: Global) -> Result<Slot, AllocError>
         ensures own { IfOk result (λ s. slot_own s ≡ slot_own self.now) }
+        ensures owned { IfOk result (λ s. is_owned s ≡ is_owned self.now) }
     {
         match self {
             Slot::Empty => Ok(Slot::Empty),

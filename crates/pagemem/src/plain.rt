@@ -1,10 +1,8 @@
-// Plain memory: one list.
-
 ghost use Rattle.std.specs.Prelude.{◌≡◌, ℕ, Bool, true, None, [], vec_len};
 ghost use Rattle.i8080.specs.Memory.{Memory};
 ghost use Rattle.pagemem.specs.Plain.{plain_own};
 
-use i8080::bus::Bus;
+use i8080::Bus;
 use std::alloc::AllocError;
 
 /// One list of 65,536 bytes, all of which count as written.

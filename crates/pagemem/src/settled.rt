@@ -1,5 +1,3 @@
-// Cells of which a read changes nothing.
-
 ghost use Rattle.std.specs.Prelude.{◌≡◌, ◌==◌, ℕ, true, false, if◌then◌else◌, IfOk, get_or, vec_len};
 
 use crate::looks::{CELLS, blank_marks};
@@ -54,12 +52,5 @@ impl Settled {
         ensures { (q : ℕ) → is_settled self.new q ≡ (if q == a then false else is_settled self.old q) }
     {
         self.marks[a as usize] = false;
-    }
-
-    /// Takes all cells out. It takes no memory.
-    pub fn clear(&mut self)
-        ensures { (q : ℕ) → is_settled self.new q ≡ false }
-    {
-        self.marks.fill(false);
     }
 }

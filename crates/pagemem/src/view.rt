@@ -1,13 +1,11 @@
-// An overlay joined with an image.
-
-ghost use Rattle.std.specs.Prelude.{◌≡◌, ℕ, Bool, Some};
+ghost use Rattle.std.specs.Prelude.{◌≡◌, ℕ, Bool, Some, length};
 ghost use Rattle.i8080.specs.Memory.{Memory};
 ghost use Rattle.pagemem.specs.Overlay.{own_of, looks_of, is_ready_at};
 ghost use Rattle.pagemem.specs.ImageView.{cells_of};
 
 use crate::image::Image;
 use crate::overlay::Overlay;
-use i8080::bus::Bus;
+use i8080::Bus;
 use std::alloc::AllocError;
 
 /// The overlay's written cells laid over the image.
@@ -18,6 +16,8 @@ pub struct View<'a> {
 }
 
 impl<'a> View<'a> {
+    ghost use Rattle.pagemem.specs.ViewParts.{overlay_in};
+
     /// Joins them for as long as the overlay is lent.
     #[inline(always)]
     pub fn new(image: Image<'a>, overlay: &'a mut Overlay) -> View<'a>
@@ -25,6 +25,14 @@ impl<'a> View<'a> {
         ensures overlay { result.overlay ≡ overlay.entry }
     {
         View { image, overlay }
+    }
+
+    /// How many cells were looked at.
+    #[inline(always)]
+    pub fn look_count(&self) -> usize
+        ensures { result ≡ length (looks_of (overlay_in self.now)) }
+    {
+        self.overlay.look_count()
     }
 }
 

@@ -1,5 +1,5 @@
 -- The table of first looks, as it grows and is erased.
-use Rattle.std.proofs.Common.{ap, ◌≡◌, ℕ, zero, suc, ◌<◌, ◌≤◌, refl, ◌∙◌, arith, Bool, true, false, Option, Some, None, inl, inr}
+use Rattle.std.proofs.Common.{ap, sym, ◌≡◌, ℕ, zero, suc, ◌<◌, ◌≤◌, refl, ◌∙◌, arith, Bool, true, false, Option, Some, None, inl, inr}
 use Rattle.std.proofs.lemmas.Bool.{lt-ltb}
 use Rattle.std.proofs.lemmas.Bool.Decides.{nat_tests}
 use Rattle.std.proofs.Math.Nat.{eq-or-lt_of_le}
@@ -9,7 +9,7 @@ use Rattle.interaction_trees.specs.Dependence as dependence
 use Rattle.interaction_trees.proofs.DependenceLemmas as lemmas
 use Rattle.machine.specs.Views.{State}
 use Rattle.machine.specs.Machine.{Answers, is_in, part, next, made, start, looks_at, looks, after}
-use Rattle.replay.specs.FirstLooks.{Table, or_else, mark, first, erased, step_of, IsFirstLooks}
+use Rattle.replay.specs.FirstLooks.{Noted, or_else, mark, first, erased, step_of, IsFirstLooks}
 
 -- an entry below n
 abbrev pub IsBelow : ℕ → Option ℕ → Type 0
@@ -74,5 +74,9 @@ unfolding dependence.looks
 looks_here f n st a = ap (λ (o : Option State). dependence.looks_of part (λ (st : State). st.own) (λ (st : State). next st.core) made start f o) a
 
 -- a failed note leaves the table
-pub erased_known : (f : Answers) (old new : Table) → IsFirstLooks f old → ((q : Question) → step_of new q ≡ erased old.seen (step_of old q)) → new.seen ≡ old.seen → IsFirstLooks f new
+pub erased_known : (f : Answers) (old new : Noted) → IsFirstLooks f old → ((q : Question) → step_of new q ≡ erased old.seen (step_of old q)) → new.seen ≡ old.seen → IsFirstLooks f new
 erased_known f old new known steps seen = record { entry = λ q. rw (seen, steps q, known.entry q) (erased_same f q old.seen) }
+
+-- what is noted of a question is a step below `seen`
+pub noted_below : (f : Answers) (k : Noted) → IsFirstLooks f k → (q : Question) (m : ℕ) → step_of k q ≡ Some m → m < k.seen
+noted_below f k known q m e = first_below f q k.seen m (sym (known.entry q) ∙ e)

@@ -5,12 +5,12 @@ use Rattle.circular_buffer.specs.Buffer.{Buffer}
 use Rattle.std.proofs.lemmas.List.{take_all, length-take-le, take-take}
 use Rattle.machine.specs.Views.{State}
 use Rattle.machine.specs.Machine.{Answers, after}
-use Rattle.machine.specs.Part.{whole, part_of}
+use Rattle.machine.specs.Kept.{whole, kept_of}
 use Rattle.machine.proofs.TextLemmas.{text_begins, text_length}
 use Rattle.replay.specs.declared.ring.Checkpoint.{Checkpoint}
 use Rattle.replay.specs.Ring.{Each, IsValid, Stands, SomeStep, start_step}
 
-pub new_valid : (f : Answers) (n : ℕ) (st : State) → 1 ≤ n → after f n ≡ Some st → IsValid f (record { step = n; state = part_of st })
+pub new_valid : (f : Answers) (n : ℕ) (st : State) → 1 ≤ n → after f n ≡ Some st → IsValid f (record { step = n; state = kept_of st })
 new_valid f n st later at = record { later = later; text = st.core.desk.text; fits = refl; state = at }
 
 pub stands_valid : (f : Answers) (text : List ℕ) (xs : List Checkpoint) → Each (Stands f text) xs → Each (IsValid f) xs

@@ -3,9 +3,17 @@ pub mod FirstLemmas
 pub mod RingLemmas
 pub mod StartLemmas
 pub mod TouchLemmas
+pub mod LeastLemmas
+pub mod EditLemmas
 pub mod PokeLemmas
+pub mod SpliceLemmas
 pub mod RunnerLemmas
 pub mod LookLemmas
+pub mod StretchNotes
 pub mod OutcomeLemmas
 pub mod KeepingLemmas
 pub mod StepsLemmas
+pub mod CompleteLemmas
+pub mod EntryLemmas
+pub mod PlaceLemmas
+pub mod OrderLemmas

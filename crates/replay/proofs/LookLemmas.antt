@@ -1,18 +1,15 @@
--- The looks of one step, noted in the table.
-use Rattle.std.proofs.Common.{◌≡◌, ℕ, suc, ◌+◌, ◌<◌, ◌≤◌, Bool, true, false, ◌||◌, List, ◌++◌, length, drop, Option, Some, None, ◌⊎◌, inl, inr, refl, ap, sym, ◌∙◌, subst, arith, add-one}
+-- The looks of one step, noted.
+use Rattle.std.proofs.Common.{◌≡◌, ℕ, suc, ◌+◌, ◌<◌, ◌≤◌, Bool, true, false, ◌||◌, length, take, drop, take-append-drop, Option, Some, None, ◌⊎◌, inl, inr, refl, ap, sym, ◌∙◌, subst, arith, add-one}
 use Rattle.std.proofs.lemmas.Bool.{cases_lt, or_cases}
-use Rattle.std.proofs.Math.Seq.{drop-append_seam}
 use Rattle.std.proofs.Math.Nat.{eq-or-lt_of_le}
 use Rattle.i8080.proofs.LookLemmas.{is_among-append}
-use Rattle.machine.specs.Views.{State}
-use Rattle.machine.specs.Machine.{Question, Cell, Script, Answers, is_in, looked_at, Extends, after, looks_at}
-use Rattle.replay.specs.FirstLooks.{Table, step_of, or_else, mark, first, IsFirstLooks, AllNoted, IsNoted, IsLeftBehind}
+use Rattle.i8080.specs.Memory.{is_among}
+use Rattle.bdos.specs.Places.{is_within}
+use Rattle.machine.specs.Views.{State, Looked}
+use Rattle.machine.specs.Machine.{Question, Cell, Script, Answers, is_in, looked_at, NothingLooked, Extends, after, looks_at}
+use Rattle.replay.specs.FirstLooks.{Noted, step_of, or_else, mark, first, IsFirstLooks, since, AllNoted, NoPlaces, IsNoted, IsLeftBehind}
 use Rattle.replay.proofs.FirstLemmas.{first-suc, looks_here, erased_known}
 use Rattle.replay.proofs.TouchLemmas.{noted_by}
-
-looked_at-append : (q : Question) (xs ys : List ℕ) → looked_at (xs ++ ys) q ≡ (looked_at xs q || looked_at ys q)
-looked_at-append (Cell a) xs ys = is_among-append a xs ys
-looked_at-append (Script k) xs ys = refl
 
 -- an entry is entered for the new looks alone: that is the same as for all
 same_mark : (o : Option ℕ) (before more all asked : Bool) (n : ℕ) → (before ≡ true → o ≡ None → ⊥) → all ≡ (before || more) → all ≡ (before || asked) → or_else o (mark more n) ≡ or_else o (mark asked n)
@@ -27,32 +24,52 @@ has_entry None true more all n known e h none = known refl refl
 has_entry None false true all n known e h none = cc
 has_entry None false false all n known e h none = cc
 
--- what the table is after a step
-pub record Notes (f : Answers) (old new : Table) (n : ℕ) (looked : List ℕ) : Type 0 where
+-- where nothing was looked at there is nothing to note
+pub none_looked : (noted : Noted) (looked : Looked) → NothingLooked looked → AllNoted noted looked
+none_looked noted looked none (Cell a) asked o = let no : is_among a looked.cells ≡ false = rw none.cells refl in absurd (let both : false ≡ true = sym no ∙ asked in cc)
+none_looked noted looked none (Script k) asked o = let no : is_within looked.places k ≡ false = none.places k in absurd (let both : false ≡ true = sym no ∙ asked in cc)
+
+-- what the first looks are after a step
+pub record Notes (f : Answers) (old new : Noted) (n : ℕ) (looked : Looked) (refused refuses : ℕ) : Type 0 where
   pub noted : IsFirstLooks f new
   pub looks : n + 1 ≤ new.seen → AllNoted new looked
   pub grows : old.seen ≤ new.seen
   pub within : (new.seen ≡ old.seen) ⊎ (new.seen ≡ n + 1)
+  pub counted : (refused ≤ refuses) × (refuses ≤ refused + 1)
+  pub all : refuses ≡ refused → n ≤ old.seen → n + 1 ≤ new.seen
 
-module _ (f : Answers) (old new : Table) (n : ℕ) (st : State) (looked looked' : List ℕ) (known : IsFirstLooks f old) (all : n ≤ old.seen → AllNoted old looked) (at : after f n ≡ Some st)
-    (extends : Extends looked looked') (asks : (q : Question) → looked_at looked' q ≡ (looked_at looked q || is_in q (looks_at f st))) where
-  more_looked : (q : Question) → looked_at looked' q ≡ (looked_at looked q || looked_at extends.0 q)
-  more_looked q = ap (λ l. looked_at l q) extends.1 ∙ looked_at-append q looked extends.0
+module _ (f : Answers) (old new : Noted) (n refused refuses : ℕ) (st : State) (looked after_step left : Looked) (known : IsFirstLooks f old) (all : n ≤ old.seen → AllNoted old looked) (at : after f n ≡ Some st)
+    (extends : Extends looked after_step) (asks : (q : Question) → looked_at after_step q ≡ (looked_at looked q || is_in q (looks_at f st))) (same_cells : left.cells ≡ after_step.cells) where
+  -- what was looked at is what was before, and what is new
+  more_looked : (q : Question) → looked_at after_step q ≡ (looked_at looked q || looked_at (since (length looked.cells) after_step) q)
+  more_looked (Cell a) =
+      ap (is_among a) (sym (take-append-drop (length looked.cells) after_step.cells))
+      ∙ is_among-append a (take (length looked.cells) after_step.cells) (drop (length looked.cells) after_step.cells)
+      ∙ ap (λ cells. is_among a cells || is_among a (drop (length looked.cells) after_step.cells)) extends.cells
+  more_looked (Script k) = or_both (is_within looked.places k) (is_within after_step.places k) (extends.places k)
+    where
+      or_both : (a b : Bool) → (a ≡ true → b ≡ true) → b ≡ (a || b)
+      or_both true b h = h refl
+      or_both false b h = refl
 
-  fresh : drop (length looked) looked' ≡ extends.0
-  fresh = ap (drop (length looked)) extends.1 ∙ drop-append_seam looked extends.0
+  -- where no place is left, what is left was looked at
+  left_looked : NoPlaces left.places → (q : Question) → looked_at left q ≡ true → looked_at after_step q ≡ true
+  left_looked none (Cell a) e = ap (is_among a) (sym same_cells) ∙ e
+  left_looked none (Script k) e = let no : is_within left.places k ≡ false = none k in absurd (let both : false ≡ true = sym no ∙ e in cc)
 
-  -- the table stays
-  stays : new ≡ old → (n + 1 ≤ old.seen → AllNoted old looked') → Notes f old new n looked'
-  stays same noted_all = record {
-    noted = subst (λ (t : Table). IsFirstLooks f t) (sym same) known;
-    looks = subst (λ (t : Table). n + 1 ≤ t.seen → AllNoted t looked') (sym same) noted_all;
-    grows = let e : new.seen ≡ old.seen = ap (λ (t : Table). t.seen) same in omega arith;
-    within = inl (ap (λ (t : Table). t.seen) same);
+  -- they stay
+  stays : new ≡ old → refuses ≡ refused → left ≡ after_step → (n ≡ old.seen → ⊥) → (n + 1 ≤ old.seen → AllNoted old after_step) → Notes f old new n left refused refuses
+  stays same none whole apart noted_all = record {
+    noted = subst (λ (t : Noted). IsFirstLooks f t) (sym same) known;
+    looks = subst (λ (l : Looked). n + 1 ≤ new.seen → AllNoted new l) (sym whole) (subst (λ (t : Noted). n + 1 ≤ t.seen → AllNoted t after_step) (sym same) noted_all);
+    grows = let e : new.seen ≡ old.seen = ap (λ (t : Noted). t.seen) same in omega arith;
+    within = inl (ap (λ (t : Noted). t.seen) same);
+    counted = omega (arith, none);
+    all = λ _ low. let e : new.seen ≡ old.seen = ap (λ (t : Noted). t.seen) same in elim (eq-or-lt_of_le {n = n} {m = old.seen} low) [ inl same_step ↦ absurd (apart same_step) | inr l ↦ omega (arith, l, e) ];
   }
 
   -- the step was seen before
-  seen_before : n < old.seen → AllNoted old looked'
+  seen_before : n < old.seen → AllNoted old after_step
   seen_before below q asked none = elim (or_cases (looked_at looked q) (is_in q (looks_at f st)) (sym (asks q) ∙ asked)) [
     | inl h ↦ all (omega arith) q h none
     | inr h ↦ asked_here q h none
@@ -64,47 +81,56 @@ module _ (f : Answers) (old new : Table) (n : ℕ) (st : State) (looked looked' 
           let e : Some m ≡ None = sym there ∙ sym (known.entry q) ∙ none in cc
 
   -- or it is noted now
-  seen_now : n ≡ old.seen → IsNoted old new (drop (length looked) looked') → Notes f old new n looked'
-  seen_now here now = record {
+  seen_now : n ≡ old.seen → IsNoted old new (since (length looked.cells) after_step) → refuses ≡ refused → NoPlaces left.places → Notes f old new n left refused refuses
+  seen_now here now none drained = record {
     noted = record { entry = λ q. entry q ∙ sym (ap (first f q) now.seen ∙ ap (first f q) (add-one old.seen)) };
-    looks = λ _ q asked none. has_entry (step_of old q) (looked_at looked q) (looked_at extends.0 q) (looked_at looked' q) old.seen (λ e o. before q e o) (more_looked q) asked (sym (entered q) ∙ none);
+    looks = λ _ q asked none. has_entry (step_of old q) (looked_at looked q) (looked_at (since (length looked.cells) after_step) q) (looked_at after_step q) old.seen (λ e o. before q e o) (more_looked q) (left_looked drained q asked) (sym (entered q) ∙ none);
     grows = omega (arith, now.seen);
     within = inr (let next = now.seen in let e : new.seen ≡ n + 1 = omega (arith, next, here) in e);
+    counted = omega (arith, none);
+    all = λ _ _. let next = now.seen in omega (arith, next, here);
   } where
     before : AllNoted old looked
     before = all (omega arith)
 
-    entered : (q : Question) → step_of new q ≡ or_else (step_of old q) (mark (looked_at extends.0 q) old.seen)
-    entered q = now.entries q ∙ ap (λ l. or_else (step_of old q) (mark (looked_at l q) old.seen)) fresh
+    entered : (q : Question) → step_of new q ≡ or_else (step_of old q) (mark (looked_at (since (length looked.cells) after_step) q) old.seen)
+    entered q = now.entries q
 
     entry : (q : Question) → step_of new q ≡ first f q (suc old.seen)
     entry q =
         entered q
-        ∙ same_mark (step_of old q) (looked_at looked q) (looked_at extends.0 q) (looked_at looked' q) (is_in q (looks_at f st)) old.seen (λ e o. before q e o) (more_looked q) (asks q)
+        ∙ same_mark (step_of old q) (looked_at looked q) (looked_at (since (length looked.cells) after_step) q) (looked_at after_step q) (is_in q (looks_at f st)) old.seen (λ e o. before q e o) (more_looked q) (asks q)
         ∙ ap (λ o. or_else o (mark (is_in q (looks_at f st)) old.seen)) (known.entry q)
         ∙ ap (λ qs. or_else (first f q old.seen) (mark (is_in q qs) old.seen)) (sym (looks_here f old.seen st (ap (after f) (sym here) ∙ at)))
         ∙ sym (first-suc f q old.seen)
 
   -- or memory for it was refused
-  left_behind : n ≡ old.seen → IsLeftBehind old new → Notes f old new n looked'
-  left_behind here left = record {
-    noted = erased_known f old new known left.entries left.seen;
-    looks = λ past. absurd (omega (arith, past, here, left.seen));
-    grows = omega (arith, left.seen);
-    within = inl left.seen;
+  left_behind : n ≡ old.seen → IsLeftBehind old new → refuses ≡ refused + 1 → Notes f old new n left refused refuses
+  left_behind here behind one = record {
+    noted = erased_known f old new known behind.entries behind.seen;
+    looks = λ past. absurd (omega (arith, past, here, behind.seen));
+    grows = omega (arith, behind.seen);
+    within = inl behind.seen;
+    counted = omega (arith, one);
+    all = λ none _. absurd (omega (arith, none, one));
   }
 
-  pub looks_kept : ((n ≡ old.seen → ⊥) → new ≡ old) → (n ≡ old.seen → IsNoted old new (drop (length looked) looked') ⊎ IsLeftBehind old new) → Notes f old new n looked'
+  pub looks_kept : ((n ≡ old.seen → ⊥) → (new ≡ old) × (refuses ≡ refused) × (left ≡ after_step))
+      → (n ≡ old.seen → (IsNoted old new (since (length looked.cells) after_step) × (refuses ≡ refused) × NoPlaces left.places) ⊎ (IsLeftBehind old new × (refuses ≡ refused + 1)))
+      → Notes f old new n left refused refuses
   looks_kept other here = by_order (cases_lt n old.seen)
     where
-      at_seen : n ≡ old.seen → IsNoted old new (drop (length looked) looked') ⊎ IsLeftBehind old new → Notes f old new n looked'
-      at_seen e (inl now) = seen_now e now
-      at_seen e (inr left) = left_behind e left
+      at_seen : n ≡ old.seen → (IsNoted old new (since (length looked.cells) after_step) × (refuses ≡ refused) × NoPlaces left.places) ⊎ (IsLeftBehind old new × (refuses ≡ refused + 1)) → Notes f old new n left refused refuses
+      at_seen e (inl now) = seen_now e now.0 now.1 now.2
+      at_seen e (inr behind) = left_behind e behind.0 behind.1
 
-      from_seen : old.seen ≤ n → (old.seen ≡ n) ⊎ (old.seen < n) → Notes f old new n looked'
+      apart : (n ≡ old.seen → ⊥) → (n + 1 ≤ old.seen → AllNoted old after_step) → Notes f old new n left refused refuses
+      apart ne noted_all = let same = other ne in stays same.0 same.1 same.2 ne noted_all
+
+      from_seen : old.seen ≤ n → (old.seen ≡ n) ⊎ (old.seen < n) → Notes f old new n left refused refuses
       from_seen high (inl e) = at_seen (sym e) (here (sym e))
-      from_seen high (inr l) = stays (other (λ e. omega (arith, e, l))) (λ past. absurd (omega (arith, past, l)))
+      from_seen high (inr l) = apart (λ e. omega (arith, e, l)) (λ past. absurd (omega (arith, past, l)))
 
-      by_order : (n < old.seen) ⊎ (old.seen ≤ n) → Notes f old new n looked'
-      by_order (inl l) = stays (other (λ e. omega (arith, e, l))) (λ _. seen_before l)
+      by_order : (n < old.seen) ⊎ (old.seen ≤ n) → Notes f old new n left refused refuses
+      by_order (inl l) = apart (λ e. omega (arith, e, l)) (λ _. seen_before l)
       by_order (inr h) = from_seen h (eq-or-lt_of_le {n = old.seen} {m = n} h)

@@ -115,12 +115,12 @@ widen old new slots from upto further last spacing up a = record {
 pub widen_to : (old new : List Checkpoint) (slots from upto last limit spacing : ℕ) → upto ≤ last → last ≡ limit → Adds old new slots from upto last spacing → Adds old new slots from limit limit spacing
 widen_to old new slots from upto last limit spacing up e a = rw (← e) (widen old new slots from upto last last spacing up a)
 
-due_relast : (old : List Checkpoint) (from upto last other spacing step : ℕ) → upto < last → IsDue old from upto last spacing step → (step % spacing ≡ 0) ⊎ (step ≡ last) → IsDue old from upto other spacing step
+pub due_relast : (old : List Checkpoint) (from upto last other spacing step : ℕ) → upto < last → IsDue old from upto last spacing step → (step % spacing ≡ 0) ⊎ (step ≡ last) → IsDue old from upto other spacing step
 due_relast old from upto last other spacing step below h (inl m) = record { reached = h.reached; above = h.above; marked = inl m }
 due_relast old from upto last other spacing step below h (inr e) = absurd (omega (arith, h.reached.1))
 
 -- no step below the limit was made as the limit's
-pub relast_adding : (old new : List Checkpoint) (slots from upto last other spacing newest : ℕ) → upto < last → Adding old new slots from upto last spacing newest → Adding old new slots from upto other spacing newest
+unfoldable pub relast_adding : (old new : List Checkpoint) (slots from upto last other spacing newest : ℕ) → upto < last → Adding old new slots from upto last spacing newest → Adding old new slots from upto other spacing newest
 relast_adding old new slots from upto last other spacing newest below g = record {
   adds = record {
     made = g.adds.made;
@@ -135,7 +135,7 @@ relast_adding old new slots from upto last other spacing newest below g = record
 
 module _ (old : List Checkpoint) (from last spacing newest upto : ℕ) (ring : Buffer Checkpoint) (c : Checkpoint) where
   -- one more checkpoint, above all others
-  push_made : (slots : ℕ) → Adding old ring.items slots from upto last spacing newest → upto ≤ c.step → newest < c.step → (c.step % spacing ≡ 0) ⊎ (c.step ≡ last)
+  unfoldable pub push_made : (slots : ℕ) → Adding old ring.items slots from upto last spacing newest → upto ≤ c.step → newest < c.step → (c.step % spacing ≡ 0) ⊎ (c.step ≡ last)
       → Adding old (keep_last slots (ring.items ++ c ∷ [])) slots from c.step last spacing (max newest c.step)
   push_made slots g up above mark =
       let made = g.adds.made in
@@ -155,7 +155,7 @@ module _ (old : List Checkpoint) (from last spacing newest upto : ℕ) (ring : B
         start_below = omega (arith, g.start_below);
       }
 
-  left_out : (slots : ℕ) → Adding old ring.items slots from upto last spacing newest → upto ≤ c.step → Adding old ring.items slots from c.step last spacing (max newest c.step)
+  unfoldable pub left_out : (slots : ℕ) → Adding old ring.items slots from upto last spacing newest → upto ≤ c.step → Adding old ring.items slots from c.step last spacing (max newest c.step)
   left_out slots g up = record {
     adds = record {
       made = g.adds.made;
@@ -214,7 +214,7 @@ none_made old slots from last spacing newest short below start = record {
   start_below = begins_below from newest old start below;
 }
 
-pub taken_last : (xs : List Checkpoint) (c : Checkpoint) → last_item xs ≡ Some c → xs ≡ take (length xs - 1) xs ++ c ∷ []
+pub taken_last : {X : Type 0} (xs : List X) (c : X) → last_item xs ≡ Some c → xs ≡ take (length xs - 1) xs ++ c ∷ []
 taken_last [] c e = cc
 taken_last (x ∷ []) c e = let same : x ≡ c = cc in rw same refl
 taken_last (x ∷ (y ∷ ys)) c e =
@@ -222,7 +222,7 @@ taken_last (x ∷ (y ∷ ys)) c e =
     let one : suc (length ys) - 1 ≡ length ys = omega arith in
     let there : slice_get (y ∷ ys) (length ys) ≡ Some c = rw two at e in
     let rest = taken_last (y ∷ ys) c (rw one there) in
-    rw two (ap (λ (zs : List Checkpoint). x ∷ zs) (rest ∙ rw one refl))
+    rw two (ap (λ zs. x ∷ zs) (rest ∙ rw one refl))
 
 pub popped : (old new gone : List Checkpoint) (c : Checkpoint) (touch : ℕ) → last_item old ≡ Some c → new ≡ take (length old - 1) old → touch < c.step → Each (λ d. touch < d.step) gone
     → Rising old → (old ++ gone ≡ new ++ (c ∷ gone)) × Rising new

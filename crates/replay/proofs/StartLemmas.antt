@@ -1,9 +1,14 @@
 -- Where a rerun begins.
-use Rattle.std.proofs.Common.{◌≡◌, ℕ, zero, suc, ◌<◌, ◌≤◌, List, [], ◌∷◌, length, drop, Some, None, inl, inr, refl, ap, ◌∙◌, subst, arith}
+use Rattle.std.proofs.Common.{◌≡◌, ℕ, zero, suc, ◌<◌, ◌≤◌, List, [], ◌∷◌, length, drop, take, Some, None, inl, inr, refl, ap, ◌∙◌, subst, arith}
 use Rattle.std.specs.Prelude.{slice_get}
+use Rattle.std.proofs.lemmas.Bool.{cases_lt}
 use Rattle.std.proofs.lemmas.Bool.Decides.{nat_tests}
+use Rattle.machine.specs.Views.{State}
+use Rattle.machine.specs.Machine.{Answers, start, after}
+use Rattle.machine.specs.Kept.{whole}
 use Rattle.replay.specs.declared.ring.Checkpoint.{Checkpoint}
-use Rattle.replay.specs.Ring.{Each, Rising, SomeStep, start_step, HasCheckpoint}
+use Rattle.replay.specs.Ring.{Each, Rising, Stands, SomeStep, start_step, HasCheckpoint}
+use Rattle.replay.proofs.ColdLemmas.{after_none}
 
 pub each_get : (P : Checkpoint → Type 0) (xs : List Checkpoint) (i : ℕ) (c : Checkpoint) → slice_get xs i ≡ Some c → Each P xs → P c
 each_get P [] i c e h = cc
@@ -55,3 +60,22 @@ pub none_get : (xs : List Checkpoint) (i : ℕ) → slice_get xs i ≡ None → 
 none_get [] i e = omega arith
 none_get (x ∷ xs) zero e = cc
 none_get (x ∷ xs) (suc i) e = let r = none_get xs i e in omega arith
+
+-- a rerun begins at a step that the run reaches
+pub start_reached : (f : Answers) (limit : ℕ) (text : List ℕ) (xs : List Checkpoint) → Each (Stands f text) xs → (st : State) × (after f (start_step limit xs) ≡ Some st)
+start_reached f limit text [] h = (start, after_none f start refl)
+start_reached f limit text (x ∷ xs) h = elim (cases_lt limit x.step) [
+  | inl past ↦
+      let (st, at) = start_reached f limit text xs h.1 in
+      let same : start_step limit (x ∷ xs) ≡ start_step limit xs = grind (arith, nat_tests) in
+      (st, ap (after f) same ∙ at)
+  | inr low ↦ elim (cases_lt x.step (start_step limit xs)) [
+    | inl above ↦
+        let (st, at) = start_reached f limit text xs h.1 in
+        let same : start_step limit (x ∷ xs) ≡ start_step limit xs = grind (arith, nat_tests) in
+        (st, ap (after f) same ∙ at)
+    | inr top ↦
+        let same : start_step limit (x ∷ xs) ≡ x.step = grind (arith, nat_tests) in
+        (whole x.state (take x.state.length text), ap (after f) same ∙ h.0.state)
+  ]
+]

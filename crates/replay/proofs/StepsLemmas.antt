@@ -1,9 +1,9 @@
 -- The steps of checkpoints, without their states.
-use Rattle.std.proofs.Common.{◌≡◌, ℕ, ◌-◌, ◌<◌, List, [], ◌∷◌, ◌++◌, length, max, map, drop, refl, ap, sym, ◌∙◌, if◌then◌else◌, nat_le}
+use Rattle.std.proofs.Common.{◌≡◌, ℕ, ◌-◌, ◌<◌, List, [], ◌∷◌, ◌++◌, length, max, map, drop, inl, inr, refl, ap, sym, ◌∙◌, if◌then◌else◌, nat_le}
 use Rattle.std.proofs.lemmas.List.{map-append, length-map, drop-map}
 use Rattle.circular_buffer.specs.Buffer.{keep_last}
 use Rattle.replay.specs.declared.ring.Checkpoint.{Checkpoint as KeptCheckpoint}
-use Rattle.replay.specs.Ring.{Rising, RisingBy, IsDue, IsDueBy, Adds, AddsBy, steps, start_by, start_step}
+use Rattle.replay.specs.Ring.{Rising, RisingBy, IsDue, IsDueBy, Each, Adds, AddsBy, AddsAll, AddsAllBy, SomeBy, steps, start_by, start_step}
 use Rattle.replay.specs.RunnerView.{Checkpoint, seen_with}
 use Rattle.replay.proofs.RingLemmas.{Each-weaken}
 use Rattle.replay.proofs.TouchLemmas.{each_map}
@@ -15,6 +15,15 @@ rising_steps (x ∷ xs) r = (each_map (λ c. c.step) (λ j. x.step < j) xs r.0, 
 
 last_steps : (n : ℕ) (xs : List KeptCheckpoint) → steps (keep_last n xs) ≡ keep_last n (steps xs)
 last_steps n xs = sym (drop-map (λ (c : KeptCheckpoint). c.step) (length xs - n) xs) ∙ ap (λ l. drop (l - n) (steps xs)) (sym (length-map xs (λ (c : KeptCheckpoint). c.step)))
+
+each_back : {X Y : Type 0} (h : X → Y) (P : Y → Type 0) (xs : List X) → Each P (map h xs) → Each (λ x. P (h x)) xs
+each_back h P [] e = tt
+each_back h P (x ∷ xs) e = (e.0, each_back h P xs e.1)
+
+some_steps : (xs : List KeptCheckpoint) (n : ℕ) → SomeBy (λ c. c.step) xs n → SomeBy (λ k. k) (steps xs) n
+some_steps [] n h = h
+some_steps (x ∷ xs) n (inl e) = inl e
+some_steps (x ∷ xs) n (inr h) = inr (some_steps xs n h)
 
 adds_steps : (old new : List KeptCheckpoint) (slots from upto spacing : ℕ) → Adds old new slots from upto upto spacing → AddsBy (λ k. k) (steps old) (steps new) slots from upto upto spacing
 adds_steps old new slots from upto spacing a = record {
@@ -31,6 +40,19 @@ pub rerun_begins : (text : List ℕ) (xs : List KeptCheckpoint) (limit : ℕ) �
 rerun_begins text [] limit = refl
 rerun_begins text (x ∷ xs) limit = ap (λ n. max (if nat_le x.step limit then x.step else 0) n) (rerun_begins text xs limit)
 
-pub reran : (text text' : List ℕ) (old new : List KeptCheckpoint) (slots from upto spacing : ℕ) → Adds old new slots from upto upto spacing
+pub reran : (text text' : List ℕ) (old new : List KeptCheckpoint) (slots from upto spacing : ℕ) → Rising new → Adds old new slots from upto upto spacing
     → AddsBy (λ k. k) (map (λ c. c.step) (map (seen_with text) old)) (map (λ c. c.step) (map (seen_with text') new)) slots from upto upto spacing
-reran text text' old new slots from upto spacing a = rw (seen_steps text old, seen_steps text' new) (adds_steps old new slots from upto spacing a)
+    × RisingBy (λ k. k) (map (λ c. c.step) (map (seen_with text') new))
+reran text text' old new slots from upto spacing r a =
+    rw (seen_steps text old, seen_steps text' new) (adds_steps old new slots from upto spacing a, rising_steps new r)
+
+adds_all_steps : (old new : List KeptCheckpoint) (slots from upto spacing : ℕ) → AddsAll old new slots from upto upto spacing → AddsAllBy (λ k. k) (steps old) (steps new) slots from upto upto spacing
+unfolding adds_steps
+adds_all_steps old new slots from upto spacing a = record {
+  adds = adds_steps old new slots from upto spacing a.adds;
+  complete = λ k h. some_steps a.adds.made k (a.complete k (record { reached = h.reached; above = each_back (λ d. d.step) (λ j. j < k) old h.above; marked = h.marked }));
+}
+
+pub none_left : (text text' : List ℕ) (old new : List KeptCheckpoint) (slots from upto spacing : ℕ) → AddsAll old new slots from upto upto spacing
+    → AddsAllBy (λ k. k) (map (λ c. c.step) (map (seen_with text) old)) (map (λ c. c.step) (map (seen_with text') new)) slots from upto upto spacing
+none_left text text' old new slots from upto spacing a = rw (seen_steps text old, seen_steps text' new) (adds_all_steps old new slots from upto spacing a)

@@ -9,7 +9,7 @@ use Rattle.machine.specs.Machine.{Cell, Script}
 use Rattle.replay.specs.declared.ring.Checkpoint.{Checkpoint}
 use Rattle.interaction_trees.specs.Tree.{AgreeOn}
 use Rattle.machine.specs.Machine.{Answers, looks, is_in, same_question}
-use Rattle.replay.specs.FirstLooks.{Table, step_of, erased, first, or_else, mark, IsFirstLooks}
+use Rattle.replay.specs.FirstLooks.{Noted, step_of, erased, first, or_else, mark, IsFirstLooks}
 use Rattle.replay.specs.Ring.{Each, Stands}
 use Rattle.replay.specs.RunnerView.{KeepsUntouched, seen_with}
 use Rattle.replay.specs.Touch.{Untouched, IsNotedTouch}
@@ -67,27 +67,27 @@ asked_there f q (suc n) m e = elim (marked_there n (first f q n) (is_in q (looks
   | inr h ↦ rw h.1 at h.0
 ]
 
-pub untouched : (f g : Answers) (k : Table) (t : ℕ) → IsFirstLooks f k → IsNotedTouch f g k t → Untouched f g t
+pub untouched : (f g : Answers) (k : Noted) (t : ℕ) → IsFirstLooks f k → IsNotedTouch f g k t → Untouched f g t
 untouched f g k t known touch i below =
     agree_each f g (looks f i) (λ q asked.
     let (m, at, low) = noted_by f q k.seen i (omega (arith, touch.within)) asked in
     touch.below q m (known.entry q ∙ at) (omega arith))
 
 -- what is left of the table is that of the edited session
-pub edited_known : (f g : Answers) (old new : Table) (t : ℕ) → IsFirstLooks f old → IsNotedTouch f g old t
+pub edited_known : (f g : Answers) (old new : Noted) (t : ℕ) → IsFirstLooks f old → IsNotedTouch f g old t
     → ((q : Question) → step_of new q ≡ erased t (step_of old q)) → new.seen ≡ t → IsFirstLooks g new
 edited_known f g old new t known touch steps seen =
     record { entry = λ q. steps q ∙ rw (known.entry q, seen) (erased_first f q t old.seen touch.within ∙ sym (same_first f g q t (untouched f g old t known touch))) }
 
 -- where the noted touch is below `seen`, it is the touch
-pub touch_here : (f g : Answers) (k : Table) (t : ℕ) → IsFirstLooks f k → IsNotedTouch f g k t → t < k.seen → AgreeOn (looks f t) f g → ⊥
+pub touch_here : (f g : Answers) (k : Noted) (t : ℕ) → IsFirstLooks f k → IsNotedTouch f g k t → t < k.seen → AgreeOn (looks f t) f g → ⊥
 touch_here f g k t known touch below agree = differs touch.here
   where
     differs : (t ≡ k.seen) ⊎ ((q : Question) × (step_of k q ≡ Some t) × (f q ≡ g q → ⊥)) → ⊥
     differs (inl e) = omega arith
     differs (inr w) = w.2 (agree_at f g (looks f t) w.0 (asked_there f w.0 k.seen t (sym (known.entry w.0) ∙ w.1)) agree)
 
-gone_touched : (f g : Answers) (k : Table) (t : ℕ) (gone : List Checkpoint) → IsFirstLooks f k → IsNotedTouch f g k t
+gone_touched : (f g : Answers) (k : Noted) (t : ℕ) (gone : List Checkpoint) → IsFirstLooks f k → IsNotedTouch f g k t
     → Each (λ c. c.step ≤ k.seen) gone → Each (λ c. t < c.step) gone → Each (λ c. Untouched f g c.step → ⊥) gone
 gone_touched f g k t [] known touch low past = tt
 gone_touched f g k t (x ∷ xs) known touch low past =
@@ -98,7 +98,7 @@ each_map h P [] e = tt
 each_map h P (x ∷ xs) e = (e.0, each_map h P xs e.1)
 
 -- the checkpoints up to the noted touch are those up to the touch
-pub keeps_untouched : (f g : Answers) (text : List ℕ) (k : Table) (t : ℕ) (old new gone : List Checkpoint) → IsFirstLooks f k → IsNotedTouch f g k t
+pub keeps_untouched : (f g : Answers) (text : List ℕ) (k : Noted) (t : ℕ) (old new gone : List Checkpoint) → IsFirstLooks f k → IsNotedTouch f g k t
     → Each (λ c. c.step ≤ k.seen) old → old ≡ new ++ gone → Each (λ c. c.step ≤ t) new → Each (λ c. t < c.step) gone
     → KeepsUntouched f g (map (seen_with text) old) (map (seen_with text) new)
 keeps_untouched f g text k t old new gone known touch low parts here past = record {

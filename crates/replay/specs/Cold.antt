@@ -12,7 +12,7 @@ pub record Cold : Type 0 where
   pub steps : ℕ
   pub cause : Cause
 
--- at most k more steps from the state after n; the limit is decided before every other stop (this project's profile)
+-- at most k more steps from the state after n; the limit is decided before every other stop
 abbrev pub cold_from : Answers → ℕ → ℕ → State → Cold
 cold_from f zero n st = record { state = st; steps = n; cause = Limit }
 cold_from f (suc k) n st = elim (outcome f st) [ Step next ↦ cold_from f k (suc n) next | Stop cause ↦ record { state = st; steps = n; cause = cause } ]

@@ -1,13 +1,16 @@
--- What an edit makes of a session. (This project's profile.)
-use Rattle.std.specs.Prelude.{◌≡◌, ℕ, ◌+◌, ◌-◌, ◌||◌, List, length, nat_lt, if◌then◌else◌, Result, Ok, Err}
+-- What an edit makes of a session.
+use Rattle.std.specs.Prelude.{◌≡◌, ℕ, ◌+◌, ◌-◌, ◌||◌, ◌≤◌, List, [], length, nat_lt, if◌then◌else◌, Result, Ok, Err}
+use Rattle.machine.specs.declared.session.TheConstants.{SCRIPT_LIMIT, STEP_LIMIT}
 use Rattle.machine.specs.Views.{Session}
-use Rattle.machine.specs.Session.{written_over}
+use Rattle.machine.specs.Session.{spliced, written_over}
 use Rattle.replay.specs.declared.edit.Edit.{Edit}
-use Rattle.replay.specs.declared.edit.Edit.TheVariants.{Poke, SetLimit}
+use Rattle.replay.specs.declared.edit.Edit.TheVariants.{Insert, Replace, Remove, Poke, SetLimit}
 use Rattle.replay.specs.declared.edit.EditError.{EditError}
-use Rattle.replay.specs.declared.edit.EditError.TheVariants.{OutsideProgram, LimitTooLarge, OutOfMemory}
+use Rattle.replay.specs.declared.edit.EditError.TheVariants.{PastEnd, ScriptTooLong, OutsideProgram, LimitTooLarge, OutOfMemory}
 
 abbrev pub number_of : EditError → ℕ
+number_of PastEnd = 1
+number_of ScriptTooLong = 2
 number_of OutsideProgram = 6
 number_of LimitTooLarge = 7
 number_of OutOfMemory = 8
@@ -22,18 +25,40 @@ poked s at bytes =
     if nat_lt at 256 || nat_lt (256 + length s.program) (at + length bytes) then Err 6
     else Ok (with_poke s (at - 256) bytes)
 
+-- so many bytes of the script from a place on exchanged for others
+abbrev pub with_splice : Session → ℕ → ℕ → List ℕ → Session
+with_splice s at removed bytes = record s { script = spliced s.script at removed bytes }
+
 -- the session after an edit, or the number of its refusal
 abbrev pub edited : Session → Edit → Result Session ℕ
+edited s (Insert at bytes) =
+    if nat_lt (length s.script) at then Err 1
+    else if nat_lt SCRIPT_LIMIT (length s.script + length bytes) then Err 2
+    else Ok (with_splice s at 0 bytes)
+edited s (Replace at bytes) = if nat_lt (length s.script) (at + length bytes) then Err 1 else Ok (with_splice s at (length bytes) bytes)
+edited s (Remove at count) = if nat_lt (length s.script) (at + count) then Err 1 else Ok (with_splice s at count [])
 edited s (Poke at bytes) = poked s at bytes
-edited s (SetLimit n) = if nat_lt 4000000000 n then Err 7 else Ok (record s { limit = n })
+edited s (SetLimit n) = if nat_lt STEP_LIMIT n then Err 7 else Ok (record s { limit = n })
 
--- what a call of edit answered, and the session after it, where memory was not wanted
-abbrev pub Answers : {U : Type 0} → Result Session ℕ → Result U EditError → Session → Type 0
-Answers wanted (Ok _) after = wanted ≡ Ok after
-Answers wanted (Err OutOfMemory) after = Unit {0}
-Answers wanted (Err e) after = wanted ≡ Err (number_of e)
+-- the edits that can be carried out: within the script, with no script that is too long; within the program; and a limit that
+-- is not too large
+abbrev pub IsAccepted : Session → Edit → Type 0
+IsAccepted s (Insert at bytes) = (at ≤ length s.script) × (length s.script + length bytes ≤ SCRIPT_LIMIT)
+IsAccepted s (Replace at bytes) = at + length bytes ≤ length s.script
+IsAccepted s (Remove at count) = at + count ≤ length s.script
+IsAccepted s (Poke at bytes) = (256 ≤ at) × (at + length bytes ≤ 256 + length s.program)
+IsAccepted s (SetLimit n) = n ≤ STEP_LIMIT
 
--- the edits that may want memory: no poke and no limit does
+-- what a call of edit answered, and the session after it; memory is wanted only for an edit that is not refused
+abbrev pub AnswersEdit : {U : Type 0} → Result Session ℕ → Result U EditError → Session → Type 0
+AnswersEdit wanted (Ok _) after = wanted ≡ Ok after
+AnswersEdit wanted (Err OutOfMemory) after = (t : Session) × (wanted ≡ Ok t)
+AnswersEdit wanted (Err e) after = wanted ≡ Err (number_of e)
+
+-- the edits that may want memory: insertions alone
 abbrev pub TakesMemory : Edit → Type 0
+TakesMemory (Insert at bytes) = Unit {0}
+TakesMemory (Replace at bytes) = ⊥
+TakesMemory (Remove at count) = ⊥
 TakesMemory (Poke at bytes) = ⊥
 TakesMemory (SetLimit n) = ⊥

@@ -1,5 +1,9 @@
 -- For each question the first step that looked at it.
-use Rattle.std.specs.Prelude.{◌≡◌, ℕ, zero, suc, ◌+◌, nat_lt, List, Option, Some, None, Bool, true, false, if◌then◌else◌, slice_index_or}
+use Rattle.std.specs.Prelude.{◌≡◌, ℕ, zero, suc, ◌+◌, ◌==◌, ◌||◌, nat_lt, drop, List, Option, Some, None, Bool, true, false, if◌then◌else◌, slice_index_or}
+use Rattle.i8080.specs.Memory.{is_among}
+use Rattle.bdos.specs.declared.places.Places.{Places}
+use Rattle.bdos.specs.Places.{is_within}
+use Rattle.machine.specs.Views.{Looked}
 use Rattle.machine.specs.Machine.{Question, Cell, Script, Answers, is_in, looks, looked_at}
 
 abbrev pub or_else : Option ℕ → Option ℕ → Option ℕ
@@ -20,29 +24,56 @@ abbrev pub erased : ℕ → Option ℕ → Option ℕ
 erased t None = None
 erased t (Some m) = if nat_lt m t then Some m else None
 
--- a step for each cell that was looked at, and below which step all looks are noted
-pub record Table : Type 0 where
+-- a step for each cell and for each script place that was looked at, and below which step all looks are noted
+pub record Noted : Type 0 where
   pub cells : List (Option ℕ)
+  pub places : List (Option ℕ)
   pub seen : ℕ
 
-abbrev pub step_of : Table → Question → Option ℕ
+abbrev pub step_of : Noted → Question → Option ℕ
 step_of t (Cell a) = slice_index_or t.cells a None
-step_of t (Script k) = None
+step_of t (Script k) = slice_index_or t.places k None
 
--- the table has the first looks of all steps below `seen`, and nothing else
-pub record IsFirstLooks (f : Answers) (t : Table) : Type 0 where
+-- these are the first looks of all steps below `seen`, and nothing else
+pub record IsFirstLooks (f : Answers) (t : Noted) : Type 0 where
   pub entry : (q : Question) → step_of t q ≡ first f q t.seen
 
--- each cell that was looked at has an entry
-abbrev pub AllNoted : Table → List ℕ → Type 0
+-- the looks but for so many of the first cells
+abbrev pub since : ℕ → Looked → Looked
+since n looked = record { cells = drop n looked.cells; places = looked.places }
+
+-- whether a question is one of these cells
+abbrev pub is_cell_of : List ℕ → Question → Bool
+is_cell_of cells (Cell a) = is_among a cells
+is_cell_of cells (Script k) = false
+
+-- whether a place is the one that was taken, or among those that are left
+abbrev pub is_left : Option ℕ → Places → ℕ → Bool
+is_left None places j = is_within places j
+is_left (Some k) places j = (j == k) || is_within places j
+
+abbrev pub is_place_of : Option ℕ → Places → Question → Bool
+is_place_of taken places (Cell a) = false
+is_place_of taken places (Script j) = is_left taken places j
+
+-- no place is left
+abbrev pub NoPlaces : Places → Type 0
+NoPlaces places = (j : ℕ) → is_within places j ≡ false
+
+-- the same entries, where the steps below this one are seen
+abbrev pub seen_to : Noted → ℕ → Noted
+seen_to t step = record t { seen = step }
+
+-- each question that was looked at has an entry
+abbrev pub AllNoted : Noted → Looked → Type 0
 AllNoted t looked = (q : Question) → looked_at looked q ≡ true → step_of t q ≡ None → ⊥
 
 -- the looks of the step `seen` are noted, and it is seen
-pub record IsNoted (old new : Table) (looked : List ℕ) : Type 0 where
+pub record IsNoted (old new : Noted) (looked : Looked) : Type 0 where
   pub entries : (q : Question) → step_of new q ≡ or_else (step_of old q) (mark (looked_at looked q) old.seen)
   pub seen : new.seen ≡ old.seen + 1
 
 -- nothing is noted, and that step is not seen
-pub record IsLeftBehind (old new : Table) : Type 0 where
+pub record IsLeftBehind (old new : Noted) : Type 0 where
   pub entries : (q : Question) → step_of new q ≡ erased old.seen (step_of old q)
   pub seen : new.seen ≡ old.seen

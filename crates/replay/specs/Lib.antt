@@ -2,6 +2,7 @@ pub mod Fits
 pub mod Options
 pub mod Edits
 pub mod Cold
+pub mod FirstSteps
 pub mod FirstLooks
 pub mod Ring
 pub mod Touch

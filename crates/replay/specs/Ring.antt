@@ -2,7 +2,7 @@
 use Rattle.std.specs.Prelude.{◌≡◌, ℕ, ◌<◌, ◌≤◌, ◌%◌, List, [], ◌∷◌, ◌++◌, Some, ◌⊎◌, max, nat_le, if◌then◌else◌, length, take, map}
 use Rattle.circular_buffer.specs.Buffer.{Buffer, buffer, keep_last}
 use Rattle.machine.specs.Machine.{Answers, after}
-use Rattle.machine.specs.Part.{whole}
+use Rattle.machine.specs.Kept.{whole}
 use Rattle.replay.specs.declared.ring.Checkpoint.{Checkpoint}
 
 -- P holds of each
@@ -45,6 +45,16 @@ pub record AddsBy {X : Type 0} (at : X → ℕ) (old new : List X) (slots from u
   pub due : Each (λ x. IsDueBy at old from upto last spacing (at x)) made
   pub rising : RisingBy at made
 
+-- one of them is at this step
+abbrev pub SomeBy : {X : Type 0} → (X → ℕ) → List X → ℕ → Type 0
+SomeBy at [] n = ⊥
+SomeBy at (x ∷ xs) n = (at x ≡ n) ⊎ SomeBy at xs n
+
+-- the same, and no due step was left out
+pub record AddsAllBy {X : Type 0} (at : X → ℕ) (old new : List X) (slots from upto last spacing : ℕ) : Type 0 where
+  pub adds : AddsBy at old new slots from upto last spacing
+  pub complete : (k : ℕ) → IsDueBy at old from upto last spacing k → SomeBy at adds.made k
+
 -- the greatest of the steps that is not past the limit, else 0
 abbrev pub start_by : {X : Type 0} → (X → ℕ) → ℕ → List X → ℕ
 start_by at limit [] = 0
@@ -60,12 +70,19 @@ IsDue = IsDueBy (λ c. c.step)
 abbrev pub Adds : List Checkpoint → List Checkpoint → ℕ → ℕ → ℕ → ℕ → ℕ → Type 0
 Adds = AddsBy (λ c. c.step)
 
+abbrev pub AddsAll : List Checkpoint → List Checkpoint → ℕ → ℕ → ℕ → ℕ → ℕ → Type 0
+AddsAll = AddsAllBy (λ c. c.step)
+
 abbrev pub start_step : ℕ → List Checkpoint → ℕ
 start_step = start_by (λ c. c.step)
 
+-- the ring with one more, and without its oldest where it was full
+abbrev pub pushed : Buffer Checkpoint → Checkpoint → Buffer Checkpoint
+pushed old c = buffer (keep_last old.capacity (old.items ++ c ∷ [])) old.capacity
+
 -- the ring is as it was, or has it too and not its oldest where it was full; that only above the newest
 abbrev pub Keeps : ℕ → Buffer Checkpoint → Buffer Checkpoint → Checkpoint → Type 0
-Keeps newest old new c = (new ≡ old) ⊎ ((newest < c.step) × (new ≡ buffer (keep_last old.capacity (old.items ++ c ∷ [])) old.capacity))
+Keeps newest old new c = (new ≡ old) ⊎ ((newest < c.step) × (new ≡ pushed old c))
 
 -- one of them is at this step
 abbrev pub SomeStep : List Checkpoint → ℕ → Type 0

@@ -1,12 +1,13 @@
 -- What contracts see of a runner.
-use Rattle.std.specs.Prelude.{◌≡◌, ℕ, ◌<◌, ◌≤◌, List, ◌++◌, Some, map, take}
+use Rattle.std.specs.Prelude.{◌≡◌, ℕ, ◌+◌, ◌<◌, ◌≤◌, List, ◌++◌, Some, drop, map, take}
 use Rattle.circular_buffer.specs.Buffer.{Buffer}
+use Rattle.machine.specs.declared.session.TheConstants.{STEP_LIMIT}
 use Rattle.machine.specs.Views.{Session, State}
 use Rattle.machine.specs.Machine.{Answers, ask, after}
-use Rattle.machine.specs.Part.{whole}
+use Rattle.machine.specs.Kept.{whole}
 use Rattle.replay.specs.declared.ring.Checkpoint.{Checkpoint as KeptCheckpoint}
-use Rattle.replay.specs.FirstLooks.{Table, IsFirstLooks}
-use Rattle.replay.specs.Ring.{Each, Rising, Stands, AddsBy, start_by}
+use Rattle.replay.specs.FirstLooks.{Noted, IsFirstLooks}
+use Rattle.replay.specs.Ring.{Each, Rising, RisingBy, Stands, AddsBy, AddsAllBy, start_by}
 use Rattle.replay.specs.Touch.{Untouched}
 
 -- a step that a run reached, and the state there
@@ -14,12 +15,14 @@ pub record Checkpoint : Type 0 where
   pub step : ℕ
   pub state : State
 
--- a session, options, and checkpoints, the oldest first
+-- a session, options, checkpoints, the oldest first, and how often the last rerun was refused memory for a checkpoint, or for
+-- what it notes to keep one
 pub record RunnerView : Type 0 where
   pub session : Session
   pub spacing : ℕ
   pub slots : ℕ
   pub checkpoints : List Checkpoint
+  pub refused : ℕ
 
 -- the options stay
 pub record SameOptions (old new : RunnerView) : Type 0 where
@@ -49,20 +52,35 @@ pub record KeepsUntouched (f g : Answers) (old new : List Checkpoint) : Type 0 w
   pub untouched : Each (λ c. Untouched f g c.step) new
   pub touched : Each (λ c. Untouched f g c.step → ⊥) gone
 
+-- so many of the oldest checkpoints are gone, and all else stays
+abbrev pub DropsOldest : ℕ → RunnerView → RunnerView → Type 0
+DropsOldest count old new = new ≡ record old { checkpoints = drop count old.checkpoints }
+
 -- where a rerun begins
 abbrev pub rerun_start : RunnerView → ℕ
 rerun_start r = start_by (λ c. c.step) r.session.limit r.checkpoints
 
 -- the checkpoints after a rerun that reached this step, or was to reach it: the new steps are the last of the old ones and of
--- some due steps after them
+-- some due steps after them, and they rise
 abbrev pub Reran : RunnerView → RunnerView → ℕ → Type 0
-Reran old new upto = AddsBy (λ k. k) (kept_steps old) (kept_steps new) old.slots (rerun_start old) upto upto old.spacing
+Reran old new upto =
+    AddsBy (λ k. k) (kept_steps old) (kept_steps new) old.slots (rerun_start old) upto upto old.spacing
+    × RisingBy (λ k. k) (kept_steps new)
+
+-- and where no memory was refused, no due step was left out
+abbrev pub LeavesNoneOut : RunnerView → RunnerView → ℕ → Type 0
+LeavesNoneOut old new upto =
+    new.refused ≡ 0 → AddsAllBy (λ k. k) (kept_steps old) (kept_steps new) old.slots (rerun_start old) upto upto old.spacing
+
+-- the steps of a run from this step on, up to some step that it reaches within the limit, are ticked, and no others
+abbrev pub TicksTo : Answers → ℕ → ℕ → ℕ → ℕ → Type 0
+TicksTo f limit from ticks ticked = (n : ℕ) × (st : State) × (after f n ≡ Some st) × (n ≤ limit) × (ticked + from ≡ ticks + n)
 
 -- what always holds of a runner's parts
-pub record IsSound (s : Session) (text : List ℕ) (spacing : ℕ) (ring : Buffer KeptCheckpoint) (table : Table) : Type 0 where
+pub record IsSound (s : Session) (text : List ℕ) (spacing : ℕ) (ring : Buffer KeptCheckpoint) (looks : Noted) : Type 0 where
   pub stands : Each (Stands (ask s) text) ring.items
   pub rising : Rising ring.items
-  pub below : Each (λ c. c.step ≤ table.seen) ring.items
-  pub noted : IsFirstLooks (ask s) table
+  pub below : Each (λ c. c.step ≤ looks.seen) ring.items
+  pub noted : IsFirstLooks (ask s) looks
   pub spacing_in : (0 < spacing) × (spacing ≤ 1000000000)
-  pub seen_in : table.seen ≤ 4000000000
+  pub seen_in : looks.seen ≤ STEP_LIMIT

@@ -2,14 +2,14 @@
 use Rattle.std.specs.Prelude.{◌≡◌, ℕ, ◌<◌, ◌≤◌, Option, Some, None, ◌⊎◌, nat_lt, if◌then◌else◌}
 use Rattle.interaction_trees.specs.Tree.{AgreeOn}
 use Rattle.machine.specs.Machine.{Question, Answers, looks}
-use Rattle.replay.specs.FirstLooks.{Table, step_of}
+use Rattle.replay.specs.FirstLooks.{Noted, step_of}
 
 -- no step below n asks a question that g answers in another way: n is at most the touch, or there is none
 abbrev pub Untouched : Answers → Answers → ℕ → Type 0
 Untouched f g n = (i : ℕ) → i < n → AgreeOn (looks f i) f g
 
 -- the least step among the noted questions with another answer, or the step below which all are noted
-pub record IsNotedTouch (f g : Answers) (k : Table) (t : ℕ) : Type 0 where
+pub record IsNotedTouch (f g : Answers) (k : Noted) (t : ℕ) : Type 0 where
   pub within : t ≤ k.seen
   pub below : (q : Question) (m : ℕ) → step_of k q ≡ Some m → m < t → f q ≡ g q
   pub here : (t ≡ k.seen) ⊎ ((q : Question) × (step_of k q ≡ Some t) × (f q ≡ g q → ⊥))

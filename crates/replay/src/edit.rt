@@ -1,5 +1,3 @@
-// Edits of a session.
-
 ghost use Rattle.std.specs.Prelude.{◌≡◌};
 
 use machine::Bytes;
@@ -8,6 +6,12 @@ use thiserror::Error;
 /// A change of the session.
 #[derive(Drop)]
 pub enum Edit {
+    /// These bytes are put into the script before a place.
+    Insert(u64, Bytes),
+    /// The script's bytes from a place on are replaced; its length stays.
+    Replace(u64, Bytes),
+    /// So many bytes of the script are removed, from a place on: `Remove(place, count)`.
+    Remove(u64, u64),
     /// The program's bytes from an address on are replaced.
     Poke(u16, Bytes),
     /// The limit becomes this many steps.
@@ -17,13 +21,19 @@ pub enum Edit {
 /// Why an edit is refused.
 #[derive(Clone, Copy, Debug, PartialEq, Eq, Error)]
 pub enum EditError {
+    /// The place, or the end of what is replaced or removed, is past the script's end.
+    #[error("past the end of the script")]
+    PastEnd,
+    /// The script would have more than 1,048,576 bytes.
+    #[error("the script is too long")]
+    ScriptTooLong,
     /// The bytes of a poke do not all lie in the program.
     #[error("outside the program")]
     OutsideProgram,
     /// The limit is more than 4,000,000,000 steps.
     #[error("the limit is too large")]
     LimitTooLarge,
-    /// A growth was refused. No poke and no limit is refused so.
+    /// A growth was refused. Only an insertion is refused so.
     #[error("out of memory")]
     OutOfMemory,
 }
@@ -31,11 +41,13 @@ pub enum EditError {
 impl EditError {
     ghost use Rattle.replay.specs.Edits.{number_of};
 
-    /// The refusal's number: 6, 7 or 8.
+    /// The refusal's number: 1, 2, 6, 7 or 8.
     pub fn number(self) -> u8
         ensures { result ≡ number_of self }
     {
         match self {
+            EditError::PastEnd => 1,
+            EditError::ScriptTooLong => 2,
             EditError::OutsideProgram => 6,
             EditError::LimitTooLarge => 7,
             EditError::OutOfMemory => 8,

@@ -1,5 +1,3 @@
-// The options of a runner.
-
 ghost use Rattle.std.specs.Prelude.{◌≡◌};
 
 use thiserror::Error;

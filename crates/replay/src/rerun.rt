@@ -1,21 +1,20 @@
-// A rerun from the greatest kept step on.
-
 ghost use Rattle.std.specs.Prelude.{◌≡◌, ℕ, ◌+◌, ◌^◌, ◌<◌, ◌≤◌, ◌⊎◌, [], Some, IfOk, IsSome, OnErr, OnOk, length, take, vec_len, true, false};
-ghost use Rattle.machine.specs.Machine.{ask, after};
-ghost use Rattle.machine.specs.Part.{part_of};
+ghost use Rattle.machine.specs.Machine.{NothingLooked, ask, after};
+ghost use Rattle.machine.specs.Kept.{kept_of};
 ghost use Rattle.replay.specs.Cold.{cold};
 ghost use Rattle.replay.specs.FirstLooks.{IsFirstLooks};
-ghost use Rattle.replay.specs.Ring.{Each, Rising, Stands, Adds, SomeStep, start_step};
+ghost use Rattle.replay.specs.Ring.{Each, Rising, Stands, Adds, AddsAll, SomeStep, start_step};
 ghost use Rattle.replay.specs.Fits.{kept_length};
 ghost use Rattle.replay.specs.Report.{left_by};
-ghost use Rattle.replay.specs.RunnerView.{IsSound};
+ghost use Rattle.replay.specs.RunnerView.{IsSound, TicksTo};
 
-use crate::report::Shown;
+use crate::first_looks::FirstLooks;
+use crate::keeping::Refusals;
+use crate::report::LastRun;
 use crate::ring::{Checkpoint, latest_within, newest_step};
 use crate::run::resume;
-use crate::table::FirstLooks;
 use circular_buffer::HeapCircularBuffer;
-use machine::{Cause, Kept, Meter, Session, State};
+use machine::{Cause, Kept, Meter, Running, STEP_LIMIT, Session};
 use std::alloc::{AllocError, Global};
 use std::mem;
 
@@ -47,19 +46,19 @@ fn begin(
     text: &mut Vec<u8>,
     ring: &HeapCircularBuffer<Checkpoint>,
     is_needed: bool,
-) -> Result<(u64, State), AllocError>
+) -> Result<(u64, Running), AllocError>
     requires stands { Each (Stands (ask session.now) text.old.items) ring.now.items }
     requires rising { Rising ring.now.items }
     ensures at { IfOk result (λ r. after (ask session.now) r.0 ≡ Some r.1.state) }
-    ensures looked { IfOk result (λ r. r.1.looked ≡ []) }
+    ensures looked { IfOk result (λ r. NothingLooked r.1.looked) }
     ensures step { IfOk result (λ r. r.0 ≡ start_step session.now.limit ring.now.items) }
     ensures started { IfOk result (λ r. (r.0 ≡ 0) ⊎ SomeStep ring.now.items r.0) }
     ensures needed { is_needed ≡ true → text.new.items ≡ text.old.items }
     ensures err { OnErr result (text.new.items ≡ text.old.items) }
 {
     let Some(checkpoint) = latest_within(ring, session.limit()) else {
-        let state = State::load(alloc, session)?;
-        return Ok((0, state));
+        let running = Running::load(alloc, session)?;
+        return Ok((0, running));
     };
     let overlay = checkpoint.state.overlay(alloc)?;
     let own = beginning_of(alloc, text, checkpoint.state.text_length(), is_needed)?;
@@ -67,12 +66,12 @@ fn begin(
 }
 
 // What is kept of a state that a run left. Its text becomes the text, but where that is needed as it is.
-fn put_by(text: &mut Vec<u8>, state: State, is_needed: bool) -> Kept
-    ensures kept { result ≡ part_of state.state }
-    ensures text { is_needed ≡ false → text.new.items ≡ state.state.core.desk.text }
+fn put_by(text: &mut Vec<u8>, running: Running, is_needed: bool) -> Kept
+    ensures kept { result ≡ kept_of running.state }
+    ensures text { is_needed ≡ false → text.new.items ≡ running.state.core.desk.text }
     ensures needed { is_needed ≡ true → text.new.items ≡ text.old.items }
 {
-    let (kept, own) = state.into_kept();
+    let (kept, own) = running.into_kept();
     if is_needed {
         return kept;
     }
@@ -83,44 +82,54 @@ fn put_by(text: &mut Vec<u8>, state: State, is_needed: bool) -> Kept
 /// Runs a session from the greatest kept step that is not past its limit, and keeps the state in which the run ends.
 pub fn rerun(
     alloc: Global,
-    shown: &mut Shown,
+    last_run: &mut LastRun,
     spacing: u64,
     ring: &mut HeapCircularBuffer<Checkpoint>,
-    table: &mut FirstLooks,
+    looks: &mut FirstLooks,
     meter: &mut Meter,
+    refusals: &mut Refusals,
 ) -> Result<(u64, Cause), AllocError>
-    requires sound { IsSound shown.old.session shown.old.text.items spacing ring.old table.old }
+    requires sound { IsSound last_run.old.session last_run.old.text.items spacing ring.old looks.old }
     requires room { meter.old ≤ 2 ^ 63 }
-    ensures session { shown.new.session ≡ shown.old.session }
-    ensures cold { IfOk result (λ r. cold shown.old.session ≡ record { state = left_by shown.new; steps = r.0; cause = r.1 }) }
-    ensures ended { OnOk result (IsSome shown.new.last) }
-    ensures fits { OnOk result (kept_length shown.new.last ≤ length shown.new.text.items) }
-    ensures sound { IsSound shown.new.session shown.new.text.items spacing ring.new table.new }
-    ensures ticked { IfOk result (λ r. meter.new + start_step shown.old.session.limit ring.old.items ≡ meter.old + r.0) }
-    ensures ticked_at_most { OnErr result (meter.new + start_step shown.old.session.limit ring.old.items ≤ meter.old + shown.old.session.limit) }
-    ensures metered { meter.new ≤ meter.old + 4000000000 }
+    ensures session { last_run.new.session ≡ last_run.old.session }
+    ensures cold { IfOk result (λ r. cold last_run.old.session ≡ record { state = left_by last_run.new; steps = r.0; cause = r.1 }) }
+    ensures ended { OnOk result (IsSome last_run.new.end) }
+    ensures fits { OnOk result (kept_length last_run.new.end ≤ length last_run.new.text.items) }
+    ensures sound { IsSound last_run.new.session last_run.new.text.items spacing ring.new looks.new }
+    ensures ticked { IfOk result (λ r. meter.new + start_step last_run.old.session.limit ring.old.items ≡ meter.old + r.0) }
+    ensures broken_off { OnErr result (TicksTo (ask last_run.old.session) last_run.old.session.limit (start_step last_run.old.session.limit ring.old.items) meter.old meter.new) }
+    ensures metered { meter.new ≤ meter.old + STEP_LIMIT }
     ensures rises { meter.old ≤ meter.new }
-    ensures adds { IfOk result (λ r. Adds ring.old.items ring.new.items ring.old.capacity (start_step shown.old.session.limit ring.old.items) r.0 r.0 spacing) }
-    ensures adds_at_most { OnErr result (Adds ring.old.items ring.new.items ring.old.capacity (start_step shown.old.session.limit ring.old.items) shown.old.session.limit shown.old.session.limit spacing) }
+    ensures adds { IfOk result (λ r. Adds ring.old.items ring.new.items ring.old.capacity (start_step last_run.old.session.limit ring.old.items) r.0 r.0 spacing) }
+    ensures all { IfOk result (λ r. refusals.new ≡ 0 → AddsAll ring.old.items ring.new.items ring.old.capacity (start_step last_run.old.session.limit ring.old.items) r.0 r.0 spacing) }
+    ensures adds_at_most { OnErr result (Adds ring.old.items ring.new.items ring.old.capacity (start_step last_run.old.session.limit ring.old.items) last_run.old.session.limit last_run.old.session.limit spacing) }
     ensures capacity { ring.new.capacity ≡ ring.old.capacity }
 {
     let _ = ring.len();
-    shown.last = None;
+    last_run.end = None;
+    *refusals = Refusals::new();
     let newest = newest_step(ring);
-    let is_needed = shown.session.limit() < newest;
-    let (from, mut state) = begin(alloc, &shown.session, &mut shown.text, ring, is_needed)?;
+    let is_needed = last_run.session.limit() < newest;
+    let (from, mut running) = begin(
+        alloc,
+        &last_run.session,
+        &mut last_run.text,
+        ring,
+        is_needed,
+    )?;
     let ran = resume(
-        &shown.session,
+        &last_run.session,
         spacing,
         ring,
-        table,
+        looks,
         meter,
         newest,
         from,
-        &mut state,
+        &mut running,
+        refusals,
     );
-    let kept = put_by(&mut shown.text, state, is_needed);
+    let kept = put_by(&mut last_run.text, running, is_needed);
     let (steps, cause) = ran?;
-    shown.last = Some(kept);
+    last_run.end = Some(kept);
     Ok((steps, cause))
 }

@@ -1,11 +1,10 @@
-// The ring of checkpoints.
+ghost use Rattle.std.specs.Prelude.{◌≡◌, ℕ, ◌^◌, ◌+◌, ◌*◌, ◌/◌, ◌%◌, ◌<◌, ◌≤◌, ◌⊎◌, IfNone, IfSome, max};
+ghost use Rattle.machine.specs.Kept.{kept_of};
+ghost use Rattle.replay.specs.Ring.{Each, Rising, Keeps, KeptUpTo, SomeStep, HasCheckpoint, pushed, start_step};
 
-ghost use Rattle.std.specs.Prelude.{◌≡◌, ℕ, ◌+◌, ◌*◌, ◌/◌, ◌%◌, ◌<◌, ◌≤◌, ◌⊎◌, IfNone, IfSome, max};
-ghost use Rattle.machine.specs.Part.{part_of};
-ghost use Rattle.replay.specs.Ring.{Each, Rising, Keeps, KeptUpTo, SomeStep, HasCheckpoint, start_step};
-
+use crate::keeping::{Refusals, keep};
 use circular_buffer::HeapCircularBuffer;
-use machine::{Kept, State};
+use machine::{Kept, Running, STEP_LIMIT};
 
 /// A step that a run reached, and what is kept of the state there.
 #[derive(Drop)]
@@ -16,10 +15,11 @@ pub struct Checkpoint {
 
 /// The next step at which a checkpoint is due, or the limit.
 pub fn due_after(n: u64, spacing: u64, limit: u64) -> u64
-    requires { (n < limit) × (limit ≤ 4000000000) × (0 < spacing) × (spacing ≤ 1000000000) }
+    requires { (n < limit) × (limit ≤ STEP_LIMIT) × (0 < spacing) × (spacing ≤ 1000000000) }
     ensures later { (n < result) × (result ≤ limit) }
     ensures marked { (result % spacing ≡ 0) ⊎ (result ≡ limit) }
     ensures next { result ≤ (n / spacing + 1) * spacing }
+    ensures first { (k : ℕ) → n < k → k < result → k % spacing ≡ 0 → ⊥ }
 {
     let next = (n / spacing + 1) * spacing;
     if next < limit { next } else { limit }
@@ -55,19 +55,23 @@ pub fn latest_within(ring: &HeapCircularBuffer<Checkpoint>, limit: u64) -> Optio
     None
 }
 
-/// Keeps a checkpoint above the newest, unless a step before it is past what was seen, or memory is refused. Answers the
-/// newest step then.
+/// Keeps a checkpoint above the newest, unless a step before it is past what was seen, or memory is refused, which is
+/// counted. Answers the newest step then.
 pub fn keep_above(
     ring: &mut HeapCircularBuffer<Checkpoint>,
     newest: u64,
     step: u64,
     seen: u64,
-    state: &mut State,
+    running: &mut Running,
+    refusals: &mut Refusals,
 ) -> u64
+    requires room { refusals.old < 2 ^ 63 }
     ensures newest { result ≡ max newest step }
     ensures seen { seen < step → ring.new ≡ ring.old }
-    ensures ring { Keeps newest ring.old ring.new (record { step = step; state = part_of state.old.state }) }
-    ensures state { state.new ≡ state.old }
+    ensures ring { Keeps newest ring.old ring.new (record { step = step; state = kept_of running.old.state }) }
+    ensures made { newest < step → step ≤ seen → refusals.new ≡ refusals.old → ring.new ≡ pushed ring.old (record { step = step; state = kept_of running.old.state }) }
+    ensures refused { (refusals.new ≡ refusals.old) ⊎ ((newest < step) × (step ≤ seen) × (refusals.new ≡ refusals.old + 1) × (ring.new ≡ ring.old)) }
+    ensures running { running.new ≡ running.old }
 {
     if step <= newest {
         return newest;
@@ -75,7 +79,7 @@ pub fn keep_above(
     if seen < step {
         return step;
     }
-    if let Ok(kept) = state.keep() {
+    if let Some(kept) = keep(running, refusals) {
         let _ = ring.push_back(Checkpoint { step, state: kept });
     }
     step

@@ -1,32 +1,31 @@
-// Edits and reruns.
-
-ghost use Rattle.std.specs.Prelude.{◌≡◌, ◌+◌, ◌^◌, ◌≤◌, [], IfOk, IfErr, OnOk, OnErr, MatchResult, slice_get, drop};
+ghost use Rattle.std.specs.Prelude.{◌≡◌, ◌+◌, ◌^◌, ◌≤◌, [], IfOk, IfErr, OnOk, OnErr, MatchResult, slice_get};
 ghost use Rattle.std.specs.Borrow.{sem};
 ghost use Rattle.machine.specs.Machine.{PrefixDependence, ask};
 ghost use Rattle.replay.specs.Cold.{cold};
-ghost use Rattle.replay.specs.Edits.{edited, poked, Answers, TakesMemory};
-ghost use Rattle.replay.specs.RunnerView.{SameOptions, KeepsUntouched, AllStand, Reran, kept_steps, rerun_start};
+ghost use Rattle.replay.specs.Edits.{AnswersEdit, TakesMemory, edited};
+ghost use Rattle.replay.specs.RunnerView.{DropsOldest, SameOptions, KeepsUntouched, AllStand, Reran, LeavesNoneOut, TicksTo, kept_steps, rerun_start};
 
 use crate::edit::{Edit, EditError};
+use crate::editing::{apply, refusal_of, touch_of};
+use crate::first_looks::FirstLooks;
+use crate::keeping::Refusals;
 use crate::options::{Options, OptionsError};
-use crate::report::{Report, Shown};
+use crate::report::{LastRun, Report};
 use crate::rerun::rerun;
 use crate::ring::{Checkpoint, keep_up_to};
-use crate::table::FirstLooks;
-use crate::touch::poke_touch;
 use circular_buffer::HeapCircularBuffer;
-use machine::session::STEP_LIMIT;
-use machine::{Meter, Session};
+use machine::{Meter, STEP_LIMIT, Session};
 use std::alloc::{AllocError, Global};
 use std::marker::Model;
 
 /// A session that is edited and run again, with checkpoints of its runs.
 #[derive(Drop)]
 pub struct Runner {
-    shown: Shown,
+    last_run: LastRun,
     spacing: u64,
     ring: HeapCircularBuffer<Checkpoint>,
-    table: FirstLooks,
+    looks: FirstLooks,
+    refusals: Refusals,
 }
 
 impl Model for Runner {
@@ -39,19 +38,19 @@ impl Model for Runner {
 
     ghost coded = { Prim.hlevel (codes, cells_code) };
 
-    ghost view = { λ r. record { session = r.shown.session; spacing = r.spacing; slots = r.ring.capacity; checkpoints = map (seen_with r.shown.text.items) r.ring.items } };
+    ghost view = { λ r. record { session = r.last_run.session; spacing = r.spacing; slots = r.ring.capacity; checkpoints = map (seen_with r.last_run.text.items) r.ring.items; refused = r.refusals } };
 
-    ghost invariant = { λ r. IsSound r.shown.session r.shown.text.items r.spacing r.ring r.table };
+    ghost invariant = { λ r. IsSound r.last_run.session r.last_run.text.items r.spacing r.ring r.looks };
 }
 
 impl Runner {
     ghost use Rattle.replay.specs.Lending.{EndsAs};
     ghost use Rattle.replay.specs.Options.{RefusedBy, refusal_of};
-    ghost use Rattle.replay.specs.Report.{shown, session_of};
+    ghost use Rattle.replay.specs.Report.{reported_run, session_of};
 
     /// A runner of the session with no checkpoint, or the first refusal that fits.
     pub fn new(alloc: Global, session: Session, options: Options) -> Result<Runner, OptionsError>
-        ensures ok { IfOk result (λ r. r ≡ record { session = session; spacing = options.spacing; slots = options.slots; checkpoints = [] }) }
+        ensures ok { IfOk result (λ r. r ≡ record { session = session; spacing = options.spacing; slots = options.slots; checkpoints = []; refused = 0 }) }
         ensures accepted { OnOk result (refusal_of options ≡ None) }
         ensures refused { IfErr result (RefusedBy options) }
     {
@@ -65,14 +64,15 @@ impl Runner {
             return Err(OptionsError::OutOfMemory);
         };
         Ok(Runner {
-            shown: Shown {
+            last_run: LastRun {
                 session,
                 text: Vec::new(alloc),
-                last: None,
+                end: None,
             },
             spacing: options.spacing,
             ring,
-            table: FirstLooks::new(alloc),
+            looks: FirstLooks::new(alloc),
+            refusals: Refusals::new(),
         })
     }
 
@@ -80,7 +80,7 @@ impl Runner {
     pub fn session(&self) -> &Session
         ensures { result.now ≡ self.now.session }
     {
-        &self.shown.session
+        &self.last_run.session
     }
 
     /// The step of the checkpoint that has so many before it, the oldest first.
@@ -93,9 +93,17 @@ impl Runner {
         }
     }
 
+    /// How often the last rerun was refused memory for a checkpoint, or for the first looks that one needs.
+    pub fn refusals(&self) -> u64
+        ensures { result ≡ self.now.refused }
+    {
+        self.refusals.count()
+    }
+
     /// Drops so many of the oldest checkpoints, or all where there are fewer.
     pub fn drop_oldest(&mut self, count: u64)
-        ensures { self.new ≡ record self.old { checkpoints = drop count self.old.checkpoints } }
+        ensures dropped { DropsOldest count self.old self.new }
+        ensures stand { AllStand self.new }
     {
         let len = self.ring.len();
         if count < len as u64 {
@@ -108,79 +116,52 @@ impl Runner {
     /// Carries out an edit, or refuses it by the first refusal that fits. A refusal changes nothing. Exactly the checkpoints
     /// up to the first step are left that looks at what the edit changes.
     pub fn edit(&mut self, edit: Edit) -> Result<(), EditError>
-        ensures answer { Answers (edited self.old.session edit) result self.new.session }
+        ensures answer { AnswersEdit (edited self.old.session edit) result self.new.session }
         ensures memory { result ≡ Err EditError.OutOfMemory → TakesMemory edit }
         ensures options { SameOptions self.old self.new }
         ensures kept { OnOk result (KeepsUntouched (ask self.old.session) (ask self.new.session) self.old.checkpoints self.new.checkpoints) }
         ensures stand { AllStand self.new }
         ensures err { OnErr result (self.new ≡ self.old) }
     {
-        match edit {
-            Edit::Poke(at, bytes) => self.poke(at, bytes.as_slice()),
-            Edit::SetLimit(limit) => self.set_limit(limit),
+        if let Some(refusal) = refusal_of(&self.last_run.session, &edit) {
+            return Err(refusal);
         }
-    }
-
-    fn poke(&mut self, at: u16, bytes: &[u8]) -> Result<(), EditError>
-        ensures answer { Answers (poked self.old.session at bytes.now) result self.new.session }
-        ensures memory { result ≡ Err EditError.OutOfMemory → ⊥ }
-        ensures options { SameOptions self.old self.new }
-        ensures kept { OnOk result (KeepsUntouched (ask self.old.session) (ask self.new.session) self.old.checkpoints self.new.checkpoints) }
-        ensures stand { AllStand self.new }
-        ensures err { OnErr result (self.new ≡ self.old) }
-    {
-        let at = usize::from(at);
-        let length = self.shown.session.program().len();
-        if at < 256 || 256 + length < at + bytes.len() {
-            return Err(EditError::OutsideProgram);
+        let touch = touch_of(&self.looks, &self.last_run.session, &edit);
+        match apply(&mut self.last_run.session, &edit) {
+            Ok(()) => {}
+            Err(AllocError) => return Err(EditError::OutOfMemory),
         }
-        let touch = poke_touch(&self.table, &self.shown.session, at - 256, bytes);
         keep_up_to(&mut self.ring, touch);
-        self.table.cut(touch);
-        self.shown.session.poke(at - 256, bytes);
+        self.looks.cut(touch);
         Ok(())
     }
 
-    fn set_limit(&mut self, limit: u64) -> Result<(), EditError>
-        ensures answer { Answers (edited self.old.session (Edit.SetLimit limit)) result self.new.session }
-        ensures memory { result ≡ Err EditError.OutOfMemory → ⊥ }
-        ensures options { SameOptions self.old self.new }
-        ensures kept { OnOk result (KeepsUntouched (ask self.old.session) (ask self.new.session) self.old.checkpoints self.new.checkpoints) }
-        ensures stand { AllStand self.new }
-        ensures err { OnErr result (self.new ≡ self.old) }
-    {
-        let _ = self.ring.len();
-        if limit > STEP_LIMIT {
-            return Err(EditError::LimitTooLarge);
-        }
-        self.shown.session.set_limit(limit);
-        Ok(())
-    }
-
-    /// Runs the session from the greatest kept step that is not past its limit, else from its start, and reports of it. `Err`
-    /// where memory is refused: the session stays, and so do the checkpoints, but for new ones in a full ring.
+    /// Runs the session from the greatest kept step that is not past its limit, else from its start, and reports of it. Where no
+    /// memory was refused, each due step that it reached has a checkpoint, of which the newest stay. `Err` where memory for the
+    /// run is refused: the session stays, and so do the checkpoints, but for new ones in a full ring.
     pub fn rerun(&mut self, meter: &mut Meter) -> Result<Report<'_>, AllocError>
         requires { meter.old ≤ 2 ^ 63 }
         ensures* ends { sem 𝓛 (EndsAs self.entry (λ n. (n.session ≡ self.old.session) × SameOptions self.old n × AllStand n
-            × MatchResult result (λ r. Reran self.old n (shown r).steps) (λ _. Reran self.old n self.old.session.limit))) }
-        ensures cold { IfOk result (λ r. shown r ≡ cold self.old.session) }
+            × MatchResult result (λ r. Reran self.old n (reported_run r).steps × LeavesNoneOut self.old n (reported_run r).steps) (λ _. Reran self.old n self.old.session.limit))) }
+        ensures cold { IfOk result (λ r. reported_run r ≡ cold self.old.session) }
         ensures session { IfOk result (λ r. session_of r ≡ self.old.session) }
-        ensures ticked { IfOk result (λ r. meter.new + rerun_start self.old ≡ meter.old + (shown r).steps) }
-        ensures ticked_at_most { OnErr result (meter.new + rerun_start self.old ≤ meter.old + self.old.session.limit) }
-        ensures metered { meter.new ≤ meter.old + 4000000000 }
+        ensures ticked { IfOk result (λ r. meter.new + rerun_start self.old ≡ meter.old + (reported_run r).steps) }
+        ensures broken_off { OnErr result (TicksTo (ask self.old.session) self.old.session.limit (rerun_start self.old) meter.old meter.new) }
+        ensures metered { meter.new ≤ meter.old + STEP_LIMIT }
         ensures rises { meter.old ≤ meter.new }
     {
-        let alloc = *self.shown.text.allocator();
+        let alloc = *self.last_run.text.allocator();
         let (steps, cause) = rerun(
             alloc,
-            &mut self.shown,
+            &mut self.last_run,
             self.spacing,
             &mut self.ring,
-            &mut self.table,
+            &mut self.looks,
             meter,
+            &mut self.refusals,
         )?;
         Ok(Report {
-            shown: &self.shown,
+            last_run: &self.last_run,
             steps,
             cause,
         })

@@ -1,38 +1,99 @@
-// Which step an edit touches first.
-
-ghost use Rattle.std.specs.Prelude.{◌≡◌, ◌==◌, ◌+◌, ◌<◌, ◌≤◌, ℕ, length, if◌then◌else◌};
-ghost use Rattle.machine.specs.Machine.{ask, Cell};
+ghost use Rattle.std.specs.Prelude.{◌≡◌, ◌==◌, ◌+◌, ◌<◌, ◌≤◌, IsTrue, ◌↔◌, length, slice_get, if◌then◌else◌};
+ghost use Rattle.machine.specs.Machine.{ask, Cell, Script};
+ghost use Rattle.machine.specs.Session.{spliced};
 ghost use Rattle.replay.specs.FirstLooks.{IsFirstLooks, step_of};
-ghost use Rattle.replay.specs.Edits.{with_poke};
+ghost use Rattle.replay.specs.Edits.{with_poke, with_splice};
 ghost use Rattle.replay.specs.Touch.{IsNotedTouch, lesser};
 
-use crate::table::FirstLooks;
-use machine::Session;
+use crate::first_looks::FirstLooks;
+use machine::{PROGRAM_LIMIT, Session};
 
 /// The least noted step that looked at a byte which a poke changes, or the step below which all looks are noted. The place
 /// counts from the program's first byte.
-pub fn poke_touch(table: &FirstLooks, session: &Session, at: usize, bytes: &[u8]) -> u64
-    requires noted { IsFirstLooks (ask session.now) table.now }
+pub fn poke_touch(looks: &FirstLooks, session: &Session, at: usize, bytes: &[u8]) -> u64
+    requires noted { IsFirstLooks (ask session.now) looks.now }
     requires inside { at + length bytes.now ≤ length session.now.program }
-    ensures { IsNotedTouch (ask session.now) (ask (with_poke session.now at bytes.now)) table.now result }
+    ensures { IsNotedTouch (ask session.now) (ask (with_poke session.now at bytes.now)) looks.now result }
 {
     let program = session.program();
-    let mut touch = table.seen();
+    let mut touch = looks.seen();
     for i in 0..bytes.len() {
-        touch = lesser_if_changed(table, program[at + i], bytes[i], at + i, touch);
+        touch = lesser_if_changed(looks, program[at + i], bytes[i], at + i, touch);
     }
     touch
 }
 
 // The lesser of a step and the first that looked at a byte of the program, where that byte changes.
-fn lesser_if_changed(table: &FirstLooks, old: u8, new: u8, at: usize, least: u64) -> u64
-    requires { at < 64512 }
-    ensures { result ≡ (if old == new then least else lesser (step_of table.now (Cell (256 + at))) least) }
+fn lesser_if_changed(looks: &FirstLooks, old: u8, new: u8, at: usize, least: u64) -> u64
+    requires { at < PROGRAM_LIMIT }
+    ensures { result ≡ (if old == new then least else lesser (step_of looks.now (Cell (256 + at))) least) }
 {
     if old == new {
         return least;
     }
-    match table.cell(256 + at as u16) {
+    lesser_step(looks.cell(256 + at as u16), least)
+}
+
+/// The least noted step that looked at a place of the script which has another byte, or none, once so many bytes from a place on
+/// are exchanged for others; or the step below which all looks are noted.
+pub fn splice_touch(
+    looks: &FirstLooks,
+    session: &Session,
+    at: usize,
+    removed: usize,
+    bytes: &[u8],
+) -> u64
+    requires noted { IsFirstLooks (ask session.now) looks.now }
+    requires inside { at + removed ≤ length session.now.script }
+    ensures { IsNotedTouch (ask session.now) (ask (with_splice session.now at removed bytes.now)) looks.now result }
+{
+    let script = session.script();
+    let mut touch = looks.seen();
+    for place in 0..looks.places_end() {
+        let is_same = is_same_byte(script, at, removed, bytes, place);
+        touch = lesser_unless(looks, is_same, place, touch);
+    }
+    touch
+}
+
+// Whether a place has the same byte, or none, before and after.
+fn is_same_byte(script: &[u8], at: usize, removed: usize, bytes: &[u8], place: usize) -> bool
+    requires { at + removed ≤ length script.now }
+    ensures { IsTrue result ↔ (slice_get script.now place ≡ slice_get (spliced script.now at removed bytes.now) place) }
+{
+    script.get(place).copied() == byte_after(script, at, removed, bytes, place)
+}
+
+// The byte of a place, once so many bytes from another on are exchanged for others.
+fn byte_after(script: &[u8], at: usize, removed: usize, bytes: &[u8], place: usize) -> Option<u8>
+    requires { at + removed ≤ length script.now }
+    ensures { result ≡ slice_get (spliced script.now at removed bytes.now) place }
+{
+    if place < at {
+        return script.get(place).copied();
+    }
+    if place - at < bytes.len() {
+        return bytes.get(place - at).copied();
+    }
+    let end = &script[at + removed..];
+    end.get(place - at - bytes.len()).copied()
+}
+
+// The lesser of a step and the first that looked at a place of the script, unless that has the same byte.
+fn lesser_unless(looks: &FirstLooks, is_same: bool, place: usize, least: u64) -> u64
+    ensures { result ≡ (if is_same then least else lesser (step_of looks.now (Script place)) least) }
+{
+    if is_same {
+        return least;
+    }
+    lesser_step(looks.place(place), least)
+}
+
+// The lesser of two steps, the first of which may not be there.
+fn lesser_step(step: Option<u64>, least: u64) -> u64
+    ensures { result ≡ lesser step least }
+{
+    match step {
         Some(step) if step < least => step,
         _ => least,
     }

@@ -3,8 +3,7 @@
 use crate::fixtures::{WARM_BOOT, blank};
 use bdos::Cause::{NoDollar, Unsupported, WarmBoot};
 use bdos::{Desk, Served, call};
-use i8080::bus::Bus;
-use i8080::registers::Regs;
+use i8080::{Bus, Regs};
 use std::test::Fail;
 
 #[test]

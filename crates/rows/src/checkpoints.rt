@@ -254,6 +254,31 @@ fn a_full_ring_drops_its_oldest(rt: HostRuntime) -> Result<(), Fail> {
         &HI,
         one,
         &[
+            (Run(7, WARM, 7, b"Hi"), &[7]),
+            (Limit(5), &[7]),
+            (Run(5, Cause::Limit, 5, b"Hi"), &[7]),
+            (Limit(100), &[7]),
+            (Run(0, WARM, 7, b"Hi"), &[7]),
+        ],
+    )?;
+    acts(
+        &rt,
+        rt.alloc(),
+        &ONE_MORE,
+        one,
+        &[
+            (Run(7, WARM, 7, b"Hi"), &[7]),
+            (Poke(0x010c, 0x55), &[7]),
+            (Run(0, WARM, 7, b"Hi"), &[7]),
+            (Cell(0x010c, 0x55), &[7]),
+        ],
+    )?;
+    acts(
+        &rt,
+        rt.alloc(),
+        &HI,
+        one,
+        &[
             (Limit(5), &[]),
             (Run(5, Cause::Limit, 5, b"Hi"), &[5]),
             (Limit(100), &[5]),
@@ -327,20 +352,27 @@ fn keeps_due_steps(runner: &Runner, spacing: u64, last: u64) -> bool {
 
 #[test]
 fn each_due_step_is_kept(rt: HostRuntime) -> Result<(), Fail> {
-    for (program, last, cause, text) in [
-        (&HI[..], 7, WARM, &b"Hi"[..]),
-        (&OVERWRITES[..], 5, WARM, b""),
-        (&TWO_BYTES[..], 11, WARM, b"ab"),
-        (&ONE_MORE[..], 7, WARM, b"Hi"),
-        (&HALTS[..], 3, Cause::Halt, b""),
+    for (program, limit, last, cause, text) in [
+        (&HI[..], MILLION, 7, WARM, &b"Hi"[..]),
+        (&HI[..], 0, 0, Cause::Limit, b""),
+        (&OVERWRITES[..], MILLION, 5, WARM, b""),
+        (&TWO_BYTES[..], MILLION, 11, WARM, b"ab"),
+        (&ONE_MORE[..], MILLION, 7, WARM, b"Hi"),
+        (&HALTS[..], MILLION, 3, Cause::Halt, b""),
+        (&[0xc9][..], MILLION, 2, WARM, b""),
+        (&[0x3e, 0x3e, 0x97, 0xc9][..], MILLION, 4, WARM, b""),
+        (&[0x3e, 0x9b, 0x27, 0xc9][..], MILLION, 4, WARM, b""),
+        (&[0x08][..], MILLION, 0, Cause::Undefined(8), b""),
     ] {
         for spacing in 1..=12 {
             let options = Options { spacing, slots: 64 };
-            let mut runner = runner_with(rt.alloc(), program, MILLION, options)?;
+            let mut runner = runner_with(rt.alloc(), program, limit, options)?;
             run(&rt, &mut runner, (last, cause, last, text))?;
             assert!(rt; keeps_due_steps(&runner, spacing, last), "{spacing}");
+            assert_eq!(rt; runner.refusals(), 0, "{spacing}");
             run(&rt, &mut runner, (0, cause, last, text))?;
             assert!(rt; keeps_due_steps(&runner, spacing, last), "{spacing}");
+            assert_eq!(rt; runner.refusals(), 0, "{spacing}");
         }
     }
     Ok(())

@@ -1,8 +1,6 @@
-// What the tests begin with.
-
 ghost use Rattle.std.specs.Prelude.{◌≡◌, vec_len, IfOk};
 
-use i8080::flags::Flags;
+use i8080::Flags;
 use machine::{Cause, Meter, Regs, Session};
 use pagemem::PlainMemory;
 use replay::{EditError, Options, Runner};

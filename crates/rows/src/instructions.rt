@@ -1,13 +1,10 @@
 // What the contracts leave to the reader: that the definitions are the 8080's, by the manual's examples and by second ways.
 
 use crate::fixtures::{blank, rerun, runner_of};
-use i8080::bus::Bus;
-use i8080::decoder::{bytes_have_one_instruction, decode, opcodes_differ};
-use i8080::execute::execute;
-use i8080::flags::Flags;
 use i8080::opcode::Arithmetic::{self, Adc, Add, Ana, Cmp, Ora, Sbb, Sub, Xra};
-use i8080::outcome::Did;
-use i8080::registers::{Regs, word_of};
+use i8080::{
+    Bus, Did, Flags, Regs, bytes_have_one_instruction, decode, execute, opcodes_differ, word_of,
+};
 use machine::Cause::{Undefined, WarmBoot};
 use machine::Meter;
 use pagemem::PlainMemory;

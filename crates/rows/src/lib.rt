@@ -7,6 +7,8 @@ mod calls;
 #[cfg(test)]
 mod checkpoints;
 #[cfg(test)]
+mod console;
+#[cfg(test)]
 mod edits;
 #[cfg(test)]
 mod fixtures;

@@ -1,7 +1,7 @@
 // What a run wrote and looked at, over an image.
 
 use crate::fixtures::{HI, blank};
-use i8080::bus::{Bus, fetch};
+use i8080::{Bus, fetch};
 use pagemem::{Cells, Image, Overlay, View, memories_agree};
 use std::alloc::AllocError;
 use std::test::Fail;
@@ -103,7 +103,7 @@ fn cells_are_shared_and_copied(rt: HostRuntime) -> Result<(), Fail> {
     cells.share()?;
     let mut copy = Overlay::over(rt.alloc(), cells.snapshot()?)?;
     cells.ready(0x0101)?;
-    assert_eq!(rt; cells.ready_byte(0x0101), Some(0x5a));
+    assert_eq!(rt; cells.written(0x0101), Some(0x5a));
     cells.write(0x0101, 0x11);
     assert_eq!(rt;
         (copy.written(0x0101), cells.written(0x0101)),

@@ -80,6 +80,21 @@ fn a_refused_edit_leaves_the_session(rt: HostRuntime) -> Result<(), Fail> {
     Ok(())
 }
 
+#[test]
+fn a_refused_edit_leaves_the_checkpoints(rt: HostRuntime) -> Result<(), Fail> {
+    let mut runner = runner_of(rt.alloc(), &HI, 1_000_000)?;
+    let _ = rerun(&rt, &mut runner, b"Hi")?;
+    poke(&rt, rt.alloc(), &mut runner, (0x0200, &[0x00], 6))?;
+    assert_eq!(rt; number_of(runner.edit(Edit::Remove(0, 1))), 1);
+    assert_eq!(rt; number_of(runner.edit(Edit::SetLimit(4_000_000_001))), 7);
+    for (index, step) in [(0, Some(4)), (1, Some(7)), (2, None)] {
+        assert_eq!(rt; runner.kept(index), step);
+    }
+    let again = rerun(&rt, &mut runner, b"Hi")?;
+    assert_eq!(rt; again.steps, 7);
+    Ok(())
+}
+
 // The string loses its `$`; then the limit comes before, with and after the last step.
 #[test]
 fn a_rerun_is_the_run_of_the_edited_session(rt: HostRuntime) -> Result<(), Fail> {

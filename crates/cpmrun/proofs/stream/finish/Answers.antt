@@ -1,6 +1,7 @@
 use Rattle.std.proofs.Common.{◌≡◌, ◌<◌, ◌∷◌, [], List, ℕ, length, arith, rules}
 use Rattle.std.proofs.lemmas.Result.{err_from_is_err_and}
 use Rattle.std.specs.List.{concat}
+use Rattle.cpmrun.proofs.Carrying.{wants}
 use Rattle.cpmrun.proofs.Stepping.{ends_whole, ends_done, ends_failing}
 use Rattle.cpmrun.proofs.stream.finish.Goals as goal
 
@@ -29,3 +30,8 @@ returns-clause-ends g c = λ first held bytes r.
     let some : 0 < length p.line.items = search rules in
     ends_done first held bytes _ _ p.line.items p.lines r p.few (omega (arith, p.short, p.line.ok.0)) some _ _ h.0
     (rw c.as_slice.ensures.value at h.1) h.3 h.4 h.2
+
+pub returns-in_err-carry_out-clause-memory : goal.returns-in_err-carry_out-clause-memory
+returns-in_err-carry_out-clause-memory g c = λ same.
+    let e = err_from_is_err_and c.from_residual.result c.from_residual.ensures.1 in
+    wants (Unit {0}) _ _ _ _ _ _ _ _ c.as_slice.ensures.value c.in_err-carry_out.ensures.carries cc

@@ -1,5 +1,6 @@
-use Rattle.std.proofs.Common.{◌≡◌, ◌++◌, ◌∷◌, [], arith, rules}
+use Rattle.std.proofs.Common.{◌≡◌, ◌++◌, ◌∷◌, [], inr, arith, rules}
 use Rattle.std.proofs.lemmas.Result.{err_from_is_err_and}
+use Rattle.cpmrun.proofs.Carrying.{wants}
 use Rattle.cpmrun.proofs.Stepping.{line_grows, line_done, line_fails, line_too_long, line_stays}
 use Rattle.cpmrun.proofs.stream.take_byte.Goals as goal
 
@@ -12,7 +13,7 @@ returns-then-len-eq65536-clause-goes g c = λ first held bytes rest r left few_m
 pub returns-then-is_err-clause-goes : goal.returns-then-is_err-clause-goes
 returns-then-is_err-clause-goes g c = λ first held bytes rest r left few_more.
     let p = c.args.place.now in
-    line_stays first held bytes _ _ p.line.items p.lines r p.few (omega (arith, p.short, p.line.ok.0)) c.args.byte rest few_more
+    line_stays first held bytes _ _ p.line.items p.lines r p.few (omega (arith, p.short, p.line.ok.0)) left c.args.byte rest few_more
 
 pub returns-then-byte-ne10-clause-goes : goal.returns-then-byte-ne10-clause-goes
 returns-then-byte-ne10-clause-goes g c = λ first held bytes rest r.
@@ -32,3 +33,8 @@ returns-clause-goes g c = λ first held bytes rest r.
     let p = c.args.place.now in
     let h = c.in_ok-carry_out.ensures.carries in
     rw (c.if-byte-ne10.false, c.clear.ensures.items) (line_done first held bytes _ _ p.line.items p.lines r p.few (omega (arith, p.short, p.line.ok.0)) _ _ h.0 (rw c.as_slice.ensures.value at h.1) h.3 h.4)
+
+pub returns-in_err-carry_out-clause-memory : goal.returns-in_err-carry_out-clause-memory
+returns-in_err-carry_out-clause-memory g c = λ same.
+    let e = err_from_is_err_and c.from_residual.result c.from_residual.ensures.1 in
+    inr (c.if-byte-ne10.false, wants (Unit {0}) _ _ _ _ _ _ _ _ c.as_slice.ensures.value c.in_err-carry_out.ensures.carries cc)

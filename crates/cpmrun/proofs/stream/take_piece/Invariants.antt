@@ -1,13 +1,14 @@
 use Rattle.std.proofs.Common.{◌≡◌, ℕ, ◌+◌, ◌*◌, ◌≤◌, List, ◌++◌, Option, take, vec_len}
 use Rattle.machine.specs.Views.{Session}
-use Rattle.cpmrun.specs.Progress.{Reached}
+use Rattle.machine.specs.declared.session.TheConstants.{STEP_LIMIT}
+use Rattle.cpmrun.specs.Progress.{StandsAt}
 use Rattle.cpmrun.proofs.stream.take_piece.Given as goal
 
 abbrev pub invariant-loop-byte : goal.invariant-loop-byte
 invariant-loop-byte g l =
     ((first : Session) (held : Option (List ℕ)) (bytes : List ℕ)
-    → Reached first held bytes l.initial.runner.session (g.W.Writer.holds l.initial.writer) l.initial.place.line.items l.initial.place.lines
-    → Reached first held (bytes ++ take l.byte-index l.piece) l.runner.session (g.W.Writer.holds l.writer) l.place.line.items l.place.lines)
+    → StandsAt first held bytes l.initial.runner.session (g.W.Writer.holds l.initial.writer) l.initial.place.line.items l.initial.place.lines
+    → StandsAt first held (bytes ++ take l.byte-index l.piece) l.runner.session (g.W.Writer.holds l.writer) l.place.line.items l.place.lines)
     × (g.W.Writer.failures l.writer ≡ g.W.Writer.failures l.initial.writer)
-    × (l.meter ≤ 4000000000 * l.place.lines)
+    × (l.meter ≤ STEP_LIMIT * l.place.lines)
     × (65537 * l.initial.place.lines + vec_len l.initial.place.line + l.byte-index ≤ 65537 * l.place.lines + vec_len l.place.line)

@@ -1,15 +1,15 @@
 use Rattle.std.proofs.Common.{ap, sym, ◌∙◌, inr, arith, take, length, Some}
 use Rattle.std.proofs.lemmas.List.{length-take-le}
-use Rattle.machine.specs.Views.{State, Running}
+use Rattle.machine.specs.Views.{State}
 use Rattle.machine.specs.Machine.{ask}
-use Rattle.machine.specs.Part.{whole}
+use Rattle.machine.specs.Kept.{whole}
 use Rattle.replay.specs.Ring.{Stands}
 use Rattle.replay.proofs.ColdLemmas.{after_none}
 use Rattle.replay.proofs.StartLemmas.{has_valid, has_step}
 use Rattle.replay.proofs.rerun.begin.Goals as goal
 
 pub returns-in_default-clause-at : goal.returns-in_default-clause-at
-returns-in_default-clause-at c = after_none _ _ c.in_ok-state.ensures.state
+returns-in_default-clause-at c = after_none _ _ c.in_ok-running.ensures.state
 
 pub beginning_of-requires : goal.beginning_of-requires
 beginning_of-requires c =
@@ -26,7 +26,7 @@ pub returns-clause-at : goal.returns-clause-at
 returns-clause-at c =
     let stands = has_valid (Stands (ask c.args.session.now) c.args.text.now.items) c.args.ring.now.items c.in-Some.checkpoint.now c.in-Some.ensures.some.1 c.requires.stands in
     let own = c.in_ok-own.ensures.value ∙ ap (λ n. take n c.args.text.now.items) c.text_length.ensures in
-    stands.state ∙ ap (λ (s : State). Some s) (sym (ap (λ (r : Running). r.state) c.resume.ensures ∙ ap (whole c.in-Some.checkpoint.now.state) own))
+    stands.state ∙ ap (λ (s : State). Some s) (sym (c.resume.ensures.state ∙ ap (whole c.in-Some.checkpoint.now.state) own))
 
 pub returns-clause-started : goal.returns-clause-started
 returns-clause-started c = inr (has_step c.args.ring.now.items c.in-Some.checkpoint.now c.in-Some.ensures.some.1)

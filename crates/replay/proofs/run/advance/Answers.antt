@@ -1,22 +1,51 @@
-use Rattle.std.proofs.Common.{arith, inl, inr}
-use Rattle.machine.proofs.AfterLemmas.{after_step}
-use Rattle.replay.proofs.LookLemmas.{looks_kept}
+use Rattle.std.proofs.Common.{arith, inl, inr, ap, sym, ◌∙◌, Some, None, Ok, subst, ◌≡◌, ◌<◌, ◌≤◌, ℕ, Option}
+use Rattle.std.proofs.lemmas.Bool.Decides.{eqb_tells}
+use Rattle.bdos.specs.declared.cause.Cause.{Cause}
+use Rattle.machine.specs.Views.{State, Running}
+use Rattle.machine.specs.Machine.{ask}
+use Rattle.machine.specs.Stretch.{LooksAtNothingNew, Stretches}
+use Rattle.replay.specs.FirstLooks.{Noted, IsFirstLooks}
+use Rattle.replay.proofs.StretchNotes.{stretch_kept, passed}
 use Rattle.replay.proofs.run.advance.Goals as goal
 
 pub loop-n-preserved : goal.loop-n-preserved
 loop-n-preserved c =
-    let went = rw c.in_default.is at c.in_ok-cause.ensures.went in
-    let ticked = rw c.in_default.is at c.in_ok-cause.ensures.ticked in
     let i = c.loop-n.invariant in
-    let notes = looks_kept _ c.loop-n.table c.keep_looks.new.table c.loop-n.n _ c.loop-n.state.looked c.step.new.state.looked i.noted i.looks i.at c.in_ok-cause.ensures.extends c.in_ok-cause.ensures.looked c.keep_looks.ensures.other
+    let reached = c.in_ok-reached.reached in
+    let (x, stretched, metered, same) = c.in_ok-reached.ensures.stretches in
+    let stretch : Stretches c.args.session.now c.loop-n.n c.bound_of-bound.result c.loop-n.running.looked reached (Ok None) c.run_from.new.running.state c.run_from.new.running.looked =
+    subst (λ (k : ℕ). Stretches c.args.session.now c.loop-n.n c.bound_of-bound.result c.loop-n.running.looked k (Ok None) c.run_from.new.running.state c.run_from.new.running.looked) (sym same)
+    (subst (λ (o : Option Cause). Stretches c.args.session.now c.loop-n.n c.bound_of-bound.result c.loop-n.running.looked x (Ok o) c.run_from.new.running.state c.run_from.new.running.looked) c.in_default.is stretched) in
+    let more : c.loop-n.n < reached = rw c.in_default.is at c.in_ok-reached.ensures.progress in
+    let seen : c.loop-n.n < c.loop-n.looks.seen → reached ≤ c.loop-n.looks.seen = λ low. omega (arith, stretch.within, c.seen.ensures, c.bound_of-bound.ensures.seen (omega (arith, low, c.seen.ensures))) in
+    let other = c.keep_looks.ensures.other in
+    let notes = stretch_kept c.args.session.now c.bound_of-bound.result c.loop-n.n reached c.loop-n.looks c.keep_looks.new.looks c.loop-n.refusals c.keep_looks.new.refusals _ c.loop-n.running.looked
+    c.run_from.new.running.looked c.keep_looks.new.running.looked stretch more i.noted i.looks seen c.keep_looks.ensures.cells (λ ne. ((other ne).0, (other ne).1, ap (λ (r : Running). r.looked) (other ne).2))
     (rw c.look_count-noted.ensures at c.keep_looks.ensures.here) in
     record {
-      at = after_step _ _ _ _ i.at went;
+      at = stretch.at ∙ ap (λ (st : State). Some st) (sym c.keep_looks.ensures.state);
       looks = notes.looks;
       noted = notes.noted;
-      seen_in = elim notes.within [ inl e ↦ omega (arith, e, i.seen_in) | inr e ↦ omega (arith, e, c.loop-n-test.true) ];
+      seen_in = elim notes.within [ inl e ↦ omega (arith, e, i.seen_in) | inr e ↦ omega (arith, e, stretch.within, c.bound_of-bound.ensures.within, c.requires.order) ];
+      counted = (omega (arith, notes.counted, i.counted), omega (arith, notes.counted, i.counted, more));
+      all = λ low none. notes.all (omega (arith, none, notes.counted, i.counted)) (i.all low (omega (arith, none, notes.counted, i.counted)));
       grows = omega (arith, notes.grows, i.grows);
-      low = omega arith;
-      high = omega arith;
-      meter = omega (arith, ticked);
+      low = omega (arith, more, i.low);
+      high = omega (arith, stretch.within, c.bound_of-bound.ensures.within);
+      meter = omega (arith, metered, same, i.meter);
     }
+
+pub returns-in-Some-clause-noted : goal.returns-in-Some-clause-noted
+returns-in-Some-clause-noted c =
+    let i = c.loop-n.invariant in
+    let (x, stretched, metered, same) = c.in_ok-reached.ensures.stretches in
+    let stretch = subst (λ (o : Option Cause). Stretches c.args.session.now c.loop-n.n c.bound_of-bound.result c.loop-n.running.looked x (Ok o) c.run_from.new.running.state c.run_from.new.running.looked) c.in-Some.is stretched in
+    elim (eqb_tells c.loop-n.n c.loop-n.looks.seen) [
+      | inl e ↦
+          let quiet : LooksAtNothingNew (ask c.args.session.now) c.loop-n.running.looked c.loop-n.looks.seen c.in_ok-reached.reached =
+          subst (λ (k : ℕ). LooksAtNothingNew (ask c.args.session.now) c.loop-n.running.looked k c.in_ok-reached.reached) e.1
+          (subst (λ (k : ℕ). LooksAtNothingNew (ask c.args.session.now) c.loop-n.running.looked c.loop-n.n k) (sym same) stretch.before_stop) in
+          subst (λ (t : Noted). IsFirstLooks (ask c.args.session.now) t) (sym (c.keep_seen.ensures.here e.1))
+          (passed (ask c.args.session.now) c.loop-n.looks c.loop-n.running.looked i.noted (i.looks (omega (arith, e.1))) c.in_ok-reached.reached (omega (arith, e.1, stretch.within, same)) quiet)
+      | inr ne ↦ subst (λ (t : Noted). IsFirstLooks (ask c.args.session.now) t) (sym (c.keep_seen.ensures.other ne.1)) i.noted
+    ]

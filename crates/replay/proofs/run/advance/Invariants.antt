@@ -1,15 +1,18 @@
 use Rattle.std.proofs.Common.{◌≡◌, ◌+◌, ◌-◌, ◌≤◌, Some}
+use Rattle.machine.specs.declared.session.TheConstants.{STEP_LIMIT}
 use Rattle.machine.specs.Machine.{ask, after}
 use Rattle.replay.specs.FirstLooks.{AllNoted, IsFirstLooks}
 use Rattle.replay.proofs.run.advance.Given as goal
 
 abbrev pub invariant-loop-n : goal.invariant-loop-n
 invariant-loop-n l = record {
-  at : after (ask l.session) l.n ≡ Some l.state.state;
-  looks : l.n ≤ l.table.seen → AllNoted l.table l.state.looked;
-  noted : IsFirstLooks (ask l.session) l.table;
-  seen_in : l.table.seen ≤ 4000000000;
-  grows : l.initial.table.seen ≤ l.table.seen;
+  at : after (ask l.session) l.n ≡ Some l.running.state;
+  looks : l.n ≤ l.looks.seen → AllNoted l.looks l.running.looked;
+  noted : IsFirstLooks (ask l.session) l.looks;
+  seen_in : l.looks.seen ≤ STEP_LIMIT;
+  counted : (l.initial.refusals ≤ l.refusals) × (l.refusals + l.from ≤ l.initial.refusals + l.n);
+  all : l.from ≤ l.initial.looks.seen → l.refusals ≡ l.initial.refusals → l.n ≤ l.looks.seen;
+  grows : l.initial.looks.seen ≤ l.looks.seen;
   low : l.from ≤ l.n;
   high : l.n ≤ l.end;
   meter : l.meter + l.from ≡ l.initial.meter + l.n;

@@ -1,8 +1,9 @@
-use Rattle.std.proofs.Common.{inr, arith, refl, ◌∙◌, ◌≡◌, ◌≤◌, ◌<◌, ap, sym, Some}
+use Rattle.std.proofs.Common.{inl, inr, arith, refl, ◌∙◌, ◌≡◌, ◌+◌, ◌≤◌, ◌<◌, ap, sym, Some}
 use Rattle.machine.specs.Views.{Running}
 use Rattle.machine.specs.Machine.{ask, after}
 use Rattle.replay.proofs.KeepingLemmas.{new_valid}
-use Rattle.replay.proofs.RingLemmas.{on_err, Each-weaken, widen_to, relast_adding, kept_adds, kept_capacity, kept_each, kept_known, kept_same, none_made, adds_rising}
+use Rattle.replay.proofs.RingLemmas.{on_err, Each-weaken, widen_to, relast_adding, kept_adds, kept_capacity, kept_each, kept_known, kept_same, begins_below, none_made, adds_rising}
+use Rattle.replay.proofs.CompleteLemmas.{all_made, none_left_out, relast_all, all_on}
 use Rattle.replay.proofs.ColdLemmas.{cold_stop, cold_limit}
 use Rattle.replay.proofs.run.resume.Goals as goal
 
@@ -19,6 +20,11 @@ loop-n-init c = record {
   valid = c.requires.valid;
   known = c.requires.known;
   adds = none_made _ _ _ _ _ _ (rw (← c.len.ensures.len) c.len.ensures.within.0) c.requires.newest c.requires.started;
+  on = λ _. c.requires.seen.0;
+  all = λ r. none_left_out _ _ _ _ _ _ (none_made _ _ _ _ _ _ (rw (← c.len.ensures.len) c.len.ensures.within.0) c.requires.newest c.requires.started);
+  few = omega (arith, c.requires.none_refused);
+  spot = inl refl;
+  last = let b = begins_below _ _ _ c.requires.started c.requires.newest in omega (arith, b);
   newer = omega arith;
   upto = λ h. Each-weaken _ _ _ (λ d low. omega (arith, h, low)) c.requires.newest;
   same = λ h. refl;
@@ -30,7 +36,7 @@ returns-in_err-reached-clause-at c =
     let i = c.loop-n.invariant in
     let low = a.2 in
     let high = a.3 in
-    (a.0, a.1, omega (arith, high, c.due_after-end.ensures.later, c.limit-limit.ensures.value), λ h. Each-weaken _ _ _ (λ d e. omega (arith, e, low)) (i.upto h))
+    (a.0, a.1, omega (arith, high, c.due_after-end.ensures.later, c.limit-limit.ensures.value), λ h. Each-weaken _ _ _ (λ d e. omega (arith, e, low)) (i.upto h), omega (arith, a.5, i.meter))
 
 pub returns-in_err-reached-clause-adds_at_most : goal.returns-in_err-reached-clause-adds_at_most
 returns-in_err-reached-clause-adds_at_most c =
@@ -45,9 +51,9 @@ returns-in_err-reached-clause-known c = let s = c.advance.ensures.seen.0 in Each
 pub returns-in-Some-clause-cold : goal.returns-in-Some-clause-cold
 returns-in-Some-clause-cold c =
     let a = c.in_ok-reached.ensures.at in
-    let at : after (ask c.args.session.now) c.in_ok-reached.reached ≡ Some c.advance.new.state.state = rw a.4 a.1 in
+    let at : after (ask c.args.session.now) c.in_ok-reached.reached ≡ Some c.advance.new.running.state = rw a.4 a.1 in
     let stopped = rw c.in-Some.is at c.in_ok-reached.ensures.stopped in
-    rw c.keep_above-last_kept.ensures.state (cold_stop _ _ _ _ at (omega (arith, stopped.0, c.due_after-end.ensures.later, c.limit-limit.ensures.value)) stopped.1)
+    rw c.keep_above-last_kept.ensures.running (cold_stop _ _ _ _ at (omega (arith, stopped.0, c.due_after-end.ensures.later, c.limit-limit.ensures.value)) stopped.1)
 
 pub returns-in-Some-clause-at : goal.returns-in-Some-clause-at
 returns-in-Some-clause-at c =
@@ -57,9 +63,10 @@ returns-in-Some-clause-at c =
     let low = a.2 in
     let high = a.3 in (
       a.0,
-      a.1 ∙ ap (λ (r : Running). Some r.state) (sym c.keep_above-last_kept.ensures.state),
+      a.1 ∙ ap (λ (r : Running). Some r.state) (sym c.keep_above-last_kept.ensures.running),
       omega (arith, high, c.due_after-end.ensures.later, c.limit-limit.ensures.value),
       λ h. kept_each _ c.loop-n.ring _ _ _ c.keep_above-last_kept.ensures.ring (Each-weaken _ _ _ (λ d e. omega (arith, e, low)) (i.upto h)) (λ e. omega (arith, here)),
+      omega (arith, a.5, i.meter),
     )
 
 pub returns-in-Some-clause-same : goal.returns-in-Some-clause-same
@@ -90,13 +97,13 @@ returns-in-Some-clause-rising c =
 pub returns-in-Some-clause-valid : goal.returns-in-Some-clause-valid
 returns-in-Some-clause-valid c =
     let a = c.in_ok-reached.ensures.at in
-    let at : after (ask c.args.session.now) c.in_ok-reached.reached ≡ Some c.advance.new.state.state = rw a.4 a.1 in
+    let at : after (ask c.args.session.now) c.in_ok-reached.reached ≡ Some c.advance.new.running.state = rw a.4 a.1 in
     kept_each _ c.loop-n.ring _ _ _ c.keep_above-last_kept.ensures.ring c.loop-n.invariant.valid (λ h. new_valid _ _ _ (omega (arith, h)) at)
 
 pub returns-in-Some-clause-known : goal.returns-in-Some-clause-known
 returns-in-Some-clause-known c =
     let s = c.advance.ensures.seen.0 in
-    kept_known _ c.loop-n.ring _ c.advance.new.table.seen _ c.keep_above-last_kept.ensures.ring (rw c.seen.ensures at c.keep_above-last_kept.ensures.seen) (Each-weaken _ _ _ (λ d h. omega (arith, h, s)) c.loop-n.invariant.known)
+    kept_known _ c.loop-n.ring _ c.advance.new.looks.seen _ c.keep_above-last_kept.ensures.ring (rw c.seen.ensures at c.keep_above-last_kept.ensures.seen) (Each-weaken _ _ _ (λ d h. omega (arith, h, s)) c.loop-n.invariant.known)
 
 pub loop-n-preserved : goal.loop-n-preserved
 loop-n-preserved c =
@@ -106,22 +113,39 @@ loop-n-preserved c =
     let i = c.loop-n.invariant in
     let s = c.advance.ensures.seen.0 in
     let a = c.in_ok-reached.ensures.at in
-    let at : after (ask c.args.session.now) c.in_ok-reached.reached ≡ Some c.advance.new.state.state = rw a.4 a.1 in
+    let at : after (ask c.args.session.now) c.in_ok-reached.reached ≡ Some c.advance.new.running.state = rw a.4 a.1 in
     let low : c.loop-n.n ≤ c.in_ok-reached.reached = rw a.4 a.2 in
     let ring = c.keep_above-last_kept.ensures.ring in
     let newest = c.keep_above-last_kept.ensures.newest in
+    let refused = c.keep_above-last_kept.ensures.refused in
+    let counted = c.in_ok-reached.ensures.refused in
+    let few : c.advance.new.refusals + c.loop-n.n ≤ c.loop-n.refusals + c.in_ok-reached.reached = counted.1 in
     record {
-      at = rw c.keep_above-last_kept.ensures.state at;
-      looks = rw c.keep_above-last_kept.ensures.state looks;
+      at = rw c.keep_above-last_kept.ensures.running at;
+      looks = rw c.keep_above-last_kept.ensures.running looks;
       noted = c.advance.ensures.noted;
       seen_in = c.advance.ensures.seen.1;
       low = omega (arith, low);
       high = omega (arith, ends, c.due_after-end.ensures.later);
-      meter = omega (arith, c.in_ok-reached.ensures.ticked);
+      meter = omega (arith, a.4, a.5, i.meter);
+      on = λ r. elim refused [
+        | inl e ↦ c.in_ok-reached.ensures.all (i.on (omega (arith, counted.0, e, r))) (omega (arith, counted.0, e, r))
+        | inr e ↦ absurd (omega (arith, e.2, r))
+      ];
       capacity = kept_capacity _ c.loop-n.ring _ _ ring ∙ i.capacity;
       valid = kept_each _ c.loop-n.ring _ _ _ ring i.valid (λ h. new_valid _ _ _ (omega (arith, h)) at);
-      known = kept_known _ c.loop-n.ring _ c.advance.new.table.seen _ ring (rw c.seen.ensures at c.keep_above-last_kept.ensures.seen) (Each-weaken _ _ _ (λ d h. omega (arith, h, s)) i.known);
+      known = kept_known _ c.loop-n.ring _ c.advance.new.looks.seen _ ring (rw c.seen.ensures at c.keep_above-last_kept.ensures.seen) (Each-weaken _ _ _ (λ d h. omega (arith, h, s)) i.known);
       adds = rw newest (kept_adds _ _ _ _ _ _ c.loop-n.ring _ _ _ i.capacity i.adds low marked ring);
+      all = λ r. elim refused [
+        | inl e ↦ rw newest (all_on _ _ _ _ _ _ c.loop-n.ring _ _ _ i.capacity low marked
+            (λ k a b m. elim m [ inl w ↦ c.due_after-end.ensures.first k a (omega (arith, b, ends)) w | inr l ↦ omega (arith, b, l, ends, c.due_after-end.ensures.later) ])
+            (i.all (omega (arith, counted.0, e, r)))
+            _ _ _ _ c.requires.there i.last e (c.in_ok-reached.ensures.all (i.on (omega (arith, counted.0, e, r))) (omega (arith, counted.0, e, r))) ring (rw c.seen.ensures at c.keep_above-last_kept.ensures.made))
+        | inr e ↦ absurd (omega (arith, e.2, r))
+      ];
+      few = elim refused [ inl e ↦ omega (arith, e, i.few, low, few) | inr e ↦ omega (arith, e.2, i.few, few, ends, c.due_after-end.ensures.later) ];
+      spot = inr marked;
+      last = omega (arith, newest, i.last, low);
       newer = omega (arith, newest, i.newer);
       upto = λ h. kept_each _ c.loop-n.ring _ _ _ ring (Each-weaken _ _ _ (λ d e. omega (arith, e, low)) (i.upto h)) (λ e. omega arith);
       same = λ h. kept_same _ c.loop-n.ring _ _ ring (let past : c.limit-limit.result < c.args.newest = h in omega (arith, past, ends, i.newer, c.due_after-end.ensures.later)) ∙ i.same h;
@@ -132,3 +156,22 @@ returns-clause-cold c = cold_limit _ _ _ c.loop-n.invariant.at (omega arith)
 
 pub returns-clause-rising : goal.returns-clause-rising
 returns-clause-rising c = adds_rising _ _ _ _ _ _ _ c.requires.rising c.loop-n.invariant.adds.adds
+
+pub returns-clause-all : goal.returns-clause-all
+returns-clause-all c = λ r. all_made _ _ _ _ _ _ _ _ (c.loop-n.invariant.all r) (omega arith)
+
+pub returns-in-Some-clause-all : goal.returns-in-Some-clause-all
+returns-in-Some-clause-all c = λ r.
+    let stopped = rw c.in-Some.is at c.in_ok-reached.ensures.stopped in
+    let i = c.loop-n.invariant in
+    let a = c.in_ok-reached.ensures.at in
+    let low : c.loop-n.n ≤ c.in_ok-reached.reached = rw a.4 a.2 in
+    let ring = c.keep_above-last_kept.ensures.ring in
+    let counted = c.in_ok-reached.ensures.refused in
+    elim c.keep_above-last_kept.ensures.refused [
+      | inl e ↦ all_made _ _ _ _ _ _ _ _ (all_on _ _ _ _ _ _ c.loop-n.ring _ _ _ i.capacity low (inr refl)
+          (λ k a b m. elim m [ inl w ↦ c.due_after-end.ensures.first k a (omega (arith, b, stopped.0)) w | inr l ↦ omega (arith, b, l) ])
+          (relast_all _ _ _ _ _ _ c.in_ok-reached.reached _ _ c.loop-n-test.true low i.spot (i.all (omega (arith, counted.0, e, r))))
+          _ _ _ _ c.requires.there i.last e (c.in_ok-reached.ensures.all (i.on (omega (arith, counted.0, e, r))) (omega (arith, counted.0, e, r))) ring (rw c.seen.ensures at c.keep_above-last_kept.ensures.made)) refl
+      | inr e ↦ absurd (omega (arith, e.2, r))
+    ]

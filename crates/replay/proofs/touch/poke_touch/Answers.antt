@@ -1,23 +1,26 @@
-use Rattle.std.proofs.Common.{◌≡◌, ℕ, List, subst, arith, take}
-use Rattle.std.proofs.lemmas.List.{take_all}
-use Rattle.machine.specs.Machine.{ask}
+use Rattle.std.proofs.Common.{◌≡◌, ◌+◌, arith, length}
+use Rattle.machine.specs.Machine.{Cell, ask}
 use Rattle.replay.specs.Edits.{with_poke}
-use Rattle.replay.specs.Touch.{IsNotedTouch}
-use Rattle.replay.proofs.PokeLemmas.{touch_none, touch_one}
+use Rattle.replay.proofs.FirstLemmas.{noted_below}
+use Rattle.replay.proofs.LeastLemmas.{least_of_none, least_more}
+use Rattle.replay.proofs.PokeLemmas.{IsPoked, none_poked, one_more_poked, poke_touched, changes}
 use Rattle.replay.proofs.touch.poke_touch.Goals as goal
 
 pub loop-i-init : goal.loop-i-init
-loop-i-init c = rw c.seen-touch.ensures (touch_none c.args.session.now c.args.table.now c.args.at)
+loop-i-init c = rw c.seen-touch.ensures (least_of_none (IsPoked c.args.at 0) _ _ c.args.looks.now (none_poked c.args.at))
 
 pub loop-i-preserved : goal.loop-i-preserved
 loop-i-preserved c =
-    let p = c.args.session.now.program in
+    let s = c.args.session.now in
     let bytes = c.args.bytes.now in
-    let old : c.program-program.result.now ≡ p = c.program-program.ensures.value in
-    let one = touch_one c.args.session.now c.args.table.now c.args.at c.loop-i.i bytes c.requires.noted c.requires.inside c.loop-i-test.true c.loop-i.touch c.loop-i.invariant in
+    let i = c.loop-i.i in
+    let old : c.program-program.result.now ≡ s.program = c.program-program.ensures.value in
+    let one = least_more (IsPoked c.args.at i) (IsPoked c.args.at (i + 1)) (ask s) (ask (with_poke s c.args.at bytes)) c.args.looks.now (Cell (256 + (c.args.at + i)))
+    (one_more_poked c.args.at i) c.loop-i.touch c.loop-i.invariant (noted_below _ _ c.requires.noted (Cell (256 + (c.args.at + i)))) _
+    (changes s c.args.at bytes c.requires.inside i c.loop-i-test.true).0 (changes s c.args.at bytes c.requires.inside i c.loop-i-test.true).1 in
     rw (c.lesser_if_changed-touch.ensures, old) one
 
 pub returns : goal.returns
 returns c =
-    let whole : take c.loop-i.i c.args.bytes.now ≡ c.args.bytes.now = take_all c.loop-i.i c.args.bytes.now (omega arith) in
-    subst (λ (b : List ℕ). IsNotedTouch (ask c.args.session.now) (ask (with_poke c.args.session.now c.args.at b)) c.args.table.now c.loop-i.touch) whole c.loop-i.invariant
+    let all : c.loop-i.i ≡ length c.args.bytes.now = omega arith in
+    poke_touched c.args.session.now c.args.at c.args.bytes.now c.requires.inside c.args.looks.now c.loop-i.touch (rw all at c.loop-i.invariant)

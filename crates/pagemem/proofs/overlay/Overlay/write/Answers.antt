@@ -1,7 +1,7 @@
 use Rattle.pagemem.proofs.SettledLemmas.{settled_by_write}
-use Rattle.pagemem.specs.Cells.{own_in, is_ready_in}
+use Rattle.pagemem.specs.Cells.{own_in}
 use Rattle.pagemem.specs.Settled.{is_settled}
 use Rattle.pagemem.proofs.overlay.Overlay.write.Goals as goal
 
 pub invariant_of-self : goal.invariant_of-self
-invariant_of-self c = rw c.write.ensures.own (record { rests = settled_by_write (own_in c.args.self.now.cells) (is_ready_in c.args.self.now.cells) (is_ready_in c.write.new.self) (is_settled c.args.self.now.settled) _ c.args.self.now.looks c.args.a c.args.value c.args.self.now.rests c.remove.ensures c.write.ensures.kept })
+invariant_of-self c = rw c.write.ensures.own (record { rests = settled_by_write (own_in c.args.self.now.cells) (is_settled c.args.self.now.settled) _ c.args.self.now.looks c.args.a c.args.value c.args.self.now.rests c.remove.ensures })

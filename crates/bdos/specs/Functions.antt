@@ -1,0 +1,19 @@
+-- The calls by their numbers. (CP/M 2.2 Interface Guide.)
+use Rattle.std.specs.Prelude.{ℕ, ◌==◌, if◌then◌else◌, Option, Some, None}
+use Rattle.bdos.specs.declared.function.Function.{Function}
+use Rattle.bdos.specs.declared.function.Function.TheVariants.{SystemReset, ConsoleInput, ConsoleOutput, DirectConsole, GetIoByte, SetIoByte, PrintString, ReadConsoleBuffer, ConsoleStatus, VersionNumber}
+
+-- the call of a number; other numbers name none
+abbrev pub function_of : ℕ → Option Function
+function_of number =
+    if number == 0 then Some SystemReset
+    else if number == 1 then Some ConsoleInput
+    else if number == 2 then Some ConsoleOutput
+    else if number == 6 then Some DirectConsole
+    else if number == 7 then Some GetIoByte
+    else if number == 8 then Some SetIoByte
+    else if number == 9 then Some PrintString
+    else if number == 10 then Some ReadConsoleBuffer
+    else if number == 11 then Some ConsoleStatus
+    else if number == 12 then Some VersionNumber
+    else None

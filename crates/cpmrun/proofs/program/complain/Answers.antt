@@ -1,5 +1,0 @@
-use Rattle.std.proofs.Common.{inr}
-use Rattle.cpmrun.proofs.program.complain.Goals as goal
-
-pub returns-in-Err : goal.returns-in-Err
-returns-in-Err g c = inr (c.status-in-Err.ensures, rw c.as_slice.ensures at c.tell-in-Err.ensures)

@@ -1,6 +1,0 @@
-use Rattle.cpmrun.proofs.Telling.{up_to}
-use Rattle.cpmrun.proofs.program.read_program.Goals as goal
-
-pub returns : goal.returns
-returns g c =
-    up_to _ 64513 _ (rw (c.take.ensures.limit, c.take.ensures.inner, c.new-program.ensures.items) at c.in_ok-read_to_end.ensures.bytes)

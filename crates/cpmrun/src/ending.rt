@@ -1,0 +1,32 @@
+use thiserror::Error;
+
+/// How a replay ends without a fault.
+#[derive(Clone, Copy, Debug)]
+pub struct Ending {
+    /// The count of lines, all of which were carried out: at most 1,000,000.
+    pub lines: u64,
+}
+
+/// Why a replay ends early. Lines are numbered from 1.
+#[derive(Clone, Copy, Debug, PartialEq, Eq, Error)]
+pub enum ReplayFault {
+    /// The line of this number is no edit line, or it is past the 1,000,000th. The lines before it
+    /// were carried out, and exactly their replies written.
+    #[error("line {0} is malformed")]
+    Malformed(u64),
+    /// The line of this number has more than 65,536 bytes. The lines before it were carried out, and
+    /// exactly their replies written.
+    #[error("line {0} is too long")]
+    LineTooLong(u64),
+    /// The reader failed. The lines whose 0AH was read were carried out, and exactly their replies
+    /// written.
+    #[error("the edit lines could not be read")]
+    Read,
+    /// The writer failed. Some first lines were carried out, and a beginning of their replies written.
+    #[error("the replies could not be written")]
+    Write,
+    /// Memory was wanted and refused. Some first lines were carried out, and a beginning of their
+    /// replies written.
+    #[error("out of memory")]
+    OutOfMemory,
+}

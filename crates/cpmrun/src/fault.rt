@@ -1,0 +1,96 @@
+ghost use Rattle.std.specs.Prelude.{◌≡◌, ◌^◌, ◌<◌, IfOk, IfSome, IfNone, string_bytes};
+ghost use Rattle.cpmrun.specs.Program.{Complains, NamesAValue, WritesOrFails, message_of, status_of};
+
+use crate::ends::{Writer, write_all};
+use std::alloc::{AllocError, Global};
+
+/// Why the program ends with a status other than 0.
+#[derive(Clone, Copy)]
+pub enum Fault<'a> {
+    /// The words are not `PROGRAM --edits FILE`.
+    Use,
+    /// The file of this path could not be read.
+    CannotRead(&'a str),
+    /// Standard output could not be written.
+    CannotWrite,
+    /// The session was refused, by the number of its refusal.
+    Refused(u8),
+    /// The edit line of this number has no meaning.
+    Malformed(u64),
+    /// The edit line of this number is too long.
+    TooLong(u64),
+    /// Memory was wanted and refused.
+    OutOfMemory,
+}
+
+impl Fault<'_> {
+    /// The exit status: 1 for a fault of use, of a device or of the session, 2 for a line, 12 for
+    /// want of memory.
+    pub fn status(self) -> u8
+        ensures { result ≡ status_of self.entry }
+    {
+        match self {
+            Fault::Use | Fault::CannotRead(_) | Fault::CannotWrite | Fault::Refused(_) => 1,
+            Fault::Malformed(_) | Fault::TooLong(_) => 2,
+            Fault::OutOfMemory => 12,
+        }
+    }
+
+    // The line that tells it, where that names no value.
+    fn fixed_message(self) -> Option<&'static str>
+        ensures some { IfSome result (λ s. s.now ≡ message_of self.entry) }
+        ensures none { IfNone result (NamesAValue self.entry) }
+    {
+        match self {
+            Fault::Use => Some("usage: cpmrun PROGRAM --edits FILE\n"),
+            Fault::CannotWrite => Some("cpmrun: cannot write standard output\n"),
+            Fault::OutOfMemory => Some("cpmrun: out of memory\n"),
+            _ => None,
+        }
+    }
+
+    /// The line that tells it, with its 0AH.
+    pub fn message(self, alloc: Global) -> Result<String, AllocError>
+        ensures { IfOk result (λ s. string_bytes s ≡ message_of self.entry) }
+    {
+        match self {
+            Fault::Use => String::from_str(alloc, "usage: cpmrun PROGRAM --edits FILE\n"),
+            Fault::CannotRead(path) => format!(in alloc; "cpmrun: cannot read {path}\n"),
+            Fault::CannotWrite => String::from_str(alloc, "cpmrun: cannot write standard output\n"),
+            Fault::Refused(number) => format!(in alloc; "cpmrun: session refused {number}\n"),
+            Fault::Malformed(line) => format!(in alloc; "cpmrun: line {line} is malformed\n"),
+            Fault::TooLong(line) => format!(in alloc; "cpmrun: line {line} is too long\n"),
+            Fault::OutOfMemory => String::from_str(alloc, "cpmrun: out of memory\n"),
+        }
+    }
+}
+
+/// Writes the text, or a beginning of it where the writer fails, which is passed over.
+fn tell<E: Writer>(err: &mut E, text: &[u8])
+    requires { E.failures err.old < 2 ^ 63 }
+    ensures { WritesOrFails (E.holds err.old) (E.holds err.new) (E.failures err.old) (E.failures err.new) text.now }
+{
+    let _ = write_all(err, text);
+}
+
+/// Writes the message of a fault, or that of want of memory where there is no memory to name its
+/// path or number, and gives the status. A failure of the writer is passed over.
+pub fn complain<E: Writer>(alloc: Global, fault: Fault<'_>, err: &mut E) -> u8
+    requires { E.failures err.old < 2 ^ 63 }
+    ensures { Complains fault.entry result (E.holds err.old) (E.holds err.new) (E.failures err.old) (E.failures err.new) }
+{
+    if let Some(text) = fault.fixed_message() {
+        tell(err, text.as_bytes());
+        return fault.status();
+    }
+    match fault.message(alloc) {
+        Ok(text) => {
+            tell(err, text.as_bytes());
+            fault.status()
+        }
+        Err(AllocError) => {
+            tell(err, b"cpmrun: out of memory\n".as_slice());
+            Fault::OutOfMemory.status()
+        }
+    }
+}

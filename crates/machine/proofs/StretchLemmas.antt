@@ -1,0 +1,169 @@
+-- Steps one after another of which none but the last looks at anything new.
+use Rattle.std.proofs.Common.{inl, inr, ◌≡◌, ℕ, ◌<◌, ◌≤◌, ◌+◌, ◌-◌, ◌||◌, ◌⊎◌, Bool, true, false, List, length, take, Option, Some, None, Ok, Err, refl, sym, ◌∙◌, ap, subst, arith, ◌≢◌}
+use Rattle.std.proofs.lemmas.Bool.Decides.{eqb_tells}
+use Rattle.std.proofs.Math.Bool.{or-false}
+use Rattle.std.proofs.lemmas.List.{take_all}
+use Rattle.std.specs.declared.alloc.AllocError.{AllocError}
+use Rattle.interaction_trees.specs.Dependence.{Stop}
+use Rattle.interaction_trees.specs.Dependence as dependence
+use Rattle.i8080.specs.declared.registers.Regs.{Regs}
+use Rattle.i8080.specs.Reading.{asked}
+use Rattle.i8080.proofs.WriteLookLemmas.{extends_itself, extends_by}
+use Rattle.bdos.specs.declared.cause.Cause.{Cause}
+use Rattle.bdos.specs.Places.{Watched}
+use Rattle.pagemem.specs.declared.overlay.Overlay.{Overlay}
+use Rattle.pagemem.specs.Overlay.{own_of, looks_of}
+use Rattle.machine.specs.Views.{Session, State, Looked}
+use Rattle.std.specs.Borrow.{GName}
+use Rattle.std.specs.declared.result.Result.{Result}
+use Rattle.i8080.specs.declared.outcome.Did.{Did}
+use Rattle.i8080.specs.End.{Performs}
+use Rattle.i8080.specs.Instruction.{instruction}
+use Rattle.i8080.specs.Memory as memory
+use Rattle.machine.specs.Session.{image_of}
+use Rattle.machine.specs.Stops.{stop_of_instruction}
+use Rattle.machine.proofs.StepLemmas.{instructed, instruction_fails}
+use Rattle.machine.specs.Machine.{Question, Answers, ask, next, part, made, start, after, outcome, looks, looks_at, looked_at, is_in, Extends}
+use Rattle.machine.specs.WrittenCells.{state_with}
+use Rattle.machine.specs.Steps.{seen, looked_in, TakesStep}
+use Rattle.machine.specs.Stretch.{LooksAtNothingNew, Stretches}
+use Rattle.machine.proofs.AfterLemmas.{after_step}
+
+-- the looks at the state that was reached
+looks_here : (f : Answers) (n : ℕ) (st : State) → after f n ≡ Some st → looks f n ≡ looks_at f st
+unfolding dependence.looks
+looks_here f n st at = ap (dependence.looks_of part (λ (st : State). st.own) (λ (st : State). next st.core) made start f) at
+
+or_second : (a b c : Bool) → c ≡ (a || b) → b ≡ true → c ≡ true
+or_second true b c e h = e
+or_second false b c e h = e ∙ h
+
+-- one step more that looks at nothing new
+nothing_new_more : (f : Answers) (looked : Looked) (from n : ℕ) → LooksAtNothingNew f looked from n → ((q : Question) → is_in q (looks f n) ≡ true → looked_at looked q ≡ true) → LooksAtNothingNew f looked from (n + 1)
+nothing_new_more f looked from n quiet here i low high q h = elim (eqb_tells i n) [
+  | inl same ↦ here q (subst (λ (k : ℕ). is_in q (looks f k) ≡ true) same.1 h)
+  | inr other ↦ quiet i low (let apart : i ≢ n = other.1 in omega arith) q h
+]
+
+module _ (s : Session) (from end n : ℕ) (r r' : Regs) (d d' : Watched) (o o' : Overlay) (looked : Looked) (low : from ≤ n) (same : looked_in o d ≡ looked)
+    (at : after (ask s) n ≡ Some (state_with r d.desk (own_of o))) (quiet : LooksAtNothingNew (ask s) looked from n) where
+  before : LooksAtNothingNew (ask s) looked from (n - 1)
+  before i l h q = quiet i l (omega arith) q
+
+  -- what was looked at after the step
+  looked_after : TakesStep s r d o (Ok None) r' d' o' → (q : Question) → looked_at (looked_in o' d') q ≡ (looked_at looked q || is_in q (looks (ask s) n))
+  looked_after w q =
+      w.looked q
+      ∙ ap (λ (l : Looked). looked_at l q || is_in q (looks_at (ask s) (state_with r d.desk (own_of o)))) same
+      ∙ ap (λ (qs : List Question). looked_at looked q || is_in q qs) (sym (looks_here (ask s) n (state_with r d.desk (own_of o)) at))
+
+  -- a stretch that ends with the step n
+  pub ends_by_step : n < end → TakesStep s r d o (Ok None) r' d' o' → Stretches s from end looked (n + 1) (Ok None) (state_with r' d'.desk (own_of o')) (looked_in o' d')
+  ends_by_step high w = record {
+    within = (omega arith, omega arith);
+    at = after_step (ask s) n (state_with r d.desk (own_of o)) _ at w.outcome;
+    stopped = tt;
+    before_last = λ i l h q. quiet i l (omega arith) q;
+    before_stop = tt;
+    before_failure = tt;
+    last = λ past q. looked_after w q ∙ ap (λ (k : ℕ). looked_at looked q || is_in q (looks (ask s) k)) (omega arith);
+    extends = subst (λ (l : Looked). Extends l (looked_in o' d')) same w.extends;
+  }
+
+  -- one that ends before the step n, which stops
+  pub ends_by_stop : (cause : Cause) → n < end → TakesStep s r d o (Ok (Some cause)) r' d' o' → Stretches s from end looked n (Ok (Some cause)) (state_with r' d'.desk (own_of o')) (looked_in o' d')
+  ends_by_stop cause high w = record {
+    within = (low, omega arith);
+    at = at ∙ ap (λ (st : State). Some st) (sym w.stays);
+    stopped = (high, ap (outcome (ask s)) w.stays ∙ w.outcome);
+    before_last = before;
+    before_stop = quiet;
+    before_failure = tt;
+    last = tt;
+    extends = subst (λ (l : Looked). Extends l (looked_in o' d')) same w.extends;
+  }
+
+  -- one that ends before the step n, which fails
+  pub ends_by_failure : (e : AllocError) → n < end → TakesStep s r d o (Err e) r' d' o' → Stretches s from end looked n (Err e) (state_with r' d'.desk (own_of o')) (looked_in o' d')
+  ends_by_failure e high w = record {
+    within = (low, omega arith);
+    at = at ∙ ap (λ (st : State). Some st) (sym w.failed);
+    stopped = tt;
+    before_last = before;
+    before_stop = tt;
+    before_failure = quiet;
+    last = tt;
+    extends = subst (λ (l : Looked). Extends l (looked_in o' d')) same w.extends;
+  }
+
+  -- and one that ends where nothing new was looked at
+  looked_before : (q : Question) → (b : Bool) → (b ≡ true → looked_at looked q ≡ true) → looked_at looked q ≡ (looked_at looked q || b)
+  looked_before q true h = absorbs (looked_at looked q) (h refl) where
+    absorbs : (b : Bool) → b ≡ true → b ≡ (b || true)
+    absorbs true e = refl
+    absorbs false e = e
+  looked_before q false h = sym (or-false (looked_at looked q))
+
+  pub ends_here : n ≤ end → Stretches s from end looked n (Ok None) (state_with r d.desk (own_of o)) (looked_in o d)
+  ends_here high = record {
+    within = (low, high);
+    at = at;
+    stopped = tt;
+    before_last = before;
+    before_stop = tt;
+    before_failure = tt;
+    last = λ past q. ap (λ (l : Looked). looked_at l q) same ∙ looked_before q (is_in q (looks (ask s) (n - 1))) (quiet (n - 1) (omega arith) (omega arith) q);
+    extends = subst (λ (l : Looked). Extends l (looked_in o d)) same (record { cells = extends_itself (looks_of o); places = λ k h. h });
+  }
+
+-- the same looks, where there are no more
+pub same_cells : (old new : List ℕ) → memory.Extends old new → length new ≡ length old → new ≡ old
+same_cells old new e count = sym (take_all (length old) new (omega arith)) ∙ e
+
+same_looks : (o o' : Overlay) (d : Watched) → Extends (looked_in o d) (looked_in o' d) → length (looks_of o') ≡ length (looks_of o) → looks_of o' ≡ looks_of o
+same_looks o o' d e count = same_cells (looks_of o) (looks_of o') e.cells count
+
+module _ (s : Session) (from n : ℕ) (r r' : Regs) (o o' : Overlay) (d : Watched) (looked : Looked) (same : looked_in o d ≡ looked)
+    (at : after (ask s) n ≡ Some (state_with r d.desk (own_of o))) (w : TakesStep s r d o (Ok None) r' d o') where
+  pub goes_to : after (ask s) (n + 1) ≡ Some (state_with r' d.desk (own_of o'))
+  goes_to = after_step (ask s) n (state_with r d.desk (own_of o)) _ at w.outcome
+
+  pub nothing_new : length (looks_of o') ≡ length (looks_of o) → LooksAtNothingNew (ask s) looked from n → LooksAtNothingNew (ask s) looked from (n + 1)
+  nothing_new count quiet = nothing_new_more (ask s) looked from n quiet (λ q h.
+      ap (λ (l : Looked). looked_at l q) (sym same)
+      ∙ ap (λ (c : List ℕ). looked_at (record { cells = c; places = d.places }) q) (sym (same_looks o o' d w.extends count))
+      ∙ or_second (looked_at (looked_in o d) q) (is_in q (looks_at (ask s) (state_with r d.desk (own_of o)))) (looked_at (looked_in o' d) q) (w.looked q)
+      (subst (λ (qs : List Question). is_in q qs ≡ true) (looks_here (ask s) n (state_with r d.desk (own_of o)) at) h))
+
+-- ---- an instruction over a view
+
+module _ (s : Session) (r r' : Regs) (o o' : Overlay) (beneath beneath' : ℕ → ℕ) (lender lender' : Option GName) (image : beneath ≡ image_of s) where
+  abbrev Viewed : Result Did AllocError → Type 0
+  Viewed result = Performs (instruction r) r (record { own = own_of o; beneath = beneath; looks = looks_of o; lender = lender }) result r' (record { own = own_of o'; beneath = beneath'; looks = looks_of o'; lender = lender' })
+
+  -- it is one over the session's image
+  seen_through : (result : Result Did AllocError) → Viewed result → Performs (instruction r) r (seen s o) result r' (seen s o')
+  seen_through result p =
+      let w = subst (λ (b : ℕ → ℕ). Performs (instruction r) r (record { own = own_of o; beneath = b; looks = looks_of o; lender = lender }) result r' (record { own = own_of o'; beneath = beneath'; looks = looks_of o'; lender = lender' })) image p in
+      record {
+        did = w.did;
+        regs = w.regs;
+        own = w.own;
+        looks = w.looks;
+        err_looks = w.err_looks;
+        err_bound = w.err_bound;
+        err_regs = w.err_regs;
+        err_own = w.err_own;
+        beneath = refl;
+        lender = refl;
+      }
+
+  pub viewed : (d : Watched) (did told : Did) → told ≡ did → r.pc < 0xfe00 → Viewed (Ok told) → TakesStep s r d o (Ok (stop_of_instruction did)) r' d o'
+  viewed d did told same low p = instructed s r r' d o o' did low (seen_through (Ok did) (subst (λ (x : Did). Viewed (Ok x)) same p))
+
+  pub viewed_failure : (d : Watched) (e : AllocError) → r.pc < 0xfe00 → Viewed (Err e) → TakesStep s r d o (Err e) r' d o'
+  viewed_failure d e low p = instruction_fails s r r' d o o' e low (seen_through (Err e) p)
+
+-- the looks after it extend those before
+pub looks_on : (r r' : Regs) (m m' : memory.Memory) (did : Did) → Performs (instruction r) r m (Ok did) r' m' → memory.Extends m.looks m'.looks
+looks_on r r' m m' did p = extends_by m.own (asked (instruction r) (memory.bytes m)) m.looks m'.looks p.looks

@@ -1,6 +1,0 @@
-use Rattle.machine.specs.Machine.{first_regs}
-use Rattle.machine.proofs.KeptLemmas.{kept_none}
-use Rattle.machine.proofs.state.State.load.Goals as goal
-
-pub returns-clause-state : goal.returns-clause-state
-returns-clause-state c = λ i. record { core = record { regs = first_regs; desk = c.new-2.ensures i }; own = record { cells = kept_none _ c.in_ok-overlay.ensures.own i } }

@@ -1,0 +1,31 @@
+-- What pages hold, as data.
+use Rattle.std.specs.Prelude.{◌≡◌, refl, ℕ, zero, suc, Option, Some, None}
+use Rattle.std.specs.FinMap as map
+use Rattle.i8080.specs.declared.registers.Regs.{Regs}
+use Rattle.bdos.specs.Desk.{Desk}
+use Rattle.machine.specs.Views.{Cells, State}
+
+-- how many cells there are (8080 manual); a word of its own, so that nothing counts up to it
+pub cell_count : ℕ
+cell_count = 65536
+
+pub cell_count-is : cell_count ≡ 65536
+unfolding cell_count
+cell_count-is = refl
+
+abbrev pub with_entry : Cells → ℕ → Option ℕ → Cells
+with_entry m a None = m
+with_entry m a (Some v) = map.insert m a v
+
+-- the written cells below n
+abbrev pub written_below : ℕ → (ℕ → Option ℕ) → Cells
+written_below zero own = map.empty
+written_below (suc n) own = with_entry (written_below n own) n (own n)
+
+-- the written cells of a memory
+unfoldable pub written_cells : (ℕ → Option ℕ) → Cells
+written_cells own = written_below cell_count own
+
+-- the state with these registers and this desk, which wrote this
+abbrev pub state_with : Regs → Desk → (ℕ → Option ℕ) → State
+state_with r d own = record { core = record { regs = r; desk = d }; own = record { cells = written_cells own } }

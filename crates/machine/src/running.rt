@@ -1,0 +1,94 @@
+ghost use Rattle.std.specs.Prelude.{◌≡◌, ◌<◌, ◌&&◌, ◌==◌, ℕ, true, false, not, IfOk, IfSome, IfNone, length, slice_index};
+ghost use Rattle.bdos.specs.Places.{is_within};
+ghost use Rattle.machine.specs.Machine.{start, NothingLooked};
+
+use crate::session::Session;
+use bdos::Desk;
+use i8080::{Flags, Regs};
+use pagemem::Overlay;
+use std::alloc::{AllocError, Global};
+use std::marker::Model;
+
+/// A state of a run, and what was looked at: the registers, the desk with the script places, and the overlay with what was
+/// written and the cells. All else is the session's.
+#[derive(Drop)]
+pub struct Running {
+    pub regs: Regs,
+    pub overlay: Overlay,
+    pub desk: Desk,
+}
+
+impl Model for Running {
+    ghost use Rattle.std.specs.Coded.{codes};
+    ghost use Rattle.pagemem.specs.Overlay.{own_of};
+    ghost use Rattle.machine.specs.Views.{Running, cells_code};
+    ghost use Rattle.machine.specs.WrittenCells.{state_with};
+    ghost use Rattle.machine.specs.Steps.{looked_in};
+
+    ghost Value = { Running };
+
+    ghost coded = { Prim.hlevel (codes, cells_code) };
+
+    ghost view = { λ r. record { state = state_with r.regs r.desk.desk (own_of r.overlay); looked = looked_in r.overlay r.desk } };
+}
+
+impl Running {
+    /// The loaded state: nothing is written or looked at yet. `Err` where memory is refused.
+    pub fn load(alloc: Global, _session: &Session) -> Result<Running, AllocError>
+        ensures state { IfOk result (λ r. r.state ≡ start) }
+        ensures looked { IfOk result (λ r. NothingLooked r.looked) }
+    {
+        let overlay = Overlay::new(alloc)?;
+        Ok(Running {
+            regs: Regs {
+                a: 0,
+                b: 0,
+                c: 0,
+                d: 0,
+                e: 0,
+                h: 0,
+                l: 0,
+                sp: 0xfdfe,
+                pc: 0x0100,
+                flags: Flags {
+                    s: false,
+                    z: false,
+                    ac: false,
+                    p: false,
+                    cy: false,
+                },
+            },
+            overlay,
+            desk: Desk::new(alloc),
+        })
+    }
+
+    /// How many cells were looked at.
+    #[inline(always)]
+    pub fn look_count(&self) -> usize
+        ensures { result ≡ length self.now.looked.cells }
+    {
+        self.overlay.look_count()
+    }
+
+    /// The cell that was looked at after so many others.
+    pub fn nth_look(&self, index: usize) -> u16
+        requires { index < length self.now.looked.cells }
+        ensures { result ≡ slice_index self.now.looked.cells index }
+    {
+        self.overlay.nth_look(index)
+    }
+
+    /// Takes a script place that was looked at out of those that were. `None` where there is none. The state and the cells
+    /// that were looked at stay.
+    pub fn take_place(&mut self) -> Option<usize>
+        ensures state { self.new.state ≡ self.old.state }
+        ensures cells { self.new.looked.cells ≡ self.old.looked.cells }
+        ensures one { IfSome result (λ k. is_within self.old.looked.places k ≡ true) }
+        ensures taken { IfSome result (λ k. (j : ℕ) → is_within self.new.looked.places j ≡ (is_within self.old.looked.places j && not (j == k))) }
+        ensures none { IfNone result ((j : ℕ) → is_within self.old.looked.places j ≡ false) }
+        ensures same { IfNone result (self.new ≡ self.old) }
+    {
+        self.desk.take_look()
+    }
+}

@@ -1,0 +1,105 @@
+-- The looks of steps of which none but the last looks at anything new.
+use Rattle.std.proofs.Common.{◌≡◌, ℕ, zero, suc, ◌+◌, ◌-◌, ◌<◌, ◌≤◌, Bool, true, false, ◌||◌, List, length, Option, Some, None, Ok, ◌⊎◌, inl, inr, refl, ap, sym, ◌∙◌, subst, arith, add-one}
+use Rattle.std.proofs.lemmas.Bool.{cases_lt}
+use Rattle.std.proofs.Math.Nat.{eq-or-lt_of_le}
+use Rattle.interaction_trees.specs.Dependence as dependence
+use Rattle.machine.specs.Views.{Session, State, Looked}
+use Rattle.machine.specs.Machine.{Question, Answers, ask, after, is_in, looked_at, looks, looks_at, Extends}
+use Rattle.machine.specs.Stretch.{LooksAtNothingNew, Stretches}
+use Rattle.machine.proofs.AfterLemmas.{step_before}
+use Rattle.replay.specs.FirstLooks.{Noted, step_of, or_else, mark, first, IsFirstLooks, since, seen_to, AllNoted, NoPlaces, IsNoted, IsLeftBehind}
+use Rattle.replay.proofs.FirstLemmas.{first-suc, looks_here}
+use Rattle.replay.proofs.LookLemmas.{Notes, looks_kept}
+
+kept_by : (o : Option ℕ) (b : Bool) (n : ℕ) → (b ≡ true → o ≡ None → ⊥) → or_else o (mark b n) ≡ o
+kept_by (Some m) b n h = refl
+kept_by None true n h = absurd (h refl refl)
+kept_by None false n h = refl
+
+-- steps that look at nothing new make no first look
+same_first_looks : (f : Answers) (t : Noted) (looked : Looked) (q : Question) → IsFirstLooks f t → AllNoted t looked → (k : ℕ) → LooksAtNothingNew f looked t.seen (t.seen + k) → first f q (t.seen + k) ≡ first f q t.seen
+same_first_looks f t looked q known all zero quiet = ap (first f q) (omega arith)
+same_first_looks f t looked q known all (suc k) quiet =
+    let rest : first f q (t.seen + k) ≡ first f q t.seen = same_first_looks f t looked q known all k (λ i low high. quiet i low (omega arith)) in
+    ap (first f q) (let e : t.seen + suc k ≡ suc (t.seen + k) = omega arith in e)
+    ∙ first-suc f q (t.seen + k)
+    ∙ kept_by (first f q (t.seen + k)) (is_in q (looks f (t.seen + k))) (t.seen + k) (λ asked none. all q (quiet (t.seen + k) (omega arith) (omega arith) q asked) (known.entry q ∙ sym rest ∙ none))
+    ∙ rest
+
+module _ (f : Answers) (t : Noted) (looked : Looked) (known : IsFirstLooks f t) (all : AllNoted t looked) (upto : ℕ) (high : t.seen ≤ upto) (quiet : LooksAtNothingNew f looked t.seen upto) where
+  pub passed : IsFirstLooks f (seen_to t upto)
+  passed = record {
+    entry = λ q.
+        let e : t.seen + (upto - t.seen) ≡ upto = omega arith in
+        known.entry q ∙ sym (same_first_looks f t looked q known all (upto - t.seen) (subst (λ (k : ℕ). LooksAtNothingNew f looked t.seen k) (sym e) quiet)) ∙ ap (first f q) e;
+  }
+
+  pub all_passed : AllNoted (seen_to t upto) looked
+  all_passed = all
+
+before_step : (f : Answers) (k : ℕ) (st : State) → after f (suc k) ≡ Some st → (b : State) × (after f k ≡ Some b)
+unfolding dependence.after
+before_step f k st at = let (b, there, went) = step_before f (after f k) st at in (b, there)
+
+-- what the first looks are after a stretch from the step n to the step m
+pub record NotesStretch (f : Answers) (old new : Noted) (n m : ℕ) (looked : Looked) (refused refuses : ℕ) : Type 0 where
+  pub noted : IsFirstLooks f new
+  pub looks : m ≤ new.seen → AllNoted new looked
+  pub grows : old.seen ≤ new.seen
+  pub within : (new.seen ≡ old.seen) ⊎ (new.seen ≤ m)
+  pub counted : (refused ≤ refuses) × (refuses ≤ refused + 1)
+  pub all : refuses ≡ refused → n ≤ old.seen → m ≤ new.seen
+
+module _ (s : Session) (end n m : ℕ) (old new : Noted) (refused refuses : ℕ) (st : State) (looked after_step left : Looked) (stretch : Stretches s n end looked m (Ok None) st after_step) (more : n < m)
+    (known : IsFirstLooks (ask s) old) (all : n ≤ old.seen → AllNoted old looked) (seen : n < old.seen → m ≤ old.seen) (same_cells : left.cells ≡ after_step.cells) where
+  -- the state before the last step
+  before_last_step : (b : State) × (after (ask s) (m - 1) ≡ Some b)
+  before_last_step = before_step (ask s) (m - 1) st (ap (after (ask s)) (let e : suc (m - 1) ≡ m = omega arith in e) ∙ stretch.at)
+
+  asks : (q : Question) → looked_at after_step q ≡ (looked_at looked q || is_in q (looks_at (ask s) before_last_step.0))
+  asks q = stretch.last more q ∙ ap (λ (qs : List Question). looked_at looked q || is_in q qs) (looks_here (ask s) (m - 1) before_last_step.0 before_last_step.1)
+
+  by_last_step : (t : Noted) → IsFirstLooks (ask s) t → (m - 1 ≤ t.seen → AllNoted t looked)
+      → ((m - 1 ≡ t.seen → ⊥) → (new ≡ t) × (refuses ≡ refused) × (left ≡ after_step))
+      → (m - 1 ≡ t.seen → (IsNoted t new (since (length looked.cells) after_step) × (refuses ≡ refused) × NoPlaces left.places) ⊎ (IsLeftBehind t new × (refuses ≡ refused + 1)))
+      → Notes (ask s) t new (m - 1) left refused refuses
+  by_last_step t is_known is_all other here =
+      looks_kept (ask s) t new (m - 1) refused refuses before_last_step.0 looked after_step left is_known is_all before_last_step.1 stretch.extends asks same_cells other here
+
+  pub stretch_kept : ((n ≡ old.seen → ⊥) → (new ≡ old) × (refuses ≡ refused) × (left ≡ after_step))
+      → (n ≡ old.seen → (IsNoted (seen_to old (m - 1)) new (since (length looked.cells) after_step) × (refuses ≡ refused) × NoPlaces left.places) ⊎ (IsLeftBehind (seen_to old (m - 1)) new × (refuses ≡ refused + 1)))
+      → NotesStretch (ask s) old new n m left refused refuses
+  stretch_kept other here = by_order (cases_lt n old.seen)
+    where
+      at_seen : n ≡ old.seen → NotesStretch (ask s) old new n m left refused refuses
+      at_seen e =
+          let quiet : LooksAtNothingNew (ask s) looked old.seen (m - 1) = subst (λ (k : ℕ). LooksAtNothingNew (ask s) looked k (m - 1)) e stretch.before_last in
+          let notes = by_last_step (seen_to old (m - 1)) (passed (ask s) old looked known (all (omega arith)) (m - 1) (omega arith) quiet) (λ _. all (omega arith)) (λ ne. absurd (ne refl)) (λ _. here e) in
+          record {
+            noted = notes.noted;
+            looks = λ high. notes.looks (omega arith);
+            grows = omega (arith, notes.grows);
+            within = elim notes.within [ inl w ↦ inr (omega (arith, w)) | inr w ↦ inr (omega (arith, w)) ];
+            counted = notes.counted;
+            all = λ none _. omega (arith, notes.all none (omega arith));
+          }
+
+      apart : (n ≡ old.seen → ⊥) → (m - 1 ≡ old.seen → ⊥) → NotesStretch (ask s) old new n m left refused refuses
+      apart ne last =
+          let notes = by_last_step old known (λ low. all (omega arith)) (λ _. other ne) (λ e. absurd (last e)) in
+          record {
+            noted = notes.noted;
+            looks = λ high. notes.looks (omega arith);
+            grows = notes.grows;
+            within = elim notes.within [ inl w ↦ inl w | inr w ↦ inr (omega (arith, w)) ];
+            counted = notes.counted;
+            all = λ none low. elim (eq-or-lt_of_le {n = n} {m = old.seen} low) [ inl same ↦ absurd (ne same) | inr l ↦ let top : m ≤ old.seen = seen l in omega (arith, top, notes.grows) ];
+          }
+
+      from_seen : (old.seen ≡ n) ⊎ (old.seen < n) → NotesStretch (ask s) old new n m left refused refuses
+      from_seen (inl e) = at_seen (sym e)
+      from_seen (inr l) = apart (λ e. omega (arith, e, l)) (λ e. omega (arith, e, l, more))
+
+      by_order : (n < old.seen) ⊎ (old.seen ≤ n) → NotesStretch (ask s) old new n m left refused refuses
+      by_order (inl l) = let top : m ≤ old.seen = seen l in apart (λ e. omega (arith, e, l)) (λ e. omega (arith, e, top, more))
+      by_order (inr h) = from_seen (eq-or-lt_of_le {n = old.seen} {m = n} h)

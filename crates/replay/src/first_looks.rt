@@ -1,0 +1,208 @@
+ghost use Rattle.std.specs.Prelude.{◌≡◌, ◌+◌, ◌^◌, ◌<◌, ◌≤◌, ◌||◌, [], None, OnOk, OnErr, drop, length};
+ghost use Rattle.machine.specs.Machine.{Question, Cell, Script, same_question};
+ghost use Rattle.replay.specs.FirstLooks.{step_of, erased, or_else, mark, is_cell_of, is_place_of, NoPlaces};
+
+use crate::first_steps::FirstSteps;
+use machine::{Running, STEP_LIMIT};
+use std::alloc::{AllocError, Global};
+use std::marker::Model;
+
+/// The first looks: for each question the least step that asked it, among the steps below one that is `seen`.
+#[derive(Drop)]
+pub struct FirstLooks {
+    cells: FirstSteps,
+    places: FirstSteps,
+    seen: u64,
+}
+
+impl Model for FirstLooks {
+    ghost use Rattle.std.specs.Prelude.{◌≤◌};
+    ghost use Rattle.replay.specs.FirstLooks.{Noted};
+
+    ghost Value = { Noted };
+
+    ghost view = { λ t. record { cells = t.cells.entries; places = t.places.entries; seen = t.seen } };
+
+    ghost invariant = { λ t. (t.cells.latest ≤ t.seen) × (t.places.latest ≤ t.seen) };
+}
+
+impl FirstLooks {
+    /// No step is seen. It takes no memory.
+    pub fn new(alloc: Global) -> FirstLooks
+        ensures { result ≡ record { cells = []; places = []; seen = 0 } }
+    {
+        FirstLooks {
+            cells: FirstSteps::new(alloc),
+            places: FirstSteps::new(alloc),
+            seen: 0,
+        }
+    }
+
+    /// Below this step every look is noted.
+    #[inline(always)]
+    pub fn seen(&self) -> u64
+        ensures { result ≡ self.now.seen }
+    {
+        self.seen
+    }
+
+    /// The first step that looked at a cell, where that is noted.
+    pub fn cell(&self, at: u16) -> Option<u64>
+        ensures { result ≡ step_of self.now (Cell at) }
+    {
+        self.cells.of(usize::from(at))
+    }
+
+    /// The first step that looked at a place of the script, where that is noted.
+    pub fn place(&self, at: usize) -> Option<u64>
+        ensures { result ≡ step_of self.now (Script at) }
+    {
+        self.places.of(at)
+    }
+
+    /// No place of the script from this one on was looked at.
+    pub fn places_end(&self) -> usize
+        ensures { result ≡ length self.now.places }
+    {
+        self.places.end()
+    }
+
+    /// Notes what was looked at as looks of the step `seen`: the cells from the one of this index on, the place that was taken
+    /// out of the others, and these, which are taken too. At `Err` only entries from that step on are gone.
+    #[cold]
+    #[inline(never)]
+    pub fn note(
+        &mut self,
+        running: &mut Running,
+        from: usize,
+        taken: Option<usize>,
+    ) -> Result<(), AllocError>
+        requires seen { self.old.seen ≤ STEP_LIMIT }
+        requires taken { taken ≡ None → NoPlaces running.old.looked.places }
+        ensures ok { OnOk result ((q : Question) → step_of self.new q ≡ or_else (step_of self.old q) (mark (is_cell_of (drop from running.old.looked.cells) q || is_place_of taken running.old.looked.places q) self.old.seen)) }
+        ensures err { OnErr result ((q : Question) → step_of self.new q ≡ erased self.old.seen (step_of self.old q)) }
+        ensures seen { self.new.seen ≡ self.old.seen }
+        ensures state { running.new.state ≡ running.old.state }
+        ensures cells { running.new.looked.cells ≡ running.old.looked.cells }
+        ensures places { OnOk result (NoPlaces running.new.looked.places) }
+    {
+        let noted = self.note_all(running, from, taken);
+        if noted.is_err() {
+            self.erase_step();
+        }
+        noted
+    }
+
+    fn note_all(
+        &mut self,
+        running: &mut Running,
+        from: usize,
+        taken: Option<usize>,
+    ) -> Result<(), AllocError>
+        requires seen { self.old.seen ≤ STEP_LIMIT }
+        requires taken { taken ≡ None → NoPlaces running.old.looked.places }
+        ensures ok { OnOk result ((q : Question) → step_of self.new q ≡ or_else (step_of self.old q) (mark (is_cell_of (drop from running.old.looked.cells) q || is_place_of taken running.old.looked.places q) self.old.seen)) }
+        ensures err { OnErr result ((q : Question) → erased self.old.seen (step_of self.new q) ≡ erased self.old.seen (step_of self.old q)) }
+        ensures seen { self.new.seen ≡ self.old.seen }
+        ensures state { running.new.state ≡ running.old.state }
+        ensures cells { running.new.looked.cells ≡ running.old.looked.cells }
+        ensures places { OnOk result (NoPlaces running.new.looked.places) }
+    {
+        self.note_cells(running, from)?;
+        self.note_places(running, taken)
+    }
+
+    // Notes the cells that were looked at, from the one of this index on.
+    fn note_cells(&mut self, running: &Running, from: usize) -> Result<(), AllocError>
+        requires { self.old.seen ≤ STEP_LIMIT }
+        ensures ok { OnOk result ((q : Question) → step_of self.new q ≡ or_else (step_of self.old q) (mark (is_cell_of (drop from running.now.looked.cells) q) self.old.seen)) }
+        ensures err { OnErr result ((q : Question) → erased self.old.seen (step_of self.new q) ≡ erased self.old.seen (step_of self.old q)) }
+        ensures seen { self.new.seen ≡ self.old.seen }
+    {
+        let count = running.look_count();
+        let mut index = from;
+        while index < count {
+            self.enter_cell(running.nth_look(index))?;
+            index += 1;
+        }
+        Ok(())
+    }
+
+    // Notes the script place that was taken, and then each that is left.
+    fn note_places(&mut self, running: &mut Running, taken: Option<usize>) -> Result<(), AllocError>
+        requires seen { self.old.seen ≤ STEP_LIMIT }
+        requires taken { taken ≡ None → NoPlaces running.old.looked.places }
+        ensures ok { OnOk result ((q : Question) → step_of self.new q ≡ or_else (step_of self.old q) (mark (is_place_of taken running.old.looked.places q) self.old.seen)) }
+        ensures err { OnErr result ((q : Question) → erased self.old.seen (step_of self.new q) ≡ erased self.old.seen (step_of self.old q)) }
+        ensures seen { self.new.seen ≡ self.old.seen }
+        ensures state { running.new.state ≡ running.old.state }
+        ensures cells { running.new.looked.cells ≡ running.old.looked.cells }
+        ensures places { OnOk result (NoPlaces running.new.looked.places) }
+    {
+        let mut next = taken;
+        while let Some(place) = next {
+            self.enter_place(place)?;
+            next = running.take_place();
+        }
+        Ok(())
+    }
+
+    /// Goes on to the next step.
+    #[inline(always)]
+    pub fn go_on(&mut self)
+        requires { self.old.seen + 1 < 2 ^ 64 }
+        ensures { self.new ≡ record self.old { seen = self.old.seen + 1 } }
+    {
+        self.seen += 1;
+    }
+
+    /// Forgets the looks of the steps from this one on. It takes no memory, and goes over no other look.
+    pub fn cut(&mut self, from: u64)
+        ensures entries { (q : Question) → step_of self.new q ≡ erased from (step_of self.old q) }
+        ensures seen { self.new.seen ≡ from }
+    {
+        self.cells.erase_from(from);
+        self.places.erase_from(from);
+        self.seen = from;
+    }
+
+    /// Below this step every look is noted from now on: steps were passed that look at nothing new.
+    pub fn pass_to(&mut self, step: u64)
+        requires { self.old.seen ≤ step }
+        ensures { self.new ≡ record self.old { seen = step } }
+    {
+        self.seen = step;
+    }
+
+    // Notes a cell at the step `seen`, unless it has a step.
+    fn enter_cell(&mut self, at: u16) -> Result<(), AllocError>
+        requires { self.old.seen ≤ STEP_LIMIT }
+        ensures ok { OnOk result ((q : Question) → step_of self.new q ≡ or_else (step_of self.old q) (mark (same_question q (Cell at)) self.old.seen)) }
+        ensures err { OnErr result ((q : Question) → step_of self.new q ≡ step_of self.old q) }
+        ensures seen { self.new.seen ≡ self.old.seen }
+    {
+        let step = self.seen;
+        self.cells.note(usize::from(at), step)
+    }
+
+    // Notes a script place at the step `seen`, unless it has a step.
+    fn enter_place(&mut self, place: usize) -> Result<(), AllocError>
+        requires { self.old.seen ≤ STEP_LIMIT }
+        ensures ok { OnOk result ((q : Question) → step_of self.new q ≡ or_else (step_of self.old q) (mark (same_question q (Script place)) self.old.seen)) }
+        ensures err { OnErr result ((q : Question) → step_of self.new q ≡ step_of self.old q) }
+        ensures seen { self.new.seen ≡ self.old.seen }
+    {
+        let step = self.seen;
+        self.places.note(place, step)
+    }
+
+    // Erases what is noted as looks of the step `seen`.
+    fn erase_step(&mut self)
+        ensures entries { (q : Question) → step_of self.new q ≡ erased self.old.seen (step_of self.old q) }
+        ensures seen { self.new.seen ≡ self.old.seen }
+    {
+        let from = self.seen;
+        self.cells.erase_from(from);
+        self.places.erase_from(from);
+    }
+}
