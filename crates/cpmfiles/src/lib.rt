@@ -3,8 +3,6 @@
 
 pub mod laws;
 pub mod table;
-#[cfg(test)]
-mod tests;
 
 pub use filenames::{Fcb, Key, Name, NameError};
 pub use hostfiles::{Ask, Changes, FilesError, HostFiles, Journal, Looks};
