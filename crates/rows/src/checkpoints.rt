@@ -229,81 +229,66 @@ fn a_limit_touches_nothing(rt: HostRuntime) -> Result<(), Fail> {
     )
 }
 
+const ONE_SLOT: Options = Options {
+    spacing: 4,
+    slots: 1,
+};
+
+const THREE_SLOTS: Options = Options {
+    spacing: 1,
+    slots: 3,
+};
+
+#[test]
+fn one_slot_has_the_newest_checkpoint(rt: HostRuntime) -> Result<(), Fail> {
+    let poked = [
+        (Run(7, WARM, 7, b"Hi"), &[7][..]),
+        (Poke(0x010a, 0x6f), &[]),
+        (Run(7, WARM, 7, b"Ho"), &[7]),
+        (Drop(1), &[]),
+        (Run(7, WARM, 7, b"Ho"), &[7]),
+    ];
+    acts(&rt, rt.alloc(), &HI, ONE_SLOT, &poked)?;
+    let unread = [
+        (Run(7, WARM, 7, b"Hi"), &[7][..]),
+        (Poke(0x010c, 0x55), &[7]),
+        (Run(0, WARM, 7, b"Hi"), &[7]),
+        (Cell(0x010c, 0x55), &[7]),
+    ];
+    acts(&rt, rt.alloc(), &ONE_MORE, ONE_SLOT, &unread)
+}
+
+#[test]
+fn one_slot_outlasts_a_limit(rt: HostRuntime) -> Result<(), Fail> {
+    let lowered = [
+        (Run(7, WARM, 7, b"Hi"), &[7][..]),
+        (Limit(5), &[7]),
+        (Run(5, Cause::Limit, 5, b"Hi"), &[7]),
+        (Limit(100), &[7]),
+        (Run(0, WARM, 7, b"Hi"), &[7]),
+    ];
+    acts(&rt, rt.alloc(), &HI, ONE_SLOT, &lowered)?;
+    let raised = [
+        (Limit(5), &[][..]),
+        (Run(5, Cause::Limit, 5, b"Hi"), &[5]),
+        (Limit(100), &[5]),
+        (Run(2, WARM, 7, b"Hi"), &[7]),
+    ];
+    acts(&rt, rt.alloc(), &HI, ONE_SLOT, &raised)
+}
+
 #[test]
 fn a_full_ring_drops_its_oldest(rt: HostRuntime) -> Result<(), Fail> {
-    let one = Options {
-        spacing: 4,
-        slots: 1,
-    };
-    acts(
-        &rt,
-        rt.alloc(),
-        &HI,
-        one,
-        &[
-            (Run(7, WARM, 7, b"Hi"), &[7]),
-            (Poke(0x010a, 0x6f), &[]),
-            (Run(7, WARM, 7, b"Ho"), &[7]),
-            (Drop(1), &[]),
-            (Run(7, WARM, 7, b"Ho"), &[7]),
-        ],
-    )?;
-    acts(
-        &rt,
-        rt.alloc(),
-        &HI,
-        one,
-        &[
-            (Run(7, WARM, 7, b"Hi"), &[7]),
-            (Limit(5), &[7]),
-            (Run(5, Cause::Limit, 5, b"Hi"), &[7]),
-            (Limit(100), &[7]),
-            (Run(0, WARM, 7, b"Hi"), &[7]),
-        ],
-    )?;
-    acts(
-        &rt,
-        rt.alloc(),
-        &ONE_MORE,
-        one,
-        &[
-            (Run(7, WARM, 7, b"Hi"), &[7]),
-            (Poke(0x010c, 0x55), &[7]),
-            (Run(0, WARM, 7, b"Hi"), &[7]),
-            (Cell(0x010c, 0x55), &[7]),
-        ],
-    )?;
-    acts(
-        &rt,
-        rt.alloc(),
-        &HI,
-        one,
-        &[
-            (Limit(5), &[]),
-            (Run(5, Cause::Limit, 5, b"Hi"), &[5]),
-            (Limit(100), &[5]),
-            (Run(2, WARM, 7, b"Hi"), &[7]),
-        ],
-    )?;
-    let three = Options {
-        spacing: 1,
-        slots: 3,
-    };
-    acts(
-        &rt,
-        rt.alloc(),
-        &HI,
-        three,
-        &[
-            (Run(7, WARM, 7, b"Hi"), &[5, 6, 7]),
-            (Limit(6), &[5, 6, 7]),
-            (Run(0, Cause::Limit, 6, b"Hi"), &[5, 6, 7]),
-            (Limit(100), &[5, 6, 7]),
-            (Drop(2), &[7]),
-            (Poke(0x010a, 0x6f), &[]),
-            (Run(7, WARM, 7, b"Ho"), &[5, 6, 7]),
-        ],
-    )
+    let rows = [
+        (Run(7, WARM, 7, b"Hi"), &[5, 6, 7][..]),
+        (Limit(6), &[5, 6, 7]),
+        (Run(0, Cause::Limit, 6, b"Hi"), &[5, 6, 7]),
+        (Limit(100), &[5, 6, 7]),
+        (Drop(2), &[7]),
+        (Poke(0x010a, 0x6f), &[]),
+        (Run(7, WARM, 7, b"Ho"), &[5, 6, 7]),
+    ];
+    acts(&rt, rt.alloc(), &HI, THREE_SLOTS, &rows)
 }
 
 // Each program is run, poked at one byte and run again, and has these registers then.
