@@ -82,7 +82,7 @@ module _ {script : List ℕ} {r : Regs} {m m1 : Memory} {d : Desk} {was is : ℕ
         lender = w.lender ∙ lender;
       }
 
-  pub after_read : (t : Reading ℕ) (k : ℕ → StateTree CallEnd) (e : ℕ) → Reads t m (Ok e) m1
+  pub after_read : (t : Reading ℕ) (k : ℕ → StateTree CallEnd) (e : ℕ) → Reads t m e m1
       → FulfilsBy (k e) script r m1 d was result r' m' d' is → FulfilsBy (reads t k) script r m d was result r' m' d' is
   after_read t k e h w = after_reading t k e h.value h.looks h.own h.beneath h.lender w
 

@@ -25,7 +25,7 @@ module _ {script : List ℕ} {r : Regs} {m : Memory} {d : Desk} {was is : ℕ �
 
   -- the return address was read, and then the call at_caller with a value
   pub returns_with : {m1 m' : Memory} {r' : Regs} {d' : Desk} {to : ℕ} (value : ℕ) (spot : Spot) (bytes : List ℕ) (written : Written)
-      → Reads (word_at r.sp Done) m (Ok to) m1 → r' ≡ at_caller value to r → d' ≡ record { spot = spot; text = d.text ++ bytes }
+      → Reads (word_at r.sp Done) m to m1 → r' ≡ at_caller value to r → d' ≡ record { spot = spot; text = d.text ++ bytes }
       → m'.own ≡ write_all m1.own written.cells → m'.looks ≡ m1.looks → m'.beneath ≡ m1.beneath → m'.lender ≡ m1.lender → ((j : ℕ) → is j ≡ was j)
       → FulfilsBy (completing value r spot bytes written) script r m d was (Ok served.Went) r' m' d' is
   returns_with {to = to} value spot bytes written address back e own looks beneath lender same =
@@ -45,7 +45,7 @@ module _ {script : List ℕ} {r : Regs} {m : Memory} {d d' : Desk} {was is : ℕ
   input_ends looked e same = after_input d.spot.cursor (taking r d.spot)
       (subst (λ x. FulfilsBy (taking r d.spot x) script r m d (λ j. was j || j == d.spot.cursor) (Ok (served.Stop ConsoleExhausted)) r m d' is) e (stops ConsoleExhausted same (next_place was d.spot.cursor looked)))
 
-  pub input_goes : {to : ℕ} {m1 : Memory} {r' : Regs} → ((j : ℕ) → is j ≡ (was j || is_ahead d.spot.cursor 1 j)) → (byte : ℕ) → Some byte ≡ slice_get script d.spot.cursor → Reads (word_at r.sp Done) m (Ok to) m1 → r' ≡ at_caller byte to r
+  pub input_goes : {to : ℕ} {m1 : Memory} {r' : Regs} → ((j : ℕ) → is j ≡ (was j || is_ahead d.spot.cursor 1 j)) → (byte : ℕ) → Some byte ≡ slice_get script d.spot.cursor → Reads (word_at r.sp Done) m to m1 → r' ≡ at_caller byte to r
       → d' ≡ record { spot = record d.spot { cursor = d.spot.cursor + 1; column = (echoed d.spot.column byte).column }; text = d.text ++ (echoed d.spot.column byte).bytes }
       → FulfilsBy (console_input r d.spot) script r m d was (Ok served.Went) r' m1 d' is
   input_goes {m1 = m1} {r' = r'} looked byte e address back desk = after_input d.spot.cursor (taking r d.spot)
@@ -53,19 +53,19 @@ module _ {script : List ℕ} {r : Regs} {m : Memory} {d d' : Desk} {was is : ℕ
       (returns_with byte _ _ nothing address back desk refl refl refl refl (next_place was d.spot.cursor looked)))
 
   -- function 11
-  pub status_goes : {to value : ℕ} {m1 : Memory} {r' : Regs} → ((j : ℕ) → is j ≡ (was j || is_ahead d.spot.cursor 1 j)) → value ≡ (if is_some (slice_get script d.spot.cursor) then 0xff else 0) → Reads (word_at r.sp Done) m (Ok to) m1 → r' ≡ at_caller value to r
+  pub status_goes : {to value : ℕ} {m1 : Memory} {r' : Regs} → ((j : ℕ) → is j ≡ (was j || is_ahead d.spot.cursor 1 j)) → value ≡ (if is_some (slice_get script d.spot.cursor) then 0xff else 0) → Reads (word_at r.sp Done) m to m1 → r' ≡ at_caller value to r
       → d' ≡ d → FulfilsBy (console_status r d.spot) script r m d was (Ok served.Went) r' m1 d' is
   status_goes {to = to} looked e address back same = after_input d.spot.cursor _
       (returns_with _ d.spot [] nothing address (back ∙ ap (λ v. at_caller v to r) e) (same ∙ ap (λ text. record { spot = d.spot; text = text }) (sym (append-nil d.text))) refl refl refl refl (next_place was d.spot.cursor looked))
 
   -- function 6
-  pub given_none : {to : ℕ} {m1 : Memory} {r' : Regs} → ((j : ℕ) → is j ≡ (was j || is_ahead d.spot.cursor 1 j)) → None ≡ slice_get script d.spot.cursor → Reads (word_at r.sp Done) m (Ok to) m1
+  pub given_none : {to : ℕ} {m1 : Memory} {r' : Regs} → ((j : ℕ) → is j ≡ (was j || is_ahead d.spot.cursor 1 j)) → None ≡ slice_get script d.spot.cursor → Reads (word_at r.sp Done) m to m1
       → r' ≡ at_caller 0 to r → d' ≡ d → FulfilsBy (direct_input r d.spot) script r m d was (Ok served.Went) r' m1 d' is
   given_none {m1 = m1} {r' = r'} looked e address back same = after_input d.spot.cursor (given r d.spot)
       (subst (λ x. FulfilsBy (given r d.spot x) script r m d (λ j. was j || j == d.spot.cursor) (Ok served.Went) r' m1 d' is) e
       (returns_with 0 d.spot [] nothing address back (same ∙ ap (λ text. record { spot = d.spot; text = text }) (sym (append-nil d.text))) refl refl refl refl (next_place was d.spot.cursor looked)))
 
-  pub given_byte : {to : ℕ} {m1 : Memory} {r' : Regs} → ((j : ℕ) → is j ≡ (was j || is_ahead d.spot.cursor 1 j)) → (byte : ℕ) → Some byte ≡ slice_get script d.spot.cursor → Reads (word_at r.sp Done) m (Ok to) m1
+  pub given_byte : {to : ℕ} {m1 : Memory} {r' : Regs} → ((j : ℕ) → is j ≡ (was j || is_ahead d.spot.cursor 1 j)) → (byte : ℕ) → Some byte ≡ slice_get script d.spot.cursor → Reads (word_at r.sp Done) m to m1
       → r' ≡ at_caller byte to r → d' ≡ record { spot = record d.spot { cursor = d.spot.cursor + 1 }; text = d.text } → FulfilsBy (direct_input r d.spot) script r m d was (Ok served.Went) r' m1 d' is
   given_byte {m1 = m1} {r' = r'} looked byte e address back desk = after_input d.spot.cursor (given r d.spot)
       (subst (λ x. FulfilsBy (given r d.spot x) script r m d (λ j. was j || j == d.spot.cursor) (Ok served.Went) r' m1 d' is) e

@@ -1,4 +1,4 @@
-mod Scanning
+pub mod Scanning
 mod Looking
 pub mod Trees
 mod Carried

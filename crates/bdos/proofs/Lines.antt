@@ -23,7 +23,7 @@ use Rattle.bdos.proofs.Leaves.{stops, returns_with}
 use Rattle.bdos.proofs.Typing.{no_cells}
 use Rattle.bdos.proofs.Trees.{addresses-followed_by}
 
-module _ {script : List ℕ} {r : Regs} {m m1 : Memory} {d : Desk} {was : ℕ → Bool} {at capacity n : ℕ} {line e : LineEnd} (de : at ≡ word r.e r.d) (first : Reads (Cell at Done) m (Ok capacity) m1)
+module _ {script : List ℕ} {r : Regs} {m m1 : Memory} {d : Desk} {was : ℕ → Bool} {at capacity n : ℕ} {line e : LineEnd} (de : at ≡ word r.e r.d) (first : Reads (Cell at Done) m capacity m1)
     (types : Types script capacity d.spot.cursor line (bytes m1) n) (went : line ≡ e) where
   -- the capacity was read and the line taken
   after_line : {s : Served} {r' : Regs} {m' : Memory} {d' : Desk} {is : ℕ → Bool}
@@ -31,11 +31,11 @@ module _ {script : List ℕ} {r : Regs} {m m1 : Memory} {d : Desk} {was : ℕ �
       → FulfilsBy (line_input n r d.spot) script r m d was (Ok s) r' m' d' is
   after_line w =
       let t : Types script capacity d.spot.cursor e (bytes m1) n = subst (λ x. Types script capacity d.spot.cursor x (bytes m1) n) went types in
-      after_read (Cell (word r.e r.d) Done) (λ c. followed_by (typing (suc n) c d.spot.cursor no_line) (line_ended r d.spot)) capacity (subst (λ a. Reads (Cell a Done) m (Ok capacity) m1) de first)
+      after_read (Cell (word r.e r.d) Done) (λ c. followed_by (typing (suc n) c d.spot.cursor no_line) (line_ended r d.spot)) capacity (subst (λ a. Reads (Cell a Done) m capacity m1) de first)
       (after_asking (typing (suc n) capacity d.spot.cursor no_line) (line_ended r d.spot) (end_from d.spot.cursor e) (is_ahead d.spot.cursor (looks_of e))
       t.ends (no_cells (bytes m1) script (suc n) capacity d.spot.cursor no_line) t.places w)
 
-module _ {script : List ℕ} {r : Regs} {m m1 : Memory} {d : Desk} {was is : ℕ → Bool} {at capacity n cursor : ℕ} {line : LineEnd} {d' : Desk} (de : at ≡ word r.e r.d) (first : Reads (Cell at Done) m (Ok capacity) m1)
+module _ {script : List ℕ} {r : Regs} {m m1 : Memory} {d : Desk} {was is : ℕ → Bool} {at capacity n cursor : ℕ} {line : LineEnd} {d' : Desk} (de : at ≡ word r.e r.d) (first : Reads (Cell at Done) m capacity m1)
     (here : cursor ≡ d.spot.cursor) (types : Types script capacity cursor line (bytes m1) n) (looks : ℕ) where
   pub line_boots : line ≡ code.Booted looks → d' ≡ d → ((j : ℕ) → is j ≡ (was j || is_ahead d.spot.cursor looks j))
       → FulfilsBy (line_input n r d.spot) script r m d was (Ok (served.Stop WarmBoot)) r m1 d' is
@@ -46,7 +46,7 @@ module _ {script : List ℕ} {r : Regs} {m m1 : Memory} {d : Desk} {was is : ℕ
   line_short went same looked = after_line de first (subst (λ k. Types script capacity k line (bytes m1) n) here types) went (stops ConsoleExhausted same looked)
 
   module _ {m2 m3 m' : Memory} {r' : Regs} {l : Line} {to : ℕ} where
-    pub line_goes : line ≡ code.Ended l looks → Reads (word_at r.sp Done) m1 (Ok to) m2 → m3 ≡ m2 → r' ≡ at_caller 0 to r
+    pub line_goes : line ≡ code.Ended l looks → Reads (word_at r.sp Done) m1 to m2 → m3 ≡ m2 → r' ≡ at_caller 0 to r
         → d' ≡ record { spot = record d.spot { cursor = d.spot.cursor + looks; column = column_after_all d.spot.column l.sends }; text = d.text ++ l.sends }
         → m'.own ≡ write_all m3.own (line_cells at (reverse l.stored)) → m'.looks ≡ m3.looks → m'.beneath ≡ m3.beneath → m'.lender ≡ m3.lender
         → ((j : ℕ) → is j ≡ (was j || is_ahead d.spot.cursor looks j))
@@ -58,7 +58,7 @@ module _ {script : List ℕ} {r : Regs} {m m1 : Memory} {d : Desk} {was is : ℕ
 
 -- a failure after the line was taken
 pub line_bound : (script : List ℕ) (r : Regs) (d : Desk) (n : ℕ) {m m1 : Memory} {at capacity cursor looks : ℕ} {line : LineEnd} {l : Line} {new : Looks}
-    → at ≡ word r.e r.d → Reads (Cell at Done) m (Ok capacity) m1 → cursor ≡ d.spot.cursor → Types script capacity cursor line (bytes m1) n → line ≡ code.Ended l looks
+    → at ≡ word r.e r.d → Reads (Cell at Done) m capacity m1 → cursor ≡ d.spot.cursor → Types script capacity cursor line (bytes m1) n → line ≡ code.Ended l looks
     → Extends new (looks_after (word_at r.sp Done) m1) → Extends new (look_all m.own (addresses (asked (answers (bytes m) script) (line_input n r d.spot))) m.looks)
 line_bound script r d n {m = m} {m1 = m1} {capacity = capacity} {looks = looks} {line = line} {l = l} {new = new} de first here types went h =
     let t : Types script capacity d.spot.cursor (code.Ended l looks) (bytes m1) n =
@@ -67,6 +67,6 @@ line_bound script r d n {m = m} {m1 = m1} {capacity = capacity} {looks = looks} 
     let taken = typing (suc n) capacity d.spot.cursor no_line in
     let cells : addresses (asked f (followed_by taken (line_ended r d.spot))) ≡ r.sp ∷ onward r.sp 1 ∷ [] =
     addresses-followed_by f taken (line_ended r d.spot) (no_cells (bytes m1) script (suc n) capacity d.spot.cursor no_line) ∙ ap (λ e. addresses (asked f (line_ended r d.spot e))) t.ends in
-    let read = subst (λ a. Reads (Cell a Done) m (Ok capacity) m1) de first in
+    let read = subst (λ a. Reads (Cell a Done) m capacity m1) de first in
     bound_rest script m m1 (Cell (word r.e r.d) Done) (λ c. followed_by (typing (suc n) c d.spot.cursor no_line) (line_ended r d.spot)) capacity read.value read.looks read.own read.beneath
     (subst (λ (at : List ℕ). Extends new (look_all m1.own at m1.looks)) (sym cells) h)

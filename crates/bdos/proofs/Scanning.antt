@@ -12,18 +12,18 @@ use Rattle.bdos.specs.Desk.{Desk, Shown, printed, printed_all, desk_showing, des
 use Rattle.bdos.specs.Strings.{ending, string_at}
 use Rattle.bdos.specs.Printing.{Grown, printed_if}
 
-end_of-ending : {E F : Type 0} (h : E → F) (t : Reading E) (byte : ℕ → ℕ) → end_of (ending h t) byte ≡ h (end_of t byte)
+pub end_of-ending : {E F : Type 0} (h : E → F) (t : Reading E) (byte : ℕ → ℕ) → end_of (ending h t) byte ≡ h (end_of t byte)
 end_of-ending h (Done e) byte = refl
 end_of-ending h (Cell a k) byte = end_of-ending h (k (byte a)) byte
 
-asked-ending : {E F : Type 0} (h : E → F) (t : Reading E) (byte : ℕ → ℕ) → asked (ending h t) byte ≡ asked t byte
+pub asked-ending : {E F : Type 0} (h : E → F) (t : Reading E) (byte : ℕ → ℕ) → asked (ending h t) byte ≡ asked t byte
 asked-ending h (Done e) byte = refl
 asked-ending h (Cell a k) byte = ap (λ (at : List ℕ). a ∷ at) (asked-ending h (k (byte a)) byte)
 
-one_less : (n i : ℕ) → i < n → n - i ≡ suc (n - (i + 1))
+pub one_less : (n i : ℕ) → i < n → n - i ≡ suc (n - (i + 1))
 one_less n i h = omega arith
 
-none_left : (n i : ℕ) → n ≤ i → n - i ≡ 0
+pub none_left : (n i : ℕ) → n ≤ i → n - i ≡ 0
 none_left n i h = omega arith
 
 -- the string from a cell on: that the cell ends it, or that it goes on from the next
@@ -87,7 +87,7 @@ pub same_bytes : (m n : Memory) → n.own ≡ m.own → n.beneath ≡ m.beneath 
 same_bytes m n o b = rw (o, b) refl
 
 -- a byte read from a memory that has the bytes of the first one
-module _ (first now next : Memory) (a v : ℕ) (h : Reads (Cell a Done) now (Ok v) next) (own : now.own ≡ first.own) (beneath : now.beneath ≡ first.beneath) where
+module _ (first now next : Memory) (a v : ℕ) (h : Reads (Cell a Done) now v next) (own : now.own ≡ first.own) (beneath : now.beneath ≡ first.beneath) where
   pub byte_read : v ≡ bytes first a
   byte_read = h.value ∙ ap (λ (f : ℕ → ℕ). f a) (same_bytes first now own beneath)
 

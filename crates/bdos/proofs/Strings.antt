@@ -31,7 +31,7 @@ went_leaf same to None h e back = cc
 went_leaf {was = was} same to (Some s) h e back = record { served = refl; regs = back; desk = e; own = refl; looks = refl; places = λ j. same j ∙ or_false (was j); err_looks = tt; err_bound = tt; err_regs = tt; err_desk = tt; err_own = tt; err_places = tt; beneath = refl; lender = refl }
 
 module _ (script : List ℕ) (r : Regs) (d d' : Desk) (m m1 m2 : Memory) (to place : ℕ) (found : Bool)
-    (address : Reads (word_at r.sp Done) m (Ok to) m1) (prints : Prints place m1 d (Ok found) m2 d') (de : place ≡ word r.e r.d)
+    (address : Reads (word_at r.sp Done) m to m1) (prints : Prints place m1 d (Ok found) m2 d') (de : place ≡ word r.e r.d)
     {was is : ℕ → Bool} (same : (j : ℕ) → is j ≡ was j) where
   read_then : {s : Served} {r' : Regs} → FulfilsBy (Return (printing r d.spot to (string_in place m1))) script r m2 d was (Ok s) r' m2 d' is → FulfilsBy (string_output r d.spot) script r m d was (Ok s) r' m2 d' is
   read_then w = after_read (word_at r.sp Done) (λ to. reads (string_at 65536 (word r.e r.d)) (λ string. Return (printing r d.spot to string))) to address
@@ -45,7 +45,7 @@ module _ (script : List ℕ) (r : Regs) (d d' : Desk) (m m1 m2 : Memory) (to pla
   string_goes r' h back = read_then (went_leaf same to _ (sym h ∙ prints.found) prints.desk back)
 
 -- a failure while the string is printed
-pub string_bound : (script : List ℕ) (r : Regs) (spot : Spot) {m m1 : Memory} {to place : ℕ} {new : Looks} → Reads (word_at r.sp Done) m (Ok to) m1 → place ≡ word r.e r.d
+pub string_bound : (script : List ℕ) (r : Regs) (spot : Spot) {m m1 : Memory} {to place : ℕ} {new : Looks} → Reads (word_at r.sp Done) m to m1 → place ≡ word r.e r.d
     → Extends new (looks_after (string_at 65536 place) m1) → Extends new (look_all m.own (addresses (asked (answers (bytes m) script) (string_output r spot))) m.looks)
 string_bound script r spot {m = m} {m1 = m1} {to = to} {new = new} address de h =
     bound_rest script m m1 (word_at r.sp Done) (λ to. reads (string_at 65536 (word r.e r.d)) (λ string. Return (printing r spot to string))) to address.value address.looks address.own address.beneath

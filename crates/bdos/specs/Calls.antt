@@ -1,5 +1,5 @@
 -- The BDOS calls: what each asks of the state, and what it then does. (CP/M 2.2 Interface Guide.)
-use Rattle.std.specs.Prelude.{◌≡◌, ℕ, ◌==◌, ◌+◌, ◌||◌, Bool, is_some, if◌then◌else◌, List, [], ◌∷◌, ◌++◌, Option, Some, None, IfOk, OnOk, OnErr, suc, length, reverse}
+use Rattle.std.specs.Prelude.{◌≡◌, ℕ, ◌==◌, ◌+◌, ◌||◌, Bool, is_some, if◌then◌else◌, nat_lt, List, [], ◌∷◌, ◌++◌, Option, Some, None, IfOk, OnOk, OnErr, suc, length, reverse}
 use Rattle.std.specs.declared.result.Result.{Result}
 use Rattle.std.specs.declared.alloc.AllocError.{AllocError}
 use Rattle.interaction_trees.specs.Tree.{Return, Query, result_of, asked}
@@ -10,12 +10,12 @@ use Rattle.i8080.specs.Registers.{word, high, low, onward}
 use Rattle.i8080.specs.Instruction.{word_at}
 use Rattle.i8080.specs.End.{cells_from}
 use Rattle.bdos.specs.declared.cause.Cause.{Cause}
-use Rattle.bdos.specs.declared.cause.Cause.TheVariants.{WarmBoot, ConsoleExhausted, NoDollar, Unsupported}
+use Rattle.bdos.specs.declared.cause.Cause.TheVariants.{WarmBoot, ConsoleExhausted, NoDollar, Unsupported, BadDrive}
 use Rattle.bdos.specs.declared.served.Served.{Served}
 use Rattle.bdos.specs.declared.served.Served.TheVariants as served
 use Rattle.bdos.specs.declared.desk.Spot.{Spot}
 use Rattle.bdos.specs.declared.function.Function.{Function}
-use Rattle.bdos.specs.declared.function.Function.TheVariants.{SystemReset, ConsoleInput, ConsoleOutput, DirectConsole, GetIoByte, SetIoByte, PrintString, ReadConsoleBuffer, ConsoleStatus, VersionNumber}
+use Rattle.bdos.specs.declared.function.Function.TheVariants.{SystemReset, ConsoleInput, ConsoleOutput, DirectConsole, GetIoByte, SetIoByte, PrintString, ReadConsoleBuffer, ConsoleStatus, VersionNumber, ResetDisks, SelectDisk, LoginVector, CurrentDisk, SetBufferAddress}
 use Rattle.bdos.specs.Functions.{function_of}
 use Rattle.bdos.specs.Desk.{Desk, printed, echoed, printed_all, spot_showing, column_after_all}
 use Rattle.bdos.specs.Places.{Watched, is_within}
@@ -114,6 +114,27 @@ set_io_byte r spot = completing 0 r spot [] (record { cells = (io_byte, r.e) ∷
 abbrev pub version_number : Regs → Spot → StateTree CallEnd
 version_number r spot = completing 0x0022 r spot [] nothing
 
+-- function 13 goes back to the first drive and to the buffer in page zero (CP/M 2.2 Interface Guide, function 13)
+abbrev pub reset_disks : Regs → Spot → StateTree CallEnd
+reset_disks r spot = completing 0 r (record spot { buffer = 0x80; drive = 0 }) [] nothing
+
+-- function 14 sets the current drive, 0 to 3 for A to D; another stops (CP/M 2.2 Interface Guide, function 14; the stop is this
+-- project's profile)
+abbrev pub select_disk : Regs → Spot → StateTree CallEnd
+select_disk r spot = if nat_lt r.e 4 then completing 0 r (record spot { drive = r.e }) [] nothing else Return (Stopped (BadDrive r.e))
+
+-- function 24 gives a bit for each drive, from A on (CP/M 2.2 Interface Guide, function 24)
+abbrev pub login_vector : Regs → Spot → StateTree CallEnd
+login_vector r spot = completing 0x000f r spot [] nothing
+
+-- function 25 gives the current drive (CP/M 2.2 Interface Guide, function 25)
+abbrev pub current_disk : Regs → Spot → StateTree CallEnd
+current_disk r spot = completing spot.drive r spot [] nothing
+
+-- function 26 sets the buffer address to DE (CP/M 2.2 Interface Guide, function 26)
+abbrev pub set_buffer_address : Regs → Spot → StateTree CallEnd
+set_buffer_address r spot = completing 0 r (record spot { buffer = word r.e r.d }) [] nothing
+
 -- a function that is carried out, over a script of at most n bytes
 abbrev pub carried_out : ℕ → Function → Regs → Spot → StateTree CallEnd
 carried_out n SystemReset r spot = Return (Stopped WarmBoot)
@@ -126,6 +147,11 @@ carried_out n PrintString r spot = string_output r spot
 carried_out n ReadConsoleBuffer r spot = line_input n r spot
 carried_out n ConsoleStatus r spot = console_status r spot
 carried_out n VersionNumber r spot = version_number r spot
+carried_out n ResetDisks r spot = reset_disks r spot
+carried_out n SelectDisk r spot = select_disk r spot
+carried_out n LoginVector r spot = login_vector r spot
+carried_out n CurrentDisk r spot = current_disk r spot
+carried_out n SetBufferAddress r spot = set_buffer_address r spot
 
 abbrev pub called : ℕ → Option Function → Regs → Spot → StateTree CallEnd
 called n None r spot = Return (Stopped (Unsupported r.c))

@@ -1,6 +1,6 @@
--- What the BDOS keeps beside memory and files: how far the console script was taken, what the console shows, and where
--- records go. (CP/M 2.2 Interface Guide, functions 1, 2, 9 and 26.)
-use Rattle.std.specs.Prelude.{ℕ, ◌+◌, ◌-◌, ◌%◌, ◌==◌, ◌||◌, nat_le, nat_lt, if◌then◌else◌, List, [], ◌∷◌, ◌++◌, replicate}
+-- What the BDOS keeps beside memory and files: how far the console script was taken, what the console shows, where records go,
+-- the current drive, and where a search of the directory goes on. (CP/M 2.2 Interface Guide, functions 1, 2, 9, 14, 17 and 26.)
+use Rattle.std.specs.Prelude.{ℕ, ◌+◌, ◌-◌, ◌%◌, ◌==◌, ◌||◌, nat_le, nat_lt, if◌then◌else◌, List, [], ◌∷◌, ◌++◌, replicate, None}
 use Rattle.bdos.specs.declared.desk.Spot.{Spot}
 
 -- the spot, and all bytes sent to the console
@@ -8,9 +8,10 @@ pub record Desk : Type 0 where
   pub spot : Spot
   pub text : List ℕ
 
--- nothing taken and nothing sent, and the buffer in page zero, at 0080H (CP/M 2.2 Interface Guide, function 26)
+-- nothing taken and nothing sent, the buffer in page zero, at 0080H, A the current drive, and no search (CP/M 2.2 Interface Guide,
+-- functions 14, 17 and 26)
 abbrev pub first_desk : Desk
-first_desk = record { spot = record { cursor = 0; column = 0; buffer = 0x80 }; text = [] }
+first_desk = record { spot = record { cursor = 0; column = 0; buffer = 0x80; drive = 0; search = None }; text = [] }
 
 -- the column after a byte: a carriage return goes to 0, a backspace one back, other control bytes stay
 abbrev pub column_after : ℕ → ℕ → ℕ

@@ -1,7 +1,7 @@
 -- The calls by their numbers. (CP/M 2.2 Interface Guide.)
 use Rattle.std.specs.Prelude.{ℕ, ◌==◌, if◌then◌else◌, Option, Some, None}
 use Rattle.bdos.specs.declared.function.Function.{Function}
-use Rattle.bdos.specs.declared.function.Function.TheVariants.{SystemReset, ConsoleInput, ConsoleOutput, DirectConsole, GetIoByte, SetIoByte, PrintString, ReadConsoleBuffer, ConsoleStatus, VersionNumber}
+use Rattle.bdos.specs.declared.function.Function.TheVariants.{SystemReset, ConsoleInput, ConsoleOutput, DirectConsole, GetIoByte, SetIoByte, PrintString, ReadConsoleBuffer, ConsoleStatus, VersionNumber, ResetDisks, SelectDisk, LoginVector, CurrentDisk, SetBufferAddress}
 
 -- the call of a number; other numbers name none
 abbrev pub function_of : ℕ → Option Function
@@ -16,4 +16,9 @@ function_of number =
     else if number == 10 then Some ReadConsoleBuffer
     else if number == 11 then Some ConsoleStatus
     else if number == 12 then Some VersionNumber
+    else if number == 13 then Some ResetDisks
+    else if number == 14 then Some SelectDisk
+    else if number == 24 then Some LoginVector
+    else if number == 25 then Some CurrentDisk
+    else if number == 26 then Some SetBufferAddress
     else None

@@ -1,4 +1,4 @@
-ghost use Rattle.std.specs.Prelude.{◌≡◌, ◌≤◌, ◌<◌, ◌+◌, ◌∷◌, [], ℕ, List, length, slice_get, is_some, IsSome, IsTrue, OnOk, if◌then◌else◌};
+ghost use Rattle.std.specs.Prelude.{◌≡◌, ◌≤◌, ◌<◌, ◌+◌, ◌∷◌, [], ℕ, List, length, slice_get, is_some, IsSome, IsTrue, OnOk, if◌then◌else◌, Ok};
 ghost use Rattle.i8080.specs.Memory.{write_all};
 ghost use Rattle.i8080.specs.Registers.{onward};
 ghost use Rattle.bdos.specs.Calls as calls;
@@ -7,6 +7,7 @@ ghost use Rattle.bdos.specs.Printing.{Prints, Scans};
 
 use crate::cause::Cause;
 use crate::desk::Desk;
+use crate::disks::{current_disk, login_vector, reset_disks, select_disk, set_buffer_address};
 use crate::function::Function;
 use crate::line::{LineEnd, take_line};
 use crate::served::Served;
@@ -38,12 +39,17 @@ pub fn call<B: Bus>(
         Function::ConsoleInput => console_input(regs, bus, desk, script),
         Function::ConsoleOutput => console_output(regs, bus, desk),
         Function::DirectConsole => direct_console(regs, bus, desk, script),
-        Function::GetIoByte => get_io_byte(regs, bus, desk),
+        Function::GetIoByte => Ok(get_io_byte(regs, bus, desk)),
         Function::SetIoByte => set_io_byte(regs, bus, desk),
         Function::PrintString => string_output(regs, bus, desk),
         Function::ReadConsoleBuffer => line_input(regs, bus, desk, script),
-        Function::ConsoleStatus => console_status(regs, bus, desk, script),
-        Function::VersionNumber => version_number(regs, bus, desk),
+        Function::ConsoleStatus => Ok(console_status(regs, bus, desk, script)),
+        Function::VersionNumber => Ok(version_number(regs, bus, desk)),
+        Function::ResetDisks => Ok(reset_disks(regs, bus, desk)),
+        Function::SelectDisk => Ok(select_disk(regs, bus, desk)),
+        Function::LoginVector => Ok(login_vector(regs, bus, desk)),
+        Function::CurrentDisk => Ok(current_disk(regs, bus, desk)),
+        Function::SetBufferAddress => Ok(set_buffer_address(regs, bus, desk)),
     }
 }
 
@@ -61,7 +67,7 @@ fn console_input<B: Bus>(
         desk.look(1);
         return Ok(Served::Stop(Cause::ConsoleExhausted));
     };
-    let to = fetch_word(bus, regs.sp)?;
+    let to = fetch_word(bus, regs.sp);
     desk.echo(byte)?;
     desk.take(1);
     give_back(regs, byte as u16, to);
@@ -78,29 +84,24 @@ fn direct_console<B: Bus>(
     ensures { Fulfils (calls.direct_console regs.old desk.old.desk.spot) script.now regs.old (B.memory bus.old) desk.old result regs.new (B.memory bus.new) desk.new }
 {
     if regs.e == 0xff {
-        return direct_input(regs, bus, desk, script);
+        return Ok(direct_input(regs, bus, desk, script));
     }
     direct_output(regs, bus, desk)
 }
 
 // Function 6 with FFH in E, which takes a byte of the script where one is left.
-fn direct_input<B: Bus>(
-    regs: &mut Regs,
-    bus: &mut B,
-    desk: &mut Desk,
-    script: &[u8],
-) -> Result<Served, AllocError>
-    ensures { Fulfils (calls.direct_input regs.old desk.old.desk.spot) script.now regs.old (B.memory bus.old) desk.old result regs.new (B.memory bus.new) desk.new }
+fn direct_input<B: Bus>(regs: &mut Regs, bus: &mut B, desk: &mut Desk, script: &[u8]) -> Served
+    ensures { Fulfils (calls.direct_input regs.old desk.old.desk.spot) script.now regs.old (B.memory bus.old) desk.old (Ok result) regs.new (B.memory bus.new) desk.new }
 {
-    let to = fetch_word(bus, regs.sp)?;
+    let to = fetch_word(bus, regs.sp);
     let Some(byte) = byte_at(script, desk.cursor()) else {
         desk.look(1);
         give_back(regs, 0, to);
-        return Ok(Served::Went);
+        return Served::Went;
     };
     desk.take(1);
     give_back(regs, byte as u16, to);
-    Ok(Served::Went)
+    Served::Went
 }
 
 // Function 6 with another E, which sends it.
@@ -112,26 +113,21 @@ fn direct_output<B: Bus>(
 ) -> Result<Served, AllocError>
     ensures { (script : List ℕ) → Fulfils (calls.direct_output regs.old desk.old.desk.spot) script regs.old (B.memory bus.old) desk.old result regs.new (B.memory bus.new) desk.new }
 {
-    let to = fetch_word(bus, regs.sp)?;
+    let to = fetch_word(bus, regs.sp);
     desk.append(regs.e)?;
     give_back(regs, 0, to);
     Ok(Served::Went)
 }
 
 // Function 11, which tells whether a byte of the script is left.
-fn console_status<B: Bus>(
-    regs: &mut Regs,
-    bus: &mut B,
-    desk: &mut Desk,
-    script: &[u8],
-) -> Result<Served, AllocError>
-    ensures { Fulfils (calls.console_status regs.old desk.old.desk.spot) script.now regs.old (B.memory bus.old) desk.old result regs.new (B.memory bus.new) desk.new }
+fn console_status<B: Bus>(regs: &mut Regs, bus: &mut B, desk: &mut Desk, script: &[u8]) -> Served
+    ensures { Fulfils (calls.console_status regs.old desk.old.desk.spot) script.now regs.old (B.memory bus.old) desk.old (Ok result) regs.new (B.memory bus.new) desk.new }
 {
-    let to = fetch_word(bus, regs.sp)?;
+    let to = fetch_word(bus, regs.sp);
     let status = console_state(script, desk.cursor());
     desk.look(1);
     give_back(regs, status, to);
-    Ok(Served::Went)
+    Served::Went
 }
 
 // Function 2, which prints E.
@@ -143,7 +139,7 @@ fn console_output<B: Bus>(
 ) -> Result<Served, AllocError>
     ensures { (script : List ℕ) → Fulfils (calls.console_output regs.old desk.old.desk.spot) script regs.old (B.memory bus.old) desk.old result regs.new (B.memory bus.new) desk.new }
 {
-    let to = fetch_word(bus, regs.sp)?;
+    let to = fetch_word(bus, regs.sp);
     desk.print(regs.e)?;
     give_back(regs, 0, to);
     Ok(Served::Went)
@@ -151,13 +147,13 @@ fn console_output<B: Bus>(
 
 // Function 7, which gives the I/O byte.
 #[tactic(auto, using(crate::proofs::Looking::by_one, crate::proofs::Looking::past_one, crate::proofs::Looking::here, crate::proofs::Looking::more, crate::proofs::Looking::all))]
-fn get_io_byte<B: Bus>(regs: &mut Regs, bus: &mut B, desk: &Desk) -> Result<Served, AllocError>
-    ensures { (script : List ℕ) → Fulfils (calls.get_io_byte regs.old desk.now.desk.spot) script regs.old (B.memory bus.old) desk.now result regs.new (B.memory bus.new) desk.now }
+fn get_io_byte<B: Bus>(regs: &mut Regs, bus: &mut B, desk: &Desk) -> Served
+    ensures { (script : List ℕ) → Fulfils (calls.get_io_byte regs.old desk.now.desk.spot) script regs.old (B.memory bus.old) desk.now (Ok result) regs.new (B.memory bus.new) desk.now }
 {
-    let byte = fetch(bus, IO_BYTE)?;
-    let to = fetch_word(bus, regs.sp)?;
+    let byte = fetch(bus, IO_BYTE);
+    let to = fetch_word(bus, regs.sp);
     give_back(regs, u16::from(byte), to);
-    Ok(Served::Went)
+    Served::Went
 }
 
 // Function 8, which sets the I/O byte to E.
@@ -165,7 +161,7 @@ fn get_io_byte<B: Bus>(regs: &mut Regs, bus: &mut B, desk: &Desk) -> Result<Serv
 fn set_io_byte<B: Bus>(regs: &mut Regs, bus: &mut B, desk: &Desk) -> Result<Served, AllocError>
     ensures { (script : List ℕ) → Fulfils (calls.set_io_byte regs.old desk.now.desk.spot) script regs.old (B.memory bus.old) desk.now result regs.new (B.memory bus.new) desk.now }
 {
-    let to = fetch_word(bus, regs.sp)?;
+    let to = fetch_word(bus, regs.sp);
     bus.ready(IO_BYTE)?;
     bus.write(IO_BYTE, regs.e);
     give_back(regs, 0, to);
@@ -173,12 +169,12 @@ fn set_io_byte<B: Bus>(regs: &mut Regs, bus: &mut B, desk: &Desk) -> Result<Serv
 }
 
 // Function 12, which gives the version.
-fn version_number<B: Bus>(regs: &mut Regs, bus: &mut B, desk: &Desk) -> Result<Served, AllocError>
-    ensures { (script : List ℕ) → Fulfils (calls.version_number regs.old desk.now.desk.spot) script regs.old (B.memory bus.old) desk.now result regs.new (B.memory bus.new) desk.now }
+fn version_number<B: Bus>(regs: &mut Regs, bus: &mut B, desk: &Desk) -> Served
+    ensures { (script : List ℕ) → Fulfils (calls.version_number regs.old desk.now.desk.spot) script regs.old (B.memory bus.old) desk.now (Ok result) regs.new (B.memory bus.new) desk.now }
 {
-    let to = fetch_word(bus, regs.sp)?;
+    let to = fetch_word(bus, regs.sp);
     give_back(regs, VERSION, to);
-    Ok(Served::Went)
+    Served::Went
 }
 
 // Function 9, which prints the string at DE.
@@ -190,7 +186,7 @@ fn string_output<B: Bus>(
 ) -> Result<Served, AllocError>
     ensures { (script : List ℕ) → Fulfils (calls.string_output regs.old desk.old.desk.spot) script regs.old (B.memory bus.old) desk.old result regs.new (B.memory bus.new) desk.new }
 {
-    let to = fetch_word(bus, regs.sp)?;
+    let to = fetch_word(bus, regs.sp);
     if !print_string(bus, desk, word_of(regs.e, regs.d))? {
         return Ok(Served::Stop(Cause::NoDollar));
     }
@@ -228,7 +224,7 @@ fn line_input<B: Bus>(
     ensures { (n : ℕ) → length script.now ≤ n → Fulfils (calls.line_input n regs.old desk.old.desk.spot) script.now regs.old (B.memory bus.old) desk.old result regs.new (B.memory bus.new) desk.new }
 {
     let at = word_of(regs.e, regs.d);
-    let capacity = fetch(bus, at)?;
+    let capacity = fetch(bus, at);
     let (line, taken) = match take_line(desk.allocator(), script, desk.cursor(), capacity)? {
         LineEnd::Ended(line, taken) => (line, taken),
         LineEnd::Booted(looks) => {
@@ -240,7 +236,7 @@ fn line_input<B: Bus>(
             return Ok(Served::Stop(Cause::ConsoleExhausted));
         }
     };
-    let to = fetch_word(bus, regs.sp)?;
+    let to = fetch_word(bus, regs.sp);
     ready_line(bus, at, line.len() as u8)?;
     desk.send_all(line.sends())?;
     desk.take(taken);
@@ -273,8 +269,8 @@ fn store_line<B: Bus>(bus: &mut B, at: u16, text: &[u8])
     write_cells(bus, at.wrapping_add(2), text);
 }
 
-// Returns with a value to an address.
-fn give_back(regs: &mut Regs, value: u16, to: u16)
+/// Goes back to an address with a value: HL gets it, A is L and B is H, and the return address leaves the stack. (CP/M 2.2 Interface Guide.)
+pub fn give_back(regs: &mut Regs, value: u16, to: u16)
     ensures { regs.new ≡ at_caller value to regs.old }
 {
     let low = (value % 256) as u8;
@@ -309,7 +305,7 @@ fn print_until_dollar<B: Bus>(bus: &mut B, desk: &mut Desk, at: u16) -> Result<b
 {
     let mut address = at;
     for _cell in 0..65_536u32 {
-        let byte = fetch(bus, address)?;
+        let byte = fetch(bus, address);
         if byte == b'$' {
             return Ok(true);
         }

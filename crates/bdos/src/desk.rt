@@ -4,15 +4,19 @@ ghost use Rattle.bdos.specs.Desk.{first_desk, printed, tabbed, sent, sent_all, e
 ghost use Rattle.bdos.specs.Places.{is_within, is_ahead, IsSpotOf};
 
 use crate::places::Places;
+use directory::Search;
 use std::alloc::{AllocError, Global};
 use std::marker::Model;
 
-/// All of a desk but its text: how many script bytes were taken, the column, and the buffer address of the file calls.
+/// All of a desk but its text: how many script bytes were taken, the column, the buffer address of the file calls, the current drive (0 to 3 for A
+/// to D), and where a search of the directory goes on, if there is one.
 #[derive(Clone, Copy)]
 pub struct Spot {
     cursor: usize,
     column: usize,
     buffer: u16,
+    drive: u8,
+    search: Option<Search>,
 }
 
 /// How far the console script was taken, what the console shows, and where records go; and the script places that were
@@ -52,7 +56,7 @@ pub(crate) struct Mark {
 }
 
 impl Desk {
-    /// A desk with nothing taken and nothing sent, and the buffer in page zero. It takes no memory.
+    /// A desk with nothing taken and nothing sent, the buffer in page zero, and A the current drive. It takes no memory.
     pub fn new(alloc: Global) -> Desk
         ensures desk { result.desk ≡ first_desk }
         ensures places { (k : ℕ) → is_within result.places k ≡ false }
@@ -61,6 +65,8 @@ impl Desk {
             cursor: 0,
             column: 0,
             buffer: 0x80,
+            drive: 0,
+            search: None,
         };
         Desk {
             spot,
@@ -162,6 +168,51 @@ impl Desk {
         }
         self.places.to = to - 1;
         Some(to - 1)
+    }
+
+    /// Where records go.
+    pub fn buffer(&self) -> u16
+        ensures { result ≡ self.now.desk.spot.buffer }
+    {
+        self.spot.buffer
+    }
+
+    /// Sets the address where records go.
+    pub fn set_buffer(&mut self, buffer: u16)
+        ensures desk { self.new.desk ≡ record self.old.desk { spot = record self.old.desk.spot { buffer = buffer } } }
+        ensures places { self.new.places ≡ self.old.places }
+    {
+        self.spot.buffer = buffer;
+    }
+
+    /// The current drive: 0 to 3 for A to D.
+    pub fn drive(&self) -> u8
+        ensures { result ≡ self.now.desk.spot.drive }
+    {
+        self.spot.drive
+    }
+
+    /// Sets the current drive.
+    pub fn set_drive(&mut self, drive: u8)
+        ensures desk { self.new.desk ≡ record self.old.desk { spot = record self.old.desk.spot { drive = drive } } }
+        ensures places { self.new.places ≡ self.old.places }
+    {
+        self.spot.drive = drive;
+    }
+
+    /// Where a search of the directory goes on, if there is one.
+    pub fn search(&self) -> Option<Search>
+        ensures { result ≡ self.now.desk.spot.search }
+    {
+        self.spot.search
+    }
+
+    /// Sets where a search goes on.
+    pub fn set_search(&mut self, search: Option<Search>)
+        ensures desk { self.new.desk ≡ record self.old.desk { spot = record self.old.desk.spot { search = search } } }
+        ensures places { self.new.places ≡ self.old.places }
+    {
+        self.spot.search = search;
     }
 
     /// What the text's memory comes from.

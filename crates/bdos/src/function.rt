@@ -24,6 +24,16 @@ pub enum Function {
     ConsoleStatus,
     /// 12: the version of CP/M.
     VersionNumber,
+    /// 13: the first drive, and the buffer in page zero.
+    ResetDisks,
+    /// 14: another current drive.
+    SelectDisk,
+    /// 24: which drives there are.
+    LoginVector,
+    /// 25: the current drive.
+    CurrentDisk,
+    /// 26: another buffer address.
+    SetBufferAddress,
 }
 
 impl Function {
@@ -42,6 +52,11 @@ impl Function {
             10 => Some(Function::ReadConsoleBuffer),
             11 => Some(Function::ConsoleStatus),
             12 => Some(Function::VersionNumber),
+            13 => Some(Function::ResetDisks),
+            14 => Some(Function::SelectDisk),
+            24 => Some(Function::LoginVector),
+            25 => Some(Function::CurrentDisk),
+            26 => Some(Function::SetBufferAddress),
             _ => None,
         }
     }

@@ -1,11 +1,11 @@
 // Host files joined with what a run did to them.
 
-ghost use Rattle.std.specs.Prelude.{◌≡◌, ◌<◌, true, false, OnOk, OnErr, IfOk, Some, Ok, slice_index};
+ghost use Rattle.std.specs.Prelude.{◌≡◌, ◌<◌, ◌≤◌, true, false, OnOk, OnErr, IfOk, Some, Ok, slice_index};
 ghost use Rattle.std.specs.Option.{option_map};
 ghost use Rattle.filenames.specs.Names.{is_sayable};
-ghost use Rattle.directory.specs.Entries.{next_entry, entry_bytes, position_in};
-ghost use Rattle.hostfiles.specs.Files.{has, records, length_at, place, extent_count, shapes, made, renamed, wrote, wrote_filled};
-ghost use Rattle.hostfiles.specs.Looks.{look_has, look_records, look_content, look_read, look_directory, Extends};
+ghost use Rattle.directory.specs.Entries.{next_entry, entry_bytes, position_in, count_at};
+ghost use Rattle.hostfiles.specs.Files.{has, records, length_at, place, place_of, entry_at, file_of, shape_of, extent_count, shapes, made, renamed, wrote, wrote_filled};
+ghost use Rattle.hostfiles.specs.Looks.{look_has, look_length, look_records, look_content, look_read, look_directory, Extends};
 ghost use Rattle.cpmfiles.specs.Tables.{can_make, can_rename, has_wildcard, look_made, look_renamed, count_deleted, look_deleted, Deletes};
 
 use directory::{Position, next_entry};
@@ -46,6 +46,7 @@ impl Table<'_> {
         ensures extends { Extends self.old.changes.now.looks self.new.changes.now.looks }
         ensures stays { self.new.changes.now.journal ≡ self.old.changes.now.journal }
         ensures host { self.new.host.now ≡ self.old.host.now }
+        ensures lender { self.new.changes.ghost_name ≡ self.old.changes.ghost_name }
     {
         let base = self.changes.journal.base(key);
         self.changes.looks.mark_has(base, key)?;
@@ -53,21 +54,36 @@ impl Table<'_> {
     }
 
     /// How many places the file of the key has, if there is one.
-    #[tactic(auto, using(crate::proofs::LookLaws::extends_by_length, crate::proofs::LookLaws::extends_same, crate::proofs::LookLaws::extends_trans))]
+    #[tactic(auto, using(crate::proofs::LookLaws::extends_same, crate::proofs::LookLaws::extends_trans))]
     pub fn records(&mut self, key: &Key) -> Result<Option<u32>, AllocError>
         ensures answer { IfOk result (λ n. n ≡ records self.old.host.now self.old.changes.now.journal.entries key.now) }
         ensures looks { OnOk result (self.new.changes.now.looks ≡ look_records self.old.host.now self.old.changes.now.journal.entries key.now self.old.changes.now.looks) }
         ensures extends { Extends self.old.changes.now.looks self.new.changes.now.looks }
         ensures stays { self.new.changes.now.journal ≡ self.old.changes.now.journal }
         ensures host { self.new.host.now ≡ self.old.host.now }
+        ensures lender { self.new.changes.ghost_name ≡ self.old.changes.ghost_name }
     {
         if !self.has(key)? {
             return Ok(None);
         }
+        Ok(Some(self.length(key)?))
+    }
+
+    /// How many places the file of the key has; 0 where there is none. It asks for the length alone, so it is for a caller that knows whether the
+    /// file is there.
+    #[tactic(auto, using(crate::proofs::LookLaws::extends_by_length, crate::proofs::LookLaws::extends_same))]
+    pub fn length(&mut self, key: &Key) -> Result<u32, AllocError>
+        ensures answer { IfOk result (λ n. n ≡ length_at self.old.host.now self.old.changes.now.journal.entries key.now) }
+        ensures looks { OnOk result (self.new.changes.now.looks ≡ look_length self.old.changes.now.journal.entries key.now self.old.changes.now.looks) }
+        ensures extends { Extends self.old.changes.now.looks self.new.changes.now.looks }
+        ensures stays { self.new.changes.now.journal ≡ self.old.changes.now.journal }
+        ensures host { self.new.host.now ≡ self.old.host.now }
+        ensures lender { self.new.changes.ghost_name ≡ self.old.changes.ghost_name }
+    {
         let base = self.changes.journal.base(key);
         let grown = self.changes.journal.grown(key);
         self.changes.looks.mark_length(base, grown, key)?;
-        Ok(Some(joined::length(self.host, &self.changes.journal, key)))
+        Ok(joined::length(self.host, &self.changes.journal, key))
     }
 
     /// Reads the record at a place. `false` where there is no file, or none that long, or a hole at the place: `bytes` then stay.
@@ -80,6 +96,7 @@ impl Table<'_> {
         ensures extends { Extends self.old.changes.now.looks self.new.changes.now.looks }
         ensures stays { self.new.changes.now.journal ≡ self.old.changes.now.journal }
         ensures host { self.new.host.now ≡ self.old.host.now }
+        ensures lender { self.new.changes.ghost_name ≡ self.old.changes.ghost_name }
     {
         let Some(n) = self.records(key)? else {
             return Ok(false);
@@ -87,12 +104,35 @@ impl Table<'_> {
         if k >= n {
             return Ok(false);
         }
-        self.mark_content(key, k)?;
-        let Some(content) = joined::content(self.host, &self.changes.journal, key, k) else {
+        let Some(content) = self.content(key, k)? else {
             return Ok(false);
         };
         *bytes = content;
         Ok(true)
+    }
+
+    /// The record at a place below the length of a file that is there; none in a hole. It asks for the record alone, so it is for a caller that
+    /// knows the length.
+    #[tactic(auto, using(crate::proofs::LookLaws::extends_by_record, crate::proofs::LookLaws::extends_same))]
+    pub fn content(&mut self, key: &Key, k: u32) -> Result<Option<Record>, AllocError>
+        ensures answer { IfOk result (λ r. r ≡ place_of self.old.host.now key.now (entry_at self.old.changes.now.journal.entries key.now) k) }
+        ensures looks { OnOk result (self.new.changes.now.looks ≡ look_content self.old.changes.now.journal.entries key.now k self.old.changes.now.looks) }
+        ensures extends { Extends self.old.changes.now.looks self.new.changes.now.looks }
+        ensures stays { self.new.changes.now.journal ≡ self.old.changes.now.journal }
+        ensures host { self.new.host.now ≡ self.old.host.now }
+        ensures lender { self.new.changes.ghost_name ≡ self.old.changes.ghost_name }
+    {
+        self.mark_content(key, k)?;
+        Ok(joined::content(self.host, &self.changes.journal, key, k))
+    }
+
+    /// The count of extent `e` of the file of a key: the greatest place of it that holds a record, plus one; 0 where none does. It asks nothing, so
+    /// it is for a caller that knows the length.
+    pub fn count(&self, key: &Key, e: u32) -> u8
+        ensures count { result ≡ count_at (shape_of (file_of self.now.host.now key.now (entry_at self.now.changes.now.journal.entries key.now))) e }
+        ensures within { result ≤ 128 }
+    {
+        joined::count(self.host, &self.changes.journal, key, e)
     }
 
     // The record at a place below the length as a question, where it is the host file's.
@@ -102,6 +142,7 @@ impl Table<'_> {
         ensures extends { Extends self.old.changes.now.looks self.new.changes.now.looks }
         ensures stays { self.new.changes.now.journal ≡ self.old.changes.now.journal }
         ensures host { self.new.host.now ≡ self.old.host.now }
+        ensures lender { self.new.changes.ghost_name ≡ self.old.changes.ghost_name }
     {
         if self.changes.journal.written(key, k).is_some() {
             return Ok(());
@@ -126,6 +167,7 @@ impl Table<'_> {
         ensures absent { IfOk result (λ b. b ≡ false → self.new.changes.now.journal.entries ≡ self.old.changes.now.journal.entries) }
         ensures err { OnErr result (self.new.changes.now.journal.entries ≡ self.old.changes.now.journal.entries) }
         ensures host { self.new.host.now ≡ self.old.host.now }
+        ensures lender { self.new.changes.ghost_name ≡ self.old.changes.ghost_name }
     {
         let Some(n) = self.records(key)? else {
             return Ok(false);
@@ -144,6 +186,7 @@ impl Table<'_> {
         ensures absent { IfOk result (λ b. b ≡ false → self.new.changes.now.journal.entries ≡ self.old.changes.now.journal.entries) }
         ensures err { OnErr result (self.new.changes.now.journal.entries ≡ self.old.changes.now.journal.entries) }
         ensures host { self.new.host.now ≡ self.old.host.now }
+        ensures lender { self.new.changes.ghost_name ≡ self.old.changes.ghost_name }
     {
         let Some(n) = self.records(key)? else {
             return Ok(false);
@@ -159,11 +202,12 @@ impl Table<'_> {
         ensures extends { Extends self.old.changes.now.looks self.new.changes.now.looks }
         ensures stays { self.new.changes.now.journal ≡ self.old.changes.now.journal }
         ensures host { self.new.host.now ≡ self.old.host.now }
+        ensures lender { self.new.changes.ghost_name ≡ self.old.changes.ghost_name }
     {
         let Some(_) = self.records(key)? else {
             return Ok(None);
         };
-        Ok(Some(joined::count(self.host, &self.changes.journal, key, e)))
+        Ok(Some(self.count(key, e)))
     }
 
     /// The first entry of the directory that matches a pattern, after the entry given if there is one, in the files as they are now. The
@@ -177,9 +221,11 @@ impl Table<'_> {
     ) -> Result<Option<[u8; 32]>, AllocError>
         ensures answer { result ≡ Ok (option_map entry_bytes (next_entry pattern.now ex (option_map (position_in (slice_index pattern.now 0)) after) (shapes self.old.host.now self.old.changes.now.journal.entries))) }
         ensures looks { self.new.changes.now.looks ≡ look_directory (slice_index pattern.now 0) self.old.changes.now.looks }
+        ensures drive { slice_index pattern.now 0 < 256 }
         ensures extends { Extends self.old.changes.now.looks self.new.changes.now.looks }
         ensures stays { self.new.changes.now.journal ≡ self.old.changes.now.journal }
         ensures host { self.new.host.now ≡ self.old.host.now }
+        ensures lender { self.new.changes.ghost_name ≡ self.old.changes.ghost_name }
     {
         let drive = pattern[0];
         self.changes.looks.mark_directory(drive);
@@ -204,6 +250,7 @@ impl Table<'_> {
         ensures unmade { IfOk result (λ b. b ≡ false → self.new.changes.now.journal.entries ≡ self.old.changes.now.journal.entries) }
         ensures err { OnErr result (self.new.changes.now.journal.entries ≡ self.old.changes.now.journal.entries) }
         ensures host { self.new.host.now ≡ self.old.host.now }
+        ensures lender { self.new.changes.ghost_name ≡ self.old.changes.ghost_name }
     {
         if !is_sayable(key) {
             return Ok(false);
@@ -224,6 +271,7 @@ impl Table<'_> {
         ensures done { OnOk result (Deletes self.old.host.now self.old.changes.now.journal.entries pattern.now self.new.changes.now.journal.entries) }
         ensures err { OnErr result (self.new.changes.now.journal.entries ≡ self.old.changes.now.journal.entries) }
         ensures host { self.new.host.now ≡ self.old.host.now }
+        ensures lender { self.new.changes.ghost_name ≡ self.old.changes.ghost_name }
     {
         if has_wildcard(pattern) {
             return self.delete_all(pattern);
@@ -240,6 +288,7 @@ impl Table<'_> {
         ensures done { OnOk result (Deletes self.old.host.now self.old.changes.now.journal.entries key.now self.new.changes.now.journal.entries) }
         ensures err { OnErr result (self.new.changes.now.journal.entries ≡ self.old.changes.now.journal.entries) }
         ensures host { self.new.host.now ≡ self.old.host.now }
+        ensures lender { self.new.changes.ghost_name ≡ self.old.changes.ghost_name }
     {
         if !self.has(key)? {
             return Ok(0);
@@ -258,6 +307,7 @@ impl Table<'_> {
         ensures done { OnOk result (Deletes self.old.host.now self.old.changes.now.journal.entries pattern.now self.new.changes.now.journal.entries) }
         ensures err { OnErr result (self.new.changes.now.journal.entries ≡ self.old.changes.now.journal.entries) }
         ensures host { self.new.host.now ≡ self.old.host.now }
+        ensures lender { self.new.changes.ghost_name ≡ self.old.changes.ghost_name }
     {
         self.changes.looks.mark_directory(pattern[0]);
         let (journal, count) = without_matches(self.host, &self.changes.journal, pattern)?;
@@ -275,6 +325,7 @@ impl Table<'_> {
         ensures unmoved { IfOk result (λ b. b ≡ false → self.new.changes.now.journal.entries ≡ self.old.changes.now.journal.entries) }
         ensures err { OnErr result (self.new.changes.now.journal.entries ≡ self.old.changes.now.journal.entries) }
         ensures host { self.new.host.now ≡ self.old.host.now }
+        ensures lender { self.new.changes.ghost_name ≡ self.old.changes.ghost_name }
     {
         if has_wildcard(old) {
             return Ok(false);
@@ -296,7 +347,7 @@ impl Table<'_> {
 }
 
 /// Whether a key has a `?` among the bytes of its name.
-fn has_wildcard(key: &Key) -> bool
+pub fn has_wildcard(key: &Key) -> bool
     ensures { result ≡ has_wildcard key.now }
 {
     for i in 1..12 {

@@ -6,3 +6,8 @@ pub mod Answering
 pub mod Grammar
 pub mod Telling
 pub mod Once
+pub mod Refusing
+pub mod Choosing
+pub mod SaidNames
+pub mod WrittenPieces
+pub mod Reporting

@@ -1,17 +1,8 @@
 -- The words of the program, and messages that are written whole or in part.
-use Rattle.std.proofs.Common.{◌≡◌, ℕ, ◌+◌, ◌≤◌, ◌<◌, inl, inr, List, [], ◌∷◌, length, take, get_or, arith, Option, Result, Ok, Err, OnOk, OnErr, IfSome, Some, None}
+use Rattle.std.proofs.Common.{◌≡◌, ℕ, ◌+◌, inl, inr, List, take, arith, Option, Result, Ok, Err, OnOk, OnErr, IfSome, Some, None}
 use Rattle.std.specs.Option.{option_map}
 use Rattle.std.specs.Io.KnownBytes.{Appends}
 use Rattle.cpmrun.specs.Program.{WritesOrFails}
-
--- a list of three members is its members
-pub three_members : {A : Type 0} (xs : List A) (a b c : A) → 3 ≤ length xs → length xs < 4
-    → a ≡ get_or xs 0 a → b ≡ get_or xs 1 b → c ≡ get_or xs 2 c → xs ≡ a ∷ b ∷ c ∷ []
-three_members [] a b c h k e f g = absurd (omega arith)
-three_members (x ∷ []) a b c h k e f g = absurd (omega arith)
-three_members (x ∷ y ∷ []) a b c h k e f g = absurd (omega arith)
-three_members (x ∷ y ∷ z ∷ []) a b c h k e f g = cc
-three_members (x ∷ y ∷ z ∷ w ∷ xs) a b c h k e f g = absurd (omega arith)
 
 -- what was written whole, or in part where writing failed
 pub written_or_failed : {U F : Type 0} (r : Result U F) (a b : Option (List ℕ)) (m n : ℕ) (text : List ℕ) → OnOk r (Appends a b text)

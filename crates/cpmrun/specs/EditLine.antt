@@ -1,9 +1,10 @@
 -- What a line of an edit text means, one case a command: `insert AT HEX`, `replace AT HEX`, `remove AT COUNT`, `poke ADDR HEX`,
--- `limit N`, `drop N`, `run`.
+-- `file NAME HEX`, `gone NAME`, `limit N`, `drop N`, `run`.
 use Rattle.std.specs.Prelude.{◌≡◌, ℕ, ◌+◌, ◌*◌, ◌%◌, ◌<◌, ◌≤◌, ◌⊎◌, List, [], ◌∷◌, length, codes, Ok}
 use Rattle.std.specs.Str.Parse.{IsNumeral, digits_value}
 use Rattle.hex.specs.Hex.{decode_of}
-use Rattle.replay.specs.declared.edit.Edit.TheVariants.{Insert, Replace, Remove, Poke, SetLimit}
+use Rattle.filenames.specs.Names.{Key, name_of}
+use Rattle.replay.specs.declared.edit.Edit.TheVariants.{Insert, Replace, Remove, Poke, SetFile, RemoveFile, SetLimit}
 use Rattle.replay.specs.Edits.{TakesMemory}
 use Rattle.cpmrun.specs.declared.line.Command.{Command}
 use Rattle.cpmrun.specs.declared.line.Command.TheVariants.{Edit, Run, DropOldest}
@@ -23,6 +24,10 @@ IsAddress word a = (high : ℕ) × (low : ℕ) × (decode_of word ≡ Ok (high �
 abbrev pub IsHexText : List ℕ → List ℕ → Type 0
 IsHexText word bytes = ((word ≡ codes "-") × (bytes ≡ [])) ⊎ ((0 < length word) × (decode_of word ≡ Ok bytes))
 
+-- a word that says the name of a key
+abbrev pub IsName : List ℕ → Key → Type 0
+IsName word key = name_of word ≡ Ok key
+
 abbrev pub EditLine : List ℕ → Command → Type 0
 EditLine line (Edit (Insert at bytes)) =
     (a : List ℕ) × (h : List ℕ) × (words_of line ≡ codes "insert" ∷ a ∷ h ∷ []) × IsNumber a at × IsHexText h bytes
@@ -32,19 +37,24 @@ EditLine line (Edit (Remove at count)) =
     (a : List ℕ) × (w : List ℕ) × (words_of line ≡ codes "remove" ∷ a ∷ w ∷ []) × IsNumber a at × IsNumber w count
 EditLine line (Edit (Poke at bytes)) =
     (a : List ℕ) × (h : List ℕ) × (words_of line ≡ codes "poke" ∷ a ∷ h ∷ []) × IsAddress a at × IsHexText h bytes
+EditLine line (Edit (SetFile key bytes)) =
+    (a : List ℕ) × (h : List ℕ) × (words_of line ≡ codes "file" ∷ a ∷ h ∷ []) × IsName a key × IsHexText h bytes
+EditLine line (Edit (RemoveFile key)) = (w : List ℕ) × (words_of line ≡ codes "gone" ∷ w ∷ []) × IsName w key
 EditLine line (Edit (SetLimit n)) = (w : List ℕ) × (words_of line ≡ codes "limit" ∷ w ∷ []) × IsNumber w n
 EditLine line Run = words_of line ≡ codes "run" ∷ []
 EditLine line (DropOldest n) = (w : List ℕ) × (words_of line ≡ codes "drop" ∷ w ∷ []) × IsNumber w n
 
--- what two words mean, the second of them a number
-abbrev pub IsNumbered : List ℕ → List ℕ → Command → Type 0
-IsNumbered verb word (Edit (Insert at bytes)) = ⊥
-IsNumbered verb word (Edit (Replace at bytes)) = ⊥
-IsNumbered verb word (Edit (Remove at count)) = ⊥
-IsNumbered verb word (Edit (Poke at bytes)) = ⊥
-IsNumbered verb word (Edit (SetLimit n)) = (verb ≡ codes "limit") × IsNumber word n
-IsNumbered verb word Run = ⊥
-IsNumbered verb word (DropOldest n) = (verb ≡ codes "drop") × IsNumber word n
+-- what two words mean, the second of them a number or a name
+abbrev pub IsPaired : List ℕ → List ℕ → Command → Type 0
+IsPaired verb word (Edit (Insert at bytes)) = ⊥
+IsPaired verb word (Edit (Replace at bytes)) = ⊥
+IsPaired verb word (Edit (Remove at count)) = ⊥
+IsPaired verb word (Edit (Poke at bytes)) = ⊥
+IsPaired verb word (Edit (SetFile key bytes)) = ⊥
+IsPaired verb word (Edit (RemoveFile key)) = (verb ≡ codes "gone") × IsName word key
+IsPaired verb word (Edit (SetLimit n)) = (verb ≡ codes "limit") × IsNumber word n
+IsPaired verb word Run = ⊥
+IsPaired verb word (DropOldest n) = (verb ≡ codes "drop") × IsNumber word n
 
 -- what three words mean
 abbrev pub IsPlaced : List ℕ → List ℕ → List ℕ → Command → Type 0
@@ -52,6 +62,8 @@ IsPlaced verb a h (Edit (Insert at bytes)) = (verb ≡ codes "insert") × IsNumb
 IsPlaced verb a h (Edit (Replace at bytes)) = (verb ≡ codes "replace") × IsNumber a at × IsHexText h bytes
 IsPlaced verb a h (Edit (Remove at count)) = (verb ≡ codes "remove") × IsNumber a at × IsNumber h count
 IsPlaced verb a h (Edit (Poke at bytes)) = (verb ≡ codes "poke") × IsAddress a at × IsHexText h bytes
+IsPlaced verb a h (Edit (SetFile key bytes)) = (verb ≡ codes "file") × IsName a key × IsHexText h bytes
+IsPlaced verb a h (Edit (RemoveFile key)) = ⊥
 IsPlaced verb a h (Edit (SetLimit n)) = ⊥
 IsPlaced verb a h Run = ⊥
 IsPlaced verb a h (DropOldest n) = ⊥
@@ -63,9 +75,9 @@ AreSplit words (Two a b) = words ≡ a.now ∷ b.now ∷ []
 AreSplit words (Three a b c) = words ≡ a.now ∷ b.now ∷ c.now ∷ []
 AreSplit words More = 3 < length words
 
--- a place where bytes are put: a number, or for a poke an address
+-- a place where bytes are put: a number, for a poke an address, or for a file its name
 abbrev pub IsPlaceOf : List ℕ → List ℕ → Type 0
-IsPlaceOf verb a = ((verb ≡ codes "insert") × ((at : ℕ) × IsNumber a at)) ⊎ ((verb ≡ codes "replace") × ((at : ℕ) × IsNumber a at)) ⊎ ((verb ≡ codes "poke") × ((at : ℕ) × IsAddress a at))
+IsPlaceOf verb a = ((verb ≡ codes "insert") × ((at : ℕ) × IsNumber a at)) ⊎ ((verb ≡ codes "replace") × ((at : ℕ) × IsNumber a at)) ⊎ ((verb ≡ codes "poke") × ((at : ℕ) × IsAddress a at)) ⊎ ((verb ≡ codes "file") × ((key : Key) × IsName a key))
 
 -- three words that name bytes: the bytes have an even count of characters
 abbrev pub NamesBytesAt : List ℕ → List ℕ → List ℕ → Type 0

@@ -9,7 +9,8 @@ use Rattle.replay.specs.Edits.{edited}
 use Rattle.cpmrun.specs.declared.line.Command.{Command}
 use Rattle.cpmrun.specs.declared.line.Command.TheVariants.{Edit, Run, DropOldest}
 use Rattle.cpmrun.specs.EditLine.{EditLine}
-use Rattle.cpmrun.specs.ReportText.{line, report_text}
+use Rattle.cpmrun.specs.ReportText.{line}
+use Rattle.cpmrun.specs.Reports.{report_text}
 
 -- the reply to an edit, by what it makes of the session
 abbrev pub edit_reply : Result Session ℕ → List ℕ
@@ -24,7 +25,7 @@ edit_after s (Err n) = s
 -- the reply to a command, and the session after it
 abbrev pub reply : Session → Command → List ℕ
 reply s (Edit e) = edit_reply (edited s e)
-reply s Run = report_text (cold s)
+reply s Run = report_text s (cold s)
 reply s (DropOldest n) = line (codes "ok")
 
 abbrev pub session_after : Session → Command → Session

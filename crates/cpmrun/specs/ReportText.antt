@@ -45,11 +45,10 @@ regs_text r =
     ++ codes " H=" ++ byte_text r.h ++ codes " L=" ++ byte_text r.l
     ++ codes " SP=" ++ word_text r.sp ++ codes " PC=" ++ word_text r.pc
 
--- the reply to `run`, of a cold run
-abbrev pub report_text : Cold → List ℕ
-report_text run =
+-- the first lines of the reply to `run`, of a cold run
+abbrev pub head_text : Cold → List ℕ
+head_text run =
     line (codes "stop " ++ cause_text run.cause)
     ++ line (codes "steps " ++ decimal run.steps)
     ++ line (regs_text run.state.core.regs)
     ++ line (codes "text " ++ hex_text run.state.core.desk.text)
-    ++ line (codes "end")

@@ -1,15 +1,31 @@
 ghost use Rattle.std.specs.Prelude.{◌≡◌, ◌+◌, ◌^◌, ◌<◌, ◌≤◌, OnOk};
 ghost use Rattle.replay.specs.Cold.{cold};
 ghost use Rattle.replay.specs.RunnerView.{DropsOldest, rerun_start};
+ghost use Rattle.replay.specs.Report.{reported_run, session_of};
 ghost use Rattle.cpmrun.specs.Progress.{CarriesOut, Does};
+ghost use Rattle.cpmrun.specs.ReportText.{head_text};
+ghost use Rattle.cpmrun.specs.Reports.{report_text};
+ghost use Rattle.cpmrun.specs.Writing.{Replies, Writes};
 
+use crate::changed_lines::{write_changed_files, write_piece};
 use crate::ending::ReplayFault;
 use crate::ends::{Failed, Writer, write_all};
 use crate::line::{Command, parse_line};
-use crate::reply::{refused, report_of};
+use crate::reply::{head_of, refused};
 use machine::{Meter, STEP_LIMIT};
-use replay::{Edit, EditError, Runner};
+use replay::{Edit, EditError, Report, Runner};
 use std::alloc::Global;
+
+/// Writes a reply, or some first part of it where the writer fails.
+fn write_reply<W: Writer>(writer: &mut W, text: &[u8]) -> Result<(), ReplayFault>
+    requires { W.failures writer.old < 2 ^ 63 }
+    ensures { Replies (W.holds writer.old) (W.holds writer.new) (W.failures writer.old) (W.failures writer.new) text.now result }
+{
+    match write_all(writer, text) {
+        Ok(()) => Ok(()),
+        Err(Failed) => Err(ReplayFault::Write),
+    }
+}
 
 /// Carries out an edit and writes its reply.
 fn carry_out_edit<W: Writer>(
@@ -22,14 +38,10 @@ fn carry_out_edit<W: Writer>(
     ensures fine { OnOk result (W.failures writer.new ≡ W.failures writer.old) }
     ensures failed { result ≡ Err ReplayFault.Write → W.failures writer.old < W.failures writer.new }
 {
-    let written = match runner.edit(edit) {
-        Ok(()) => write_all(writer, b"ok\n".as_slice()),
-        Err(EditError::OutOfMemory) => return Err(ReplayFault::OutOfMemory),
-        Err(refusal) => write_all(writer, refused(refusal.number()).as_slice()),
-    };
-    match written {
-        Ok(()) => Ok(()),
-        Err(Failed) => Err(ReplayFault::Write),
+    match runner.edit(edit) {
+        Ok(()) => write_reply(writer, b"ok\n"),
+        Err(refusal) if refusal == EditError::OutOfMemory => Err(ReplayFault::OutOfMemory),
+        Err(refusal) => write_reply(writer, &refused(refusal.number())),
     }
 }
 
@@ -52,6 +64,18 @@ fn drop_oldest<W: Writer>(
     }
 }
 
+/// Writes a report whose first lines are these: then the lines of the changed files, and `end`. They are written in pieces, and
+/// no memory is taken.
+fn write_report<W: Writer>(report: &Report<'_>, head: &str, writer: &mut W) -> Result<(), Failed>
+    requires writer { W.failures writer.old < 2 ^ 63 }
+    requires head { head.now ≡ head_text (reported_run report.now) }
+    ensures { Writes (W.holds writer.old) (W.holds writer.new) (W.failures writer.old) (W.failures writer.new) (report_text (session_of report.now) (reported_run report.now)) result }
+{
+    write_piece(writer, head.as_bytes())?;
+    write_changed_files(writer, report.files(), report.journal())?;
+    write_piece(writer, b"end\n")
+}
+
 /// Runs the session, from where the runner begins a rerun, and writes its report.
 fn run<W: Writer>(
     alloc: Global,
@@ -70,10 +94,10 @@ fn run<W: Writer>(
     let Ok(report) = runner.rerun(meter) else {
         return Err(ReplayFault::OutOfMemory);
     };
-    let Ok(text) = report_of(alloc, &report) else {
+    let Ok(head) = head_of(alloc, &report) else {
         return Err(ReplayFault::OutOfMemory);
     };
-    match write_all(writer, text.as_bytes()) {
+    match write_report(&report, head.as_str(), writer) {
         Ok(()) => Ok(()),
         Err(Failed) => Err(ReplayFault::Write),
     }

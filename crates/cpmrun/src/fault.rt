@@ -1,18 +1,22 @@
 ghost use Rattle.std.specs.Prelude.{◌≡◌, ◌^◌, ◌<◌, IfOk, IfSome, IfNone, string_bytes};
-ghost use Rattle.cpmrun.specs.Program.{Complains, NamesAValue, WritesOrFails, message_of, status_of};
+ghost use Rattle.cpmrun.specs.Program.{Complains, WritesOrFails};
 
 use crate::ends::{Writer, write_all};
 use std::alloc::{AllocError, Global};
 
 /// Why the program ends with a status other than 0.
-#[derive(Clone, Copy)]
+#[derive(Drop)]
 pub enum Fault<'a> {
-    /// The words are not `PROGRAM --edits FILE`.
-    Use,
+    /// The words of the command line are a fault of use, which this text tells.
+    Use(String),
+    /// A word of the command line is no text.
+    NotText,
     /// The file of this path could not be read.
     CannotRead(&'a str),
     /// Standard output could not be written.
     CannotWrite,
+    /// Folders were not read, or a changed file was not written.
+    Folders(folders::Fault),
     /// The session was refused, by the number of its refusal.
     Refused(u8),
     /// The edit line of this number has no meaning.
@@ -23,40 +27,54 @@ pub enum Fault<'a> {
     OutOfMemory,
 }
 
+/// What `clap` would say of a word that is no text. It takes texts alone.
+const NOT_TEXT: &str = "\
+error: invalid UTF-8 was detected in one or more arguments
+
+Usage: cpmrun [OPTIONS] <PROGRAM> [TAIL]
+
+For more information, try '--help'.
+";
+
 impl Fault<'_> {
-    /// The exit status: 1 for a fault of use, of a device or of the session, 2 for a line, 12 for
-    /// want of memory.
-    pub fn status(self) -> u8
-        ensures { result ≡ status_of self.entry }
+    ghost use Rattle.cpmrun.specs.Program.{NamesAValue, message_of, status_of};
+
+    /// The exit status: 1 for a fault of use, of a device, of the host files or of the session, 2 for a
+    /// line, 12 for want of memory.
+    pub fn status(&self) -> u8
+        ensures { result ≡ status_of self.now }
     {
         match self {
-            Fault::Use | Fault::CannotRead(_) | Fault::CannotWrite | Fault::Refused(_) => 1,
             Fault::Malformed(_) | Fault::TooLong(_) => 2,
-            Fault::OutOfMemory => 12,
+            Fault::Folders(folders::Fault::OutOfMemory) | Fault::OutOfMemory => 12,
+            _ => 1,
         }
     }
 
-    // The line that tells it, where that names no value.
-    fn fixed_message(self) -> Option<&'static str>
-        ensures some { IfSome result (λ s. s.now ≡ message_of self.entry) }
-        ensures none { IfNone result (NamesAValue self.entry) }
+    // The lines that tell it, where they name no value that has to be put into them.
+    fn fixed_message(&self) -> Option<&str>
+        ensures some { IfSome result (λ s. s.now ≡ message_of self.now) }
+        ensures none { IfNone result (NamesAValue self.now) }
     {
         match self {
-            Fault::Use => Some("usage: cpmrun PROGRAM --edits FILE\n"),
+            Fault::Use(text) => Some(text.as_str()),
+            Fault::NotText => Some(NOT_TEXT),
             Fault::CannotWrite => Some("cpmrun: cannot write standard output\n"),
             Fault::OutOfMemory => Some("cpmrun: out of memory\n"),
             _ => None,
         }
     }
 
-    /// The line that tells it, with its 0AH.
-    pub fn message(self, alloc: Global) -> Result<String, AllocError>
-        ensures { IfOk result (λ s. string_bytes s ≡ message_of self.entry) }
+    /// The lines that tell it, each with its 0AH: one line, but for a fault of use.
+    pub fn message(&self, alloc: Global) -> Result<String, AllocError>
+        ensures { IfOk result (λ s. string_bytes s ≡ message_of self.now) }
     {
         match self {
-            Fault::Use => String::from_str(alloc, "usage: cpmrun PROGRAM --edits FILE\n"),
+            Fault::Use(text) => String::from_str(alloc, text.as_str()),
+            Fault::NotText => String::from_str(alloc, NOT_TEXT),
             Fault::CannotRead(path) => format!(in alloc; "cpmrun: cannot read {path}\n"),
             Fault::CannotWrite => String::from_str(alloc, "cpmrun: cannot write standard output\n"),
+            Fault::Folders(fault) => format!(in alloc; "cpmrun: {fault}\n"),
             Fault::Refused(number) => format!(in alloc; "cpmrun: session refused {number}\n"),
             Fault::Malformed(line) => format!(in alloc; "cpmrun: line {line} is malformed\n"),
             Fault::TooLong(line) => format!(in alloc; "cpmrun: line {line} is too long\n"),

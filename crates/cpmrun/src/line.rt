@@ -1,8 +1,9 @@
 ghost use Rattle.std.specs.Prelude.{◌≡◌, ℕ, ◌%◌, ◌<◌, ◌∷◌, [], List, length, IfOk, OnErr, IfSome, IfNone, MatchOption, codes};
-ghost use Rattle.cpmrun.specs.EditLine.{AreSplit, EditLine, IsAddress, IsHexText, IsNumber, IsNumbered, IsPlaced, NamesBytes, NamesBytesAt};
+ghost use Rattle.cpmrun.specs.EditLine.{AreSplit, EditLine, IsAddress, IsHexText, IsNumber, IsPaired, IsPlaced, NamesBytes, NamesBytesAt};
 ghost use Rattle.cpmrun.specs.Pieces.{first_piece, other_pieces, pieces, words_of};
 ghost use Rattle.cpmrun.specs.declared.line.Command.{Command};
 
+use crate::file_lines::{file, name};
 use hex::{FromHex, FromHexError};
 use machine::Bytes;
 use replay::Edit;
@@ -11,7 +12,8 @@ use std::alloc::{AllocError, Global};
 /// What a line of an edit text asks for.
 #[derive(Drop)]
 pub enum Command {
-    /// `insert AT HEX`, `replace AT HEX`, `remove AT COUNT`, `poke ADDR HEX` or `limit N`: the session is changed.
+    /// `insert AT HEX`, `replace AT HEX`, `remove AT COUNT`, `poke ADDR HEX`, `file NAME HEX`, `gone NAME` or `limit N`: the session
+    /// is changed.
     Edit(Edit),
     /// `run`: the session is run, and its report is written.
     Run,
@@ -84,7 +86,7 @@ fn number(word: &[u8]) -> Option<u64>
 }
 
 /// The bytes of `-`, or of two hexadecimal digits for each.
-fn hex_bytes(alloc: Global, word: &[u8]) -> Result<Option<Vec<u8>>, AllocError>
+pub(crate) fn hex_bytes(alloc: Global, word: &[u8]) -> Result<Option<Vec<u8>>, AllocError>
     ensures found { IfOk result (λ r. IfSome r (λ v. IsHexText word.now v.items)) }
     ensures none { IfOk result (λ r. IfNone r ((bytes : List ℕ) → IsHexText word.now bytes → ⊥)) }
     ensures memory { OnErr result ((0 < length word.now) × (length word.now % 2 ≡ 0)) }
@@ -113,11 +115,15 @@ fn address(word: &[u8]) -> Option<u16>
     }
 }
 
-/// The command of two words, the second of them a number.
-fn numbered(verb: &[u8], word: &[u8]) -> Option<Command>
-    ensures found { IfSome result (IsNumbered verb.now word.now) }
-    ensures none { IfNone result ((c : Command) → IsNumbered verb.now word.now c → ⊥) }
+/// The command of two words, the second of them a number or a name.
+fn paired(verb: &[u8], word: &[u8]) -> Option<Command>
+    ensures found { IfSome result (IsPaired verb.now word.now) }
+    ensures none { IfNone result ((c : Command) → IsPaired verb.now word.now c → ⊥) }
 {
+    if verb == b"gone".as_slice() {
+        let name = name(word)?;
+        return Some(Command::Edit(Edit::RemoveFile(name)));
+    }
     let is_limit = verb == b"limit".as_slice();
     if !is_limit && verb != b"drop".as_slice() {
         return None;
@@ -184,6 +190,18 @@ fn remove(at: &[u8], count: &[u8]) -> Option<Command>
     Some(Command::Edit(Edit::Remove(at, count)))
 }
 
+/// The file of two words, its name and its bytes.
+fn set_file(alloc: Global, name: &[u8], bytes: &[u8]) -> Result<Option<Command>, AllocError>
+    ensures found { IfOk result (λ r. IfSome r (IsPlaced (codes "file") name.now bytes.now)) }
+    ensures none { IfOk result (λ r. IfNone r ((c : Command) → IsPlaced (codes "file") name.now bytes.now c → ⊥)) }
+    ensures memory { OnErr result (NamesBytesAt (codes "file") name.now bytes.now) }
+{
+    match file(alloc, name, bytes)? {
+        Some((name, bytes)) => Ok(Some(Command::Edit(Edit::SetFile(name, bytes)))),
+        None => Ok(None),
+    }
+}
+
 /// The command of three words.
 fn placed(alloc: Global, verb: &[u8], at: &[u8], last: &[u8]) -> Result<Option<Command>, AllocError>
     ensures found { IfOk result (λ r. IfSome r (IsPlaced verb.now at.now last.now)) }
@@ -202,6 +220,9 @@ fn placed(alloc: Global, verb: &[u8], at: &[u8], last: &[u8]) -> Result<Option<C
     if verb == b"poke".as_slice() {
         return poke(alloc, at, last);
     }
+    if verb == b"file".as_slice() {
+        return set_file(alloc, at, last);
+    }
     Ok(None)
 }
 
@@ -214,7 +235,7 @@ pub fn parse_line(alloc: Global, line: &[u8]) -> Result<Option<Command>, AllocEr
 {
     match split(line) {
         Words::One(verb) if verb == b"run".as_slice() => Ok(Some(Command::Run)),
-        Words::Two(verb, word) => Ok(numbered(verb, word)),
+        Words::Two(verb, word) => Ok(paired(verb, word)),
         Words::Three(verb, at, last) => placed(alloc, verb, at, last),
         _ => Ok(None),
     }

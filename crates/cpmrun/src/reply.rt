@@ -1,7 +1,7 @@
 ghost use Rattle.std.specs.Prelude.{◌≡◌, ◌<◌, ◌++◌, IfOk, OnOk, codes, string_bytes};
 ghost use Rattle.std.specs.Fmt.{decimal};
 ghost use Rattle.cpmrun.specs.ReportText as texts;
-ghost use Rattle.cpmrun.specs.ReportText.{byte_text, word_text, hex_text, line, regs_text, report_text};
+ghost use Rattle.cpmrun.specs.ReportText.{byte_text, word_text, hex_text, line, regs_text, head_text};
 ghost use Rattle.replay.specs.Report.{reported_run};
 
 use machine::{Cause, Regs};
@@ -106,10 +106,10 @@ fn regs_line(alloc: Global, regs: Regs) -> Result<String, AllocError>
     Ok(text)
 }
 
-/// The reply to `run`: the lines `stop`, `steps`, `regs`, `text` and `end`, each with its 0AH. An
+/// The first lines of the reply to `run`: `stop`, `steps`, `regs` and `text`, each with its 0AH. An
 /// error is want of memory for the text.
-pub fn report_of(alloc: Global, report: &Report<'_>) -> Result<String, AllocError>
-    ensures { IfOk result (λ s. string_bytes s ≡ report_text (reported_run report.now)) }
+pub fn head_of(alloc: Global, report: &Report<'_>) -> Result<String, AllocError>
+    ensures { IfOk result (λ s. string_bytes s ≡ head_text (reported_run report.now)) }
 {
     let cause = cause_text(alloc, report.cause())?;
     let steps = report.steps();
@@ -120,6 +120,5 @@ pub fn report_of(alloc: Global, report: &Report<'_>) -> Result<String, AllocErro
     write!(lines, "steps {steps}\n")?;
     write!(lines, "{regs}\n")?;
     write!(lines, "text {text}\n")?;
-    lines.push_str("end\n")?;
     Ok(lines)
 }

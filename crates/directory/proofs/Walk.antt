@@ -138,11 +138,16 @@ chunk_more k v n l =
     let left : 512 - n ≡ suc (512 - (n + 1)) = omega arith in
     ap (λ m. entries_at k (count_by v) (range_with_len n m)) left
 
-pub chunk_end : (k : Key) (v : Option Shape) (n : ℕ) → 512 ≤ n → chunk_from k v n ≡ []
+none_at : (k : Key) (c : ℕ → Option ℕ) (b a : ℕ) → ((e : ℕ) → a ≤ e → e < a + b → c e ≡ None) → entries_at k c (range_with_len a b) ≡ []
+none_at k c zero a h = refl
+none_at k c (suc b) a h =
+    ap (λ x. with_entry k a x (entries_at k c (range_with_len (a + 1) b))) (h a (omega arith) (omega arith))
+    ∙ none_at k c b (a + 1) (λ e l u. h e (omega arith) (omega arith))
+
+-- where no later extent has an entry
+pub chunk_past : (k : Key) (v : Option Shape) (n : ℕ) → ((e : ℕ) → n ≤ e → e < 512 → count_by v e ≡ None) → chunk_from k v n ≡ []
 unfolding chunk_from
-chunk_end k v n l =
-    let left : 512 - n ≡ 0 = omega arith in
-    ap (λ m. entries_at k (count_by v) (range_with_len n m)) left
+chunk_past k v n h = none_at k (count_by v) (512 - n) n (λ e l u. h e l (omega arith))
 
 pub is_later : (n a : ℕ) → n < a → nat_lt n a ≡ true
 is_later n a l = search (rules)

@@ -25,6 +25,17 @@ pub struct Position {
     pub extent: u16,
 }
 
+/// Where a search of the directory goes on: after the entry that was given last.
+#[derive(Clone, Copy)]
+pub struct Search {
+    /// What is searched for: a drive, and a name that may have a `?`.
+    pub pattern: Key,
+    /// The extent, or 63 (`?`) for each.
+    pub extent: u8,
+    /// The bytes of the entry.
+    pub last: [u8; 32],
+}
+
 impl Entry {
     /// The 32 bytes of the entry: 0, the eleven bytes of the name, the extent modulo 32, 0, the extent divided by 32, the count, and
     /// sixteen zeros.

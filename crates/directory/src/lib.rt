@@ -5,6 +5,6 @@ pub mod entry;
 pub mod pattern;
 pub mod search;
 
-pub use entry::{Entry, Position};
+pub use entry::{Entry, Position, Search};
 pub use pattern::is_match;
 pub use search::{Files, next_entry};

@@ -1,6 +1,6 @@
 // A search in the directory.
 
-ghost use Rattle.std.specs.Prelude.{◌≡◌, ◌<◌, ◌||◌, ◌==◌, ℕ, List, Option, true, None, Some, IfSome, IfNone};
+ghost use Rattle.std.specs.Prelude.{◌≡◌, ◌<◌, ◌≤◌, ◌||◌, ◌==◌, ℕ, List, Option, true, None, Some, IfSome, IfNone};
 ghost use Rattle.std.specs.declared.cmp.Ordering.TheVariants.{Less};
 ghost use Rattle.std.specs.FinMap as finmap;
 ghost use Rattle.std.specs.Ordering.{nat_cmp};
@@ -31,6 +31,11 @@ pub trait Files {
     /// The count of an extent's entry, if it has one.
     fn count(&self, key: &Key, extent: u32) -> Option<u8>
         ensures { result ≡ count_by (finmap.get (files self.now) key.now) extent };
+
+    /// An extent from which on the file of a key has no entry, at most 512.
+    fn extents(&self, key: &Key) -> u32
+        ensures within { result ≤ 512 }
+        ensures none { (e : ℕ) → result ≤ e → e < 512 → count_by (finmap.get (files self.now) key.now) e ≡ None };
 }
 
 // Whether an extent matches a pattern's byte.
@@ -70,8 +75,9 @@ fn first_extent<T: Files>(files: &T, key: &Key, from: u32, pattern: &Key, ex: u8
     if !is_match(pattern, key) {
         return None;
     }
+    let end = files.extents(key);
     let mut extent = from;
-    while extent < 512 {
+    while extent < end {
         if let Some(found) = entry_at(files, key, extent, ex) {
             return Some(found);
         }

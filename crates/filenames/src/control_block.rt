@@ -1,6 +1,6 @@
 // File control blocks.
 
-ghost use Rattle.std.specs.Prelude.{◌≡◌, ◌≤◌, length, slice_index};
+ghost use Rattle.std.specs.Prelude.{◌≡◌, ◌≤◌, ◌<◌, length, slice_index};
 ghost use Rattle.filenames.specs.ControlBlock.{place_of, random_of, name_at, with_place};
 
 use std::marker::Model;
@@ -84,7 +84,8 @@ impl Fcb {
 
     /// The random place, from its low two bytes r0 and r1.
     pub fn random(&self) -> u32
-        ensures { result ≡ random_of self.now }
+        ensures place { result ≡ random_of self.now }
+        ensures within { result < 65536 }
     {
         self.bytes[33] as u32 + 256 * self.bytes[34] as u32
     }

@@ -6,6 +6,7 @@ mod field;
 pub mod name;
 
 pub use control_block::Fcb;
+pub use field::{fill, first, halves};
 pub use name::{Key, Name, NameError, is_sayable, names_say_their_keys};
 
 #[cfg(test)]

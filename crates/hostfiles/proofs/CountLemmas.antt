@@ -1,10 +1,13 @@
 -- The count of an extent.
-use Rattle.std.proofs.Common.{◌≡◌, ◌<◌, ◌≤◌, ◌+◌, ◌*◌, ℕ, zero, suc, true, false, cond, is_some, List, [], ◌∷◌, length, map, take, drop, get_or, nat_lt, Option, None, rules, refl, ap, ◌∙◌, arith, inl, inr}
+use Rattle.std.proofs.Common.{◌≡◌, ◌<◌, ◌≤◌, ◌+◌, ◌*◌, ℕ, zero, suc, true, false, cond, is_some, List, [], ◌∷◌, length, map, take, drop, get_or, nat_lt, Option, None, Some, option_map, rules, refl, ap, ◌∙◌, arith, inl, inr}
 use Rattle.std.proofs.lemmas.Bool.{cases_lt}
 use Rattle.std.proofs.lemmas.List.{get_or-take, get_or-drop, get_or_past, get_or-map}
 use Rattle.std.proofs.lemmas.List.FromFn.{get_or-map-range_with_len, length-map-range_with_len}
+use Rattle.std.specs.Prelude.{◌==◌}
 use Rattle.std.specs.List.{range_with_len}
-use Rattle.directory.specs.Entries.{Shape, count_of, count_at}
+use Rattle.directory.specs.Entries.{Shape, count_of, count_at, count_in, count_by}
+use Rattle.hostfiles.specs.Hosts.{Key, Host}
+use Rattle.hostfiles.specs.Files.{Own, has, length_at, place_of, entry_at, file_of, shape_of, shape_at}
 
 -- no record
 pub count_none : (xs : Shape) → ((k : ℕ) → get_or xs k false ≡ false) → count_of xs ≡ 0
@@ -65,3 +68,25 @@ past_shape f n p h =
     let all = mapped is_some (map f (range_with_len 0 n)) in
     let count = length-map-range_with_len f 0 n in
     get_or_past (map is_some (map f (range_with_len 0 n))) p false (omega arith)
+
+-- no record stands at a place of an extent that is past the end of a file of n places
+pub none_past : (f : ℕ → Option (List ℕ)) (n e i : ℕ) → ((k : ℕ) → i ≤ k → k < 128 → n ≤ 128 * e + k)
+    → (k : ℕ) → i ≤ k → get_or (take 128 (drop (128 * e) (map is_some (map f (range_with_len 0 n))))) k false ≡ false
+none_past f n e i past k l = elim (cases_lt k 128) [
+  | inl under ↦ in_extent (map is_some (map f (range_with_len 0 n))) e k under ∙ past_shape f n (128 * e + k) (past k l under)
+  | inr over ↦ past_extent (map is_some (map f (range_with_len 0 n))) e k over
+]
+
+no_entry : (s : Shape) (e : ℕ) → 1 ≤ e → count_at s e ≡ 0 → count_in s e ≡ None
+no_entry [] e one h = let other : (e == 0) ≡ false = search rules in ap (λ b. cond b (Some 0) None) other
+no_entry (b ∷ bs) e one h = ap (λ n. cond (nat_lt 0 n) (Some n) None) h
+
+-- an extent past the end of a file has no entry
+pub past_entries : (host : Host) (own : Own) (key : Key) (e : ℕ) → 1 ≤ e → length_at host own key ≤ 128 * e → count_by (shape_at host own key) e ≡ None
+past_entries host own key e one past =
+    let s : Shape = shape_of (file_of host key (entry_at own key)) in
+    let none = none_past (place_of host key (entry_at own key)) (length_at host own key) e 0 (λ k l u. omega arith) in
+    elim (has host own key) as (λ b. count_by (option_map shape_of (cond b (Some (file_of host key (entry_at own key))) None)) e ≡ None) [
+      | true ↦ no_entry s e one (count_empty s e none)
+      | false ↦ refl
+    ]

@@ -131,7 +131,7 @@ deleted_here host own pattern after k left m up none matched h e q =
 
 -- ---- counting
 
-there : (host : Host) (own : Own) (k : Key) → is_some (get (shapes host own) k) ≡ has host own k
+pub there : (host : Host) (own : Own) (k : Key) → is_some (get (shapes host own) k) ≡ has host own k
 there host own k = ap is_some (get-shapes host own k) ∙ told (has host own k) where
   told : (b : Bool) → is_some (option_map shape_of (cond b (Some (file_of host k (entry_at own k))) None)) ≡ b
   told true = refl

@@ -1,5 +1,7 @@
 -- The questions that a run asks of the host files, and those that what it did answers.
-use Rattle.std.specs.Prelude.{◌≡◌, ℕ, Bool, true, false, Option, Some, None, is_some, nat_lt, if◌then◌else◌, replicate, slice_set, get_or}
+use Rattle.std.specs.Prelude.{◌≡◌, ℕ, ◌==◌, ◌&&◌, Bool, true, false, Option, Some, None, is_some, nat_lt, if◌then◌else◌, replicate, slice_set, get_or}
+use Rattle.std.specs.Ordering.{nat_cmp, eq_by_cmp}
+use Rattle.std.specs.Cmp.Lexicographic.{slice_cmp}
 use Rattle.std.specs.FinMap.{get, insert, remove, empty, contains_key}
 use Rattle.hostfiles.specs.Hosts.{Key, Host}
 use Rattle.hostfiles.specs.Files.{Own, entry_at, has, length_at, is_below}
@@ -19,6 +21,14 @@ is_looked l (Has key) = contains_key l.has key
 is_looked l (Length key) = contains_key l.lengths key
 is_looked l (Rec key k) = contains_key l.records (key, k)
 is_looked l (Directory drive) = get_or l.directories drive false
+
+-- whether two questions are the same
+abbrev pub is_same_ask : Ask → Ask → Bool
+is_same_ask (Has key) (Has other) = eq_by_cmp (slice_cmp nat_cmp) key other
+is_same_ask (Length key) (Length other) = eq_by_cmp (slice_cmp nat_cmp) key other
+is_same_ask (Rec key k) (Rec other j) = eq_by_cmp (slice_cmp nat_cmp) key other && k == j
+is_same_ask (Directory drive) (Directory other) = drive == other
+is_same_ask ask other = false
 
 -- without a question
 abbrev pub forgot : Ask → Looks → Looks

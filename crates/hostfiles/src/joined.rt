@@ -1,6 +1,6 @@
 // The files that a program sees: what a run did to them, laid over the host files. Nothing here is a look.
 
-ghost use Rattle.std.specs.Prelude.{◌≡◌, ◌≤◌, length, slice_get, get_or, is_some, false, Some};
+ghost use Rattle.std.specs.Prelude.{◌≡◌, ◌<◌, ◌≤◌, ◌+◌, ◌*◌, ℕ, length, slice_get, get_or, is_some, false, Some};
 ghost use Rattle.directory.specs.Entries.{count_at};
 ghost use Rattle.hostfiles.specs.Files.{has, length_at, records_of, place_of, place, records, entry_at, file_of, shape_of};
 
@@ -140,7 +140,7 @@ pub fn count(host: &HostFiles, journal: &Journal, key: &Key, extent: u32) -> u8
     ensures value { result ≡ count_at (shape_of (file_of host.now key.now (entry_at journal.now.entries key.now))) extent }
     ensures within { result ≤ 128 }
 {
-    let mut i = 128;
+    let mut i = places_in(length(host, journal, key), extent);
     while i > 0 {
         i -= 1;
         if holds(host, journal, key, 128 * extent as u64 + i as u64) {
@@ -148,4 +148,19 @@ pub fn count(host: &HostFiles, journal: &Journal, key: &Key, extent: u32) -> u8
         }
     }
     0
+}
+
+// How many places of an extent a file of `n` places has.
+fn places_in(n: u32, extent: u32) -> u8
+    ensures within { result ≤ 128 }
+    ensures past { (i : ℕ) → result ≤ i → i < 128 → n ≤ 128 * extent + i }
+{
+    let start = 128 * extent as u64;
+    if n as u64 <= start {
+        return 0;
+    }
+    if n as u64 - start >= 128 {
+        return 128;
+    }
+    (n as u64 - start) as u8
 }

@@ -1,6 +1,6 @@
 // The directory of host files with what was done to them.
 
-ghost use Rattle.std.specs.Prelude.{◌≡◌, ◌&&◌, ℕ, List, true, false, Some, IfOk, IfSome, IfNone, if◌then◌else◌, filter, length};
+ghost use Rattle.std.specs.Prelude.{◌≡◌, ◌<◌, ◌≤◌, ◌&&◌, None, ℕ, List, true, false, Some, IfOk, IfSome, IfNone, if◌then◌else◌, filter, length};
 ghost use Rattle.std.specs.declared.cmp.Ordering.TheVariants.{Less};
 ghost use Rattle.std.specs.FinMap as finmap;
 ghost use Rattle.std.specs.Ordering.{nat_cmp};
@@ -42,6 +42,26 @@ impl Files for Listed<'_> {
     fn count(&self, key: &Key, extent: u32) -> Option<u8> {
         entry_count(self.host, self.journal, key, extent)
     }
+
+    fn extents(&self, key: &Key) -> u32 {
+        extents_of(self.host, self.journal, key)
+    }
+}
+
+// An extent from which on the file of a key has no entry: that behind the file's last place, and 1 where it has none.
+fn extents_of(host: &HostFiles, journal: &Journal, key: &Key) -> u32
+    ensures within { result ≤ 512 }
+    ensures none { (e : ℕ) → result ≤ e → e < 512 → count_by (shape_at host.now journal.now.entries key.now) e ≡ None }
+{
+    let n = joined::length(host, journal, key);
+    if n == 0 {
+        return 1;
+    }
+    let last = (n - 1) / 128;
+    if last >= 512 {
+        return 512;
+    }
+    last + 1
 }
 
 // The count of an extent's entry, if it has one.

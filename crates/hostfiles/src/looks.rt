@@ -47,6 +47,14 @@ impl Looks {
         }
     }
 
+    /// How many drives may be marked: as many as a byte tells.
+    pub fn drive_count(&self) -> usize
+        ensures value { result ≡ length self.now.directories }
+        ensures all { result ≡ 256 }
+    {
+        self.directories.len()
+    }
+
     /// Whether a question was asked.
     pub fn looked(&self, ask: &Ask) -> bool
         ensures { result ≡ is_looked self.now ask.now }

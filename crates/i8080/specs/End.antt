@@ -5,7 +5,7 @@ use Rattle.std.specs.declared.alloc.AllocError.{AllocError}
 use Rattle.i8080.specs.declared.registers.Regs.{Regs}
 use Rattle.i8080.specs.declared.outcome.Did.{Did}
 use Rattle.i8080.specs.declared.outcome.Did.TheVariants as did
-use Rattle.i8080.specs.Memory.{Own, Memory, Extends, bytes, write_all}
+use Rattle.i8080.specs.Memory.{Own, Memory, bytes, write_all}
 use Rattle.i8080.specs.Registers.{onward}
 use Rattle.i8080.specs.Reading.{Reading, end_of, looks_after}
 
@@ -31,16 +31,23 @@ own_after (Went r writes) own = write_all own writes
 own_after Halt own = own
 own_after (Undefined byte) own = own
 
--- what a call leaves that carries out a tree of reads and its end
+-- it ends with a write
+abbrev pub IsWriting : End → Type 0
+IsWriting (Went r []) = ⊥
+IsWriting (Went r (w ∷ rest)) = Unit {0}
+IsWriting Halt = ⊥
+IsWriting (Undefined byte) = ⊥
+
+-- what a call leaves that carries out a tree of reads and its end: memory may be refused only where something is to be written,
+-- and then all was read
 pub record Performs (t : Reading End) (r : Regs) (m : Memory) (result : Result Did AllocError) (r' : Regs) (m' : Memory) : Type 0 where
   pub did : IfOk result (λ did. did ≡ did_of (end_of t (bytes m)))
   pub regs : OnOk result (r' ≡ regs_after (end_of t (bytes m)) r)
   pub own : OnOk result (m'.own ≡ own_after (end_of t (bytes m)) m.own)
-  pub looks : OnOk result (m'.looks ≡ looks_after t m)
-  pub err_looks : OnErr result (Extends m.looks m'.looks)
-  pub err_bound : OnErr result (Extends m'.looks (looks_after t m))
+  pub err_writes : OnErr result (IsWriting (end_of t (bytes m)))
   pub err_regs : OnErr result (r' ≡ r)
   pub err_own : OnErr result (m'.own ≡ m.own)
+  pub looks : m'.looks ≡ looks_after t m
   pub beneath : m'.beneath ≡ m.beneath
   pub lender : m'.lender ≡ m.lender
 
@@ -50,11 +57,9 @@ cells_from at [] = []
 cells_from at (byte ∷ rest) = (at, byte) ∷ cells_from (onward at 1) rest
 
 -- what a call leaves that only reads, and gives a value
-pub record Reads {E : Type 0} (t : Reading E) (m : Memory) (result : Result E AllocError) (m' : Memory) : Type 0 where
-  pub value : IfOk result (λ v. v ≡ end_of t (bytes m))
-  pub looks : OnOk result (m'.looks ≡ looks_after t m)
-  pub err_looks : OnErr result (Extends m.looks m'.looks)
-  pub err_bound : OnErr result (Extends m'.looks (looks_after t m))
+pub record Reads {E : Type 0} (t : Reading E) (m : Memory) (result : E) (m' : Memory) : Type 0 where
+  pub value : result ≡ end_of t (bytes m)
+  pub looks : m'.looks ≡ looks_after t m
   pub own : m'.own ≡ m.own
   pub beneath : m'.beneath ≡ m.beneath
   pub lender : m'.lender ≡ m.lender

@@ -43,23 +43,21 @@ pub trait Bus {
 }
 
 /// The byte of a cell.
-#[tactic(auto, using(crate::proofs::BoundLemmas::bound_here, crate::proofs::BoundLemmas::bound_more))]
 #[inline(always)]
-pub fn fetch<B: Bus>(bus: &mut B, a: u16) -> Result<u8, AllocError>
+pub fn fetch<B: Bus>(bus: &mut B, a: u16) -> u8
     ensures { Reads (Cell a Done) (B.memory bus.old) result (B.memory bus.new) }
 {
-    Ok(bus.read(a))
+    bus.read(a)
 }
 
 /// The word at an address: its low byte there, its high byte in the next cell. The cell after 0FFFFH is 0000H.
-#[tactic(auto, using(crate::proofs::LookLemmas::extends_past, crate::proofs::LookLemmas::extends_past_one, crate::proofs::LookLemmas::extends_past_two, crate::proofs::BoundLemmas::bound_here, crate::proofs::BoundLemmas::bound_more, crate::proofs::BoundLemmas::bound_all))]
 #[inline(always)]
-pub fn fetch_word<B: Bus>(bus: &mut B, a: u16) -> Result<u16, AllocError>
+pub fn fetch_word<B: Bus>(bus: &mut B, a: u16) -> u16
     ensures { Reads (word_at a Done) (B.memory bus.old) result (B.memory bus.new) }
 {
-    let low = fetch(bus, a)?;
-    let high = fetch(bus, a.wrapping_add(1))?;
-    Ok(word_of(low, high))
+    let low = fetch(bus, a);
+    let high = fetch(bus, a.wrapping_add(1));
+    word_of(low, high)
 }
 
 /// Makes `count` cells ready, from an address on; the cell after 0FFFFH is 0000H. No byte changes,

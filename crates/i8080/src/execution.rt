@@ -19,12 +19,12 @@ use std::alloc::AllocError;
 
 /// Carries out the instruction at PC. `Halt`, `Undefined` and `Err` leave the registers and the
 /// memory's bytes as they were.
-#[tactic(auto, using(crate::proofs::LookLemmas::extends_past, crate::proofs::LookLemmas::extends_past_one, crate::proofs::LookLemmas::extends_past_two, crate::proofs::BoundLemmas::bound_here, crate::proofs::BoundLemmas::bound_more, crate::proofs::BoundLemmas::bound_all), unfolding(crate::specs::Instruction::instruction))]
+#[tactic(auto, unfolding(crate::specs::Instruction::instruction))]
 #[inline(always)]
 pub fn execute<B: Bus>(regs: &mut Regs, bus: &mut B) -> Result<Did, AllocError>
     ensures { Performs (instruction regs.old) regs.old (B.memory bus.old) result regs.new (B.memory bus.new) }
 {
-    let byte = fetch(bus, regs.pc)?;
+    let byte = fetch(bus, regs.pc);
     // tests in place of a jump by the part, and each part has a jump of its own by the byte
     if byte < 0x80 {
         if byte < 0x40 {

@@ -25,11 +25,11 @@ type Ended = Result<Did, AllocError>;
 
 // The byte in a register, or in the cell at HL.
 #[inline(always)]
-fn operand<B: Bus>(regs: &Regs, bus: &mut B, place: Place) -> Result<u8, AllocError>
+fn operand<B: Bus>(regs: &Regs, bus: &mut B, place: Place) -> u8
     ensures { Reads (from_place place regs.now Done) (B.memory bus.old) result (B.memory bus.new) }
 {
     match place {
-        Place::Held(register) => Ok(regs.get(register)),
+        Place::Held(register) => regs.get(register),
         Place::Memory => fetch(bus, regs.pair(Pair::Hl)),
     }
 }
@@ -112,7 +112,7 @@ pub fn nop<B: Bus>(regs: &mut Regs, _bus: &mut B) -> Ended
 pub fn mov<B: Bus>(regs: &mut Regs, bus: &mut B, to: Register, from: Place) -> Ended
     ensures { Performs (operation (Mov to from) regs.old) regs.old (B.memory bus.old) result regs.new (B.memory bus.new) }
 {
-    let value = operand(regs, bus, from)?;
+    let value = operand(regs, bus, from);
     regs.set(to, value);
     advance(regs, 1)
 }
@@ -125,12 +125,11 @@ pub fn mov_to_memory<B: Bus>(regs: &mut Regs, bus: &mut B, from: Register) -> En
     advance(regs, 1)
 }
 
-#[tactic(auto, using(crate::proofs::LookLemmas::extends_past, crate::proofs::LookLemmas::extends_past_one, crate::proofs::LookLemmas::extends_past_two, crate::proofs::BoundLemmas::bound_here, crate::proofs::BoundLemmas::bound_more, crate::proofs::BoundLemmas::bound_all))]
 #[inline(always)]
 pub fn mvi<B: Bus>(regs: &mut Regs, bus: &mut B, to: Place) -> Ended
     ensures { Performs (operation (Mvi to) regs.old) regs.old (B.memory bus.old) result regs.new (B.memory bus.new) }
 {
-    let value = fetch(bus, regs.pc.wrapping_add(1))?;
+    let value = fetch(bus, regs.pc.wrapping_add(1));
     put(regs, bus, to, value)?;
     advance(regs, 2)
 }
@@ -139,27 +138,25 @@ pub fn mvi<B: Bus>(regs: &mut Regs, bus: &mut B, to: Place) -> Ended
 pub fn lxi<B: Bus>(regs: &mut Regs, bus: &mut B, to: Pair) -> Ended
     ensures { Performs (operation (Lxi to) regs.old) regs.old (B.memory bus.old) result regs.new (B.memory bus.new) }
 {
-    let value = fetch_word(bus, regs.pc.wrapping_add(1))?;
+    let value = fetch_word(bus, regs.pc.wrapping_add(1));
     regs.set_pair(to, value);
     advance(regs, 3)
 }
 
-#[tactic(auto, using(crate::proofs::LookLemmas::extends_past, crate::proofs::LookLemmas::extends_past_one, crate::proofs::LookLemmas::extends_past_two, crate::proofs::BoundLemmas::bound_here, crate::proofs::BoundLemmas::bound_more, crate::proofs::BoundLemmas::bound_all))]
 #[inline(always)]
 pub fn lda<B: Bus>(regs: &mut Regs, bus: &mut B) -> Ended
     ensures { Performs (operation Lda regs.old) regs.old (B.memory bus.old) result regs.new (B.memory bus.new) }
 {
-    let from = fetch_word(bus, regs.pc.wrapping_add(1))?;
-    regs.a = fetch(bus, from)?;
+    let from = fetch_word(bus, regs.pc.wrapping_add(1));
+    regs.a = fetch(bus, from);
     advance(regs, 3)
 }
 
-#[tactic(auto, using(crate::proofs::WriteLookLemmas::extends_by_two, crate::proofs::BoundLemmas::bound_here, crate::proofs::BoundLemmas::bound_more, crate::proofs::BoundLemmas::bound_all))]
 #[inline(always)]
 pub fn sta<B: Bus>(regs: &mut Regs, bus: &mut B) -> Ended
     ensures { Performs (operation Sta regs.old) regs.old (B.memory bus.old) result regs.new (B.memory bus.new) }
 {
-    let to = fetch_word(bus, regs.pc.wrapping_add(1))?;
+    let to = fetch_word(bus, regs.pc.wrapping_add(1));
     store(bus, to, regs.a)?;
     advance(regs, 3)
 }
@@ -174,13 +171,12 @@ pub fn lhld<B: Bus>(regs: &mut Regs, bus: &mut B) -> Ended
     Ok(did)
 }
 
-#[tactic(auto, using(crate::proofs::LookLemmas::extends_past, crate::proofs::LookLemmas::extends_past_one, crate::proofs::LookLemmas::extends_past_two, crate::proofs::BoundLemmas::bound_here, crate::proofs::BoundLemmas::bound_more, crate::proofs::BoundLemmas::bound_all))]
 #[inline(never)]
 fn lhld_apart<B: Bus>(regs: &mut Regs, bus: &mut B) -> Ended
     ensures { Performs (operation Lhld regs.old) regs.old (B.memory bus.old) result regs.new (B.memory bus.new) }
 {
-    let from = fetch_word(bus, regs.pc.wrapping_add(1))?;
-    let value = fetch_word(bus, from)?;
+    let from = fetch_word(bus, regs.pc.wrapping_add(1));
+    let value = fetch_word(bus, from);
     regs.set_pair(Pair::Hl, value);
     advance(regs, 3)
 }
@@ -195,12 +191,11 @@ pub fn shld<B: Bus>(regs: &mut Regs, bus: &mut B) -> Ended
     Ok(did)
 }
 
-#[tactic(auto, using(crate::proofs::WriteLookLemmas::extends_by_two, crate::proofs::BoundLemmas::bound_here, crate::proofs::BoundLemmas::bound_more, crate::proofs::BoundLemmas::bound_all))]
 #[inline(never)]
 fn shld_apart<B: Bus>(regs: &mut Regs, bus: &mut B) -> Ended
     ensures { Performs (operation Shld regs.old) regs.old (B.memory bus.old) result regs.new (B.memory bus.new) }
 {
-    let to = fetch_word(bus, regs.pc.wrapping_add(1))?;
+    let to = fetch_word(bus, regs.pc.wrapping_add(1));
     store_word(bus, to, regs.pair(Pair::Hl))?;
     advance(regs, 3)
 }
@@ -209,7 +204,7 @@ fn shld_apart<B: Bus>(regs: &mut Regs, bus: &mut B) -> Ended
 pub fn ldax<B: Bus>(regs: &mut Regs, bus: &mut B, base: Base) -> Ended
     ensures { Performs (operation (Ldax base) regs.old) regs.old (B.memory bus.old) result regs.new (B.memory bus.new) }
 {
-    regs.a = fetch(bus, address(regs, base))?;
+    regs.a = fetch(bus, address(regs, base));
     advance(regs, 1)
 }
 
@@ -235,7 +230,7 @@ pub fn xchg<B: Bus>(regs: &mut Regs, _bus: &mut B) -> Ended
 pub fn accumulate<B: Bus>(regs: &mut Regs, bus: &mut B, function: Arithmetic, from: Place) -> Ended
     ensures { Performs (operation (Accumulate function (At from)) regs.old) regs.old (B.memory bus.old) result regs.new (B.memory bus.new) }
 {
-    let value = operand(regs, bus, from)?;
+    let value = operand(regs, bus, from);
     regs.accumulate(function, value);
     advance(regs, 1)
 }
@@ -244,29 +239,27 @@ pub fn accumulate<B: Bus>(regs: &mut Regs, bus: &mut B, function: Arithmetic, fr
 pub fn accumulate_immediate<B: Bus>(regs: &mut Regs, bus: &mut B, function: Arithmetic) -> Ended
     ensures { Performs (operation (Accumulate function Immediate) regs.old) regs.old (B.memory bus.old) result regs.new (B.memory bus.new) }
 {
-    let value = fetch(bus, regs.pc.wrapping_add(1))?;
+    let value = fetch(bus, regs.pc.wrapping_add(1));
     regs.accumulate(function, value);
     advance(regs, 2)
 }
 
-#[tactic(auto, using(crate::proofs::LookLemmas::extends_past, crate::proofs::LookLemmas::extends_past_one, crate::proofs::LookLemmas::extends_past_two, crate::proofs::BoundLemmas::bound_here, crate::proofs::BoundLemmas::bound_more, crate::proofs::BoundLemmas::bound_all))]
 #[inline(always)]
 pub fn inr<B: Bus>(regs: &mut Regs, bus: &mut B, at: Place) -> Ended
     ensures { Performs (operation (Inr at) regs.old) regs.old (B.memory bus.old) result regs.new (B.memory bus.new) }
 {
-    let value = operand(regs, bus, at)?;
+    let value = operand(regs, bus, at);
     let more = value.wrapping_add(1);
     put(regs, bus, at, more)?;
     regs.flags = Flags::after(more, value % 16 == 15, regs.flags.cy);
     advance(regs, 1)
 }
 
-#[tactic(auto, using(crate::proofs::LookLemmas::extends_past, crate::proofs::LookLemmas::extends_past_one, crate::proofs::LookLemmas::extends_past_two, crate::proofs::BoundLemmas::bound_here, crate::proofs::BoundLemmas::bound_more, crate::proofs::BoundLemmas::bound_all))]
 #[inline(always)]
 pub fn dcr<B: Bus>(regs: &mut Regs, bus: &mut B, at: Place) -> Ended
     ensures { Performs (operation (Dcr at) regs.old) regs.old (B.memory bus.old) result regs.new (B.memory bus.new) }
 {
-    let value = operand(regs, bus, at)?;
+    let value = operand(regs, bus, at);
     let less = value.wrapping_sub(1);
     put(regs, bus, at, less)?;
     regs.flags = Flags::after(less, value % 16 != 0, regs.flags.cy);
@@ -362,7 +355,7 @@ pub fn cmc<B: Bus>(regs: &mut Regs, _bus: &mut B) -> Ended
 pub fn jmp<B: Bus>(regs: &mut Regs, bus: &mut B) -> Ended
     ensures { Performs (operation Jmp regs.old) regs.old (B.memory bus.old) result regs.new (B.memory bus.new) }
 {
-    regs.pc = fetch_word(bus, regs.pc.wrapping_add(1))?;
+    regs.pc = fetch_word(bus, regs.pc.wrapping_add(1));
     Ok(Did::Went)
 }
 
@@ -370,7 +363,7 @@ pub fn jmp<B: Bus>(regs: &mut Regs, bus: &mut B) -> Ended
 pub fn jump_if<B: Bus>(regs: &mut Regs, bus: &mut B, condition: Condition) -> Ended
     ensures { Performs (operation (JumpIf condition) regs.old) regs.old (B.memory bus.old) result regs.new (B.memory bus.new) }
 {
-    let to = fetch_word(bus, regs.pc.wrapping_add(1))?;
+    let to = fetch_word(bus, regs.pc.wrapping_add(1));
     if !condition.holds(regs.flags) {
         return advance(regs, 3);
     }
@@ -378,12 +371,11 @@ pub fn jump_if<B: Bus>(regs: &mut Regs, bus: &mut B, condition: Condition) -> En
     Ok(Did::Went)
 }
 
-#[tactic(auto, using(crate::proofs::LookLemmas::extends_past, crate::proofs::LookLemmas::extends_past_one, crate::proofs::LookLemmas::extends_past_two, crate::proofs::BoundLemmas::bound_here, crate::proofs::BoundLemmas::bound_more, crate::proofs::BoundLemmas::bound_all))]
 #[inline(always)]
 pub fn call<B: Bus>(regs: &mut Regs, bus: &mut B) -> Ended
     ensures { Performs (operation Call regs.old) regs.old (B.memory bus.old) result regs.new (B.memory bus.new) }
 {
-    let to = fetch_word(bus, regs.pc.wrapping_add(1))?;
+    let to = fetch_word(bus, regs.pc.wrapping_add(1));
     push_word(regs, bus, regs.pc.wrapping_add(3))?;
     regs.pc = to;
     Ok(Did::Went)
@@ -399,12 +391,11 @@ pub fn call_if<B: Bus>(regs: &mut Regs, bus: &mut B, condition: Condition) -> En
     Ok(did)
 }
 
-#[tactic(auto, using(crate::proofs::LookLemmas::extends_past, crate::proofs::LookLemmas::extends_past_one, crate::proofs::LookLemmas::extends_past_two, crate::proofs::BoundLemmas::bound_here, crate::proofs::BoundLemmas::bound_more, crate::proofs::BoundLemmas::bound_all))]
 #[inline(never)]
 fn call_if_apart<B: Bus>(regs: &mut Regs, bus: &mut B, condition: Condition) -> Ended
     ensures { Performs (operation (CallIf condition) regs.old) regs.old (B.memory bus.old) result regs.new (B.memory bus.new) }
 {
-    let to = fetch_word(bus, regs.pc.wrapping_add(1))?;
+    let to = fetch_word(bus, regs.pc.wrapping_add(1));
     if !condition.holds(regs.flags) {
         return advance(regs, 3); // not called
     }
@@ -417,7 +408,7 @@ fn call_if_apart<B: Bus>(regs: &mut Regs, bus: &mut B, condition: Condition) -> 
 pub fn ret<B: Bus>(regs: &mut Regs, bus: &mut B) -> Ended
     ensures { Performs (operation Ret regs.old) regs.old (B.memory bus.old) result regs.new (B.memory bus.new) }
 {
-    regs.pc = fetch_word(bus, regs.sp)?;
+    regs.pc = fetch_word(bus, regs.sp);
     regs.sp = regs.sp.wrapping_add(2);
     Ok(Did::Went)
 }
@@ -487,7 +478,7 @@ pub fn push<B: Bus>(regs: &mut Regs, bus: &mut B, what: Saved) -> Ended
 pub fn pop<B: Bus>(regs: &mut Regs, bus: &mut B, what: Saved) -> Ended
     ensures { Performs (operation (Pop what) regs.old) regs.old (B.memory bus.old) result regs.new (B.memory bus.new) }
 {
-    let value = fetch_word(bus, regs.sp)?;
+    let value = fetch_word(bus, regs.sp);
     match what {
         Saved::BcPair => regs.set_pair(Pair::Bc, value),
         Saved::DePair => regs.set_pair(Pair::De, value),
@@ -511,12 +502,11 @@ pub fn xthl<B: Bus>(regs: &mut Regs, bus: &mut B) -> Ended
     Ok(did)
 }
 
-#[tactic(auto, using(crate::proofs::WriteLookLemmas::extends_by_two, crate::proofs::BoundLemmas::bound_here, crate::proofs::BoundLemmas::bound_more, crate::proofs::BoundLemmas::bound_all))]
 #[inline(never)]
 fn xthl_apart<B: Bus>(regs: &mut Regs, bus: &mut B) -> Ended
     ensures { Performs (operation Xthl regs.old) regs.old (B.memory bus.old) result regs.new (B.memory bus.new) }
 {
-    let value = fetch_word(bus, regs.sp)?;
+    let value = fetch_word(bus, regs.sp);
     store_word(bus, regs.sp, regs.pair(Pair::Hl))?;
     regs.set_pair(Pair::Hl, value);
     advance(regs, 1)
@@ -544,7 +534,7 @@ pub fn input<B: Bus>(regs: &mut Regs, bus: &mut B) -> Ended
 fn input_apart<B: Bus>(regs: &mut Regs, bus: &mut B) -> Ended
     ensures { Performs (operation In regs.old) regs.old (B.memory bus.old) result regs.new (B.memory bus.new) }
 {
-    fetch(bus, regs.pc.wrapping_add(1))?;
+    fetch(bus, regs.pc.wrapping_add(1));
     regs.a = 255;
     advance(regs, 2)
 }
@@ -563,6 +553,6 @@ pub fn output<B: Bus>(regs: &mut Regs, bus: &mut B) -> Ended
 fn output_apart<B: Bus>(regs: &mut Regs, bus: &mut B) -> Ended
     ensures { Performs (operation Out regs.old) regs.old (B.memory bus.old) result regs.new (B.memory bus.new) }
 {
-    fetch(bus, regs.pc.wrapping_add(1))?;
+    fetch(bus, regs.pc.wrapping_add(1));
     advance(regs, 2)
 }

@@ -1,7 +1,7 @@
 -- The order of keys, and of places of files.
-use Rattle.std.specs.Prelude.{ℕ, Bool, true, List, Option, Some, None, if◌then◌else◌, length}
+use Rattle.std.specs.Prelude.{ℕ, Bool, true, List, Option, Some, None, if◌then◌else◌, length, nat_lt, not}
 use Rattle.std.specs.declared.cmp.Ordering.{Ordering}
-use Rattle.std.specs.Ordering.{nat_cmp, is_lt, ordering_then}
+use Rattle.std.specs.Ordering.{nat_cmp, is_lt, is_gt, ordering_then}
 use Rattle.std.specs.List.{filter}
 use Rattle.std.specs.Cmp.Lexicographic.{slice_cmp}
 use Rattle.std.specs.FinMap.{FinMap, entries}
@@ -27,3 +27,18 @@ abbrev pub lesser : Option Key → Option Key → Option Key
 lesser None b = b
 lesser (Some x) None = Some x
 lesser (Some x) (Some y) = if is_lt (slice_cmp nat_cmp x y) then Some x else Some y
+
+-- past a place, if there is one
+abbrev pub is_past : Option ℕ → ℕ → Bool
+is_past None p = true
+is_past (Some n) p = nat_lt n p
+
+-- of this file or of one behind it, and past a place of this file, if there is one
+abbrev pub is_beyond : Key → Option ℕ → Key × ℕ → Bool
+is_beyond key None x = not (is_gt (place_cmp (key, 0) x))
+is_beyond key (Some n) x = is_lt (place_cmp (key, n) x)
+
+-- a number that is below a limit
+abbrev pub if_below : ℕ → Option ℕ → Option ℕ
+if_below limit None = None
+if_below limit (Some n) = if nat_lt n limit then Some n else None

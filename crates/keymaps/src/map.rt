@@ -5,7 +5,7 @@ ghost use Rattle.std.specs.declared.cmp.Ordering.TheVariants.{Less};
 ghost use Rattle.std.specs.FinMap as finmap;
 ghost use Rattle.std.specs.Ordering.{nat_cmp};
 ghost use Rattle.std.specs.Cmp.Lexicographic.{slice_cmp};
-ghost use Rattle.keymaps.specs.Order.{is_above, left, lesser};
+ghost use Rattle.keymaps.specs.Order.{is_above, left, lesser, if_below};
 
 use std::alloc::{AllocError, Global};
 use std::cmp::Ordering;
@@ -168,6 +168,15 @@ impl<V: Drop> KeyMap<V> {
             None => self.first(),
             Some(low) => self.above(low),
         }
+    }
+}
+
+impl KeyMap<u64> {
+    /// Takes out every number from this one on. Takes no memory.
+    pub fn retain_below(&mut self, limit: u64)
+        ensures { (q : List ℕ) → finmap.get self.new q ≡ if_below limit (finmap.get self.old q) }
+    {
+        self.map.retain(|_, number| *number < limit);
     }
 }
 

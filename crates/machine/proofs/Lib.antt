@@ -1,6 +1,10 @@
 pub mod AfterLemmas
 pub mod WrittenCellLemmas
+pub mod HostLemmas
+pub mod FitLemmas
 pub mod StepLemmas
 pub mod StretchLemmas
+pub mod TidyFiles
+pub mod WholeFiles
 pub mod WholeLemmas
 pub mod TextLemmas

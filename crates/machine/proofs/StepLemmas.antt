@@ -1,9 +1,14 @@
--- An instruction or a call over pages is a step of the machine.
+-- An instruction or a call over pages and files is a step of the machine.
 use Rattle.std.proofs.Common.{inl, inr, ◌≡◌, ℕ, ◌<◌, ◌≤◌, ◌≢◌, Bool, true, false, ◌||◌, ◌&&◌, ◌==◌, not, List, [], ◌∷◌, ◌++◌, Option, Some, None, unwrap_or, is_some, refl, sym, ◌∙◌, ap, subst, arith, cond, IfSome, length, drop, take-append-drop}
 use Rattle.std.proofs.Math.Bool.{or_assoc, or-false}
 use Rattle.std.proofs.lemmas.Bool.{ne_eqb, lt-leb, le-leb}
 use Rattle.std.proofs.lemmas.Bool.Decides.{eqb_tells}
+use Rattle.std.proofs.lemmas.List.{append-nil}
 use Rattle.std.specs.FinMap as finmap
+use Rattle.std.specs.Borrow.{GName}
+use Rattle.std.specs.declared.result.Result.{Result}
+use Rattle.std.specs.declared.result.Result.TheVariants.{Ok, Err}
+use Rattle.std.specs.declared.alloc.AllocError.{AllocError}
 use Rattle.interaction_trees.specs.Tree.{Return, result_of, asked, AgreeOn, returning}
 use Rattle.interaction_trees.specs.Dependence.{Outcome, Step, Stop}
 use Rattle.interaction_trees.specs.Dependence as dependence
@@ -16,36 +21,53 @@ use Rattle.i8080.specs.Reading.{Reading, Done}
 use Rattle.i8080.specs.Reading as reading
 use Rattle.i8080.specs.Instruction.{instruction}
 use Rattle.i8080.specs.End as end
+use Rattle.i8080.proofs.LookLemmas.{is_among-append}
+use Rattle.i8080.proofs.WriteLookLemmas.{extends_by}
+use Rattle.i8080.proofs.BoundLemmas.{bound_here}
+use Rattle.pagemem.specs.declared.overlay.Overlay.{Overlay}
+use Rattle.pagemem.specs.Overlay.{own_of, looks_of}
+use Rattle.pagemem.specs.declared.cells.Cells.{Cells as PagedCells}
+use Rattle.pagemem.specs.Cells.{own_in}
 use Rattle.bdos.specs.declared.cause.Cause.{Cause}
 use Rattle.bdos.specs.declared.cause.Cause.TheVariants.{WarmBoot, SystemArea}
 use Rattle.bdos.specs.declared.served.Served.{Served}
 use Rattle.bdos.specs.Desk.{Desk}
 use Rattle.bdos.specs.Places.{Watched, is_within}
-use Rattle.bdos.specs.Questions.{StateQuestion, Byte, Input, StateAnswers, StateTree, reads, answers, addresses, script_places}
+use Rattle.bdos.specs.Questions.{Byte, Input, addresses, script_places}
 use Rattle.bdos.specs.Calls as calls
+use Rattle.hostfiles.specs.Files as files
+use Rattle.hostfiles.specs.Hosts.{Host}
+use Rattle.hostfiles.specs.Looks.{is_looked}
+use Rattle.hostfiles.specs.Looks as file_looks
+use Rattle.hostfiles.proofs.LookLemmas.{extends_same}
+use Rattle.hostfiles.specs.declared.changes.Changes.{Changes}
+use Rattle.hostfiles.specs.declared.looks.Looks as file_questions_asked
+use Rattle.hostfiles.specs.declared.looks.Ask.{Ask}
+use Rattle.file_calls.specs.Changes.{FileChange, Unchanged, own_with}
+use Rattle.file_calls.specs.Questions.{FileQuestion, Drives, look_for, look_for_all}
+use Rattle.system_calls.specs.Questions.{SystemQuestion, OfState, OfFiles, SystemAnswers, SystemTree, system_answers, reading_first, state_questions, file_questions}
+use Rattle.system_calls.specs.FileCalls.{SystemEnd}
+use Rattle.system_calls.specs.Calls.{Serves, call}
+use Rattle.system_calls.specs.Drives.{AsksDrives}
+use Rattle.system_calls.specs.Fulfils.{FulfilsBy}
+use Rattle.system_calls.proofs.Trees.{result-reading, cells-reading, places-reading, files-reading}
+use Rattle.host_questions.specs.Passing.{IsSound}
+use Rattle.host_questions.specs.Passing as passing
+use Rattle.host_questions.proofs.Answering.{answers_are}
 use Rattle.machine.specs.Views.{Session, Own, Looked}
 use Rattle.machine.specs.declared.session.TheConstants.{SCRIPT_LIMIT}
 use Rattle.machine.specs.Session.{image_of}
-use Rattle.machine.specs.Machine.{Question, Cell, Script, Answers, ask, same_question, is_in, Reached, Went, Stopped, reached, reached_by_call, script_limit, script_limit-is, next, own_or_ask, part, laid, desk_with, made, outcome, looks_at, looked_at, IsBounded}
-use Rattle.machine.specs.WrittenCells.{written_cells, state_with}
+use Rattle.machine.specs.Machine.{Question, Cell, Script, OfHost, Answers, ask, same_question, is_in, Reached, Went, Stopped, reached, reached_with, reached_by_call, script_limit, script_limit-is, next, own_or_ask, asking_host, part, laid, desk_with, made, outcome, looks_at, looked_at, is_near, IsBounded}
+use Rattle.machine.specs.WrittenCells.{written_cells, Devices, devices_of, state_with}
 use Rattle.machine.specs.Stops.{stop_of_instruction, stop_of_call}
-use Rattle.machine.specs.Steps.{told, seen, looked_in, TakesStep}
-use Rattle.std.specs.declared.result.Result.{Result}
-use Rattle.std.specs.declared.result.Result.TheVariants.{Ok, Err}
-use Rattle.std.specs.declared.alloc.AllocError.{AllocError}
-use Rattle.pagemem.specs.declared.overlay.Overlay.{Overlay}
-use Rattle.pagemem.specs.Overlay.{own_of, looks_of}
-use Rattle.pagemem.specs.declared.cells.Cells.{Cells as PagedCells}
-use Rattle.pagemem.specs.Cells.{own_in}
-use Rattle.std.proofs.lemmas.List.{append-nil}
-use Rattle.i8080.proofs.LookLemmas.{is_among-append}
-use Rattle.i8080.proofs.WriteLookLemmas.{extends_by}
-use Rattle.bdos.proofs.Trees.{result_of-reads, addresses-reads, places-reads}
+use Rattle.machine.specs.Steps.{told, seen, drives_in, looked_in, TakesStep}
 use Rattle.machine.proofs.WrittenCellLemmas.{InCells, in_cells, get_written, cells_written}
+use Rattle.machine.proofs.HostLemmas.{HaveMarks, have_marks, result_of-asking_host, no_cell, no_place, mark_one, drives_stay}
+use Rattle.machine.proofs.FitLemmas.{IsStill, call_fits}
 
--- ---- the state's answers are the bytes of the memory, and the script
+-- ---- the state's answers are the bytes of the memory, the script, and the files
 
-agree_everywhere : (f g : StateAnswers) → ((q : StateQuestion) → f q ≡ g q) → (qs : List StateQuestion) → AgreeOn qs f g
+agree_everywhere : (f g : SystemAnswers) → ((q : SystemQuestion) → f q ≡ g q) → (qs : List SystemQuestion) → AgreeOn qs f g
 agree_everywhere f g h [] = tt
 agree_everywhere f g h (q ∷ qs) = (h q, agree_everywhere f g h qs)
 
@@ -53,29 +75,31 @@ pub answered : (f : Answers) (o : Option ℕ) (a : ℕ) → result_of f (own_or_
 answered f None a = refl
 answered f (Some v) a = refl
 
--- what pages and a session answer
-abbrev pub memory_answers : Session → (ℕ → Option ℕ) → StateAnswers
-memory_answers s own = answers (over own (image_of s)) s.script
+-- what pages, a session, and files answer
+abbrev pub memory_answers : Session → (ℕ → Option ℕ) → files.Own → SystemAnswers
+memory_answers s own done = system_answers (over own (image_of s)) s.script s.files done
 
-abbrev pub own_written : (ℕ → Option ℕ) → Own
-own_written own = record { cells = written_cells own }
-
-same_answer : (s : Session) (own : ℕ → Option ℕ) → InCells own → (q : StateQuestion) → memory_answers s own q ≡ laid (own_written own) (ask s) q
-same_answer s own h (Byte a) = sym (ap (λ o. result_of (ask s) (own_or_ask o a)) (get_written own h a) ∙ answered (ask s) (own a) a)
-same_answer s own h (Input k) = refl
-
-pub laid_result : {E : Type 0} (s : Session) (own : ℕ → Option ℕ) → InCells own → (t : StateTree E) → result_of (laid (own_written own) (ask s)) t ≡ result_of (memory_answers s own) t
-laid_result s own h t = same_result (memory_answers s own) (laid (own_written own) (ask s)) t (agree_everywhere _ _ (same_answer s own h) _)
+abbrev pub own_written : (ℕ → Option ℕ) → files.Own → Own
+own_written own done = record { cells = written_cells own; files = done }
 
 -- a written cell, and one that was not
-pub cell_written : (f : Answers) (own : ℕ → Option ℕ) → InCells own → (a v : ℕ) → own a ≡ Some v → laid (own_written own) f (Byte a) ≡ v
-cell_written f own h a v e = ap (λ o. result_of f (own_or_ask o a)) (get_written own h a ∙ e)
+pub cell_written : (f : Answers) (own : ℕ → Option ℕ) (done : files.Own) → InCells own → (a v : ℕ) → own a ≡ Some v → laid (own_written own done) f (OfState (Byte a)) ≡ v
+cell_written f own done h a v e = ap (λ o. result_of f (own_or_ask o a)) (get_written own h a ∙ e)
 
-pub cell_asked : (f : Answers) (own : ℕ → Option ℕ) → InCells own → (a : ℕ) → own a ≡ None → laid (own_written own) f (Byte a) ≡ f (Cell a)
-cell_asked f own h a e = ap (λ o. result_of f (own_or_ask o a)) (get_written own h a ∙ e)
+pub cell_asked : (f : Answers) (own : ℕ → Option ℕ) (done : files.Own) → InCells own → (a : ℕ) → own a ≡ None → laid (own_written own done) f (OfState (Byte a)) ≡ f (Cell a)
+cell_asked f own done h a e = ap (λ o. result_of f (own_or_ask o a)) (get_written own h a ∙ e)
 
-pub laid_asked : {E : Type 0} (s : Session) (own : ℕ → Option ℕ) → InCells own → (t : StateTree E) → asked (laid (own_written own) (ask s)) t ≡ asked (memory_answers s own) t
-laid_asked s own h t = same_asked (memory_answers s own) (laid (own_written own) (ask s)) t (agree_everywhere _ _ (same_answer s own h) _)
+module _ (s : Session) (own : ℕ → Option ℕ) (done : files.Own) (h : InCells own) (sound : IsSound s.files done) where
+  same_answer : (q : SystemQuestion) → memory_answers s own done q ≡ laid (own_written own done) (ask s) q
+  same_answer (OfState (Byte a)) = sym (ap (λ o. result_of (ask s) (own_or_ask o a)) (get_written own h a) ∙ answered (ask s) (own a) a)
+  same_answer (OfState (Input k)) = refl
+  same_answer (OfFiles q) = sym (result_of-asking_host (ask s) (passing.part done q) ∙ answers_are s.files done sound q)
+
+  pub laid_result : {E : Type 0} (t : SystemTree E) → result_of (laid (own_written own done) (ask s)) t ≡ result_of (memory_answers s own done) t
+  laid_result t = same_result (memory_answers s own done) (laid (own_written own done) (ask s)) t (agree_everywhere _ _ same_answer _)
+
+  pub laid_asked : {E : Type 0} (t : SystemTree E) → asked (laid (own_written own done) (ask s)) t ≡ asked (memory_answers s own done) t
+  laid_asked t = same_asked (memory_answers s own done) (laid (own_written own done) (ask s)) t (agree_everywhere _ _ same_answer _)
 
 -- ---- the looks
 
@@ -115,27 +139,55 @@ one_look own looks a q = pick (own a) (is_among a looks) refl where
     none true = sym (or-false (is_among q looks))
     none false = sym (or-false (is_among q looks))
 
-looks_of_cell : (f : Answers) (own : ℕ → Option ℕ) → InCells own → (qs : List StateQuestion) (looks : Looks) (q : ℕ)
-    → is_among q (look_all own (addresses qs) looks) ≡ (is_among q looks || is_in (Cell q) (dependence.passed_on part (own_written own) f qs))
-looks_of_cell f own h [] looks q = sym (or-false (is_among q looks))
-looks_of_cell f own h (Byte a ∷ qs) looks q =
-    looks_of_cell f own h qs (look own looks a) q
-    ∙ ap (λ b. b || is_in (Cell q) (dependence.passed_on part (own_written own) f qs)) (one_look own looks a q)
+looks_of_cell : (f : Answers) (own : ℕ → Option ℕ) (done : files.Own) → InCells own → (qs : List SystemQuestion) (looks : Looks) (q : ℕ)
+    → is_among q (look_all own (addresses (state_questions qs)) looks) ≡ (is_among q looks || is_in (Cell q) (dependence.passed_on part (own_written own done) f qs))
+looks_of_cell f own done h [] looks q = sym (or-false (is_among q looks))
+looks_of_cell f own done h (OfState (Byte a) ∷ qs) looks q =
+    looks_of_cell f own done h qs (look own looks a) q
+    ∙ ap (λ b. b || is_in (Cell q) (dependence.passed_on part (own_written own done) f qs)) (one_look own looks a q)
     ∙ or_assoc (is_among q looks) _ _
-    ∙ ap (λ b. is_among q looks || b) (ap (λ b. b || is_in (Cell q) (dependence.passed_on part (own_written own) f qs)) (sym (one_asked f (own a) a q))
-    ∙ ap (λ o. is_in (Cell q) (asked f (own_or_ask o a)) || is_in (Cell q) (dependence.passed_on part (own_written own) f qs)) (sym (get_written own h a))
-    ∙ sym (is_in-append (Cell q) (asked f (part (own_written own) (Byte a))) _))
-looks_of_cell f own h (Input k ∷ qs) looks q = looks_of_cell f own h qs looks q
+    ∙ ap (λ b. is_among q looks || b) (ap (λ b. b || is_in (Cell q) (dependence.passed_on part (own_written own done) f qs)) (sym (one_asked f (own a) a q))
+    ∙ ap (λ o. is_in (Cell q) (asked f (own_or_ask o a)) || is_in (Cell q) (dependence.passed_on part (own_written own done) f qs)) (sym (get_written own h a))
+    ∙ sym (is_in-append (Cell q) (asked f (part (own_written own done) (OfState (Byte a)))) _))
+looks_of_cell f own done h (OfState (Input k) ∷ qs) looks q = looks_of_cell f own done h qs looks q
+looks_of_cell f own done h (OfFiles x ∷ qs) looks q =
+    looks_of_cell f own done h qs looks q
+    ∙ ap (λ b. is_among q looks || b) (sym (is_in-append (Cell q) (asked f (asking_host (passing.part done x))) _
+    ∙ ap (λ b. b || is_in (Cell q) (dependence.passed_on part (own_written own done) f qs)) (no_cell f (passing.part done x) q)))
 
 -- a question for a script place is passed on
-looks_of_script : (f : Answers) (o : Own) (qs : List StateQuestion) (k : ℕ) → is_in (Script k) (dependence.passed_on part o f qs) ≡ is_among k (script_places qs)
+looks_of_script : (f : Answers) (o : Own) (qs : List SystemQuestion) (k : ℕ) → is_in (Script k) (dependence.passed_on part o f qs) ≡ is_among k (script_places (state_questions qs))
 looks_of_script f o [] k = refl
-looks_of_script f o (Byte a ∷ qs) k =
-    is_in-append (Script k) (asked f (part o (Byte a))) _ ∙ ap (λ b. b || is_in (Script k) (dependence.passed_on part o f qs)) (none (finmap.get o.cells a)) ∙ looks_of_script f o qs k where
+looks_of_script f o (OfState (Byte a) ∷ qs) k =
+    is_in-append (Script k) (asked f (part o (OfState (Byte a)))) _ ∙ ap (λ b. b || is_in (Script k) (dependence.passed_on part o f qs)) (none (finmap.get o.cells a)) ∙ looks_of_script f o qs k where
       none : (o : Option ℕ) → is_in (Script k) (asked f (own_or_ask o a)) ≡ false
       none None = refl
       none (Some v) = refl
-looks_of_script f o (Input j ∷ qs) k = ap (λ b. k == j || b) (looks_of_script f o qs k)
+looks_of_script f o (OfState (Input j) ∷ qs) k = ap (λ b. k == j || b) (looks_of_script f o qs k)
+looks_of_script f o (OfFiles x ∷ qs) k =
+    is_in-append (Script k) (asked f (asking_host (passing.part o.files x))) _
+    ∙ ap (λ b. b || is_in (Script k) (dependence.passed_on part o f qs)) (no_place f (passing.part o.files x) k) ∙ looks_of_script f o qs k
+
+-- questions of memory and of the script pass on nothing to the host files
+near_asks_none : (f : Answers) (o : Own) (a : Ask) (q : _) → is_in (OfHost a) (asked f (part o (OfState q))) ≡ false
+near_asks_none f o a (Byte b) = none (finmap.get o.cells b) where
+  none : (v : Option ℕ) → is_in (OfHost a) (asked f (own_or_ask v b)) ≡ false
+  none None = refl
+  none (Some v) = refl
+near_asks_none f o a (Input k) = refl
+
+-- a question about files marks what is passed on
+looks_of_host : (f : Answers) (o : Own) (a : Ask) (qs : List SystemQuestion) (l : file_questions_asked.Looks) → HaveMarks (length l.directories) (file_questions qs)
+    → is_looked (look_for_all o.files (file_questions qs) l) a ≡ (is_looked l a || is_in (OfHost a) (dependence.passed_on part o f qs))
+looks_of_host f o a [] l marks = sym (or-false (is_looked l a))
+looks_of_host f o a (OfState q ∷ qs) l marks =
+    looks_of_host f o a qs l marks
+    ∙ ap (λ b. is_looked l a || b) (sym (is_in-append (OfHost a) (asked f (part o (OfState q))) _ ∙ ap (λ b. b || is_in (OfHost a) (dependence.passed_on part o f qs)) (near_asks_none f o a q)))
+looks_of_host f o a (OfFiles x ∷ qs) l marks =
+    looks_of_host f o a qs (look_for o.files x l) (subst (λ n. HaveMarks n (file_questions qs)) (sym (drives_stay o.files x l)) marks.1)
+    ∙ ap (λ b. b || is_in (OfHost a) (dependence.passed_on part o f qs)) (mark_one f a o.files x l marks.0)
+    ∙ or_assoc (is_looked l a) _ _
+    ∙ ap (λ b. is_looked l a || b) (sym (is_in-append (OfHost a) (asked f (asking_host (passing.part o.files x))) _))
 
 -- an address among some is among more
 among_further : (q : ℕ) (xs ys : List ℕ) → memory.Extends xs ys → is_among q xs ≡ true → is_among q ys ≡ true
@@ -143,57 +195,64 @@ among_further q xs ys e h = rw (sym (take-append-drop (length xs) ys), e, is_amo
 
 -- ---- a step, by the tree that comes at PC
 
-module _ (s : Session) (r : Regs) (d : Desk) (own : ℕ → Option ℕ) (h : InCells own) where
+module _ (s : Session) (r : Regs) (d : Devices) (own : ℕ → Option ℕ) (h : InCells own) (sound : IsSound s.files d.files) where
   -- how the tree ends that comes at PC
-  outcome_of : (t : StateTree Reached) → next (record { regs = r; desk = d }) ≡ t → outcome (ask s) (state_with r d own) ≡ made (state_with r d own) (result_of (memory_answers s own) t)
+  outcome_of : (t : SystemTree Reached) → next (record { regs = r; desk = d.desk }) ≡ t → outcome (ask s) (state_with r d own) ≡ made (state_with r d own) (result_of (memory_answers s own d.files) t)
   unfolding dependence.outcome
-  outcome_of t e = ap (λ x. made (state_with r d own) (result_of (laid (own_written own) (ask s)) x)) e ∙ ap (made (state_with r d own)) (laid_result s own h t)
+  outcome_of t e = ap (λ x. made (state_with r d own) (result_of (laid (own_written own d.files) (ask s)) x)) e ∙ ap (made (state_with r d own)) (laid_result s own d.files h sound t)
 
-  looks_are : (t : StateTree Reached) → next (record { regs = r; desk = d }) ≡ t
-      → looks_at (ask s) (state_with r d own) ≡ dependence.passed_on part (own_written own) (ask s) (asked (memory_answers s own) t)
+  looks_are : (t : SystemTree Reached) → next (record { regs = r; desk = d.desk }) ≡ t
+      → looks_at (ask s) (state_with r d own) ≡ dependence.passed_on part (own_written own d.files) (ask s) (asked (memory_answers s own d.files) t)
   unfolding dependence.looks_at
   looks_are t e =
-      ap (λ x. dependence.passed_on part (own_written own) (ask s) (asked (laid (own_written own) (ask s)) x)) e
-      ∙ ap (dependence.passed_on part (own_written own) (ask s)) (laid_asked s own h t)
+      ap (λ x. dependence.passed_on part (own_written own d.files) (ask s) (asked (laid (own_written own d.files) (ask s)) x)) e
+      ∙ ap (dependence.passed_on part (own_written own d.files) (ask s)) (laid_asked s own d.files h sound t)
 
   -- the looks after it
-  looked_of : (t : StateTree Reached) → next (record { regs = r; desk = d }) ≡ t → (old new : Looked)
-      → new.cells ≡ look_all own (addresses (asked (memory_answers s own) t)) old.cells
-      → ((k : ℕ) → is_within new.places k ≡ (is_within old.places k || is_among k (script_places (asked (memory_answers s own) t))))
+  looked_of : (t : SystemTree Reached) → next (record { regs = r; desk = d.desk }) ≡ t → (old new : Looked)
+      → HaveMarks (length old.files.directories) (file_questions (asked (memory_answers s own d.files) t))
+      → new.cells ≡ look_all own (addresses (state_questions (asked (memory_answers s own d.files) t))) old.cells
+      → ((k : ℕ) → is_within new.places k ≡ (is_within old.places k || is_among k (script_places (state_questions (asked (memory_answers s own d.files) t)))))
+      → new.files ≡ look_for_all d.files (file_questions (asked (memory_answers s own d.files) t)) old.files
       → (q : Question) → looked_at new q ≡ (looked_at old q || is_in q (looks_at (ask s) (state_with r d own)))
-  looked_of t e old new cells places (Cell q) =
+  looked_of t e old new marks cells places asks (Cell q) =
       ap (is_among q) cells
-      ∙ looks_of_cell (ask s) own h (asked (memory_answers s own) t) old.cells q
+      ∙ looks_of_cell (ask s) own d.files h (asked (memory_answers s own d.files) t) old.cells q
       ∙ ap (λ qs. is_among q old.cells || is_in (Cell q) qs) (sym (looks_are t e))
-  looked_of t e old new cells places (Script k) =
-      places k ∙ ap (λ b. is_within old.places k || b) (sym (ap (is_in (Script k)) (looks_are t e) ∙ looks_of_script (ask s) (own_written own) (asked (memory_answers s own) t) k))
+  looked_of t e old new marks cells places asks (Script k) =
+      places k ∙ ap (λ b. is_within old.places k || b) (sym (ap (is_in (Script k)) (looks_are t e) ∙ looks_of_script (ask s) (own_written own d.files) (asked (memory_answers s own d.files) t) k))
+  looked_of t e old new marks cells places asks (OfHost a) =
+      ap (λ l. is_looked l a) asks
+      ∙ looks_of_host (ask s) (own_written own d.files) a (asked (memory_answers s own d.files) t) old.files marks
+      ∙ ap (λ qs. is_looked old.files a || is_in (OfHost a) qs) (sym (looks_are t e))
 
   -- some of the looks after it
-  bounded_of : (t : StateTree Reached) → next (record { regs = r; desk = d }) ≡ t → (old new : Looked)
-      → memory.Extends new.cells (look_all own (addresses (asked (memory_answers s own) t)) old.cells) → ((k : ℕ) → is_within new.places k ≡ is_within old.places k)
+  bounded_of : (t : SystemTree Reached) → next (record { regs = r; desk = d.desk }) ≡ t → (old new : Looked)
+      → memory.Extends new.cells (look_all own (addresses (state_questions (asked (memory_answers s own d.files) t))) old.cells) → ((k : ℕ) → is_within new.places k ≡ is_within old.places k)
       → IsBounded old (looks_at (ask s) (state_with r d own)) new
-  bounded_of t e old new cells places (Cell q) among =
-      sym (looks_of_cell (ask s) own h (asked (memory_answers s own) t) old.cells q ∙ ap (λ qs. is_among q old.cells || is_in (Cell q) qs) (sym (looks_are t e)))
+  bounded_of t e old new cells places (Cell q) near among =
+      sym (looks_of_cell (ask s) own d.files h (asked (memory_answers s own d.files) t) old.cells q ∙ ap (λ qs. is_among q old.cells || is_in (Cell q) qs) (sym (looks_are t e)))
       ∙ among_further q new.cells _ cells among
-  bounded_of t e old new cells places (Script k) within = ap (λ b. b || is_in (Script k) (looks_at (ask s) (state_with r d own))) (sym (places k) ∙ within)
+  bounded_of t e old new cells places (Script k) near within = ap (λ b. b || is_in (Script k) (looks_at (ask s) (state_with r d own))) (sym (places k) ∙ within)
+  bounded_of t e old new cells places (OfHost a) near asked = absurd (cc)
 
 -- what a tree's end leaves
-abbrev Leaves : Reached → Regs → Desk → (ℕ → Option ℕ) → Regs → Desk → (ℕ → Option ℕ) → Type 0
-Leaves (Went t spot bytes wrote) r d own r' d' own' = (r' ≡ t) × (d' ≡ desk_with d spot bytes) × (own' ≡ write_all own wrote.cells)
-Leaves (Stopped x) r d own r' d' own' = (r' ≡ r) × (d' ≡ d) × (own' ≡ own)
+abbrev Leaves : Reached → Regs → Devices → (ℕ → Option ℕ) → Regs → Devices → (ℕ → Option ℕ) → Type 0
+Leaves (Went t spot bytes wrote change) r d own r' d' own' = (r' ≡ t) × (d'.desk ≡ desk_with d.desk spot bytes) × (own' ≡ write_all own wrote.cells) × (d'.files ≡ own_with change d.files)
+Leaves (Stopped x) r d own r' d' own' = (r' ≡ r) × (d'.desk ≡ d.desk) × (own' ≡ own) × (d'.files ≡ d.files)
 
 abbrev stop_of : Reached → Option Cause
-stop_of (Went t spot bytes wrote) = None
+stop_of (Went t spot bytes wrote change) = None
 stop_of (Stopped x) = Some x
 
-module _ (r r' : Regs) (d d' : Desk) (own own' : ℕ → Option ℕ) (h : InCells own) (h' : InCells own') where
+module _ (r r' : Regs) (d d' : Devices) (own own' : ℕ → Option ℕ) (h : InCells own) (h' : InCells own') where
   made_told : (e : Reached) → Leaves e r d own r' d' own' → made (state_with r d own) e ≡ told (stop_of e) (state_with r' d' own')
-  made_told (Went t spot bytes wrote) l = sym (λ i. Step (record { core = record { regs = l.0 i; desk = l.1 i }; own = record { cells = cells_written own own' wrote.cells h h' l.2 i } }))
+  made_told (Went t spot bytes wrote change) l = sym (λ i. Step (record { core = record { regs = l.0 i; desk = l.1 i }; own = record { cells = cells_written own own' wrote.cells h h' l.2 i; files = l.3 i } }))
   made_told (Stopped x) l = refl
 
   made_stays : (e : Reached) → Leaves e r d own r' d' own' → IfSome (stop_of e) (λ cause. state_with r' d' own' ≡ state_with r d own)
-  made_stays (Went t spot bytes wrote) l = tt
-  made_stays (Stopped x) l = λ i. state_with (l.0 i) (l.1 i) (l.2 i)
+  made_stays (Went t spot bytes wrote change) l = tt
+  made_stays (Stopped x) l = λ i. record { core = record { regs = l.0 i; desk = l.1 i }; own = record { cells = written_cells (l.2 i); files = l.3 i } }
 
 pub within_cells : (c : PagedCells) → InCells (own_in c)
 within_cells c = in_cells c.slots.items (omega arith)
@@ -201,121 +260,154 @@ within_cells c = in_cells c.slots.items (omega arith)
 pub within : (o : Overlay) → InCells (own_of o)
 within o = within_cells o.cells
 
--- a tree that was carried out
-carried : (s : Session) (r r' : Regs) (d d' : Watched) (o o' : Overlay) (t : StateTree Reached) → next (record { regs = r; desk = d.desk }) ≡ t
-    → Leaves (result_of (memory_answers s (own_of o)) t) r d.desk (own_of o) r' d'.desk (own_of o')
-    → looks_of o' ≡ look_all (own_of o) (addresses (asked (memory_answers s (own_of o)) t)) (looks_of o)
-    → ((k : ℕ) → is_within d'.places k ≡ (is_within d.places k || is_among k (script_places (asked (memory_answers s (own_of o)) t))))
-    → TakesStep s r d o (Ok (stop_of (result_of (memory_answers s (own_of o)) t))) r' d' o'
-carried s r r' d d' o o' t e l looks places = record {
-  outcome = outcome_of s r d.desk (own_of o) (within o) t e ∙ made_told r r' d.desk d'.desk (own_of o) (own_of o') (within o) (within o') (result_of (memory_answers s (own_of o)) t) l;
-  stays = made_stays r r' d.desk d'.desk (own_of o) (own_of o') (within o) (within o') (result_of (memory_answers s (own_of o)) t) l;
+-- what a tree leaves that was carried out over pages
+pub record Carried (s : Session) (t : SystemTree Reached) (r : Regs) (d : Devices) (o : Overlay) (r' : Regs) (d' : Devices) (o' : Overlay) : Type 0 where
+  pub at : next (record { regs = r; desk = d.desk }) ≡ t
+  pub marks : HaveMarks (length d.asks.directories) (file_questions (asked (memory_answers s (own_of o) d.files) t))
+  pub leaves : Leaves (result_of (memory_answers s (own_of o) d.files) t) r d (own_of o) r' d' (own_of o')
+  pub cells : looks_of o' ≡ look_all (own_of o) (addresses (state_questions (asked (memory_answers s (own_of o) d.files) t))) (looks_of o)
+  pub places : (k : ℕ) → is_within d'.places k ≡ (is_within d.places k || is_among k (script_places (state_questions (asked (memory_answers s (own_of o) d.files) t))))
+  pub asks : d'.asks ≡ look_for_all d.files (file_questions (asked (memory_answers s (own_of o) d.files) t)) d.asks
+  pub extends : file_looks.Extends d.asks d'.asks
+
+carried : (s : Session) (r r' : Regs) (d d' : Devices) (o o' : Overlay) (t : SystemTree Reached) → IsSound s.files d.files → Carried s t r d o r' d' o'
+    → TakesStep s r d o (Ok (stop_of (result_of (memory_answers s (own_of o) d.files) t))) r' d' o'
+carried s r r' d d' o o' t sound w = record {
+  outcome = outcome_of s r d (own_of o) (within o) sound t w.at ∙ made_told r r' d d' (own_of o) (own_of o') (within o) (within o') (result_of (memory_answers s (own_of o) d.files) t) w.leaves;
+  stays = made_stays r r' d d' (own_of o) (own_of o') (within o) (within o') (result_of (memory_answers s (own_of o) d.files) t) w.leaves;
   failed = tt;
-  looked = looked_of s r d.desk (own_of o) (within o) t e (looked_in o d) (looked_in o' d') looks places;
+  looked = looked_of s r d (own_of o) (within o) sound t w.at (looked_in o d) (looked_in o' d') w.marks w.cells w.places w.asks;
   extends = record {
-    cells = extends_by (own_of o) (addresses (asked (memory_answers s (own_of o)) t)) (looks_of o) (looks_of o') looks;
-    places = λ k h. places k ∙ ap (λ b. b || is_among k (script_places (asked (memory_answers s (own_of o)) t))) h;
+    cells = extends_by (own_of o) (addresses (state_questions (asked (memory_answers s (own_of o) d.files) t))) (looks_of o) (looks_of o') w.cells;
+    places = λ k h. w.places k ∙ ap (λ b. b || is_among k (script_places (state_questions (asked (memory_answers s (own_of o) d.files) t)))) h;
+    files = w.extends;
   };
   bounded = tt;
 }
 
 -- a tree that failed
-broken_off : (s : Session) (r r' : Regs) (d d' : Watched) (o o' : Overlay) (t : StateTree Reached) (e : AllocError) → next (record { regs = r; desk = d.desk }) ≡ t
-    → r' ≡ r → d'.desk ≡ d.desk → own_of o' ≡ own_of o → memory.Extends (looks_of o) (looks_of o')
-    → memory.Extends (looks_of o') (look_all (own_of o) (addresses (asked (memory_answers s (own_of o)) t)) (looks_of o))
-    → ((k : ℕ) → is_within d'.places k ≡ is_within d.places k)
+broken_off : (s : Session) (r r' : Regs) (d d' : Devices) (o o' : Overlay) (t : SystemTree Reached) (e : AllocError) → IsSound s.files d.files → next (record { regs = r; desk = d.desk }) ≡ t
+    → r' ≡ r → d'.desk ≡ d.desk → own_of o' ≡ own_of o → d'.files ≡ d.files → memory.Extends (looks_of o) (looks_of o')
+    → memory.Extends (looks_of o') (look_all (own_of o) (addresses (state_questions (asked (memory_answers s (own_of o) d.files) t))) (looks_of o))
+    → ((k : ℕ) → is_within d'.places k ≡ is_within d.places k) → file_looks.Extends d.asks d'.asks
     → TakesStep s r d o (Err e) r' d' o'
-broken_off s r r' d d' o o' t e at regs desk own extends bound places = record {
+broken_off s r r' d d' o o' t e sound at regs desk own done extends bound places asks = record {
   outcome = tt;
   stays = tt;
-  failed = λ i. state_with (regs i) (desk i) (own i);
+  failed = λ i. record { core = record { regs = regs i; desk = desk i }; own = record { cells = written_cells (own i); files = done i } };
   looked = tt;
-  extends = record { cells = extends; places = λ k h. places k ∙ h };
-  bounded = bounded_of s r d.desk (own_of o) (within o) t at (looked_in o d) (looked_in o' d') bound places;
+  extends = record { cells = extends; places = λ k h. places k ∙ h; files = asks };
+  bounded = bounded_of s r d (own_of o) (within o) sound t at (looked_in o d) (looked_in o' d') bound places;
 }
 
 -- ---- an instruction
 
-at_instruction : (r : Regs) (d : Desk) → r.pc < 0xfe00 → next (record { regs = r; desk = d }) ≡ reads (instruction r) (λ e. Return (reached d.spot e))
+at_instruction : (r : Regs) (d : Desk) → r.pc < 0xfe00 → next (record { regs = r; desk = d }) ≡ reading_first (instruction r) (λ e. Return (reached d.spot e))
 unfolding next
 at_instruction r d low = rw (ne_eqb r.pc 0xff03 (omega arith), ne_eqb r.pc 0xfe06 (omega arith), lt-leb 0xfe00 r.pc low) refl
 
 sent_nothing : (d : Desk) → d ≡ desk_with d d.spot []
 sent_nothing d = ap (λ text. record { spot = d.spot; text = text }) (sym (append-nil d.text))
 
-end_leaves : (r r' : Regs) (d : Desk) (own own' : ℕ → Option ℕ) (e : end.End) → r' ≡ end.regs_after e r → own' ≡ end.own_after e own → Leaves (reached d.spot e) r d own r' d own'
-end_leaves r r' d own own' (end.Went t ws) regs wrote = (regs, sent_nothing d, wrote)
-end_leaves r r' d own own' end.Halt regs wrote = (regs, refl, wrote)
-end_leaves r r' d own own' (end.Undefined byte) regs wrote = (regs, refl, wrote)
+end_leaves : (r r' : Regs) (d : Devices) (own own' : ℕ → Option ℕ) (e : end.End) → r' ≡ end.regs_after e r → own' ≡ end.own_after e own → Leaves (reached d.desk.spot e) r d own r' d own'
+end_leaves r r' d own own' (end.Went t ws) regs wrote = (regs, sent_nothing d.desk, wrote, refl)
+end_leaves r r' d own own' end.Halt regs wrote = (regs, refl, wrote, refl)
+end_leaves r r' d own own' (end.Undefined byte) regs wrote = (regs, refl, wrote, refl)
 
 end_stops : (d : Desk) (e : end.End) → stop_of (reached d.spot e) ≡ stop_of_instruction (end.did_of e)
 end_stops d (end.Went t ws) = refl
 end_stops d end.Halt = refl
 end_stops d (end.Undefined byte) = refl
 
-pub instructed : (s : Session) (r r' : Regs) (d : Watched) (o o' : Overlay) (did : Did) → r.pc < 0xfe00 → end.Performs (instruction r) r (seen s o) (Ok did) r' (seen s o') → TakesStep s r d o (Ok (stop_of_instruction did)) r' d o'
-instructed s r r' d o o' did low p =
-    let f = memory_answers s (own_of o) in
-    let k : end.End → StateTree Reached = λ e. Return (reached d.desk.spot e) in
-    let t = reads (instruction r) k in
-    let ends : result_of f t ≡ reached d.desk.spot (reading.end_of (instruction r) (over (own_of o) (image_of s))) = result_of-reads f (instruction r) k in
-    let asks : addresses (asked f t) ≡ reading.asked (instruction r) (over (own_of o) (image_of s)) = addresses-reads f (instruction r) k ∙ append-nil _ in
-    let none : script_places (asked f t) ≡ [] = places-reads f (instruction r) k in
-    let all = carried s r r' d d o o' t (at_instruction r d.desk low)
-    (subst (λ (x : Reached). Leaves x r d.desk (own_of o) r' d.desk (own_of o')) (sym ends) (end_leaves r r' d.desk (own_of o) (own_of o') _ p.regs p.own))
-    (p.looks ∙ ap (λ at. look_all (own_of o) at (looks_of o)) (sym asks))
-    (λ j. sym (or-false (is_within d.places j)) ∙ ap (λ ks. is_within d.places j || is_among j ks) (sym none)) in
-    subst (λ (x : Option Cause). TakesStep s r d o (Ok x) r' d o') (ap stop_of ends ∙ end_stops d.desk _ ∙ ap stop_of_instruction (sym p.did)) all
+module _ (s : Session) (r r' : Regs) (d : Devices) (o o' : Overlay) (sound : IsSound s.files d.files) (low : r.pc < 0xfe00) where
+  abbrev answers_here : SystemAnswers
+  answers_here = memory_answers s (own_of o) d.files
 
-pub instruction_fails : (s : Session) (r r' : Regs) (d : Watched) (o o' : Overlay) (e : AllocError) → r.pc < 0xfe00 → end.Performs (instruction r) r (seen s o) (Err e) r' (seen s o') → TakesStep s r d o (Err e) r' d o'
-instruction_fails s r r' d o o' e low p =
-    let f = memory_answers s (own_of o) in
-    let k : end.End → StateTree Reached = λ e. Return (reached d.desk.spot e) in
-    let asks : addresses (asked f (reads (instruction r) k)) ≡ reading.asked (instruction r) (over (own_of o) (image_of s)) = addresses-reads f (instruction r) k ∙ append-nil _ in
-    broken_off s r r' d d o o' (reads (instruction r) k) e (at_instruction r d.desk low) p.err_regs refl p.err_own p.err_looks
-    (subst (λ (at : List ℕ). memory.Extends (looks_of o') (look_all (own_of o) at (looks_of o))) (sym asks) p.err_bound) (λ j. refl)
+  abbrev ends_with : end.End → SystemTree Reached
+  ends_with e = Return (reached d.desk.spot e)
+
+  pub instructed : (did : Did) → end.Performs (instruction r) r (seen s o) (Ok did) r' (seen s o') → TakesStep s r d o (Ok (stop_of_instruction did)) r' d o'
+  instructed did p =
+      let t = reading_first (instruction r) ends_with in
+      let ends : result_of answers_here t ≡ reached d.desk.spot (reading.end_of (instruction r) (over (own_of o) (image_of s))) = result-reading answers_here ends_with (instruction r) in
+      let asks : addresses (state_questions (asked answers_here t)) ≡ reading.asked (instruction r) (over (own_of o) (image_of s)) = cells-reading answers_here ends_with (instruction r) ∙ append-nil _ in
+      let places : script_places (state_questions (asked answers_here t)) ≡ [] = places-reading answers_here ends_with (instruction r) in
+      let files : file_questions (asked answers_here t) ≡ [] = files-reading answers_here ends_with (instruction r) in
+      let all = carried s r r' d d o o' t sound (record {
+        at = at_instruction r d.desk low;
+        marks = subst (HaveMarks (length d.asks.directories)) (sym files) tt;
+        leaves = subst (λ (x : Reached). Leaves x r d (own_of o) r' d (own_of o')) (sym ends) (end_leaves r r' d (own_of o) (own_of o') _ p.regs p.own);
+        cells = p.looks ∙ ap (λ at. look_all (own_of o) at (looks_of o)) (sym asks);
+        places = λ j. sym (or-false (is_within d.places j)) ∙ ap (λ ks. is_within d.places j || is_among j ks) (sym places);
+        asks = ap (λ qs. look_for_all d.files qs d.asks) (sym files);
+        extends = extends_same d.asks d.asks refl;
+      }) in
+      subst (λ (x : Option Cause). TakesStep s r d o (Ok x) r' d o') (ap stop_of ends ∙ end_stops d.desk _ ∙ ap stop_of_instruction (sym p.did)) all
+
+  pub instruction_fails : (e : AllocError) → end.Performs (instruction r) r (seen s o) (Err e) r' (seen s o') → TakesStep s r d o (Err e) r' d o'
+  instruction_fails e p =
+      let asks : addresses (state_questions (asked answers_here (reading_first (instruction r) ends_with))) ≡ reading.asked (instruction r) (over (own_of o) (image_of s)) =
+      cells-reading answers_here ends_with (instruction r) ∙ append-nil _ in
+      broken_off s r r' d d o o' (reading_first (instruction r) ends_with) e sound (at_instruction r d.desk low) p.err_regs refl p.err_own refl
+      (extends_by (own_of o) (reading.asked (instruction r) (over (own_of o) (image_of s))) (looks_of o) (looks_of o') p.looks)
+      (subst (λ (at : List ℕ). memory.Extends (looks_of o') (look_all (own_of o) at (looks_of o))) (sym asks) (bound_here (looks_of o') _ p.looks)) (λ j. refl) (extends_same d.asks d.asks refl)
 
 -- ---- a call
 
-at_call : (r : Regs) (d : Desk) → r.pc ≡ 0xfe06 → next (record { regs = r; desk = d }) ≡ returning reached_by_call (calls.call script_limit r d.spot)
+at_call : (r : Regs) (d : Desk) → r.pc ≡ 0xfe06 → next (record { regs = r; desk = d }) ≡ returning reached_by_call (call script_limit r d.spot)
 unfolding next
 at_call r d e = rw e refl
 
-call_leaves : (r r' : Regs) (d d' : Desk) (own own' : ℕ → Option ℕ) (e : calls.CallEnd) → r' ≡ calls.regs_after e r → d' ≡ calls.desk_after e d → own' ≡ calls.own_after e own
-    → Leaves (reached_by_call e) r d own r' d' own'
-call_leaves r r' d d' own own' (calls.Completed t spot bytes wrote) regs desk cells = (regs, desk, cells)
-call_leaves r r' d d' own own' (calls.Stopped cause) regs desk cells = (regs, desk, cells)
+call_leaves : (host : Host) (done : files.Own) (r r' : Regs) (d d' : Devices) (own own' : ℕ → Option ℕ) (e : SystemEnd) → r' ≡ calls.regs_after e.0 r → d'.desk ≡ calls.desk_after e.0 d.desk → own' ≡ calls.own_after e.0 own
+    → d'.files ≡ own_with e.1 d.files → IsStill host done e.0 e.1 → Leaves (reached_by_call e) r d own r' d' own'
+call_leaves host done r r' d d' own own' (calls.Completed t spot bytes wrote, change) regs desk cells files stays = (regs, desk, cells, files)
+call_leaves host done r r' d d' own own' (calls.Stopped cause, change) regs desk cells files stays = (regs, desk, cells, files ∙ ap (λ x. own_with x d.files) stays)
 
-call_stops : (e : calls.CallEnd) → stop_of (reached_by_call e) ≡ stop_of_call (calls.served_of e)
-call_stops (calls.Completed t spot bytes wrote) = refl
-call_stops (calls.Stopped cause) = refl
+call_stops : (e : SystemEnd) → stop_of (reached_by_call e) ≡ stop_of_call (calls.served_of e.0)
+call_stops (calls.Completed t spot bytes wrote, change) = refl
+call_stops (calls.Stopped cause, change) = refl
 
-pub called : (s : Session) (r r' : Regs) (d d' : Watched) (o o' : Overlay) (served : Served) → r.pc ≡ 0xfe06
-    → calls.Serves script_limit s.script r (seen s o) d (Ok served) r' (seen s o') d' → TakesStep s r d o (Ok (stop_of_call served)) r' d' o'
-called s r r' d d' o o' served at p =
-    let f = memory_answers s (own_of o) in
-    let u = calls.call script_limit r d.desk.spot in
-    let t = returning reached_by_call u in
-    let ends : result_of f t ≡ reached_by_call (result_of f u) = result_of-returning f reached_by_call u in
-    let asks : asked f t ≡ asked f u = asked-returning f reached_by_call u in
-    let all = carried s r r' d d' o o' t (at_call r d.desk at)
-    (subst (λ (x : Reached). Leaves x r d.desk (own_of o) r' d'.desk (own_of o')) (sym ends) (call_leaves r r' d.desk d'.desk (own_of o) (own_of o') _ p.regs p.desk p.own))
-    (p.looks ∙ ap (λ qs. look_all (own_of o) (addresses qs) (looks_of o)) (sym asks))
-    (λ k. p.places k ∙ ap (λ qs. is_within d.places k || is_among k (script_places qs)) (sym asks)) in
-    subst (λ (x : Option Cause). TakesStep s r d o (Ok x) r' d' o') (ap stop_of ends ∙ call_stops _ ∙ ap stop_of_call (sym p.served)) all
+module _ (s : Session) (r r' : Regs) (d d' : Watched) (c c' : Changes) (o o' : Overlay) (g : GName) (sound : IsSound s.files c.journal.entries) (at : r.pc ≡ 0xfe06) where
+  abbrev answers_called : SystemAnswers
+  answers_called = memory_answers s (own_of o) c.journal.entries
 
-pub call_fails : (s : Session) (r r' : Regs) (d d' : Watched) (o o' : Overlay) (e : AllocError) → r.pc ≡ 0xfe06
-    → calls.Serves script_limit s.script r (seen s o) d (Err e) r' (seen s o') d' → TakesStep s r d o (Err e) r' d' o'
-call_fails s r r' d d' o o' e at p =
-    let f = memory_answers s (own_of o) in
-    let u = calls.call script_limit r d.desk.spot in
-    broken_off s r r' d d' o o' (returning reached_by_call u) e (at_call r d.desk at) p.err_regs p.err_desk p.err_own p.err_looks
-    (subst (λ (qs : List StateQuestion). memory.Extends (looks_of o') (look_all (own_of o) (addresses qs) (looks_of o))) (sym (asked-returning f reached_by_call u)) p.err_bound) p.err_places
+  abbrev tree : SystemTree SystemEnd
+  tree = call script_limit r d.desk.spot
+
+  pub called : (served : Served) → length c.looks.directories ≡ 256 → AsksDrives tree
+      → Serves script_limit s.script r (seen s o) d (drives_in s c g) (Ok served) r' (seen s o') d' (drives_in s c' g) → TakesStep s r (devices_of d c) o (Ok (stop_of_call served)) r' (devices_of d' c') o'
+  called served whole drives p =
+      let ends : result_of answers_called (returning reached_by_call tree) ≡ reached_by_call (result_of answers_called tree) = result_of-returning answers_called reached_by_call tree in
+      let asks : asked answers_called (returning reached_by_call tree) ≡ asked answers_called tree = asked-returning answers_called reached_by_call tree in
+      let all = carried s r r' (devices_of d c) (devices_of d' c') o o' (returning reached_by_call tree) sound (record {
+        at = at_call r d.desk at;
+        marks = subst (λ qs. HaveMarks (length c.looks.directories) (file_questions qs)) (sym asks) (have_marks (length c.looks.directories) whole _ (drives answers_called));
+        leaves = subst (λ (x : Reached). Leaves x r (devices_of d c) (own_of o) r' (devices_of d' c') (own_of o')) (sym ends)
+            (call_leaves s.files c.journal.entries r r' (devices_of d c) (devices_of d' c') (own_of o) (own_of o') _ p.regs p.desk p.own p.files (call_fits s.files c.journal.entries answers_called (λ q. refl) script_limit r d.desk.spot).1);
+        cells = p.looks ∙ ap (λ qs. look_all (own_of o) (addresses (state_questions qs)) (looks_of o)) (sym asks);
+        places = λ k. p.places k ∙ ap (λ qs. is_within d.places k || is_among k (script_places (state_questions qs))) (sym asks);
+        asks = p.asks ∙ ap (λ qs. look_for_all c.journal.entries (file_questions qs) c.looks) (sym asks);
+        extends = p.extends;
+      }) in
+      subst (λ (x : Option Cause). TakesStep s r (devices_of d c) o (Ok x) r' (devices_of d' c') o') (ap stop_of ends ∙ call_stops _ ∙ ap stop_of_call (sym p.served)) all
+
+  pub call_fails : (e : AllocError) → Serves script_limit s.script r (seen s o) d (drives_in s c g) (Err e) r' (seen s o') d' (drives_in s c' g) → TakesStep s r (devices_of d c) o (Err e) r' (devices_of d' c') o'
+  call_fails e p =
+      broken_off s r r' (devices_of d c) (devices_of d' c') o o' (returning reached_by_call tree) e sound (at_call r d.desk at) p.err_regs p.err_desk p.err_own p.err_files p.err_looks
+      (subst (λ (qs : List SystemQuestion). memory.Extends (looks_of o') (look_all (own_of o) (addresses (state_questions qs)) (looks_of o))) (sym (asked-returning answers_called reached_by_call tree)) p.err_bound) p.err_places p.extends
 
 -- ---- a stop that asks nothing
 
-pub stopped : (s : Session) (r : Regs) (d : Watched) (o : Overlay) (cause : Cause) → next (record { regs = r; desk = d.desk }) ≡ Return (Stopped cause) → TakesStep s r d o (Ok (Some cause)) r d o
-stopped s r d o cause e = carried s r r d d o o (Return (Stopped cause)) e (refl, refl, refl) refl (λ k. sym (or-false (is_within d.places k)))
+pub stopped : (s : Session) (r : Regs) (d : Devices) (o : Overlay) (cause : Cause) → IsSound s.files d.files → next (record { regs = r; desk = d.desk }) ≡ Return (Stopped cause) → TakesStep s r d o (Ok (Some cause)) r d o
+stopped s r d o cause sound e = carried s r r d d o o (Return (Stopped cause)) sound (record {
+  at = e;
+  marks = tt;
+  leaves = (refl, refl, refl, refl);
+  cells = refl;
+  places = λ k. sym (or-false (is_within d.places k));
+  asks = refl;
+  extends = extends_same d.asks d.asks refl;
+})
 
 pub next_warm : (r : Regs) (d : Desk) → r.pc ≡ 0xff03 → next (record { regs = r; desk = d }) ≡ Return (Stopped WarmBoot)
 unfolding next
@@ -325,31 +417,52 @@ pub next_system : (r : Regs) (d : Desk) → r.pc ≢ 0xff03 → r.pc ≢ 0xfe06 
 unfolding next
 next_system r d w b h = rw (ne_eqb r.pc 0xff03 w, ne_eqb r.pc 0xfe06 b, le-leb 0xfe00 r.pc h) refl
 
--- ---- a call over a view, at the greatest script
+-- ---- a call over a view and a table, at the greatest script
 
-pub at_limit : (d d' : Watched) {script other : List ℕ} {r r' : Regs} {m m' v v' : Memory} {result : Result Served AllocError}
-    → script ≡ other → length script ≤ SCRIPT_LIMIT → ((n : ℕ) → length script ≤ n → calls.Serves n script r m d result r' m' d')
-    → m.own ≡ v.own → m.beneath ≡ v.beneath → m.looks ≡ v.looks → m'.own ≡ v'.own → m'.beneath ≡ v'.beneath → m'.looks ≡ v'.looks → v'.lender ≡ v.lender
-    → calls.Serves script_limit other r v d result r' v' d'
-at_limit d d' {script = script} {other = other} {r = r} {r' = r'} {m = m} {m' = m'} {v = v} {v' = v'} {result = result} same short h own beneath looks own' beneath' looks' lender =
-    let before : m ≡ record v { lender = m.lender } = λ i. record { own = own i; beneath = beneath i; looks = looks i; lender = m.lender } in
-    let after : m' ≡ record v' { lender = m'.lender } = λ i. record { own = own' i; beneath = beneath' i; looks = looks' i; lender = m'.lender } in
-    let w = subst (λ (x : Memory). calls.Serves script_limit other r (record v { lender = m.lender }) d result r' x d') after
-    (subst (λ (x : Memory). calls.Serves script_limit other r x d result r' m' d') before
-    (subst (λ (l : List ℕ). calls.Serves script_limit l r m d result r' m' d') same (h script_limit (rw script_limit-is short)))) in
+-- two memories and two tables that hold the same
+pub record IsSeenAs (m v : Memory) : Type 0 where
+  pub own : m.own ≡ v.own
+  pub beneath : m.beneath ≡ v.beneath
+  pub looks : m.looks ≡ v.looks
+
+pub record AreDrivesAs (m v : Drives) : Type 0 where
+  pub host : m.host ≡ v.host
+  pub own : m.own ≡ v.own
+  pub looks : m.looks ≡ v.looks
+
+pub at_limit : (d d' : Watched) {script other : List ℕ} {r r' : Regs} {m m' v v' : Memory} {f f' w w' : Drives} {result : Result Served AllocError}
+    → script ≡ other → length script ≤ SCRIPT_LIMIT → ((n : ℕ) → length script ≤ n → Serves n script r m d f result r' m' d' f')
+    → IsSeenAs m v → IsSeenAs m' v' → v'.lender ≡ v.lender → AreDrivesAs f w → AreDrivesAs f' w' → w'.lender ≡ w.lender
+    → Serves script_limit other r v d w result r' v' d' w'
+at_limit d d' {script = script} {other = other} {r = r} {r' = r'} {m = m} {m' = m'} {v = v} {v' = v'} {f = f} {f' = f'} {w = w} {w' = w'} {result = result} same short h seen seen' lender drives drives' lends =
+    let before : m ≡ record v { lender = m.lender } = λ i. record { own = seen.own i; beneath = seen.beneath i; looks = seen.looks i; lender = m.lender } in
+    let after : m' ≡ record v' { lender = m'.lender } = λ i. record { own = seen'.own i; beneath = seen'.beneath i; looks = seen'.looks i; lender = m'.lender } in
+    let files : f ≡ record w { lender = f.lender } = λ i. record { host = drives.host i; own = drives.own i; looks = drives.looks i; lender = f.lender } in
+    let files' : f' ≡ record w' { lender = f'.lender } = λ i. record { host = drives'.host i; own = drives'.own i; looks = drives'.looks i; lender = f'.lender } in
+    let p = subst (λ (x : Drives). Serves script_limit other r (record v { lender = m.lender }) d (record w { lender = f.lender }) result r' (record v' { lender = m'.lender }) d' x) files'
+    (subst (λ (x : Drives). Serves script_limit other r (record v { lender = m.lender }) d x result r' (record v' { lender = m'.lender }) d' f') files
+    (subst (λ (x : Memory). Serves script_limit other r (record v { lender = m.lender }) d f result r' x d' f') after
+    (subst (λ (x : Memory). Serves script_limit other r x d f result r' m' d' f') before
+    (subst (λ (l : List ℕ). Serves script_limit l r m d f result r' m' d' f') same (h script_limit (rw script_limit-is short)))))) in
     record {
-      served = w.served;
-      regs = w.regs;
-      desk = w.desk;
-      own = w.own;
-      looks = w.looks;
-      places = w.places;
-      err_looks = w.err_looks;
-      err_bound = w.err_bound;
-      err_regs = w.err_regs;
-      err_desk = w.err_desk;
-      err_own = w.err_own;
-      err_places = w.err_places;
-      beneath = w.beneath;
+      served = p.served;
+      regs = p.regs;
+      desk = p.desk;
+      own = p.own;
+      files = p.files;
+      looks = p.looks;
+      places = p.places;
+      asks = p.asks;
+      err_looks = p.err_looks;
+      err_bound = p.err_bound;
+      err_regs = p.err_regs;
+      err_desk = p.err_desk;
+      err_own = p.err_own;
+      err_files = p.err_files;
+      err_places = p.err_places;
+      extends = p.extends;
+      host = p.host;
+      lends = lends;
+      beneath = p.beneath;
       lender = lender;
     }

@@ -10,7 +10,8 @@ use Rattle.i8080.specs.declared.registers.Regs.{Regs}
 use Rattle.i8080.specs.Reading.{asked}
 use Rattle.i8080.proofs.WriteLookLemmas.{extends_itself, extends_by}
 use Rattle.bdos.specs.declared.cause.Cause.{Cause}
-use Rattle.bdos.specs.Places.{Watched}
+use Rattle.hostfiles.proofs.LookLemmas.{extends_same}
+use Rattle.host_questions.specs.Passing.{IsSound}
 use Rattle.pagemem.specs.declared.overlay.Overlay.{Overlay}
 use Rattle.pagemem.specs.Overlay.{own_of, looks_of}
 use Rattle.machine.specs.Views.{Session, State, Looked}
@@ -24,7 +25,7 @@ use Rattle.machine.specs.Session.{image_of}
 use Rattle.machine.specs.Stops.{stop_of_instruction}
 use Rattle.machine.proofs.StepLemmas.{instructed, instruction_fails}
 use Rattle.machine.specs.Machine.{Question, Answers, ask, next, part, made, start, after, outcome, looks, looks_at, looked_at, is_in, Extends}
-use Rattle.machine.specs.WrittenCells.{state_with}
+use Rattle.machine.specs.WrittenCells.{Devices, state_with}
 use Rattle.machine.specs.Steps.{seen, looked_in, TakesStep}
 use Rattle.machine.specs.Stretch.{LooksAtNothingNew, Stretches}
 use Rattle.machine.proofs.AfterLemmas.{after_step}
@@ -45,8 +46,8 @@ nothing_new_more f looked from n quiet here i low high q h = elim (eqb_tells i n
   | inr other ↦ quiet i low (let apart : i ≢ n = other.1 in omega arith) q h
 ]
 
-module _ (s : Session) (from end n : ℕ) (r r' : Regs) (d d' : Watched) (o o' : Overlay) (looked : Looked) (low : from ≤ n) (same : looked_in o d ≡ looked)
-    (at : after (ask s) n ≡ Some (state_with r d.desk (own_of o))) (quiet : LooksAtNothingNew (ask s) looked from n) where
+module _ (s : Session) (from end n : ℕ) (r r' : Regs) (d d' : Devices) (o o' : Overlay) (looked : Looked) (low : from ≤ n) (same : looked_in o d ≡ looked)
+    (at : after (ask s) n ≡ Some (state_with r d (own_of o))) (quiet : LooksAtNothingNew (ask s) looked from n) where
   before : LooksAtNothingNew (ask s) looked from (n - 1)
   before i l h q = quiet i l (omega arith) q
 
@@ -54,14 +55,14 @@ module _ (s : Session) (from end n : ℕ) (r r' : Regs) (d d' : Watched) (o o' :
   looked_after : TakesStep s r d o (Ok None) r' d' o' → (q : Question) → looked_at (looked_in o' d') q ≡ (looked_at looked q || is_in q (looks (ask s) n))
   looked_after w q =
       w.looked q
-      ∙ ap (λ (l : Looked). looked_at l q || is_in q (looks_at (ask s) (state_with r d.desk (own_of o)))) same
-      ∙ ap (λ (qs : List Question). looked_at looked q || is_in q qs) (sym (looks_here (ask s) n (state_with r d.desk (own_of o)) at))
+      ∙ ap (λ (l : Looked). looked_at l q || is_in q (looks_at (ask s) (state_with r d (own_of o)))) same
+      ∙ ap (λ (qs : List Question). looked_at looked q || is_in q qs) (sym (looks_here (ask s) n (state_with r d (own_of o)) at))
 
   -- a stretch that ends with the step n
-  pub ends_by_step : n < end → TakesStep s r d o (Ok None) r' d' o' → Stretches s from end looked (n + 1) (Ok None) (state_with r' d'.desk (own_of o')) (looked_in o' d')
+  pub ends_by_step : n < end → TakesStep s r d o (Ok None) r' d' o' → Stretches s from end looked (n + 1) (Ok None) (state_with r' d' (own_of o')) (looked_in o' d')
   ends_by_step high w = record {
     within = (omega arith, omega arith);
-    at = after_step (ask s) n (state_with r d.desk (own_of o)) _ at w.outcome;
+    at = after_step (ask s) n (state_with r d (own_of o)) _ at w.outcome;
     stopped = tt;
     before_last = λ i l h q. quiet i l (omega arith) q;
     before_stop = tt;
@@ -71,7 +72,7 @@ module _ (s : Session) (from end n : ℕ) (r r' : Regs) (d d' : Watched) (o o' :
   }
 
   -- one that ends before the step n, which stops
-  pub ends_by_stop : (cause : Cause) → n < end → TakesStep s r d o (Ok (Some cause)) r' d' o' → Stretches s from end looked n (Ok (Some cause)) (state_with r' d'.desk (own_of o')) (looked_in o' d')
+  pub ends_by_stop : (cause : Cause) → n < end → TakesStep s r d o (Ok (Some cause)) r' d' o' → Stretches s from end looked n (Ok (Some cause)) (state_with r' d' (own_of o')) (looked_in o' d')
   ends_by_stop cause high w = record {
     within = (low, omega arith);
     at = at ∙ ap (λ (st : State). Some st) (sym w.stays);
@@ -84,7 +85,7 @@ module _ (s : Session) (from end n : ℕ) (r r' : Regs) (d d' : Watched) (o o' :
   }
 
   -- one that ends before the step n, which fails
-  pub ends_by_failure : (e : AllocError) → n < end → TakesStep s r d o (Err e) r' d' o' → Stretches s from end looked n (Err e) (state_with r' d'.desk (own_of o')) (looked_in o' d')
+  pub ends_by_failure : (e : AllocError) → n < end → TakesStep s r d o (Err e) r' d' o' → Stretches s from end looked n (Err e) (state_with r' d' (own_of o')) (looked_in o' d')
   ends_by_failure e high w = record {
     within = (low, omega arith);
     at = at ∙ ap (λ (st : State). Some st) (sym w.failed);
@@ -104,7 +105,7 @@ module _ (s : Session) (from end n : ℕ) (r r' : Regs) (d d' : Watched) (o o' :
     absorbs false e = e
   looked_before q false h = sym (or-false (looked_at looked q))
 
-  pub ends_here : n ≤ end → Stretches s from end looked n (Ok None) (state_with r d.desk (own_of o)) (looked_in o d)
+  pub ends_here : n ≤ end → Stretches s from end looked n (Ok None) (state_with r d (own_of o)) (looked_in o d)
   ends_here high = record {
     within = (low, high);
     at = at;
@@ -113,27 +114,27 @@ module _ (s : Session) (from end n : ℕ) (r r' : Regs) (d d' : Watched) (o o' :
     before_stop = tt;
     before_failure = tt;
     last = λ past q. ap (λ (l : Looked). looked_at l q) same ∙ looked_before q (is_in q (looks (ask s) (n - 1))) (quiet (n - 1) (omega arith) (omega arith) q);
-    extends = subst (λ (l : Looked). Extends l (looked_in o d)) same (record { cells = extends_itself (looks_of o); places = λ k h. h });
+    extends = subst (λ (l : Looked). Extends l (looked_in o d)) same (record { cells = extends_itself (looks_of o); places = λ k h. h; files = extends_same d.asks d.asks refl });
   }
 
 -- the same looks, where there are no more
 pub same_cells : (old new : List ℕ) → memory.Extends old new → length new ≡ length old → new ≡ old
 same_cells old new e count = sym (take_all (length old) new (omega arith)) ∙ e
 
-same_looks : (o o' : Overlay) (d : Watched) → Extends (looked_in o d) (looked_in o' d) → length (looks_of o') ≡ length (looks_of o) → looks_of o' ≡ looks_of o
+same_looks : (o o' : Overlay) (d : Devices) → Extends (looked_in o d) (looked_in o' d) → length (looks_of o') ≡ length (looks_of o) → looks_of o' ≡ looks_of o
 same_looks o o' d e count = same_cells (looks_of o) (looks_of o') e.cells count
 
-module _ (s : Session) (from n : ℕ) (r r' : Regs) (o o' : Overlay) (d : Watched) (looked : Looked) (same : looked_in o d ≡ looked)
-    (at : after (ask s) n ≡ Some (state_with r d.desk (own_of o))) (w : TakesStep s r d o (Ok None) r' d o') where
-  pub goes_to : after (ask s) (n + 1) ≡ Some (state_with r' d.desk (own_of o'))
-  goes_to = after_step (ask s) n (state_with r d.desk (own_of o)) _ at w.outcome
+module _ (s : Session) (from n : ℕ) (r r' : Regs) (o o' : Overlay) (d : Devices) (looked : Looked) (same : looked_in o d ≡ looked)
+    (at : after (ask s) n ≡ Some (state_with r d (own_of o))) (w : TakesStep s r d o (Ok None) r' d o') where
+  pub goes_to : after (ask s) (n + 1) ≡ Some (state_with r' d (own_of o'))
+  goes_to = after_step (ask s) n (state_with r d (own_of o)) _ at w.outcome
 
   pub nothing_new : length (looks_of o') ≡ length (looks_of o) → LooksAtNothingNew (ask s) looked from n → LooksAtNothingNew (ask s) looked from (n + 1)
   nothing_new count quiet = nothing_new_more (ask s) looked from n quiet (λ q h.
       ap (λ (l : Looked). looked_at l q) (sym same)
-      ∙ ap (λ (c : List ℕ). looked_at (record { cells = c; places = d.places }) q) (sym (same_looks o o' d w.extends count))
-      ∙ or_second (looked_at (looked_in o d) q) (is_in q (looks_at (ask s) (state_with r d.desk (own_of o)))) (looked_at (looked_in o' d) q) (w.looked q)
-      (subst (λ (qs : List Question). is_in q qs ≡ true) (looks_here (ask s) n (state_with r d.desk (own_of o)) at) h))
+      ∙ ap (λ (c : List ℕ). looked_at (record { cells = c; places = d.places; files = d.asks }) q) (sym (same_looks o o' d w.extends count))
+      ∙ or_second (looked_at (looked_in o d) q) (is_in q (looks_at (ask s) (state_with r d (own_of o)))) (looked_at (looked_in o' d) q) (w.looked q)
+      (subst (λ (qs : List Question). is_in q qs ≡ true) (looks_here (ask s) n (state_with r d (own_of o)) at) h))
 
 -- ---- an instruction over a view
 
@@ -150,19 +151,18 @@ module _ (s : Session) (r r' : Regs) (o o' : Overlay) (beneath beneath' : ℕ �
         regs = w.regs;
         own = w.own;
         looks = w.looks;
-        err_looks = w.err_looks;
-        err_bound = w.err_bound;
+        err_writes = w.err_writes;
         err_regs = w.err_regs;
         err_own = w.err_own;
         beneath = refl;
         lender = refl;
       }
 
-  pub viewed : (d : Watched) (did told : Did) → told ≡ did → r.pc < 0xfe00 → Viewed (Ok told) → TakesStep s r d o (Ok (stop_of_instruction did)) r' d o'
-  viewed d did told same low p = instructed s r r' d o o' did low (seen_through (Ok did) (subst (λ (x : Did). Viewed (Ok x)) same p))
+  pub viewed : (d : Devices) (sound : IsSound s.files d.files) (did told : Did) → told ≡ did → r.pc < 0xfe00 → Viewed (Ok told) → TakesStep s r d o (Ok (stop_of_instruction did)) r' d o'
+  viewed d sound did told same low p = instructed s r r' d o o' sound low did (seen_through (Ok did) (subst (λ (x : Did). Viewed (Ok x)) same p))
 
-  pub viewed_failure : (d : Watched) (e : AllocError) → r.pc < 0xfe00 → Viewed (Err e) → TakesStep s r d o (Err e) r' d o'
-  viewed_failure d e low p = instruction_fails s r r' d o o' e low (seen_through (Err e) p)
+  pub viewed_failure : (d : Devices) (sound : IsSound s.files d.files) (e : AllocError) → r.pc < 0xfe00 → Viewed (Err e) → TakesStep s r d o (Err e) r' d o'
+  viewed_failure d sound e low p = instruction_fails s r r' d o o' sound low e (seen_through (Err e) p)
 
 -- the looks after it extend those before
 pub looks_on : (r r' : Regs) (m m' : memory.Memory) (did : Did) → Performs (instruction r) r m (Ok did) r' m' → memory.Extends m.looks m'.looks

@@ -6,6 +6,7 @@ use Rattle.std.proofs.Math.Seq.{take-append_seam}
 use Rattle.interaction_trees.specs.Tree.{result_of}
 use Rattle.interaction_trees.specs.Dependence.{Step}
 use Rattle.interaction_trees.specs.Dependence as dependence
+use Rattle.file_calls.specs.Changes.{own_with}
 use Rattle.machine.specs.Views.{State}
 use Rattle.machine.specs.Machine.{Answers, Reached, Went, Stopped, desk_with, next, laid, stored_all, made, outcome, after}
 use Rattle.machine.proofs.AfterLemmas.{step_before}
@@ -22,8 +23,8 @@ longer_further xs ys zs h k = (h.0 ++ k.0, k.1 ∙ ap (λ (l : List ℕ). l ++ k
 -- ---- a step
 
 made_grows : (st st' : State) (e : Reached) → made st e ≡ Step st' → Longer st.core.desk.text st'.core.desk.text
-made_grows st st' (Went r spot bytes wrote) e =
-    let same : record { core = record { regs = r; desk = desk_with st.core.desk spot bytes }; own = record { cells = stored_all st.own.cells wrote.cells } } ≡ st' = cc in
+made_grows st st' (Went r spot bytes wrote change) e =
+    let same : record { core = record { regs = r; desk = desk_with st.core.desk spot bytes }; own = record { cells = stored_all st.own.cells wrote.cells; files = own_with change st.own.files } } ≡ st' = cc in
     subst (λ (x : State). Longer st.core.desk.text x.core.desk.text) same (bytes, refl)
 made_grows st st' (Stopped cause) e = absurd (cc)
 

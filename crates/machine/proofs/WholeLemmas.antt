@@ -1,6 +1,5 @@
--- The machine with its whole memory as one list goes the same way.
+-- The machine with its whole memory as one list and its files as one map goes the same way.
 use Rattle.std.proofs.Common.{rules, inl, inr, ◌≡◌, ℕ, zero, suc, ◌+◌, ◌<◌, ◌≤◌, Option, Some, None, List, [], ◌∷◌, length, get_or, unwrap_or, refl, sym, ◌∙◌, ap, arith, cond, eqb, get_or-set_same, get_or-set_other, length-set, nat_lt, Bool, true, false, subst}
-use Rattle.std.proofs.Math.Path.{fun_ext}
 use Rattle.std.specs.Prelude.{slice_index, slice_set}
 use Rattle.std.specs.Option.{option_map}
 use Rattle.std.specs.Ordering.{nat_cmp}
@@ -13,7 +12,13 @@ use Rattle.interaction_trees.specs.Dependence.{Outcome, Step, Stop, state_of}
 use Rattle.interaction_trees.specs.Dependence as dependence
 use Rattle.interaction_trees.proofs.DependenceLemmas.{same_everywhere}
 use Rattle.bdos.specs.declared.cause.Cause.{Cause}
-use Rattle.bdos.specs.Questions.{StateQuestion, Byte, Input}
+use Rattle.bdos.specs.Questions.{Byte, Input}
+use Rattle.hostfiles.specs.Files as files
+use Rattle.host_questions.specs.Passing.{IsSound}
+use Rattle.host_questions.specs.Passing as passing
+use Rattle.host_questions.proofs.Answering.{answers_are}
+use Rattle.file_calls.specs.Changes.{own_with}
+use Rattle.system_calls.specs.Questions.{SystemQuestion, OfState, OfFiles}
 use Rattle.machine.specs.Views.{Session, Cells, State}
 use Rattle.machine.specs.Session.{image_of, IsSession}
 use Rattle.machine.specs.Machine.{Answers, ask, Reached, Went, Stopped, desk_with, next, part, laid, stored, stored_all, made, start, outcome, after}
@@ -22,6 +27,10 @@ use Rattle.machine.specs.Whole.{Whole, memory_of, tells, written, whole_made, wh
 use Rattle.machine.proofs.WrittenCellLemmas.{get_stored, stored_past}
 use Rattle.machine.proofs.AfterLemmas.{step_before}
 use Rattle.machine.proofs.StepLemmas.{answered}
+use Rattle.machine.proofs.HostLemmas.{result_of-asking_host}
+use Rattle.machine.proofs.FitLemmas.{FitsReached, reached_fits, sound_after}
+use Rattle.machine.proofs.TidyFiles.{IsTidy, tidy_after}
+use Rattle.machine.proofs.WholeFiles.{loaded_is, answer_is, changed_is}
 
 -- ---- a list of a byte for each cell
 
@@ -59,12 +68,14 @@ image_past s q limits h = let short = limits.program in rw (low, high) refl wher
   high : nat_lt q (256 + length s.program) ≡ false
   high = let short = limits.program in search (rules)
 
-same_tell : (s : Session) (m : Cells) → IsSession s → Inside m → (q : StateQuestion) → tells (memory_of (cell_of s m)) s.script q ≡ laid (record { cells = m }) (ask s) q
-same_tell s m limits inside (Byte a) = elim (leb_tells 65536 a) [
+same_tell : (s : Session) (m : Cells) (own : files.Own) → IsSession s → Inside m → IsSound s.files own → IsTidy s.files own
+    → (q : SystemQuestion) → tells (memory_of (cell_of s m)) s.script (files.files s.files own) q ≡ laid (record { cells = m; files = own }) (ask s) q
+same_tell s m own limits inside sound tidy (OfState (Byte a)) = elim (leb_tells 65536 a) [
   | inl over ↦ get_past (cell_of s m) a over.1 ∙ sym (answered (ask s) (finmap.get m a) a ∙ ap (λ (o : Option ℕ). unwrap_or o (image_of s a)) (inside a over.1) ∙ image_past s a limits over.1)
   | inr under ↦ get_memory (cell_of s m) a under.1 ∙ sym (answered (ask s) (finmap.get m a) a)
 ]
-same_tell s m limits inside (Input k) = refl
+same_tell s m own limits inside sound tidy (OfState (Input k)) = refl
+same_tell s m own limits inside sound tidy (OfFiles q) = answer_is s.files own tidy q ∙ sym (result_of-asking_host (ask s) (passing.part own q) ∙ answers_are s.files own sound q)
 
 get_set : (m : List ℕ) (a v q : ℕ) → q < length m → get_or (slice_set m a v) q 0 ≡ cond (eqb q a) v (get_or m q 0)
 get_set m a v q h = elim (eqb_tells q a) [
@@ -93,19 +104,24 @@ inside_all (w ∷ ws) m h = inside_all ws (stored m w.0 w.1) (λ q over. stored_
 
 -- ---- a step, and a run
 
-made_whole : (s : Session) (st : State) (e : Reached) → whole_made (laid_over s st) e ≡ whole_of s (made st e)
-made_whole s st (Went r spot bytes wrote) = ap (λ (l : List ℕ). Step (record { core = record { regs = r; desk = desk_with st.core.desk spot bytes }; memory = l })) (write_all s wrote.cells st.own.cells)
-made_whole s st (Stopped cause) = refl
+made_whole : (s : Session) (st : State) (e : Reached) → IsTidy s.files st.own.files → FitsReached s.files st.own.files e → whole_made (laid_over s st) e ≡ whole_of s (made st e)
+made_whole s st (Went r spot bytes wrote change) tidy fits =
+    λ i. Step (record {
+      core = record { regs = r; desk = desk_with st.core.desk spot bytes };
+      memory = write_all s wrote.cells st.own.cells i;
+      files = changed_is s.files st.own.files change tidy fits i;
+    })
+made_whole s st (Stopped cause) tidy fits = refl
 
-same_outcome : (s : Session) (st : State) → IsSession s → Inside st.own.cells → whole_outcome s (laid_over s st) ≡ whole_of s (outcome (ask s) st)
+same_outcome : (s : Session) (st : State) → IsSession s → Inside st.own.cells → IsSound s.files st.own.files → IsTidy s.files st.own.files → whole_outcome s (laid_over s st) ≡ whole_of s (outcome (ask s) st)
 unfolding whole_outcome dependence.outcome
-same_outcome s st limits inside =
-    ap (whole_made (laid_over s st)) (same_everywhere (tells (memory_of (cell_of s st.own.cells)) s.script) (laid st.own (ask s)) (next st.core) (same_tell s st.own.cells limits inside))
-    ∙ made_whole s st (result_of (laid st.own (ask s)) (next st.core))
+same_outcome s st limits inside sound tidy =
+    ap (whole_made (laid_over s st)) (same_everywhere (tells (memory_of (cell_of s st.own.cells)) s.script (files.files s.files st.own.files)) (laid st.own (ask s)) (next st.core) (same_tell s st.own.cells st.own.files limits inside sound tidy))
+    ∙ made_whole s st (result_of (laid st.own (ask s)) (next st.core)) tidy (reached_fits s st sound)
 
 step_inside : (st next : State) (e : Reached) → Inside st.own.cells → made st e ≡ Step next → Inside next.own.cells
-step_inside st next (Went r spot bytes wrote) h e =
-    let same : record { core = record { regs = r; desk = desk_with st.core.desk spot bytes }; own = record { cells = stored_all st.own.cells wrote.cells } } ≡ next = cc in
+step_inside st next (Went r spot bytes wrote change) h e =
+    let same : record { core = record { regs = r; desk = desk_with st.core.desk spot bytes }; own = record { cells = stored_all st.own.cells wrote.cells; files = own_with change st.own.files } } ≡ next = cc in
     subst (λ (x : State). Inside x.own.cells) same (inside_all wrote.cells st.own.cells h)
 step_inside st next (Stopped cause) h e = absurd (cc)
 
@@ -122,19 +138,24 @@ went_on : (s : Session) (w : Outcome Whole Cause) (o : Outcome State Cause) → 
 went_on s w (Step st) e = rw e refl
 went_on s w (Stop cause) e = rw e refl
 
-one_more : (s : Session) → IsSession s → (o : Option State) → ((st : State) → o ≡ Some st → Inside st.own.cells)
+one_more : (s : Session) → IsSession s → (o : Option State) → ((st : State) → o ≡ Some st → Inside st.own.cells) → ((st : State) → o ≡ Some st → IsSound s.files st.own.files)
+    → ((st : State) → o ≡ Some st → IsTidy s.files st.own.files)
     → whole_then s (option_map (laid_over s) o) ≡ option_map (laid_over s) (dependence.then_step part (λ (st : State). st.own) (λ (st : State). next st.core) made start (ask s) o)
-one_more s limits None inside = refl
-one_more s limits (Some st) inside = went_on s _ (outcome (ask s) st) (same_outcome s st limits (inside st refl))
+one_more s limits None inside sound tidy = refl
+one_more s limits (Some st) inside sound tidy = went_on s _ (outcome (ask s) st) (same_outcome s st limits (inside st refl) (sound st refl) (tidy st refl))
 
 same_after : (s : Session) → IsSession s → (n : ℕ) → whole_after s n ≡ option_map (laid_over s) (after (ask s) n)
 unfolding whole_after dependence.after
-same_after s limits zero = ap (λ (l : List ℕ). Some (record { core = start.core; memory = l })) (ap memory_of (fun_ext (λ a. sym (ap (λ (o : Option ℕ). unwrap_or o (image_of s a)) (finmap.get-empty nat_cmp a)))))
-same_after s limits (suc n) = ap (whole_then s) (same_after s limits n) ∙ one_more s limits (after (ask s) n) (after_inside (ask s) n)
+same_after s limits zero = λ i. Some (record {
+  core = start.core;
+  memory = memory_of (λ a. unwrap_or (sym (finmap.get-empty nat_cmp a) i) (image_of s a));
+  files = loaded_is s.files i;
+})
+same_after s limits (suc n) = ap (whole_then s) (same_after s limits n) ∙ one_more s limits (after (ask s) n) (after_inside (ask s) n) (sound_after s n) (tidy_after s n)
 
 -- the law of the whole machine
 pub whole_goes_as_laid : WholeIsLaid
 whole_goes_as_laid = record {
   states = same_after;
-  outcomes = λ s limits n st e. same_outcome s st limits (after_inside (ask s) n st e);
+  outcomes = λ s limits n st e. same_outcome s st limits (after_inside (ask s) n st e) (sound_after s n st e) (tidy_after s n st e);
 }

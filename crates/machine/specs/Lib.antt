@@ -5,6 +5,7 @@ pub mod Machine
 pub mod Kept
 pub mod Steps
 pub mod Stretch
+pub mod WholeFiles
 pub mod Whole
 pub mod Stops
 pub mod WrittenCells

@@ -14,23 +14,34 @@ use Rattle.bdos.specs.declared.cause.Cause.TheVariants.{WarmBoot, Halt, Undefine
 use Rattle.bdos.specs.declared.desk.Spot.{Spot}
 use Rattle.bdos.specs.Desk.{Desk, first_desk}
 use Rattle.bdos.specs.Places.{is_within}
-use Rattle.bdos.specs.Questions.{StateQuestion, Byte, Input, StateAnswer, StateAnswers, StateTree, reads}
+use Rattle.bdos.specs.Questions.{Byte, Input}
 use Rattle.bdos.specs.Calls.{Written}
 use Rattle.bdos.specs.Calls as calls
+use Rattle.hostfiles.specs.Looks.{is_looked, is_same_ask}
+use Rattle.hostfiles.specs.Looks as file_looks
+use Rattle.hostfiles.specs.declared.looks.Ask.{Ask}
+use Rattle.file_calls.specs.Changes.{FileChange, Unchanged, own_with}
+use Rattle.system_calls.specs.Questions.{SystemQuestion, OfState, OfFiles, SystemAnswer, SystemAnswers, SystemTree, reading_first}
+use Rattle.system_calls.specs.FileCalls.{SystemEnd}
+use Rattle.system_calls.specs.Calls.{call}
+use Rattle.host_questions.specs.Passing.{HostAnswer, HostTree, host_answers}
+use Rattle.host_questions.specs.Passing as passing
 use Rattle.machine.specs.Views.{Session, Core, Cells, Own, State, Looked}
 use Rattle.machine.specs.declared.session.TheConstants.{SCRIPT_LIMIT}
 use Rattle.machine.specs.Session.{image_of}
 
 -- ---- what the session is asked
 
--- the byte of a cell of the loaded image; the script byte at a place, or that there is none
+-- the byte of a cell of the loaded image; the script byte at a place, or that there is none; and what the host files are asked
 pub data Question : Type 0 where
   Cell : ℕ → Question
   Script : ℕ → Question
+  OfHost : Ask → Question
 
 abbrev pub Answer : Question → Type 0
 Answer (Cell a) = ℕ
 Answer (Script k) = Option ℕ
+Answer (OfHost a) = HostAnswer a
 
 abbrev pub Answers : Type 0
 Answers = (q : Question) → Answer q
@@ -39,10 +50,12 @@ Answers = (q : Question) → Answer q
 abbrev pub ask : Session → Answers
 ask s (Cell a) = image_of s a
 ask s (Script k) = slice_get s.script k
+ask s (OfHost a) = host_answers s.files a
 
 abbrev pub same_question : Question → Question → Bool
 same_question (Cell a) (Cell b) = a == b
 same_question (Script k) (Script j) = k == j
+same_question (OfHost a) (OfHost b) = is_same_ask a b
 same_question q x = false
 
 abbrev pub is_in : Question → List Question → Bool
@@ -51,22 +64,25 @@ is_in q (x ∷ xs) = same_question q x || is_in q xs
 
 -- ---- a step
 
--- what a step makes of its answers: it goes on with these registers and this spot, after these bytes sent and this written, or it
--- stops and changes nothing
+-- what a step makes of its answers: it goes on with these registers and this spot, after these bytes sent, this written and this
+-- done to the files, or it stops and changes nothing
 pub data Reached : Type 0 where
-  Went : Regs → Spot → List ℕ → Written → Reached
+  Went : Regs → Spot → List ℕ → Written → FileChange → Reached
   Stopped : Cause → Reached
 
 -- the end of an instruction: HLT and a byte that is no opcode stop (which bytes are opcodes: 8080 manual)
 abbrev pub reached : Spot → end.End → Reached
-reached spot (end.Went r writes) = Went r spot [] (record { cells = writes })
+reached spot (end.Went r writes) = Went r spot [] (record { cells = writes }) Unchanged
 reached spot end.Halt = Stopped Halt
 reached spot (end.Undefined byte) = Stopped (Undefined byte)
 
 -- the end of a call
-abbrev pub reached_by_call : calls.CallEnd → Reached
-reached_by_call (calls.Completed r spot bytes written) = Went r spot bytes written
-reached_by_call (calls.Stopped cause) = Stopped cause
+abbrev pub reached_with : calls.CallEnd → FileChange → Reached
+reached_with (calls.Completed r spot bytes written) change = Went r spot bytes written change
+reached_with (calls.Stopped cause) change = Stopped cause
+
+abbrev pub reached_by_call : SystemEnd → Reached
+reached_by_call e = reached_with e.0 e.1
 
 -- the most bytes that a script may have; a word of its own, so that nothing counts up to it
 pub script_limit : ℕ
@@ -78,12 +94,12 @@ script_limit-is = refl
 
 -- What a step asks of the state, and what it makes of the answers: the first line that fits decides. (That a jump to 0000H
 -- is the warm start and a call to 0005H the BDOS: CP/M 2.2 Interface Guide. Page zero leads there to 0FF03H and to 0FE06H.)
-unfoldable pub next : Core → StateTree Reached
+unfoldable pub next : Core → SystemTree Reached
 next c =
     if c.regs.pc == 0xff03 then Return (Stopped WarmBoot)
-    else if c.regs.pc == 0xfe06 then returning reached_by_call (calls.call script_limit c.regs c.desk.spot)
+    else if c.regs.pc == 0xfe06 then returning reached_by_call (call script_limit c.regs c.desk.spot)
     else if nat_le 0xfe00 c.regs.pc then Return (Stopped (SystemArea c.regs.pc))
-    else reads (instruction c.regs) (λ e. Return (reached c.desk.spot e))
+    else reading_first (instruction c.regs) (λ e. Return (reached c.desk.spot e))
 
 -- ---- what was written, and what is asked instead
 
@@ -91,18 +107,24 @@ abbrev pub own_or_ask : Option ℕ → ℕ → Tree Question Answer ℕ
 own_or_ask None a = Query (Cell a) Return
 own_or_ask (Some v) a = Return v
 
+-- what is asked of the host files, as a tree over the session
+abbrev pub asking_host : {E : Type 0} → HostTree E → Tree Question Answer E
+asking_host (Return e) = Return e
+asking_host (Query a t) = Query (OfHost a) (λ x. asking_host (t x))
+
 -- what a state that owns o answers, as a tree over the session
-abbrev pub part : Own → (q : StateQuestion) → Tree Question Answer (StateAnswer q)
-part o (Byte a) = own_or_ask (map.get o.cells a) a
-part o (Input k) = Query (Script k) Return
+abbrev pub part : Own → (q : SystemQuestion) → Tree Question Answer (SystemAnswer q)
+part o (OfState (Byte a)) = own_or_ask (map.get o.cells a) a
+part o (OfState (Input k)) = Query (Script k) Return
+part o (OfFiles q) = asking_host (passing.part o.files q)
 
 -- the answers of the state that owns o, over a session that answers f
-abbrev pub laid : Own → Answers → StateAnswers
+abbrev pub laid : Own → Answers → SystemAnswers
 laid = dependence.laid part
 
 -- the byte of a cell in a state of a session: what was written there, else the session's
 abbrev pub cell_at : Session → State → ℕ → ℕ
-cell_at s st a = laid st.own (ask s) (Byte a)
+cell_at s st a = laid st.own (ask s) (OfState (Byte a))
 
 -- a byte written at a cell; there are 65,536 cells (8080 manual)
 abbrev pub stored : Cells → ℕ → ℕ → Cells
@@ -117,8 +139,11 @@ abbrev pub desk_with : Desk → Spot → List ℕ → Desk
 desk_with d spot bytes = record { spot = spot; text = d.text ++ bytes }
 
 abbrev pub made : State → Reached → Outcome State Cause
-made st (Went r spot bytes written) =
-    Step (record { core = record { regs = r; desk = desk_with st.core.desk spot bytes }; own = record { cells = stored_all st.own.cells written.cells } })
+made st (Went r spot bytes written change) =
+    Step (record {
+      core = record { regs = r; desk = desk_with st.core.desk spot bytes };
+      own = record { cells = stored_all st.own.cells written.cells; files = own_with change st.own.files };
+    })
 made st (Stopped cause) = Stop cause
 
 -- ---- a run
@@ -129,7 +154,7 @@ first_regs = record { a = 0; b = 0; c = 0; d = 0; e = 0; h = 0; l = 0; sp = 0xfd
 
 -- the loaded state: nothing is written yet
 abbrev pub start : State
-start = record { core = record { regs = first_regs; desk = first_desk }; own = record { cells = map.empty } }
+start = record { core = record { regs = first_regs; desk = first_desk }; own = record { cells = map.empty; files = map.empty } }
 
 -- what follows a state, without regard to the limit
 abbrev pub outcome : Answers → State → Outcome State Cause
@@ -162,17 +187,26 @@ PrefixDependence = dependence.PrefixDependence part (λ (st : State). st.own) (�
 abbrev pub looked_at : Looked → Question → Bool
 looked_at looked (Cell a) = is_among a looked.cells
 looked_at looked (Script k) = is_within looked.places k
+looked_at looked (OfHost a) = is_looked looked.files a
 
 -- nothing was looked at
 pub record NothingLooked (looked : Looked) : Type 0 where
   pub cells : looked.cells ≡ []
   pub places : (k : ℕ) → is_within looked.places k ≡ false
+  pub files : (a : Ask) → is_looked looked.files a ≡ false
 
--- nothing more was looked at than before and among these
+-- a cell, or a place of the script
+abbrev pub is_near : Question → Bool
+is_near (Cell a) = true
+is_near (Script k) = true
+is_near (OfHost a) = false
+
+-- no more cells and places were looked at than before and among these
 abbrev pub IsBounded : Looked → List Question → Looked → Type 0
-IsBounded old qs new = (q : Question) → looked_at new q ≡ true → (looked_at old q || is_in q qs) ≡ true
+IsBounded old qs new = (q : Question) → is_near q ≡ true → looked_at new q ≡ true → (looked_at old q || is_in q qs) ≡ true
 
--- some more was looked at: more cells after those before, and the places before stay
+-- some more was looked at: more cells after those before, and the places and the questions before stay
 pub record Extends (old new : Looked) : Type 0 where
   pub cells : memory.Extends old.cells new.cells
   pub places : (k : ℕ) → is_within old.places k ≡ true → is_within new.places k ≡ true
+  pub files : file_looks.Extends old.files new.files

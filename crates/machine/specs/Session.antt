@@ -1,37 +1,39 @@
 -- A session, and the memory that is loaded from it. (CP/M 2.2 Interface Guide, page zero and the transient program area.)
-use Rattle.std.specs.Prelude.{ℕ, ◌≤◌, List, [], ◌∷◌, ◌++◌, length, replicate, take, drop, ◌+◌, nat_lt, if◌then◌else◌, Result, Ok, Err}
+use Rattle.std.specs.Prelude.{◌≡◌, ℕ, ◌≤◌, Bool, true, not, ◌&&◌, List, ◌++◌, length, take, drop, ◌+◌, nat_le, nat_lt, if◌then◌else◌, Result, Ok, Err}
+use Rattle.std.specs.List.{list_all}
 use Rattle.pagemem.specs.Image.{image_at}
+use Rattle.command_tail.specs.declared.page.TheConstants.{TAIL_LIMIT}
+use Rattle.command_tail.specs.PageZero.{page_zero}
+use Rattle.hostfiles.specs.Hosts.{Host, IsHost}
 use Rattle.machine.specs.declared.session.TheConstants.{PROGRAM_LIMIT, SCRIPT_LIMIT, STEP_LIMIT}
 use Rattle.machine.specs.Views.{Session}
+
+-- a byte that may stand in a command tail (this project's profile)
+abbrev pub is_tail_byte : ℕ → Bool
+is_tail_byte b = nat_le 0x20 b && nat_le b 0x7e
 
 -- within the limits
 pub record IsSession (s : Session) : Type 0 where
   pub program : length s.program ≤ PROGRAM_LIMIT
+  pub tail : length s.tail ≤ TAIL_LIMIT
+  pub tail_bytes : list_all is_tail_byte s.tail ≡ true
+  pub files : IsHost s.files
   pub script : length s.script ≤ SCRIPT_LIMIT
   pub limit : s.limit ≤ STEP_LIMIT
 
 -- the session of what is handed in, or the number of the refusal
-abbrev pub made_of : List ℕ → List ℕ → ℕ → Result Session ℕ
-made_of program script limit =
+abbrev pub made_of : List ℕ → List ℕ → Host → List ℕ → ℕ → Result Session ℕ
+made_of program tail files script limit =
     if nat_lt PROGRAM_LIMIT (length program) then Err 1
+    else if nat_lt TAIL_LIMIT (length tail) then Err 2
+    else if not (list_all is_tail_byte tail) then Err 3
     else if nat_lt SCRIPT_LIMIT (length script) then Err 4
     else if nat_lt STEP_LIMIT limit then Err 5
-    else Ok (record { program = program; script = script; limit = limit })
+    else Ok (record { program = program; tail = tail; files = files; script = script; limit = limit })
 
--- a drive byte and a name that is not there (CP/M 2.2 Interface Guide, file control blocks)
-abbrev pub no_name : List ℕ
-no_name = 0 ∷ replicate 11 0x20
-
--- Page zero of an empty tail: at 0000H the jump to the warm start, then the I/O byte and the drive, at 0005H the jump
--- to the BDOS, at 005CH and 006CH two names, at 0080H the tail; all else is 0. (CP/M 2.2 Interface Guide.)
-unfoldable pub page_zero : List ℕ
-page_zero =
-    (0xc3 ∷ 0x03 ∷ 0xff ∷ 0 ∷ 0 ∷ 0xc3 ∷ 0x06 ∷ 0xfe ∷ [])
-    ++ replicate 84 0 ++ no_name ++ replicate 4 0 ++ no_name ++ replicate 136 0
-
--- the byte of each cell of the loaded image: page zero, the program, and 0 elsewhere
+-- the byte of each cell of the loaded image: page zero with the command tail, the program, and 0 elsewhere
 abbrev pub image_of : Session → ℕ → ℕ
-image_of s = image_at page_zero s.program
+image_of s = image_at (page_zero s.tail) s.program
 
 -- a list with so many bytes from a place on exchanged for others
 abbrev pub spliced : List ℕ → ℕ → ℕ → List ℕ → List ℕ

@@ -2,11 +2,13 @@
 use Rattle.std.specs.Prelude.{◌≡◌, ℕ, Result, Ok, Err}
 use Rattle.machine.specs.Views.{Session}
 use Rattle.machine.specs.declared.session.SessionError.{SessionError}
-use Rattle.machine.specs.declared.session.SessionError.TheVariants.{ProgramTooLong, ScriptTooLong, LimitTooLarge}
+use Rattle.machine.specs.declared.session.SessionError.TheVariants.{ProgramTooLong, TailTooLong, TailByte, ScriptTooLong, LimitTooLarge}
 
 -- the number that tells a refusal
 abbrev pub number_of : SessionError → ℕ
 number_of ProgramTooLong = 1
+number_of TailTooLong = 2
+number_of TailByte = 3
 number_of ScriptTooLong = 4
 number_of LimitTooLarge = 5
 

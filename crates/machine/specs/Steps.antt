@@ -8,11 +8,17 @@ use Rattle.i8080.specs.Memory.{Memory}
 use Rattle.pagemem.specs.declared.overlay.Overlay.{Overlay}
 use Rattle.pagemem.specs.Overlay.{own_of, looks_of}
 use Rattle.bdos.specs.declared.cause.Cause.{Cause}
-use Rattle.bdos.specs.Places.{Watched}
+use Rattle.std.specs.Borrow.{GName}
+use Rattle.hostfiles.specs.declared.changes.Changes.{Changes}
+use Rattle.file_calls.specs.Questions.{Drives}
 use Rattle.machine.specs.Views.{Session, State, Looked}
 use Rattle.machine.specs.Session.{image_of}
 use Rattle.machine.specs.Machine.{Question, ask, outcome, looks_at, looked_at, is_in, Extends, IsBounded}
-use Rattle.machine.specs.WrittenCells.{state_with}
+use Rattle.machine.specs.WrittenCells.{Devices, state_with}
+
+-- the host files of a session with what was done to them, whatever reference lends the latter
+abbrev pub drives_in : Session → Changes → GName → Drives
+drives_in s c g = record { host = s.files; own = c.journal.entries; looks = c.looks; lender = g }
 
 -- an overlay as memory, over the loaded image
 abbrev pub seen : Session → Overlay → Memory
@@ -23,15 +29,15 @@ abbrev pub told : Option Cause → State → Outcome State Cause
 told None st = Step st
 told (Some cause) st = Stop cause
 
--- what was looked at, by an overlay and a desk
-abbrev pub looked_in : Overlay → Watched → Looked
-looked_in o d = record { cells = looks_of o; places = d.places }
+-- what was looked at, by an overlay and devices
+abbrev pub looked_in : Overlay → Devices → Looked
+looked_in o d = record { cells = looks_of o; places = d.places; files = d.asks }
 
 -- what a call leaves that takes a step: what follows the state, and what was looked at. A stop and a failure leave the state
-pub record TakesStep (s : Session) (r : Regs) (d : Watched) (o : Overlay) (result : Result (Option Cause) AllocError) (r' : Regs) (d' : Watched) (o' : Overlay) : Type 0 where
-  pub outcome : IfOk result (λ stop. outcome (ask s) (state_with r d.desk (own_of o)) ≡ told stop (state_with r' d'.desk (own_of o')))
-  pub stays : IfOk result (λ stop. IfSome stop (λ cause. state_with r' d'.desk (own_of o') ≡ state_with r d.desk (own_of o)))
-  pub failed : OnErr result (state_with r' d'.desk (own_of o') ≡ state_with r d.desk (own_of o))
-  pub looked : OnOk result ((q : Question) → looked_at (looked_in o' d') q ≡ looked_at (looked_in o d) q || is_in q (looks_at (ask s) (state_with r d.desk (own_of o))))
+pub record TakesStep (s : Session) (r : Regs) (d : Devices) (o : Overlay) (result : Result (Option Cause) AllocError) (r' : Regs) (d' : Devices) (o' : Overlay) : Type 0 where
+  pub outcome : IfOk result (λ stop. outcome (ask s) (state_with r d (own_of o)) ≡ told stop (state_with r' d' (own_of o')))
+  pub stays : IfOk result (λ stop. IfSome stop (λ cause. state_with r' d' (own_of o') ≡ state_with r d (own_of o)))
+  pub failed : OnErr result (state_with r' d' (own_of o') ≡ state_with r d (own_of o))
+  pub looked : OnOk result ((q : Question) → looked_at (looked_in o' d') q ≡ looked_at (looked_in o d) q || is_in q (looks_at (ask s) (state_with r d (own_of o))))
   pub extends : Extends (looked_in o d) (looked_in o' d')
-  pub bounded : OnErr result (IsBounded (looked_in o d) (looks_at (ask s) (state_with r d.desk (own_of o))) (looked_in o' d'))
+  pub bounded : OnErr result (IsBounded (looked_in o d) (looks_at (ask s) (state_with r d (own_of o))) (looked_in o' d'))

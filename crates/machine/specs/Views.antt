@@ -1,17 +1,68 @@
 -- What contracts see of a session and of a state.
-use Rattle.std.specs.Prelude.{ℕ, List}
+use Rattle.std.specs.Prelude.{◌≡◌, refl, ℕ, Bool, List, Option, Some, None}
 use Rattle.std.specs.Ordering.{nat_cmp}
 use Rattle.std.specs.FinMap.{FinMap, code}
-use Rattle.std.specs.Coded.{Coded, coded_ℕ}
+use Rattle.std.specs.Cmp.Lexicographic.{slice_cmp}
+use Rattle.std.specs.Coded.{Coded, code_by, coded_ℕ, coded_bool, coded_list, coded_option, coded×}
+use base.Stored.{coded_unit}
+use Rattle.keymaps.specs.Order.{place_cmp}
 use Rattle.i8080.specs.declared.registers.Regs.{Regs}
 use Rattle.bdos.specs.declared.places.Places.{Places}
 use Rattle.bdos.specs.Desk.{Desk}
+use Rattle.hostfiles.specs.Hosts.{Host}
+use Rattle.hostfiles.specs.Files as files
+use Rattle.hostfiles.specs.declared.looks.Looks.{Looks}
+use Rattle.hostfiles.specs.declared.journal.Base.{Base}
+use Rattle.hostfiles.specs.declared.journal.Base.TheVariants.{Same, Gone, New, Moved}
+use Rattle.hostfiles.specs.declared.journal.Grown.{Grown}
+use Rattle.hostfiles.specs.declared.journal.Entry.{Entry}
 
 -- what is handed in
 pub record Session : Type 0 where
   pub program : List ℕ
+  pub tail : List ℕ
+  pub files : Host
   pub script : List ℕ
   pub limit : ℕ
+
+abbrev pub files_code : Coded Host
+files_code = code (coded_list coded_ℕ) (coded_list (coded_list coded_ℕ))
+
+abbrev cases : Base → Option (Option (Option (List ℕ)))
+cases Same = None
+cases Gone = Some None
+cases New = Some (Some None)
+cases (Moved key) = Some (Some (Some key))
+
+abbrev based : Option (Option (Option (List ℕ))) → Base
+based None = Same
+based (Some None) = Gone
+based (Some (Some None)) = New
+based (Some (Some (Some key))) = Moved key
+
+pub base_cases : (b : Base) → based (cases b) ≡ b
+base_cases Same = refl
+base_cases Gone = refl
+base_cases New = refl
+base_cases (Moved key) = refl
+
+abbrev base_code : Coded Base
+base_code = code_by (Option (Option (Option (List ℕ)))) (coded_option (coded_option (coded_option (coded_list coded_ℕ)))) cases based base_cases
+
+abbrev grown_code : Coded Grown
+grown_code = code_by (ℕ × ℕ) (coded× coded_ℕ coded_ℕ) (λ g. (g.from, g.to)) (λ p. record { from = p.0; to = p.1 }) (λ _. refl)
+
+abbrev entry_code : Coded Entry
+entry_code = code_by (Base × (Option Grown × FinMap nat_cmp (List ℕ))) (coded× base_code (coded× (coded_option grown_code) (code coded_ℕ (coded_list coded_ℕ))))
+    (λ e. (e.base, (e.grown, e.records))) (λ p. record { base = p.0; grown = p.1.0; records = p.1.1 }) (λ _. refl)
+
+abbrev pub changes_code : Coded files.Own
+changes_code = code (coded_list coded_ℕ) entry_code
+
+abbrev pub looks_code : Coded Looks
+looks_code = code_by (FinMap (slice_cmp nat_cmp) (Unit {0}) × (FinMap (slice_cmp nat_cmp) (Unit {0}) × (FinMap place_cmp (Unit {0}) × List Bool)))
+    (coded× (code (coded_list coded_ℕ) coded_unit) (coded× (code (coded_list coded_ℕ) coded_unit) (coded× (code (coded× (coded_list coded_ℕ) coded_ℕ) coded_unit) (coded_list coded_bool))))
+    (λ l. (l.has, (l.lengths, (l.records, l.directories)))) (λ p. record { has = p.0; lengths = p.1.0; records = p.1.1.0; directories = p.1.1.1 }) (λ _. refl)
 
 -- what a step depends on beside its answers
 pub record Core : Type 0 where
@@ -24,19 +75,21 @@ Cells = FinMap nat_cmp ℕ
 abbrev pub cells_code : Coded Cells
 cells_code = code coded_ℕ coded_ℕ
 
--- what the steps so far wrote: the last byte of each written cell
+-- what the steps so far wrote: the last byte of each written cell, and what they did to the files
 pub record Own : Type 0 where
   pub cells : Cells
+  pub files : files.Own
 
 -- a state without its session: all that was not written is the session's
 pub record State : Type 0 where
   pub core : Core
   pub own : Own
 
--- what was looked at: cells, in the order of their first looks, and places of the console script
+-- what was looked at: cells, in the order of their first looks, places of the console script, and questions of the host files
 pub record Looked : Type 0 where
   pub cells : List ℕ
   pub places : Places
+  pub files : Looks
 
 -- a state, and what was looked at
 pub record Running : Type 0 where

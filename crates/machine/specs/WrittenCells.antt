@@ -2,7 +2,12 @@
 use Rattle.std.specs.Prelude.{◌≡◌, refl, ℕ, zero, suc, Option, Some, None}
 use Rattle.std.specs.FinMap as map
 use Rattle.i8080.specs.declared.registers.Regs.{Regs}
+use Rattle.bdos.specs.declared.places.Places.{Places}
 use Rattle.bdos.specs.Desk.{Desk}
+use Rattle.bdos.specs.Places.{Watched}
+use Rattle.hostfiles.specs.Files as files
+use Rattle.hostfiles.specs.declared.looks.Looks.{Looks}
+use Rattle.hostfiles.specs.declared.changes.Changes.{Changes}
 use Rattle.machine.specs.Views.{Cells, State}
 
 -- how many cells there are (8080 manual); a word of its own, so that nothing counts up to it
@@ -26,6 +31,17 @@ written_below (suc n) own = with_entry (written_below n own) n (own n)
 unfoldable pub written_cells : (ℕ → Option ℕ) → Cells
 written_cells own = written_below cell_count own
 
--- the state with these registers and this desk, which wrote this
-abbrev pub state_with : Regs → Desk → (ℕ → Option ℕ) → State
-state_with r d own = record { core = record { regs = r; desk = d }; own = record { cells = written_cells own } }
+-- what a step has beside registers and memory: the desk and what was done to the files, and what was looked at of the script and
+-- asked of the host files
+pub record Devices : Type 0 where
+  pub desk : Desk
+  pub places : Places
+  pub files : files.Own
+  pub asks : Looks
+
+abbrev pub devices_of : Watched → Changes → Devices
+devices_of d c = record { desk = d.desk; places = d.places; files = c.journal.entries; asks = c.looks }
+
+-- the state with these registers and these devices, which wrote this
+abbrev pub state_with : Regs → Devices → (ℕ → Option ℕ) → State
+state_with r d own = record { core = record { regs = r; desk = d.desk }; own = record { cells = written_cells own; files = d.files } }

@@ -1,4 +1,5 @@
 ghost use Rattle.std.specs.Prelude.{◌≡◌, [], IfOk, length, List, ℕ};
+ghost use Rattle.hostfiles.specs.Looks.{no_looks};
 ghost use Rattle.machine.specs.Machine.{NothingLooked};
 ghost use Rattle.machine.specs.Kept.{whole, kept_of};
 ghost use Rattle.machine.specs.WrittenCells.{written_cells};
@@ -6,12 +7,14 @@ ghost use Rattle.machine.specs.WrittenCells.{written_cells};
 use crate::running::Running;
 use crate::session::Session;
 use bdos::{Desk, Spot};
+use hostfiles::{Changes, Journal, Looks};
 use i8080::Regs;
 use pagemem::{Cells, Overlay};
 use std::alloc::{AllocError, Global};
 use std::marker::Model;
 
-/// What is kept of a state: the registers, what was written, and the desk with the length of its text in place of the text.
+/// What is kept of a state: the registers, what was written, what was done to the files, and the desk with the length of its text in
+/// place of the text.
 /// It holds no looks.
 #[derive(Drop)]
 pub struct Kept {
@@ -19,25 +22,26 @@ pub struct Kept {
     cells: Cells,
     spot: Spot,
     text_length: usize,
+    journal: Journal,
 }
 
 impl Model for Kept {
     ghost use Rattle.std.specs.Coded.{codes};
     ghost use Rattle.pagemem.specs.Cells.{own_in};
     ghost use Rattle.bdos.specs.Places.{IsSpotOf};
-    ghost use Rattle.machine.specs.Views.{cells_code};
+    ghost use Rattle.machine.specs.Views.{cells_code, changes_code};
     ghost use Rattle.machine.specs.WrittenCells.{written_cells};
     ghost use Rattle.machine.specs.Kept.{Kept};
 
     ghost Value = { Kept };
 
-    ghost coded = { Prim.hlevel (codes, cells_code) };
+    ghost coded = { Prim.hlevel (codes, cells_code, changes_code) };
 
     ghost view = { λ k. record {
       regs = k.regs;
       spot = k.spot;
       length = k.text_length;
-      own = record { cells = written_cells (own_in k.cells) };
+      own = record { cells = written_cells (own_in k.cells); files = k.journal.entries };
     } };
 
     ghost invariant = { λ k. IsSpotOf k.spot k.text_length };
@@ -50,12 +54,14 @@ impl Running {
         ensures kept { IfOk result (λ k. k ≡ kept_of self.old.state) }
         ensures same { self.new ≡ self.old }
     {
+        let journal = self.changes.journal.snapshot()?;
         let cells = self.overlay.shared_cells()?;
         Ok(Kept {
             regs: self.regs,
             cells,
             spot: self.desk.spot(),
             text_length: self.desk.text().len(),
+            journal,
         })
     }
 
@@ -68,7 +74,9 @@ impl Running {
             regs,
             overlay,
             desk,
+            changes,
         } = self;
+        let Changes { journal, looks: _ } = changes;
         let spot = desk.spot();
         let text = desk.into_text();
         let kept = Kept {
@@ -76,6 +84,7 @@ impl Running {
             cells: overlay.into_cells(),
             spot,
             text_length: text.len(),
+            journal,
         };
         (kept, text)
     }
@@ -108,10 +117,23 @@ impl Kept {
         Overlay::over(alloc, cells)
     }
 
-    /// The state again, over what was written and the text. It takes no memory.
-    pub fn resume(&self, overlay: Overlay, text: Vec<u8>) -> Running
+    /// What was done to the files, again, with nothing asked of the host files. `Err` where memory is refused.
+    pub fn changes(&self, alloc: Global) -> Result<Changes, AllocError>
+        ensures files { IfOk result (λ c. c.journal.entries ≡ self.now.own.files) }
+        ensures looks { IfOk result (λ c. c.looks ≡ no_looks) }
+    {
+        Ok(Changes {
+            journal: self.journal.snapshot()?,
+            looks: Looks::new(alloc),
+        })
+    }
+
+    /// The state again, over what was written, what was done to the files, and the text. It takes no memory.
+    pub fn resume(&self, overlay: Overlay, changes: Changes, text: Vec<u8>) -> Running
         requires own { written_cells (own_of overlay) ≡ self.now.own.cells }
         requires looks { looks_of overlay ≡ [] }
+        requires files { changes.journal.entries ≡ self.now.own.files }
+        requires asks { changes.looks ≡ no_looks }
         requires text { length text.items ≡ self.now.length }
         ensures state { result.state ≡ whole self.now text.items }
         ensures looked { NothingLooked result.looked }
@@ -120,7 +142,15 @@ impl Kept {
             regs: self.regs,
             overlay,
             desk: Desk::over(self.spot, text),
+            changes,
         }
+    }
+
+    /// What was done to the files.
+    pub fn journal(&self) -> &Journal
+        ensures { result.now.entries ≡ self.now.own.files }
+    {
+        &self.journal
     }
 
     /// The byte of a cell: what was written there, else the session's.

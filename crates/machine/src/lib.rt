@@ -11,6 +11,8 @@ mod stretch;
 
 pub use bdos::{Cause, Desk, Spot};
 pub use bytes::Bytes;
+pub use command_tail::TAIL_LIMIT;
+pub use hostfiles::{Ask, Changes, HostFile, HostFiles, Journal, Name};
 pub use i8080::Regs;
 pub use kept::Kept;
 pub use meter::Meter;

@@ -1,35 +1,38 @@
 ghost use Rattle.std.specs.Prelude.{◌≡◌, ◌<◌, ◌&&◌, ◌==◌, ℕ, true, false, not, IfOk, IfSome, IfNone, length, slice_index};
 ghost use Rattle.bdos.specs.Places.{is_within};
+ghost use Rattle.hostfiles.specs.Looks.{is_looked, forgot};
 ghost use Rattle.machine.specs.Machine.{start, NothingLooked};
 
 use crate::session::Session;
 use bdos::Desk;
+use hostfiles::{Ask, Changes};
 use i8080::{Flags, Regs};
 use pagemem::Overlay;
 use std::alloc::{AllocError, Global};
 use std::marker::Model;
 
-/// A state of a run, and what was looked at: the registers, the desk with the script places, and the overlay with what was
-/// written and the cells. All else is the session's.
+/// A state of a run, and what was looked at: the registers, the overlay with what was written and the cells, the desk with the
+/// script places, and what was done to the files with the questions of the host files. All else is the session's.
 #[derive(Drop)]
 pub struct Running {
     pub regs: Regs,
     pub overlay: Overlay,
     pub desk: Desk,
+    pub changes: Changes,
 }
 
 impl Model for Running {
     ghost use Rattle.std.specs.Coded.{codes};
     ghost use Rattle.pagemem.specs.Overlay.{own_of};
-    ghost use Rattle.machine.specs.Views.{Running, cells_code};
-    ghost use Rattle.machine.specs.WrittenCells.{state_with};
+    ghost use Rattle.machine.specs.Views.{Running, cells_code, changes_code, looks_code};
+    ghost use Rattle.machine.specs.WrittenCells.{devices_of, state_with};
     ghost use Rattle.machine.specs.Steps.{looked_in};
 
     ghost Value = { Running };
 
-    ghost coded = { Prim.hlevel (codes, cells_code) };
+    ghost coded = { Prim.hlevel (codes, cells_code, changes_code, looks_code) };
 
-    ghost view = { λ r. record { state = state_with r.regs r.desk.desk (own_of r.overlay); looked = looked_in r.overlay r.desk } };
+    ghost view = { λ r. record { state = state_with r.regs (devices_of r.desk r.changes) (own_of r.overlay); looked = looked_in r.overlay (devices_of r.desk r.changes) } };
 }
 
 impl Running {
@@ -60,6 +63,7 @@ impl Running {
             },
             overlay,
             desk: Desk::new(alloc),
+            changes: Changes::new(alloc),
         })
     }
 
@@ -84,11 +88,26 @@ impl Running {
     pub fn take_place(&mut self) -> Option<usize>
         ensures state { self.new.state ≡ self.old.state }
         ensures cells { self.new.looked.cells ≡ self.old.looked.cells }
+        ensures files { self.new.looked.files ≡ self.old.looked.files }
         ensures one { IfSome result (λ k. is_within self.old.looked.places k ≡ true) }
         ensures taken { IfSome result (λ k. (j : ℕ) → is_within self.new.looked.places j ≡ (is_within self.old.looked.places j && not (j == k))) }
         ensures none { IfNone result ((j : ℕ) → is_within self.old.looked.places j ≡ false) }
         ensures same { IfNone result (self.new ≡ self.old) }
     {
         self.desk.take_look()
+    }
+
+    /// Takes a question of the host files out of those that were asked. `None` where there is none. The state stays, and so do the
+    /// cells and the script places that were looked at.
+    pub fn take_ask(&mut self) -> Option<Ask>
+        ensures state { self.new.state ≡ self.old.state }
+        ensures cells { self.new.looked.cells ≡ self.old.looked.cells }
+        ensures places { self.new.looked.places ≡ self.old.looked.places }
+        ensures one { IfSome result (λ ask. is_looked self.old.looked.files ask ≡ true) }
+        ensures taken { IfSome result (λ ask. self.new.looked.files ≡ forgot ask self.old.looked.files) }
+        ensures none { IfNone result ((ask : Ask) → is_looked self.old.looked.files ask ≡ false) }
+        ensures same { IfNone result (self.new ≡ self.old) }
+    {
+        self.changes.take_look()
     }
 }

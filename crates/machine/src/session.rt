@@ -1,7 +1,12 @@
-ghost use Rattle.std.specs.Prelude.{[], vec_len, OnOk, OnErr, ◌≡◌, ◌+◌, ◌-◌, ◌≤◌, length};
+ghost use Rattle.std.specs.Prelude.{[], None, vec_len, OnOk, OnErr, ◌≡◌, ◌+◌, ◌-◌, ◌≤◌, length};
+ghost use Rattle.std.specs.List.{list_all};
+ghost use Rattle.std.specs.FinMap as finmap;
 ghost use Rattle.pagemem.specs.ImageView.{cells_of};
-ghost use Rattle.machine.specs.Session.{page_zero, image_of, made_of, spliced, written_over};
+ghost use Rattle.hostfiles.specs.Hosts.{refusal_of, records_in};
+ghost use Rattle.machine.specs.Session.{is_tail_byte, image_of, made_of, spliced, written_over};
 
+use command_tail::{TAIL_LIMIT, page_zero};
+use hostfiles::{FilesError, HostFiles, Name};
 use pagemem::Image;
 use std::alloc::AllocError;
 use std::marker::Model;
@@ -16,25 +21,31 @@ pub const SCRIPT_LIMIT: usize = 1_048_576;
 /// The most steps of a run.
 pub const STEP_LIMIT: u64 = 4_000_000_000;
 
-/// A program, its console script and a limit of steps, each within the limits above.
+/// A program, its command tail, the host files, the console script and a limit of steps, each within its limits.
 #[derive(Drop)]
 pub struct Session {
     first_page: [u8; 256],
     program: Vec<u8>,
+    tail: Vec<u8>,
+    files: HostFiles,
     script: Vec<u8>,
     limit: u64,
 }
 
 impl Model for Session {
     ghost use Rattle.std.specs.Prelude.{◌≡◌};
-    ghost use Rattle.machine.specs.Views.{Session as SessionView};
-    ghost use Rattle.machine.specs.Session.{page_zero, IsSession};
+    ghost use Rattle.std.specs.Coded.{codes};
+    ghost use Rattle.command_tail.specs.PageZero.{page_zero};
+    ghost use Rattle.machine.specs.Views.{Session as SessionView, files_code};
+    ghost use Rattle.machine.specs.Session.{IsSession};
 
     ghost Value = { SessionView };
 
-    ghost view = { λ s. record { program = s.program.items; script = s.script.items; limit = s.limit } };
+    ghost coded = { Prim.hlevel (codes, files_code) };
 
-    ghost invariant = { λ s. (s.first_page ≡ page_zero) × IsSession (record { program = s.program.items; script = s.script.items; limit = s.limit }) };
+    ghost view = { λ s. record { program = s.program.items; tail = s.tail.items; files = s.files; script = s.script.items; limit = s.limit } };
+
+    ghost invariant = { λ s. (s.first_page ≡ page_zero s.tail.items) × IsSession (record { program = s.program.items; tail = s.tail.items; files = s.files; script = s.script.items; limit = s.limit }) };
 }
 
 /// Why a session is refused.
@@ -43,6 +54,12 @@ pub enum SessionError {
     /// The program has more than 64,512 bytes.
     #[error("the program is too long")]
     ProgramTooLong,
+    /// The command tail has more than 126 bytes.
+    #[error("the command tail is too long")]
+    TailTooLong,
+    /// A byte of the command tail is below 20H or above 7EH.
+    #[error("the command tail has a byte that no tail may have")]
+    TailByte,
     /// The script has more than 1,048,576 bytes.
     #[error("the script is too long")]
     ScriptTooLong,
@@ -54,12 +71,14 @@ pub enum SessionError {
 impl SessionError {
     ghost use Rattle.machine.specs.SessionError.{number_of};
 
-    /// The refusal's number: 1, 4 or 5.
+    /// The refusal's number: 1 to 5.
     pub fn number(self) -> u8
         ensures { result ≡ number_of self }
     {
         match self {
             SessionError::ProgramTooLong => 1,
+            SessionError::TailTooLong => 2,
+            SessionError::TailByte => 3,
             SessionError::ScriptTooLong => 4,
             SessionError::LimitTooLarge => 5,
         }
@@ -71,11 +90,23 @@ impl Session {
     ghost use Rattle.machine.specs.SessionError.{MadeAs};
 
     /// The session of these, or the first refusal that fits. What is refused is dropped.
-    pub fn new(program: Vec<u8>, script: Vec<u8>, limit: u64) -> Result<Session, SessionError>
-        ensures { MadeAs (made_of program.items script.items limit) result }
+    pub fn new(
+        program: Vec<u8>,
+        tail: Vec<u8>,
+        files: HostFiles,
+        script: Vec<u8>,
+        limit: u64,
+    ) -> Result<Session, SessionError>
+        ensures { MadeAs (made_of program.items tail.items files script.items limit) result }
     {
         if program.len() > PROGRAM_LIMIT {
             return Err(SessionError::ProgramTooLong);
+        }
+        if tail.len() > TAIL_LIMIT {
+            return Err(SessionError::TailTooLong);
+        }
+        if !is_tail(&tail) {
+            return Err(SessionError::TailByte);
         }
         if script.len() > SCRIPT_LIMIT {
             return Err(SessionError::ScriptTooLong);
@@ -84,8 +115,10 @@ impl Session {
             return Err(SessionError::LimitTooLarge);
         }
         Ok(Session {
-            first_page: empty_page_zero(),
+            first_page: page_zero(&tail),
             program,
+            tail,
+            files,
             script,
             limit,
         })
@@ -113,6 +146,21 @@ impl Session {
         ensures within { length result.now ≤ PROGRAM_LIMIT }
     {
         self.program.as_slice()
+    }
+
+    /// The command tail, as it was handed in.
+    pub fn tail(&self) -> &[u8]
+        ensures value { result.now ≡ self.now.tail }
+        ensures within { length result.now ≤ TAIL_LIMIT }
+    {
+        self.tail.as_slice()
+    }
+
+    /// The host files.
+    pub fn files(&self) -> &HostFiles
+        ensures { result.now ≡ self.now.files }
+    {
+        &self.files
     }
 
     /// Page zero and the program as memory, borrowed.
@@ -159,6 +207,29 @@ impl Session {
         remove(&mut self.script, at, count);
     }
 
+    /// Sets or exchanges a host file. `Err` where memory is refused: the session is as it was.
+    pub fn set_file(&mut self, name: Name, bytes: &[u8]) -> Result<(), AllocError>
+        requires { refusal_of self.old.files name bytes.now ≡ None }
+        ensures ok { OnOk result (self.new ≡ record self.old { files = finmap.insert self.old.files name (records_in bytes.now) }) }
+        ensures err { OnErr result (self.new ≡ self.old) }
+    {
+        let set = self.files.set(name, bytes);
+        let _ = self.files.len();
+        match set {
+            Ok(()) => Ok(()),
+            Err(FilesError::OutOfMemory) => Err(AllocError),
+            Err(_) => unreachable!(), // it fits
+        }
+    }
+
+    /// Takes a host file out. It takes no memory.
+    pub fn remove_file(&mut self, name: &Name)
+        ensures { self.new ≡ record self.old { files = finmap.remove self.old.files name.now } }
+    {
+        self.files.remove(name);
+        let _ = self.files.len();
+    }
+
     /// Sets the limit, in steps.
     pub fn set_limit(&mut self, limit: u64)
         requires { limit ≤ STEP_LIMIT }
@@ -188,37 +259,24 @@ fn remove(list: &mut Vec<u8>, at: usize, count: usize)
     list.truncate(list.len() - count);
 }
 
-// Page zero of an empty tail: the jumps to the warm start and to the BDOS, and two names that are not there.
-const PAGE_ZERO: [u8; 256] = [
-    0xc3, 0x03, 0xff, 0x00, 0x00, 0xc3, 0x06, 0xfe, 0x00, 0x00, 0x00, 0x00, 0x00, 0x00, 0x00, 0x00,
-    0x00, 0x00, 0x00, 0x00, 0x00, 0x00, 0x00, 0x00, 0x00, 0x00, 0x00, 0x00, 0x00, 0x00, 0x00, 0x00,
-    0x00, 0x00, 0x00, 0x00, 0x00, 0x00, 0x00, 0x00, 0x00, 0x00, 0x00, 0x00, 0x00, 0x00, 0x00, 0x00,
-    0x00, 0x00, 0x00, 0x00, 0x00, 0x00, 0x00, 0x00, 0x00, 0x00, 0x00, 0x00, 0x00, 0x00, 0x00, 0x00,
-    0x00, 0x00, 0x00, 0x00, 0x00, 0x00, 0x00, 0x00, 0x00, 0x00, 0x00, 0x00, 0x00, 0x00, 0x00, 0x00,
-    0x00, 0x00, 0x00, 0x00, 0x00, 0x00, 0x00, 0x00, 0x00, 0x00, 0x00, 0x00, 0x00, 0x20, 0x20, 0x20,
-    0x20, 0x20, 0x20, 0x20, 0x20, 0x20, 0x20, 0x20, 0x00, 0x00, 0x00, 0x00, 0x00, 0x20, 0x20, 0x20,
-    0x20, 0x20, 0x20, 0x20, 0x20, 0x20, 0x20, 0x20, 0x00, 0x00, 0x00, 0x00, 0x00, 0x00, 0x00, 0x00,
-    0x00, 0x00, 0x00, 0x00, 0x00, 0x00, 0x00, 0x00, 0x00, 0x00, 0x00, 0x00, 0x00, 0x00, 0x00, 0x00,
-    0x00, 0x00, 0x00, 0x00, 0x00, 0x00, 0x00, 0x00, 0x00, 0x00, 0x00, 0x00, 0x00, 0x00, 0x00, 0x00,
-    0x00, 0x00, 0x00, 0x00, 0x00, 0x00, 0x00, 0x00, 0x00, 0x00, 0x00, 0x00, 0x00, 0x00, 0x00, 0x00,
-    0x00, 0x00, 0x00, 0x00, 0x00, 0x00, 0x00, 0x00, 0x00, 0x00, 0x00, 0x00, 0x00, 0x00, 0x00, 0x00,
-    0x00, 0x00, 0x00, 0x00, 0x00, 0x00, 0x00, 0x00, 0x00, 0x00, 0x00, 0x00, 0x00, 0x00, 0x00, 0x00,
-    0x00, 0x00, 0x00, 0x00, 0x00, 0x00, 0x00, 0x00, 0x00, 0x00, 0x00, 0x00, 0x00, 0x00, 0x00, 0x00,
-    0x00, 0x00, 0x00, 0x00, 0x00, 0x00, 0x00, 0x00, 0x00, 0x00, 0x00, 0x00, 0x00, 0x00, 0x00, 0x00,
-    0x00, 0x00, 0x00, 0x00, 0x00, 0x00, 0x00, 0x00, 0x00, 0x00, 0x00, 0x00, 0x00, 0x00, 0x00, 0x00,
-];
-
-// Page zero of an empty tail.
-#[tactic(auto, unfolding(crate::specs::Session::page_zero))]
-fn empty_page_zero() -> [u8; 256]
-    ensures { result ≡ page_zero }
+// Whether a byte may stand in a command tail.
+fn is_tail_byte(byte: u8) -> bool
+    ensures { result ≡ is_tail_byte byte }
 {
-    PAGE_ZERO
+    byte >= 0x20 && byte <= 0x7e
+}
+
+// Whether all bytes of a text may stand in a command tail.
+fn is_tail(text: &[u8]) -> bool
+    ensures { result ≡ list_all is_tail_byte text.now }
+{
+    text.iter().all(|byte| is_tail_byte(*byte))
 }
 
 /// A law: how much a session may have.
 pub fn limits()
     ensures program { PROGRAM_LIMIT ≡ 0xfd00 - 0x0100 }
+    ensures tail { TAIL_LIMIT ≡ 126 }
     ensures script { SCRIPT_LIMIT ≡ 1048576 }
     ensures steps { STEP_LIMIT ≡ 4000000000 }
 {}

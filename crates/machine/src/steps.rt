@@ -1,22 +1,28 @@
-ghost use Rattle.std.specs.Prelude.{◌≡◌, ◌≢◌, ◌+◌, ◌^◌, ◌<◌, ◌≤◌, ◌||◌, IfOk, IfSome, IfNone, OnOk, OnErr};
+ghost use Rattle.std.specs.Prelude.{◌≡◌, ◌≢◌, ◌+◌, ◌^◌, ◌<◌, ◌≤◌, ◌||◌, length, IfOk, IfSome, IfNone, OnOk, OnErr};
 ghost use Rattle.interaction_trees.specs.Tree.{Return};
 ghost use Rattle.interaction_trees.specs.Dependence.{Step, Stop};
 ghost use Rattle.i8080.specs.End.{Performs};
 ghost use Rattle.i8080.specs.Instruction.{instruction};
-ghost use Rattle.bdos.specs.Calls.{Serves};
-ghost use Rattle.bdos.specs.Places.{Watched};
+ghost use Rattle.std.specs.Borrow.{GName};
+ghost use Rattle.host_questions.specs.Passing.{IsSound};
+ghost use Rattle.system_calls.specs.Calls.{Serves, call};
+ghost use Rattle.system_calls.specs.Drives.{AsksDrives};
 ghost use Rattle.machine.specs.Machine.{Question, ask, script_limit, next, Stopped, outcome, looks_at, looked_at, is_in, Extends, IsBounded, IsReached};
-ghost use Rattle.machine.specs.Steps.{seen, TakesStep};
+ghost use Rattle.machine.specs.Steps.{seen, drives_in, TakesStep};
 ghost use Rattle.machine.specs.Stops.{stop_of_instruction, stop_of_call};
+ghost use Rattle.machine.specs.WrittenCells.{Devices, devices_of};
 ghost use Rattle.machine.specs.Whole.{WholeIsLaid};
 
 use crate::meter::Meter;
 use crate::running::Running;
 use crate::session::Session;
-use bdos::{Cause, Desk, Served, call};
+use bdos::{Cause, Desk, Served};
+use cpmfiles::Table;
+use hostfiles::Changes;
 use i8080::{Did, Regs, execute};
 use pagemem::{Overlay, View};
 use std::alloc::AllocError;
+use system_calls::call;
 
 /// Where a jump goes to the warm start.
 const WARM_START: u16 = 0xff03;
@@ -37,17 +43,25 @@ fn instruct(regs: &mut Regs, overlay: &mut Overlay, session: &Session) -> Result
     Ok(did)
 }
 
-// The call whose number is in C, over a session's image.
+// The call whose number is in C, over a session's image and its files.
 fn serve(
     regs: &mut Regs,
     overlay: &mut Overlay,
     desk: &mut Desk,
+    changes: &mut Changes,
     session: &Session,
 ) -> Result<Served, AllocError>
-    ensures { Serves script_limit session.now.script regs.old (seen session.now overlay.old) desk.old result regs.new (seen session.now overlay.new) desk.new }
+    ensures serves { (g : GName) → Serves script_limit session.now.script regs.old (seen session.now overlay.old) desk.old (drives_in session.now changes.old g) result regs.new (seen session.now overlay.new) desk.new (drives_in session.now changes.new g) }
+    ensures drives { AsksDrives (call script_limit regs.old desk.old.desk.spot) }
+    ensures marks { length changes.old.looks.directories ≡ 256 }
 {
+    // Each drive that a byte tells has a mark of its own.
+    if changes.looks.drive_count() != 256 {
+        unreachable!();
+    }
     let mut view = View::new(session.image(), overlay);
-    call(regs, &mut view, desk, session.script())
+    let mut table = Table::new(session.files(), changes);
+    call(regs, &mut view, &mut table, desk, session.script())
 }
 
 // The stop that an instruction tells.
@@ -80,7 +94,7 @@ fn carry_out(
     session: &Session,
 ) -> Result<Option<Cause>, AllocError>
     requires { regs.old.pc < 0xfe00 }
-    ensures { (d : Watched) → TakesStep session.now regs.old d overlay.old result regs.new d overlay.new }
+    ensures { (d : Devices) → IsSound session.now.files d.files → TakesStep session.now regs.old d overlay.old result regs.new d overlay.new }
 {
     match instruct(regs, overlay, session) {
         Ok(did) => Ok(stop_of_instruction(did)),
@@ -95,10 +109,12 @@ pub(crate) fn enter_system(
     regs: &mut Regs,
     overlay: &mut Overlay,
     desk: &mut Desk,
+    changes: &mut Changes,
     session: &Session,
 ) -> Result<Option<Cause>, AllocError>
-    requires { 0xfe00 ≤ regs.old.pc }
-    ensures { TakesStep session.now regs.old desk.old overlay.old result regs.new desk.new overlay.new }
+    requires area { 0xfe00 ≤ regs.old.pc }
+    requires sound { IsSound session.now.files changes.old.journal.entries }
+    ensures { TakesStep session.now regs.old (devices_of desk.old changes.old) overlay.old result regs.new (devices_of desk.new changes.new) overlay.new }
 {
     if regs.pc == WARM_START {
         return Ok(Some(Cause::WarmBoot));
@@ -106,7 +122,7 @@ pub(crate) fn enter_system(
     if regs.pc != BDOS_ENTRY {
         return Ok(Some(Cause::SystemArea(regs.pc)));
     }
-    match serve(regs, overlay, desk, session) {
+    match serve(regs, overlay, desk, changes, session) {
         Ok(served) => Ok(stop_of_call(served)),
         Err(AllocError) => Err(AllocError),
     }
@@ -118,12 +134,14 @@ fn proceed(
     regs: &mut Regs,
     overlay: &mut Overlay,
     desk: &mut Desk,
+    changes: &mut Changes,
     session: &Session,
 ) -> Result<Option<Cause>, AllocError>
-    ensures { TakesStep session.now regs.old desk.old overlay.old result regs.new desk.new overlay.new }
+    requires { IsSound session.now.files changes.old.journal.entries }
+    ensures { TakesStep session.now regs.old (devices_of desk.old changes.old) overlay.old result regs.new (devices_of desk.new changes.new) overlay.new }
 {
     if regs.pc >= SYSTEM_AREA {
-        return enter_system(regs, overlay, desk, session);
+        return enter_system(regs, overlay, desk, changes, session);
     }
     carry_out(regs, overlay, session)
 }
@@ -150,6 +168,7 @@ pub fn step(
         &mut running.regs,
         &mut running.overlay,
         &mut running.desk,
+        &mut running.changes,
         session,
     )? {
         return Ok(Some(cause));
@@ -158,7 +177,7 @@ pub fn step(
     Ok(None)
 }
 
-/// A law: the machine with its whole memory as one list goes the same way.
+/// A law: the machine with its whole memory as one list, and its files as one map, goes the same way.
 pub fn whole_is_laid()
     ensures { WholeIsLaid }
 {}

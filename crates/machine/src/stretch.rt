@@ -1,11 +1,10 @@
 ghost use Rattle.std.specs.Prelude.{◌≡◌, ◌+◌, ◌-◌, ◌^◌, ◌<◌, ◌≤◌, ℕ, Some, IfOk, IfNone};
 ghost use Rattle.pagemem.specs.Overlay.{own_of};
 ghost use Rattle.pagemem.specs.ViewParts.{overlay_in, image_in, loan_of};
-ghost use Rattle.bdos.specs.Places.{Watched};
 ghost use Rattle.machine.specs.Views.{Session as SessionView};
 ghost use Rattle.machine.specs.Session.{image_of};
 ghost use Rattle.machine.specs.Machine.{ask, after};
-ghost use Rattle.machine.specs.WrittenCells.{state_with};
+ghost use Rattle.machine.specs.WrittenCells.{Devices, devices_of, state_with};
 ghost use Rattle.machine.specs.Steps.{looked_in};
 ghost use Rattle.machine.specs.Stretch.{Stretches, ended_of};
 
@@ -14,6 +13,7 @@ use crate::running::Running;
 use crate::session::Session;
 use crate::steps::{SYSTEM_AREA, enter_system};
 use bdos::{Cause, Desk};
+use hostfiles::Changes;
 use i8080::{Did, Regs, execute};
 use pagemem::{Overlay, View};
 use std::alloc::AllocError;
@@ -28,7 +28,7 @@ fn instructions_over(
     end: u64,
 ) -> (u64, Result<Option<Cause>, AllocError>)
     requires { from ≤ end }
-    ensures stretches { (s : SessionView) (d : Watched) → image_in view.old ≡ image_of s → after (ask s) from ≡ Some (state_with regs.old d.desk (own_of (overlay_in view.old))) → Stretches s from end (looked_in (overlay_in view.old) d) result.0 result.1 (state_with regs.new d.desk (own_of (overlay_in view.new))) (looked_in (overlay_in view.new) d) }
+    ensures stretches { (s : SessionView) (d : Devices) → image_in view.old ≡ image_of s → after (ask s) from ≡ Some (state_with regs.old d (own_of (overlay_in view.old))) → Stretches s from end (looked_in (overlay_in view.old) d) result.0 result.1 (state_with regs.new d (own_of (overlay_in view.new))) (looked_in (overlay_in view.new) d) }
     ensures progress { regs.old.pc < 0xfe00 → from < end → IfOk result.1 (λ stop. IfNone stop (from < result.0)) }
     ensures loan { loan_of view.new ≡ loan_of view.old }
 {
@@ -59,7 +59,7 @@ fn instructions(
     end: u64,
 ) -> (u64, Result<Option<Cause>, AllocError>)
     requires { from ≤ end }
-    ensures stretches { (d : Watched) → after (ask session.now) from ≡ Some (state_with regs.old d.desk (own_of overlay.old)) → Stretches session.now from end (looked_in overlay.old d) result.0 result.1 (state_with regs.new d.desk (own_of overlay.new)) (looked_in overlay.new d) }
+    ensures stretches { (d : Devices) → after (ask session.now) from ≡ Some (state_with regs.old d (own_of overlay.old)) → Stretches session.now from end (looked_in overlay.old d) result.0 result.1 (state_with regs.new d (own_of overlay.new)) (looked_in overlay.new d) }
     ensures progress { regs.old.pc < 0xfe00 → from < end → IfOk result.1 (λ stop. IfNone stop (from < result.0)) }
 {
     let mut view = View::new(session.image(), overlay);
@@ -72,19 +72,20 @@ fn proceed_along(
     regs: &mut Regs,
     overlay: &mut Overlay,
     desk: &mut Desk,
+    changes: &mut Changes,
     session: &Session,
     from: u64,
     end: u64,
 ) -> (u64, Result<Option<Cause>, AllocError>)
     requires order { from < end }
-    requires at { after (ask session.now) from ≡ Some (state_with regs.old desk.old.desk (own_of overlay.old)) }
-    ensures stretches { Stretches session.now from end (looked_in overlay.old desk.old) result.0 result.1 (state_with regs.new desk.new.desk (own_of overlay.new)) (looked_in overlay.new desk.new) }
+    requires at { after (ask session.now) from ≡ Some (state_with regs.old (devices_of desk.old changes.old) (own_of overlay.old)) }
+    ensures stretches { Stretches session.now from end (looked_in overlay.old (devices_of desk.old changes.old)) result.0 result.1 (state_with regs.new (devices_of desk.new changes.new) (own_of overlay.new)) (looked_in overlay.new (devices_of desk.new changes.new)) }
     ensures progress { IfOk result.1 (λ stop. IfNone stop (from < result.0)) }
 {
     if regs.pc < SYSTEM_AREA {
         return instructions(regs, overlay, session, from, end);
     }
-    match enter_system(regs, overlay, desk, session) {
+    match enter_system(regs, overlay, desk, changes, session) {
         Ok(None) => (from + 1, Ok(None)),
         Ok(Some(cause)) => (from, Ok(Some(cause))),
         Err(AllocError) => (from, Err(AllocError)),
@@ -111,6 +112,7 @@ pub fn run_from(
         &mut running.regs,
         &mut running.overlay,
         &mut running.desk,
+        &mut running.changes,
         session,
         from,
         end,

@@ -1,4 +1,4 @@
-//! Replays a file of edit lines over a program of CP/M 2.2.
+//! Runs a program of CP/M 2.2, or replays edits of its session.
 #![tactic(auto)]
 
 use cpmrun::{Fault, Over, command, complain};
@@ -6,7 +6,7 @@ use std::env;
 use std::io::ErrorKind;
 use std::process::ExitCode;
 
-/// Words that are not text are a fault of use.
+/// The words after the program's name go to the command. One that is no text is a fault of use.
 fn main(rt: HostRuntime) -> ExitCode {
     let alloc = rt.alloc();
     let mut out = Over::new(rt.stdout());
@@ -16,7 +16,7 @@ fn main(rt: HostRuntime) -> ExitCode {
         Err(error) if error.kind() == ErrorKind::OutOfMemory => {
             return ExitCode::from(complain(alloc, Fault::OutOfMemory, &mut err));
         }
-        Err(_) => return ExitCode::from(complain(alloc, Fault::Use, &mut err)),
+        Err(_) => return ExitCode::from(complain(alloc, Fault::NotText, &mut err)),
     };
     let Ok(words) = args.skip(1).collect::<Vec<String>>(alloc) else {
         return ExitCode::from(complain(alloc, Fault::OutOfMemory, &mut err));

@@ -16,4 +16,7 @@ pub mod StepsLemmas
 pub mod CompleteLemmas
 pub mod EntryLemmas
 pub mod PlaceLemmas
+pub mod AskLemmas
+pub mod NewLooks
+pub mod FileTouch
 pub mod OrderLemmas

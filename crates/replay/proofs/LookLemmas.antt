@@ -5,9 +5,10 @@ use Rattle.std.proofs.Math.Nat.{eq-or-lt_of_le}
 use Rattle.i8080.proofs.LookLemmas.{is_among-append}
 use Rattle.i8080.specs.Memory.{is_among}
 use Rattle.bdos.specs.Places.{is_within}
+use Rattle.hostfiles.specs.Looks.{is_looked}
 use Rattle.machine.specs.Views.{State, Looked}
-use Rattle.machine.specs.Machine.{Question, Cell, Script, Answers, is_in, looked_at, NothingLooked, Extends, after, looks_at}
-use Rattle.replay.specs.FirstLooks.{Noted, step_of, or_else, mark, first, IsFirstLooks, since, AllNoted, NoPlaces, IsNoted, IsLeftBehind}
+use Rattle.machine.specs.Machine.{Question, Cell, Script, OfHost, Answers, is_in, looked_at, NothingLooked, Extends, after, looks_at}
+use Rattle.replay.specs.FirstLooks.{Noted, step_of, or_else, mark, first, IsFirstLooks, since, AllNoted, NoPlaces, NoAsks, IsNoted, IsLeftBehind}
 use Rattle.replay.proofs.FirstLemmas.{first-suc, looks_here, erased_known}
 use Rattle.replay.proofs.TouchLemmas.{noted_by}
 
@@ -28,6 +29,7 @@ has_entry None false false all n known e h none = cc
 pub none_looked : (noted : Noted) (looked : Looked) → NothingLooked looked → AllNoted noted looked
 none_looked noted looked none (Cell a) asked o = let no : is_among a looked.cells ≡ false = rw none.cells refl in absurd (let both : false ≡ true = sym no ∙ asked in cc)
 none_looked noted looked none (Script k) asked o = let no : is_within looked.places k ≡ false = none.places k in absurd (let both : false ≡ true = sym no ∙ asked in cc)
+none_looked noted looked none (OfHost a) asked o = let no : is_looked looked.files a ≡ false = none.files a in absurd (let both : false ≡ true = sym no ∙ asked in cc)
 
 -- what the first looks are after a step
 pub record Notes (f : Answers) (old new : Noted) (n : ℕ) (looked : Looked) (refused refuses : ℕ) : Type 0 where
@@ -40,6 +42,10 @@ pub record Notes (f : Answers) (old new : Noted) (n : ℕ) (looked : Looked) (re
 
 module _ (f : Answers) (old new : Noted) (n refused refuses : ℕ) (st : State) (looked after_step left : Looked) (known : IsFirstLooks f old) (all : n ≤ old.seen → AllNoted old looked) (at : after f n ≡ Some st)
     (extends : Extends looked after_step) (asks : (q : Question) → looked_at after_step q ≡ (looked_at looked q || is_in q (looks_at f st))) (same_cells : left.cells ≡ after_step.cells) where
+  or_both : (a b : Bool) → (a ≡ true → b ≡ true) → b ≡ (a || b)
+  or_both true b h = h refl
+  or_both false b h = refl
+
   -- what was looked at is what was before, and what is new
   more_looked : (q : Question) → looked_at after_step q ≡ (looked_at looked q || looked_at (since (length looked.cells) after_step) q)
   more_looked (Cell a) =
@@ -47,15 +53,13 @@ module _ (f : Answers) (old new : Noted) (n refused refuses : ℕ) (st : State) 
       ∙ is_among-append a (take (length looked.cells) after_step.cells) (drop (length looked.cells) after_step.cells)
       ∙ ap (λ cells. is_among a cells || is_among a (drop (length looked.cells) after_step.cells)) extends.cells
   more_looked (Script k) = or_both (is_within looked.places k) (is_within after_step.places k) (extends.places k)
-    where
-      or_both : (a b : Bool) → (a ≡ true → b ≡ true) → b ≡ (a || b)
-      or_both true b h = h refl
-      or_both false b h = refl
+  more_looked (OfHost a) = or_both (is_looked looked.files a) (is_looked after_step.files a) (extends.files.kept a)
 
-  -- where no place is left, what is left was looked at
-  left_looked : NoPlaces left.places → (q : Question) → looked_at left q ≡ true → looked_at after_step q ≡ true
-  left_looked none (Cell a) e = ap (is_among a) (sym same_cells) ∙ e
-  left_looked none (Script k) e = let no : is_within left.places k ≡ false = none k in absurd (let both : false ≡ true = sym no ∙ e in cc)
+  -- where no place and no question is left, what is left was looked at
+  left_looked : NoPlaces left.places → NoAsks left.files → (q : Question) → looked_at left q ≡ true → looked_at after_step q ≡ true
+  left_looked none drained (Cell a) e = ap (is_among a) (sym same_cells) ∙ e
+  left_looked none drained (Script k) e = let no : is_within left.places k ≡ false = none k in absurd (let both : false ≡ true = sym no ∙ e in cc)
+  left_looked none drained (OfHost a) e = let no : is_looked left.files a ≡ false = drained a in absurd (let both : false ≡ true = sym no ∙ e in cc)
 
   -- they stay
   stays : new ≡ old → refuses ≡ refused → left ≡ after_step → (n ≡ old.seen → ⊥) → (n + 1 ≤ old.seen → AllNoted old after_step) → Notes f old new n left refused refuses
@@ -81,10 +85,10 @@ module _ (f : Answers) (old new : Noted) (n refused refuses : ℕ) (st : State) 
           let e : Some m ≡ None = sym there ∙ sym (known.entry q) ∙ none in cc
 
   -- or it is noted now
-  seen_now : n ≡ old.seen → IsNoted old new (since (length looked.cells) after_step) → refuses ≡ refused → NoPlaces left.places → Notes f old new n left refused refuses
-  seen_now here now none drained = record {
+  seen_now : n ≡ old.seen → IsNoted old new (since (length looked.cells) after_step) → refuses ≡ refused → NoPlaces left.places → NoAsks left.files → Notes f old new n left refused refuses
+  seen_now here now none drained answered = record {
     noted = record { entry = λ q. entry q ∙ sym (ap (first f q) now.seen ∙ ap (first f q) (add-one old.seen)) };
-    looks = λ _ q asked none. has_entry (step_of old q) (looked_at looked q) (looked_at (since (length looked.cells) after_step) q) (looked_at after_step q) old.seen (λ e o. before q e o) (more_looked q) (left_looked drained q asked) (sym (entered q) ∙ none);
+    looks = λ _ q asked none. has_entry (step_of old q) (looked_at looked q) (looked_at (since (length looked.cells) after_step) q) (looked_at after_step q) old.seen (λ e o. before q e o) (more_looked q) (left_looked drained answered q asked) (sym (entered q) ∙ none);
     grows = omega (arith, now.seen);
     within = inr (let next = now.seen in let e : new.seen ≡ n + 1 = omega (arith, next, here) in e);
     counted = omega (arith, none);
@@ -116,12 +120,12 @@ module _ (f : Answers) (old new : Noted) (n refused refuses : ℕ) (st : State) 
   }
 
   pub looks_kept : ((n ≡ old.seen → ⊥) → (new ≡ old) × (refuses ≡ refused) × (left ≡ after_step))
-      → (n ≡ old.seen → (IsNoted old new (since (length looked.cells) after_step) × (refuses ≡ refused) × NoPlaces left.places) ⊎ (IsLeftBehind old new × (refuses ≡ refused + 1)))
+      → (n ≡ old.seen → (IsNoted old new (since (length looked.cells) after_step) × (refuses ≡ refused) × NoPlaces left.places × NoAsks left.files) ⊎ (IsLeftBehind old new × (refuses ≡ refused + 1)))
       → Notes f old new n left refused refuses
   looks_kept other here = by_order (cases_lt n old.seen)
     where
-      at_seen : n ≡ old.seen → (IsNoted old new (since (length looked.cells) after_step) × (refuses ≡ refused) × NoPlaces left.places) ⊎ (IsLeftBehind old new × (refuses ≡ refused + 1)) → Notes f old new n left refused refuses
-      at_seen e (inl now) = seen_now e now.0 now.1 now.2
+      at_seen : n ≡ old.seen → (IsNoted old new (since (length looked.cells) after_step) × (refuses ≡ refused) × NoPlaces left.places × NoAsks left.files) ⊎ (IsLeftBehind old new × (refuses ≡ refused + 1)) → Notes f old new n left refused refuses
+      at_seen e (inl now) = seen_now e now.0 now.1 now.2 now.3
       at_seen e (inr behind) = left_behind e behind.0 behind.1
 
       apart : (n ≡ old.seen → ⊥) → (n + 1 ≤ old.seen → AllNoted old after_step) → Notes f old new n left refused refuses

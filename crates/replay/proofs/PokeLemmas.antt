@@ -6,8 +6,9 @@ use Rattle.std.proofs.lemmas.List.{get_or-append-add, get_or-append_right, get_o
 use Rattle.std.proofs.lemmas.Bool.{lt-ltb, le-ltb, cases_lt}
 use Rattle.pagemem.specs.Image.{image_at}
 use Rattle.machine.specs.Views.{Session}
-use Rattle.machine.specs.Session.{page_zero, written_over}
-use Rattle.machine.specs.Machine.{Question, Cell, Script, ask}
+use Rattle.command_tail.specs.PageZero.{page_zero}
+use Rattle.machine.specs.Session.{written_over}
+use Rattle.machine.specs.Machine.{Question, Cell, Script, OfHost, ask}
 use Rattle.replay.specs.FirstLooks.{Noted}
 use Rattle.replay.specs.Edits.{with_poke}
 use Rattle.replay.specs.Touch.{IsNotedTouch}
@@ -58,11 +59,11 @@ IsPoked at n q = (j : ℕ) × (j < n) × (q ≡ Cell (256 + (at + j)))
 
 module _ (s : Session) (at : ℕ) (bytes : List ℕ) (h : at + length bytes ≤ length s.program) where
   pub old_byte : (i : ℕ) → i < length bytes → ask s (Cell (256 + (at + i))) ≡ slice_index s.program (at + i)
-  old_byte i k = byte_there page_zero s.program (at + i) (omega arith)
+  old_byte i k = byte_there (page_zero s.tail) s.program (at + i) (omega arith)
 
   pub new_byte : (i : ℕ) → i < length bytes → ask (with_poke s at bytes) (Cell (256 + (at + i))) ≡ slice_index bytes i
   new_byte i k =
-      byte_there page_zero (written_over s.program at bytes) (at + i) (omega (arith, long_over s.program bytes at h))
+      byte_there (page_zero s.tail) (written_over s.program at bytes) (at + i) (omega (arith, long_over s.program bytes at h))
       ∙ over_there s.program bytes at h i k
 
   -- a cell whose place keeps its byte
@@ -75,6 +76,7 @@ module _ (s : Session) (at : ℕ) (bytes : List ℕ) (h : at + length bytes ≤ 
   -- every other question has the answer that it had
   pub others_same : (q : Question) → IsPoked at (length bytes) q ⊎ (ask s q ≡ ask (with_poke s at bytes) q)
   others_same (Script k) = inr refl
+  others_same (OfHost a) = inr refl
   others_same (Cell a) = elim (cases_lt a (256 + at)) [
     | inl low ↦ inr (same_place a (λ high. before_it s.program bytes at h (a - 256) (omega arith)))
     | inr from ↦ elim (cases_lt a (256 + (at + length bytes))) [

@@ -1,9 +1,11 @@
 -- What always holds of a runner's parts, through edits and drops.
-use Rattle.std.proofs.Common.{◌≡◌, ℕ, zero, suc, ◌-◌, ◌<◌, ◌≤◌, List, [], ◌∷◌, length, map, Some, None, refl, ap, arith}
-use Rattle.std.specs.Prelude.{slice_get}
+use Rattle.std.proofs.Common.{◌≡◌, ℕ, zero, suc, ◌-◌, ◌<◌, ◌≤◌, List, [], ◌∷◌, length, map, Option, Some, None, sym, ◌∙◌, refl, ap, arith}
+use Rattle.std.specs.Prelude.{slice_get, slice_index_or}
 use Rattle.circular_buffer.specs.Buffer.{Buffer, buffer, keep_last}
 use Rattle.machine.specs.Views.{Session}
-use Rattle.machine.specs.Machine.{Question, Cell, Script, Answers, ask, looks}
+use Rattle.hostfiles.specs.declared.looks.Ask.{Ask}
+use Rattle.file_steps.specs.Steps.{step_of_ask}
+use Rattle.machine.specs.Machine.{Question, Cell, Script, OfHost, Answers, ask, looks}
 use Rattle.replay.specs.declared.ring.Checkpoint.{Checkpoint as KeptCheckpoint}
 use Rattle.replay.specs.FirstLooks.{Noted, step_of, first, erased, IsFirstLooks}
 use Rattle.replay.specs.Ring.{Each, Stands, KeptUpTo}
@@ -17,22 +19,30 @@ pub all_stand : (f : Answers) (text : List ℕ) (xs : List KeptCheckpoint) → E
 all_stand f text [] h = tt
 all_stand f text (x ∷ xs) h = (record { later = h.0.later; state = h.0.state }, all_stand f text xs h.1)
 
-nothing_noted : (f : Answers) (looks : Noted) → looks ≡ record { cells = []; places = []; seen = 0 } → IsFirstLooks f looks
-unfolding first
-nothing_noted f looks e = rw e (record { entry = empty })
-  where
-    empty : (q : Question) → step_of (record { cells = []; places = []; seen = 0 }) q ≡ None
-    empty (Cell a) = refl
-    empty (Script k) = refl
+-- nothing is noted, and no step is seen
+pub record IsEmpty (looks : Noted) : Type 0 where
+  pub cells : looks.cells ≡ []
+  pub places : looks.places ≡ []
+  pub files : (a : Ask) → step_of_ask looks.files a ≡ None
+  pub seen : looks.seen ≡ 0
 
-pub sound_start : (s : Session) (text : List ℕ) (spacing : ℕ) (ring : Buffer KeptCheckpoint) (looks : Noted) → ring.items ≡ [] → looks ≡ record { cells = []; places = []; seen = 0 } → 0 < spacing → spacing ≤ 1000000000 → IsSound s text spacing ring looks
+nothing_noted : (f : Answers) (looks : Noted) → IsEmpty looks → IsFirstLooks f looks
+unfolding first
+nothing_noted f looks e = record { entry = λ q. empty q ∙ ap (first f q) (sym e.seen) }
+  where
+    empty : (q : Question) → step_of looks q ≡ None
+    empty (Cell a) = ap (λ (steps : List (Option ℕ)). slice_index_or steps a None) e.cells
+    empty (Script k) = ap (λ (steps : List (Option ℕ)). slice_index_or steps k None) e.places
+    empty (OfHost a) = e.files a
+
+pub sound_start : (s : Session) (text : List ℕ) (spacing : ℕ) (ring : Buffer KeptCheckpoint) (looks : Noted) → ring.items ≡ [] → IsEmpty looks → 0 < spacing → spacing ≤ 1000000000 → IsSound s text spacing ring looks
 sound_start s text spacing ring looks e k b h = record {
   stands = rw e tt;
   rising = rw e tt;
   below = rw e tt;
   noted = nothing_noted (ask s) looks k;
   spacing_in = (b, h);
-  seen_in = let z : looks.seen ≡ 0 = ap (λ (t : Noted). t.seen) k in omega (arith, z);
+  seen_in = let z : looks.seen ≡ 0 = k.seen in omega (arith, z);
 }
 
 -- an edit of the session, with the checkpoints and the looks cut at the noted touch

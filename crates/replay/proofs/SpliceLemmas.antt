@@ -5,7 +5,7 @@ use Rattle.std.proofs.lemmas.Bool.{cases_lt}
 use Rattle.std.proofs.lemmas.List.{get_or_past}
 use Rattle.machine.specs.Views.{Session}
 use Rattle.machine.specs.Session.{spliced}
-use Rattle.machine.specs.Machine.{Question, Cell, Script, ask}
+use Rattle.machine.specs.Machine.{Question, Cell, Script, OfHost, ask}
 use Rattle.replay.specs.FirstLooks.{Noted, step_of}
 use Rattle.replay.specs.Edits.{with_splice}
 use Rattle.replay.specs.Touch.{IsNotedTouch}
@@ -37,6 +37,7 @@ module _ (s : Session) (at removed : ℕ) (bytes : List ℕ) (k : Noted) (t : �
   } where
     below : (q : Question) (m : ℕ) → step_of k q ≡ Some m → m < t → ask s q ≡ ask (with_splice s at removed bytes) q
     below (Cell a) m there low = refl
+    below (OfHost a) m there low = refl
     below (Script j) m there low = elim (cases_lt j (length k.places)) [
       | inl inside ↦ least.below (Script j) m (j, inside, refl) there low
       | inr past ↦ absurd (no_entry k.places j m past there)

@@ -1,11 +1,19 @@
 -- An edit keeps the checkpoints up to its touch.
-use Rattle.std.proofs.Common.{◌≡◌, ℕ, zero, suc, ◌<◌, ◌≤◌, List, [], ◌∷◌, ◌++◌, Option, Some, None, ◌⊎◌, inl, inr, refl, ap, subst, sym, ◌∙◌, arith, Bool, true, false, map}
+use Rattle.std.proofs.Common.{◌≡◌, ℕ, zero, suc, ◌<◌, ◌≤◌, List, [], ◌∷◌, ◌++◌, Option, Some, None, ◌⊎◌, inl, inr, refl, ap, subst, sym, ◌∙◌, arith, Bool, true, false, ◌&&◌, ◌==◌, map}
 use Rattle.std.proofs.Math.Nat.{eq-or-lt_of_le}
 use Rattle.std.proofs.Common.{eq-eqb, eqb-true}
 use Rattle.std.proofs.lemmas.Bool.{or_cases, or_right}
 use Rattle.std.proofs.lemmas.List.{map-append}
 use Rattle.machine.specs.Machine.{Question}
-use Rattle.machine.specs.Machine.{Cell, Script}
+use Rattle.machine.specs.Machine.{Cell, Script, OfHost}
+use Rattle.std.specs.Ordering.{nat_cmp, eq_by_cmp}
+use Rattle.std.specs.Cmp.{eq_by_cmp_equiv}
+use Rattle.std.specs.Cmp.Lexicographic.{slice_cmp, nat_list_cmp_total}
+use Rattle.keymaps.proofs.Views.{same_key, key_of}
+use Rattle.hostfiles.specs.Hosts.{Key}
+use Rattle.hostfiles.specs.Looks.{is_same_ask}
+use Rattle.hostfiles.specs.declared.looks.Ask.{Ask}
+use Rattle.hostfiles.specs.declared.looks.Ask.TheVariants.{Has, Length, Rec, Directory}
 use Rattle.replay.specs.declared.ring.Checkpoint.{Checkpoint}
 use Rattle.interaction_trees.specs.Tree.{AgreeOn}
 use Rattle.machine.specs.Machine.{Answers, looks, is_in, same_question}
@@ -16,9 +24,41 @@ use Rattle.replay.specs.Touch.{Untouched, IsNotedTouch}
 use Rattle.replay.proofs.RingLemmas.{Each-weaken, Each-right}
 use Rattle.replay.proofs.FirstLemmas.{erased_first, same_first, same_after, first-suc, IsBelow, first_below}
 
+key_itself : (key : Key) → eq_by_cmp (slice_cmp nat_cmp) key key ≡ true
+key_itself key = (eq_by_cmp_equiv nat_list_cmp_total).refl key
+
+same_ask_itself : (a : Ask) → is_same_ask a a ≡ true
+same_ask_itself (Has key) = key_itself key
+same_ask_itself (Length key) = key_itself key
+same_ask_itself (Rec key k) = ap (λ b. b && k == k) (key_itself key) ∙ eq-eqb k k refl
+same_ask_itself (Directory drive) = eq-eqb drive drive refl
+
+both_true : (a b : Bool) → (a && b) ≡ true → (a ≡ true) × (b ≡ true)
+both_true true b e = (refl, e)
+both_true false b e = absurd (cc)
+
+same_ask_is : (a b : Ask) → is_same_ask a b ≡ true → a ≡ b
+same_ask_is (Has key) (Has other) e = ap Has (key_of same_key key other e)
+same_ask_is (Has key) (Length other) e = absurd (cc)
+same_ask_is (Has key) (Rec other j) e = absurd (cc)
+same_ask_is (Has key) (Directory drive) e = absurd (cc)
+same_ask_is (Length key) (Has other) e = absurd (cc)
+same_ask_is (Length key) (Length other) e = ap Length (key_of same_key key other e)
+same_ask_is (Length key) (Rec other j) e = absurd (cc)
+same_ask_is (Length key) (Directory drive) e = absurd (cc)
+same_ask_is (Rec key k) (Has other) e = absurd (cc)
+same_ask_is (Rec key k) (Length other) e = absurd (cc)
+same_ask_is (Rec key k) (Rec other j) e = let (keys, places) = both_true (eq_by_cmp (slice_cmp nat_cmp) key other) (k == j) e in λ i. Rec (key_of same_key key other keys i) (eqb-true k j places i)
+same_ask_is (Rec key k) (Directory drive) e = absurd (cc)
+same_ask_is (Directory drive) (Has other) e = absurd (cc)
+same_ask_is (Directory drive) (Length other) e = absurd (cc)
+same_ask_is (Directory drive) (Rec other j) e = absurd (cc)
+same_ask_is (Directory drive) (Directory other) e = ap Directory (eqb-true drive other e)
+
 pub same_itself : (q : Question) → same_question q q ≡ true
 same_itself (Cell a) = eq-eqb a a refl
 same_itself (Script k) = eq-eqb k k refl
+same_itself (OfHost a) = same_ask_itself a
 
 -- two sessions agree on a list where they agree on each of its questions
 agree_each : (f g : Answers) (qs : List Question) → ((q : Question) → is_in q qs ≡ true → f q ≡ g q) → AgreeOn qs f g
@@ -31,6 +71,11 @@ same_is (Cell a) (Cell b) e = ap Cell (eqb-true a b e)
 same_is (Cell a) (Script k) e = cc
 same_is (Script k) (Cell a) e = cc
 same_is (Script k) (Script j) e = ap Script (eqb-true k j e)
+same_is (Cell a) (OfHost b) e = absurd (cc)
+same_is (Script k) (OfHost b) e = absurd (cc)
+same_is (OfHost a) (Cell b) e = absurd (cc)
+same_is (OfHost a) (Script k) e = absurd (cc)
+same_is (OfHost a) (OfHost b) e = ap OfHost (same_ask_is a b e)
 
 agree_at : (f g : Answers) (qs : List Question) (q : Question) → is_in q qs ≡ true → AgreeOn qs f g → f q ≡ g q
 agree_at f g [] q i h = absurd (cc)

@@ -1,16 +1,22 @@
 -- What an edit makes of a session.
-use Rattle.std.specs.Prelude.{◌≡◌, ℕ, ◌+◌, ◌-◌, ◌||◌, ◌≤◌, List, [], length, nat_lt, if◌then◌else◌, Result, Ok, Err}
+use Rattle.std.specs.Prelude.{◌≡◌, ℕ, ◌+◌, ◌-◌, ◌||◌, ◌≤◌, List, [], length, nat_lt, if◌then◌else◌, true, Option, Some, None, Result, Ok, Err}
+use Rattle.std.specs.FinMap.{contains_key}
+use Rattle.hostfiles.specs.Hosts.{Key, Record, Host, has_room, records_in, refusal_of}
+use Rattle.file_steps.specs.Touch.{with_file}
 use Rattle.machine.specs.declared.session.TheConstants.{SCRIPT_LIMIT, STEP_LIMIT}
 use Rattle.machine.specs.Views.{Session}
 use Rattle.machine.specs.Session.{spliced, written_over}
 use Rattle.replay.specs.declared.edit.Edit.{Edit}
-use Rattle.replay.specs.declared.edit.Edit.TheVariants.{Insert, Replace, Remove, Poke, SetLimit}
+use Rattle.replay.specs.declared.edit.Edit.TheVariants.{Insert, Replace, Remove, Poke, SetFile, RemoveFile, SetLimit}
 use Rattle.replay.specs.declared.edit.EditError.{EditError}
-use Rattle.replay.specs.declared.edit.EditError.TheVariants.{PastEnd, ScriptTooLong, OutsideProgram, LimitTooLarge, OutOfMemory}
+use Rattle.replay.specs.declared.edit.EditError.TheVariants.{PastEnd, ScriptTooLong, NoSuchFile, FileTooLong, TooManyFiles, OutsideProgram, LimitTooLarge, OutOfMemory}
 
 abbrev pub number_of : EditError → ℕ
 number_of PastEnd = 1
 number_of ScriptTooLong = 2
+number_of NoSuchFile = 3
+number_of FileTooLong = 4
+number_of TooManyFiles = 5
 number_of OutsideProgram = 6
 number_of LimitTooLarge = 7
 number_of OutOfMemory = 8
@@ -29,6 +35,21 @@ poked s at bytes =
 abbrev pub with_splice : Session → ℕ → ℕ → List ℕ → Session
 with_splice s at removed bytes = record s { script = spliced s.script at removed bytes }
 
+-- these records at a host file's key, or no file there
+abbrev pub with_host_file : Session → Key → Option (List Record) → Session
+with_host_file s key file = record s { files = with_file s.files key file }
+
+-- a host file set to these bytes, filled up to whole records, where they are not too many and there is room for the file
+abbrev pub with_set_file : Session → Key → List ℕ → Result Session ℕ
+with_set_file s key bytes =
+    if nat_lt 8388608 (length bytes) then Err 4
+    else if has_room s.files key then Ok (with_host_file s key (Some (records_in bytes)))
+    else Err 5
+
+-- a file that is set is refused by this number
+abbrev pub OnSet : Host → Key → List ℕ → ℕ → Type 0
+OnSet host key bytes number = (if nat_lt 8388608 (length bytes) then Some 4 else if has_room host key then None else Some 5) ≡ Some number
+
 -- the session after an edit, or the number of its refusal
 abbrev pub edited : Session → Edit → Result Session ℕ
 edited s (Insert at bytes) =
@@ -38,15 +59,19 @@ edited s (Insert at bytes) =
 edited s (Replace at bytes) = if nat_lt (length s.script) (at + length bytes) then Err 1 else Ok (with_splice s at (length bytes) bytes)
 edited s (Remove at count) = if nat_lt (length s.script) (at + count) then Err 1 else Ok (with_splice s at count [])
 edited s (Poke at bytes) = poked s at bytes
+edited s (SetFile name bytes) = with_set_file s name bytes
+edited s (RemoveFile name) = if contains_key s.files name then Ok (with_host_file s name None) else Err 3
 edited s (SetLimit n) = if nat_lt STEP_LIMIT n then Err 7 else Ok (record s { limit = n })
 
--- the edits that can be carried out: within the script, with no script that is too long; within the program; and a limit that
--- is not too large
+-- the edits that can be carried out: within the script, with no script that is too long; within the program; with a file that is
+-- not too long and has room, or that is there; and a limit that is not too large
 abbrev pub IsAccepted : Session → Edit → Type 0
 IsAccepted s (Insert at bytes) = (at ≤ length s.script) × (length s.script + length bytes ≤ SCRIPT_LIMIT)
 IsAccepted s (Replace at bytes) = at + length bytes ≤ length s.script
 IsAccepted s (Remove at count) = at + count ≤ length s.script
 IsAccepted s (Poke at bytes) = (256 ≤ at) × (at + length bytes ≤ 256 + length s.program)
+IsAccepted s (SetFile name bytes) = refusal_of s.files name bytes ≡ None
+IsAccepted s (RemoveFile name) = contains_key s.files name ≡ true
 IsAccepted s (SetLimit n) = n ≤ STEP_LIMIT
 
 -- what a call of edit answered, and the session after it; memory is wanted only for an edit that is not refused
@@ -55,10 +80,12 @@ AnswersEdit wanted (Ok _) after = wanted ≡ Ok after
 AnswersEdit wanted (Err OutOfMemory) after = (t : Session) × (wanted ≡ Ok t)
 AnswersEdit wanted (Err e) after = wanted ≡ Err (number_of e)
 
--- the edits that may want memory: insertions alone
+-- the edits that may want memory: insertions and files that are set
 abbrev pub TakesMemory : Edit → Type 0
 TakesMemory (Insert at bytes) = Unit {0}
 TakesMemory (Replace at bytes) = ⊥
 TakesMemory (Remove at count) = ⊥
 TakesMemory (Poke at bytes) = ⊥
+TakesMemory (SetFile name bytes) = Unit {0}
+TakesMemory (RemoveFile name) = ⊥
 TakesMemory (SetLimit n) = ⊥

@@ -1,38 +1,34 @@
 -- For each question the first step that looked at it.
-use Rattle.std.specs.Prelude.{◌≡◌, ℕ, zero, suc, ◌+◌, ◌==◌, ◌||◌, nat_lt, drop, List, Option, Some, None, Bool, true, false, if◌then◌else◌, slice_index_or}
+use Rattle.std.specs.Prelude.{◌≡◌, ℕ, zero, suc, ◌+◌, ◌==◌, ◌||◌, drop, List, Option, Some, None, Bool, true, false, if◌then◌else◌, slice_index_or}
 use Rattle.i8080.specs.Memory.{is_among}
 use Rattle.bdos.specs.declared.places.Places.{Places}
 use Rattle.bdos.specs.Places.{is_within}
 use Rattle.machine.specs.Views.{Looked}
-use Rattle.machine.specs.Machine.{Question, Cell, Script, Answers, is_in, looks, looked_at}
-
-abbrev pub or_else : Option ℕ → Option ℕ → Option ℕ
-or_else None b = b
-or_else (Some a) b = Some a
-
-abbrev pub mark : Bool → ℕ → Option ℕ
-mark true n = Some n
-mark false n = None
+use Rattle.hostfiles.specs.Looks.{is_looked, is_same_ask}
+use Rattle.hostfiles.specs.declared.looks.Looks.{Looks}
+use Rattle.hostfiles.specs.declared.looks.Ask.{Ask}
+use Rattle.file_steps.specs.Steps.{step_of_ask}
+pub use Rattle.file_steps.specs.Steps.{or_else, mark, erased}
+use Rattle.file_steps.specs.declared.steps.FileSteps.{FileSteps}
+use Rattle.machine.specs.Machine.{Question, Cell, Script, OfHost, Answers, is_in, looks, looked_at}
 
 -- the first step below n whose looks hold q
 unfoldable pub first : Answers → Question → ℕ → Option ℕ
 first f q zero = None
 first f q (suc n) = or_else (first f q n) (mark (is_in q (looks f n)) n)
 
--- what is left of an entry when those from t on are erased
-abbrev pub erased : ℕ → Option ℕ → Option ℕ
-erased t None = None
-erased t (Some m) = if nat_lt m t then Some m else None
-
--- a step for each cell and for each script place that was looked at, and below which step all looks are noted
+-- a step for each cell and for each script place that was looked at, and for each question that the host files were asked; and below
+-- which step all looks are noted
 pub record Noted : Type 0 where
   pub cells : List (Option ℕ)
   pub places : List (Option ℕ)
+  pub files : FileSteps
   pub seen : ℕ
 
 abbrev pub step_of : Noted → Question → Option ℕ
 step_of t (Cell a) = slice_index_or t.cells a None
 step_of t (Script k) = slice_index_or t.places k None
+step_of t (OfHost a) = step_of_ask t.files a
 
 -- these are the first looks of all steps below `seen`, and nothing else
 pub record IsFirstLooks (f : Answers) (t : Noted) : Type 0 where
@@ -40,12 +36,13 @@ pub record IsFirstLooks (f : Answers) (t : Noted) : Type 0 where
 
 -- the looks but for so many of the first cells
 abbrev pub since : ℕ → Looked → Looked
-since n looked = record { cells = drop n looked.cells; places = looked.places }
+since n looked = record { cells = drop n looked.cells; places = looked.places; files = looked.files }
 
 -- whether a question is one of these cells
 abbrev pub is_cell_of : List ℕ → Question → Bool
 is_cell_of cells (Cell a) = is_among a cells
 is_cell_of cells (Script k) = false
+is_cell_of cells (OfHost a) = false
 
 -- whether a place is the one that was taken, or among those that are left
 abbrev pub is_left : Option ℕ → Places → ℕ → Bool
@@ -55,6 +52,25 @@ is_left (Some k) places j = (j == k) || is_within places j
 abbrev pub is_place_of : Option ℕ → Places → Question → Bool
 is_place_of taken places (Cell a) = false
 is_place_of taken places (Script j) = is_left taken places j
+is_place_of taken places (OfHost a) = false
+
+-- whether a question of the host files is the one that was taken, or among those that are left
+abbrev pub is_left_ask : Option Ask → Looks → Ask → Bool
+is_left_ask None asked a = is_looked asked a
+is_left_ask (Some b) asked a = is_same_ask a b || is_looked asked a
+
+abbrev pub is_ask_of : Option Ask → Looks → Question → Bool
+is_ask_of taken asked (Cell a) = false
+is_ask_of taken asked (Script j) = false
+is_ask_of taken asked (OfHost a) = is_left_ask taken asked a
+
+-- what is new: cells, and the places and questions that were taken or are left
+abbrev pub is_new : List ℕ → Option ℕ → Places → Option Ask → Looks → Question → Bool
+is_new cells taken places asked files q = is_cell_of cells q || is_place_of taken places q || is_ask_of asked files q
+
+-- no question is left
+abbrev pub NoAsks : Looks → Type 0
+NoAsks asked = (a : Ask) → is_looked asked a ≡ false
 
 -- no place is left
 abbrev pub NoPlaces : Places → Type 0

@@ -3,6 +3,7 @@ pub mod Options
 pub mod Edits
 pub mod Cold
 pub mod FirstSteps
+pub mod Codes
 pub mod FirstLooks
 pub mod Ring
 pub mod Touch

@@ -1,9 +1,12 @@
 ghost use Rattle.std.specs.Prelude.{◌≡◌, ◌+◌, ◌^◌, ◌<◌, ◌≤◌, ◌||◌, [], None, OnOk, OnErr, drop, length};
-ghost use Rattle.machine.specs.Machine.{Question, Cell, Script, same_question};
-ghost use Rattle.replay.specs.FirstLooks.{step_of, erased, or_else, mark, is_cell_of, is_place_of, NoPlaces};
+ghost use Rattle.hostfiles.specs.declared.looks.Ask.{Ask as HostAsk};
+ghost use Rattle.file_steps.specs.Steps.{step_of_ask};
+ghost use Rattle.machine.specs.Machine.{Question, Cell, Script, OfHost, same_question};
+ghost use Rattle.replay.specs.FirstLooks.{step_of, erased, or_else, mark, is_cell_of, is_place_of, is_ask_of, is_new, NoPlaces, NoAsks};
 
 use crate::first_steps::FirstSteps;
-use machine::{Running, STEP_LIMIT};
+use file_steps::FileSteps;
+use machine::{Ask, Running, STEP_LIMIT};
 use std::alloc::{AllocError, Global};
 use std::marker::Model;
 
@@ -12,16 +15,21 @@ use std::marker::Model;
 pub struct FirstLooks {
     cells: FirstSteps,
     places: FirstSteps,
+    files: FileSteps,
     seen: u64,
 }
 
 impl Model for FirstLooks {
     ghost use Rattle.std.specs.Prelude.{◌≤◌};
+    ghost use Rattle.std.specs.Coded.{codes};
     ghost use Rattle.replay.specs.FirstLooks.{Noted};
+    ghost use Rattle.replay.specs.Codes.{file_steps_code};
 
     ghost Value = { Noted };
 
-    ghost view = { λ t. record { cells = t.cells.entries; places = t.places.entries; seen = t.seen } };
+    ghost coded = { Prim.hlevel (codes, file_steps_code) };
+
+    ghost view = { λ t. record { cells = t.cells.entries; places = t.places.entries; files = t.files; seen = t.seen } };
 
     ghost invariant = { λ t. (t.cells.latest ≤ t.seen) × (t.places.latest ≤ t.seen) };
 }
@@ -29,11 +37,15 @@ impl Model for FirstLooks {
 impl FirstLooks {
     /// No step is seen. It takes no memory.
     pub fn new(alloc: Global) -> FirstLooks
-        ensures { result ≡ record { cells = []; places = []; seen = 0 } }
+        ensures cells { result.cells ≡ [] }
+        ensures places { result.places ≡ [] }
+        ensures seen { result.seen ≡ 0 }
+        ensures files { (a : HostAsk) → step_of_ask result.files a ≡ None }
     {
         FirstLooks {
             cells: FirstSteps::new(alloc),
             places: FirstSteps::new(alloc),
+            files: FileSteps::new(alloc),
             seen: 0,
         }
     }
@@ -67,8 +79,22 @@ impl FirstLooks {
         self.places.end()
     }
 
-    /// Notes what was looked at as looks of the step `seen`: the cells from the one of this index on, the place that was taken
-    /// out of the others, and these, which are taken too. At `Err` only entries from that step on are gone.
+    /// The first step that asked a question of the host files, where that is noted.
+    pub fn ask(&self, ask: &Ask) -> Option<u64>
+        ensures { result ≡ step_of self.now (OfHost ask.now) }
+    {
+        self.files.of(ask)
+    }
+
+    /// The first steps of the questions of the host files.
+    pub fn files(&self) -> &FileSteps
+        ensures { result.now ≡ self.now.files }
+    {
+        &self.files
+    }
+
+    /// Notes what was looked at as looks of the step `seen`: the cells from the one of this index on, the place and the question
+    /// that were taken out of the others, and these, which are taken too. At `Err` only entries from that step on are gone.
     #[cold]
     #[inline(never)]
     pub fn note(
@@ -76,17 +102,20 @@ impl FirstLooks {
         running: &mut Running,
         from: usize,
         taken: Option<usize>,
+        asked: Option<Ask>,
     ) -> Result<(), AllocError>
         requires seen { self.old.seen ≤ STEP_LIMIT }
         requires taken { taken ≡ None → NoPlaces running.old.looked.places }
-        ensures ok { OnOk result ((q : Question) → step_of self.new q ≡ or_else (step_of self.old q) (mark (is_cell_of (drop from running.old.looked.cells) q || is_place_of taken running.old.looked.places q) self.old.seen)) }
+        requires asked { asked ≡ None → NoAsks running.old.looked.files }
+        ensures ok { OnOk result ((q : Question) → step_of self.new q ≡ or_else (step_of self.old q) (mark (is_new (drop from running.old.looked.cells) taken running.old.looked.places asked running.old.looked.files q) self.old.seen)) }
         ensures err { OnErr result ((q : Question) → step_of self.new q ≡ erased self.old.seen (step_of self.old q)) }
         ensures seen { self.new.seen ≡ self.old.seen }
         ensures state { running.new.state ≡ running.old.state }
         ensures cells { running.new.looked.cells ≡ running.old.looked.cells }
         ensures places { OnOk result (NoPlaces running.new.looked.places) }
+        ensures asks { OnOk result (NoAsks running.new.looked.files) }
     {
-        let noted = self.note_all(running, from, taken);
+        let noted = self.note_all(running, from, taken, asked);
         if noted.is_err() {
             self.erase_step();
         }
@@ -98,18 +127,22 @@ impl FirstLooks {
         running: &mut Running,
         from: usize,
         taken: Option<usize>,
+        asked: Option<Ask>,
     ) -> Result<(), AllocError>
         requires seen { self.old.seen ≤ STEP_LIMIT }
         requires taken { taken ≡ None → NoPlaces running.old.looked.places }
-        ensures ok { OnOk result ((q : Question) → step_of self.new q ≡ or_else (step_of self.old q) (mark (is_cell_of (drop from running.old.looked.cells) q || is_place_of taken running.old.looked.places q) self.old.seen)) }
+        requires asked { asked ≡ None → NoAsks running.old.looked.files }
+        ensures ok { OnOk result ((q : Question) → step_of self.new q ≡ or_else (step_of self.old q) (mark (is_new (drop from running.old.looked.cells) taken running.old.looked.places asked running.old.looked.files q) self.old.seen)) }
         ensures err { OnErr result ((q : Question) → erased self.old.seen (step_of self.new q) ≡ erased self.old.seen (step_of self.old q)) }
         ensures seen { self.new.seen ≡ self.old.seen }
         ensures state { running.new.state ≡ running.old.state }
         ensures cells { running.new.looked.cells ≡ running.old.looked.cells }
         ensures places { OnOk result (NoPlaces running.new.looked.places) }
+        ensures asks { OnOk result (NoAsks running.new.looked.files) }
     {
         self.note_cells(running, from)?;
-        self.note_places(running, taken)
+        self.note_places(running, taken)?;
+        self.note_asks(running, asked)
     }
 
     // Notes the cells that were looked at, from the one of this index on.
@@ -138,11 +171,32 @@ impl FirstLooks {
         ensures state { running.new.state ≡ running.old.state }
         ensures cells { running.new.looked.cells ≡ running.old.looked.cells }
         ensures places { OnOk result (NoPlaces running.new.looked.places) }
+        ensures files { running.new.looked.files ≡ running.old.looked.files }
     {
         let mut next = taken;
         while let Some(place) = next {
             self.enter_place(place)?;
             next = running.take_place();
+        }
+        Ok(())
+    }
+
+    // Notes the question of the host files that was taken, and then each that is left.
+    #[tactic(auto)]
+    fn note_asks(&mut self, running: &mut Running, asked: Option<Ask>) -> Result<(), AllocError>
+        requires asked { asked ≡ None → NoAsks running.old.looked.files }
+        ensures ok { OnOk result ((q : Question) → step_of self.new q ≡ or_else (step_of self.old q) (mark (is_ask_of asked running.old.looked.files q) self.old.seen)) }
+        ensures err { OnErr result ((q : Question) → erased self.old.seen (step_of self.new q) ≡ erased self.old.seen (step_of self.old q)) }
+        ensures seen { self.new.seen ≡ self.old.seen }
+        ensures state { running.new.state ≡ running.old.state }
+        ensures cells { running.new.looked.cells ≡ running.old.looked.cells }
+        ensures places { running.new.looked.places ≡ running.old.looked.places }
+        ensures asks { OnOk result (NoAsks running.new.looked.files) }
+    {
+        let mut next = asked;
+        while let Some(ask) = next {
+            self.enter_ask(&ask)?;
+            next = running.take_ask();
         }
         Ok(())
     }
@@ -163,6 +217,7 @@ impl FirstLooks {
     {
         self.cells.erase_from(from);
         self.places.erase_from(from);
+        self.files.erase_from(from);
         self.seen = from;
     }
 
@@ -196,6 +251,16 @@ impl FirstLooks {
         self.places.note(place, step)
     }
 
+    // Notes a question of the host files at the step `seen`, unless it has a step.
+    fn enter_ask(&mut self, ask: &Ask) -> Result<(), AllocError>
+        ensures ok { OnOk result ((q : Question) → step_of self.new q ≡ or_else (step_of self.old q) (mark (same_question q (OfHost ask.now)) self.old.seen)) }
+        ensures err { OnErr result ((q : Question) → step_of self.new q ≡ step_of self.old q) }
+        ensures seen { self.new.seen ≡ self.old.seen }
+    {
+        let step = self.seen;
+        self.files.note(ask, step)
+    }
+
     // Erases what is noted as looks of the step `seen`.
     fn erase_step(&mut self)
         ensures entries { (q : Question) → step_of self.new q ≡ erased self.old.seen (step_of self.old q) }
@@ -204,5 +269,6 @@ impl FirstLooks {
         let from = self.seen;
         self.cells.erase_from(from);
         self.places.erase_from(from);
+        self.files.erase_from(from);
     }
 }

@@ -1,10 +1,10 @@
-ghost use Rattle.std.specs.Prelude.{◌≡◌, ◌+◌, ◌^◌, ◌<◌, ◌≤◌, ◌||◌, None, IfSome, IsSome, IsNone, OnOk, OnErr, drop};
+ghost use Rattle.std.specs.Prelude.{◌≡◌, ◌+◌, ◌^◌, ◌<◌, ◌≤◌, None, IfSome, IsSome, IsNone, OnOk, OnErr, drop};
 ghost use Rattle.machine.specs.Machine.{Question};
 ghost use Rattle.machine.specs.Kept.{kept_of};
-ghost use Rattle.replay.specs.FirstLooks.{step_of, erased, or_else, mark, is_cell_of, is_place_of, NoPlaces};
+ghost use Rattle.replay.specs.FirstLooks.{step_of, erased, or_else, mark, is_new, NoPlaces, NoAsks};
 
 use crate::first_looks::FirstLooks;
-use machine::{Kept, Running, STEP_LIMIT};
+use machine::{Ask, Kept, Running, STEP_LIMIT};
 use std::alloc::AllocError;
 use std::marker::Model;
 
@@ -55,29 +55,32 @@ pub fn keep(running: &mut Running, refusals: &mut Refusals) -> Option<Kept>
     }
 }
 
-/// Notes what was looked at as looks of the step `seen`: the cells from the one of this index on, the place that was taken out of
-/// the others, and these, which are taken too. `Err` where memory is refused, which is counted; only entries from that step on
+/// Notes what was looked at as looks of the step `seen`: the cells from the one of this index on, the place and the question that were
+/// taken out of the others, and these, which are taken too. `Err` where memory is refused, which is counted; only entries from that step on
 /// are gone then.
 pub fn note(
     looks: &mut FirstLooks,
     running: &mut Running,
     from: usize,
     taken: Option<usize>,
+    asked: Option<Ask>,
     refusals: &mut Refusals,
 ) -> Result<(), AllocError>
     requires room { refusals.old < 2 ^ 63 }
     requires seen { looks.old.seen ≤ STEP_LIMIT }
     requires taken { taken ≡ None → NoPlaces running.old.looked.places }
-    ensures ok { OnOk result ((q : Question) → step_of looks.new q ≡ or_else (step_of looks.old q) (mark (is_cell_of (drop from running.old.looked.cells) q || is_place_of taken running.old.looked.places q) looks.old.seen)) }
+    requires asked { asked ≡ None → NoAsks running.old.looked.files }
+    ensures ok { OnOk result ((q : Question) → step_of looks.new q ≡ or_else (step_of looks.old q) (mark (is_new (drop from running.old.looked.cells) taken running.old.looked.places asked running.old.looked.files q) looks.old.seen)) }
     ensures err { OnErr result ((q : Question) → step_of looks.new q ≡ erased looks.old.seen (step_of looks.old q)) }
     ensures seen { looks.new.seen ≡ looks.old.seen }
     ensures state { running.new.state ≡ running.old.state }
     ensures cells { running.new.looked.cells ≡ running.old.looked.cells }
     ensures places { OnOk result (NoPlaces running.new.looked.places) }
+    ensures asks { OnOk result (NoAsks running.new.looked.files) }
     ensures none { OnOk result (refusals.new ≡ refusals.old) }
     ensures counted { OnErr result (refusals.new ≡ refusals.old + 1) }
 {
-    let noted = looks.note(running, from, taken);
+    let noted = looks.note(running, from, taken, asked);
     if noted.is_err() {
         refusals.count += 1;
     }

@@ -1,7 +1,17 @@
-ghost use Rattle.std.specs.Prelude.{◌≡◌, ◌≤◌, IsSome, length};
+ghost use Rattle.std.specs.Prelude.{◌≡◌, ◌≤◌, ℕ, List, true, false, IfOk, IfSome, IfNone, IsSome, length, slice_get, option_copied};
+ghost use Rattle.std.specs.Option.{option_map, option_and_then};
+ghost use Rattle.std.specs.declared.cmp.Ordering.TheVariants.{Less};
+ghost use Rattle.std.specs.Ordering.{nat_cmp};
+ghost use Rattle.std.specs.Cmp.Lexicographic.{slice_cmp};
+ghost use Rattle.keymaps.specs.Order.{is_above};
+ghost use Rattle.hostfiles.specs.Files.{has};
+ghost use Rattle.changed_files.specs.Changed.{is_changed_name, told};
 ghost use Rattle.replay.specs.Fits.{kept_length};
 
-use machine::{Cause, Kept, Regs, Session};
+use changed_files::{next_changed, told_count, told_record};
+use hostfiles::{Record, joined};
+use machine::{Cause, Changes, HostFiles, Journal, Kept, Name, Regs, Session};
+use std::alloc::{AllocError, Global};
 
 /// A session, the console text of its runs, and what is kept of the state in which the last run ended, until the next one begins.
 #[derive(Drop)]
@@ -65,6 +75,65 @@ impl Report<'_> {
     {
         match &self.last_run.end {
             Some(kept) => kept.cell(&self.last_run.session, a),
+            None => unreachable!(),
+        }
+    }
+
+    /// Whether there is a file of a name at the end.
+    pub fn has(&self, name: &Name) -> bool
+        ensures { result ≡ has (session_of self.now).files (reported_run self.now).state.own.files name.now }
+    {
+        joined::has(self.files(), self.journal(), &name.key())
+    }
+
+    /// How many records a file has at the end, if it is there.
+    pub fn records(&self, name: &Name) -> Option<u32>
+        ensures { result ≡ option_map length (told (session_of self.now).files (reported_run self.now).state.own.files name.now) }
+    {
+        told_count(self.files(), self.journal(), &name.key())
+    }
+
+    /// A record of a file at the end, zeros in a hole; none where the file is not there or has fewer.
+    pub fn record(&self, name: &Name, place: u32) -> Option<Record>
+        ensures { result ≡ option_and_then (λ records. slice_get records place) (told (session_of self.now).files (reported_run self.now).state.own.files name.now) }
+    {
+        told_record(self.files(), self.journal(), &name.key(), place)
+    }
+
+    /// The least name by key of a file that the run left otherwise than the host files have it, after the one given if there is one.
+    pub fn next_changed(&self, after: Option<&Name>) -> Option<Name>
+        ensures above { IfSome result (λ k. is_above (option_copied after.entry) k ≡ true) }
+        ensures changed { IfSome result (λ k. is_changed_name (session_of self.now).files (reported_run self.now).state.own.files k ≡ true) }
+        ensures least { IfSome result (λ k. (x : List ℕ) → is_above (option_copied after.entry) x ≡ true → slice_cmp nat_cmp x k ≡ Less → is_changed_name (session_of self.now).files (reported_run self.now).state.own.files x ≡ false) }
+        ensures none { IfNone result ((x : List ℕ) → is_above (option_copied after.entry) x ≡ true → is_changed_name (session_of self.now).files (reported_run self.now).state.own.files x ≡ false) }
+    {
+        next_changed(self.files(), self.journal(), after)
+    }
+
+    /// The host files of the session.
+    pub fn files(&self) -> &HostFiles
+        ensures { result.now ≡ (session_of self.now).files }
+    {
+        self.last_run.session.files()
+    }
+
+    /// What the run did to the files, again, with nothing asked of the host files, as files are written from it. `Err` where memory
+    /// is refused.
+    pub fn changes(&self, alloc: Global) -> Result<Changes, AllocError>
+        ensures files { IfOk result (λ c. c.journal.entries ≡ (reported_run self.now).state.own.files) }
+    {
+        match &self.last_run.end {
+            Some(kept) => kept.changes(alloc),
+            None => unreachable!(),
+        }
+    }
+
+    /// What the run did to the files.
+    pub fn journal(&self) -> &Journal
+        ensures { result.now.entries ≡ (reported_run self.now).state.own.files }
+    {
+        match &self.last_run.end {
+            Some(kept) => kept.journal(),
             None => unreachable!(),
         }
     }

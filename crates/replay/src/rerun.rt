@@ -61,8 +61,12 @@ fn begin(
         return Ok((0, running));
     };
     let overlay = checkpoint.state.overlay(alloc)?;
+    let changes = checkpoint.state.changes(alloc)?;
     let own = beginning_of(alloc, text, checkpoint.state.text_length(), is_needed)?;
-    Ok((checkpoint.step, checkpoint.state.resume(overlay, own)))
+    Ok((
+        checkpoint.step,
+        checkpoint.state.resume(overlay, changes, own),
+    ))
 }
 
 // What is kept of a state that a run left. Its text becomes the text, but where that is needed as it is.

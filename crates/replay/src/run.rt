@@ -2,7 +2,7 @@ ghost use Rattle.std.specs.Prelude.{◌≡◌, ℕ, ◌+◌, ◌-◌, ◌^◌, �
 ghost use Rattle.interaction_trees.specs.Dependence.{Stop};
 ghost use Rattle.machine.specs.Machine.{Question, ask, after, outcome, looked_at};
 ghost use Rattle.replay.specs.Cold.{cold};
-ghost use Rattle.replay.specs.FirstLooks.{step_of, erased, or_else, mark, since, seen_to, AllNoted, NoPlaces, IsFirstLooks, IsNoted, IsLeftBehind};
+ghost use Rattle.replay.specs.FirstLooks.{step_of, erased, or_else, mark, since, seen_to, AllNoted, NoPlaces, NoAsks, IsFirstLooks, IsNoted, IsLeftBehind};
 ghost use Rattle.replay.specs.Ring.{Each, Rising, IsValid, Adds, AddsAll, SomeStep};
 
 use crate::first_looks::FirstLooks;
@@ -12,7 +12,8 @@ use circular_buffer::HeapCircularBuffer;
 use machine::{Cause, Meter, Running, STEP_LIMIT, Session, run_from};
 use std::alloc::AllocError;
 
-// Notes the looks that are new: the cells from the one of this index on, and the script places, which are taken out.
+// Notes the looks that are new: the cells from the one of this index on, and the script places and the questions of the host files,
+// which are taken out.
 #[inline(always)]
 fn note_new(
     looks: &mut FirstLooks,
@@ -29,14 +30,16 @@ fn note_new(
     ensures state { running.new.state ≡ running.old.state }
     ensures cells { running.new.looked.cells ≡ running.old.looked.cells }
     ensures places { OnOk result (NoPlaces running.new.looked.places) }
+    ensures asks { OnOk result (NoAsks running.new.looked.files) }
     ensures none { OnOk result (refusals.new ≡ refusals.old) }
     ensures counted { OnErr result (refusals.new ≡ refusals.old + 1) }
 {
     let taken = running.take_place();
-    if taken.is_none() && running.look_count() == noted {
+    let asked = running.take_ask();
+    if taken.is_none() && asked.is_none() && running.look_count() == noted {
         return Ok(());
     }
-    note(looks, running, noted, taken, refusals)
+    note(looks, running, noted, taken, asked, refusals)
 }
 
 // After the steps from n on and below the one that was `reached`, of which only the last looked at anything new: notes its looks,
@@ -54,7 +57,7 @@ fn keep_looks(
     requires room { refusals.old < 2 ^ 63 }
     requires order { (n < reached) × (reached ≤ STEP_LIMIT) }
     ensures other { (n ≡ looks.old.seen → ⊥) → (looks.new ≡ looks.old) × (refusals.new ≡ refusals.old) × (running.new ≡ running.old) }
-    ensures here { n ≡ looks.old.seen → (IsNoted (seen_to looks.old (reached - 1)) looks.new (since noted running.old.looked) × (refusals.new ≡ refusals.old) × NoPlaces running.new.looked.places)
+    ensures here { n ≡ looks.old.seen → (IsNoted (seen_to looks.old (reached - 1)) looks.new (since noted running.old.looked) × (refusals.new ≡ refusals.old) × NoPlaces running.new.looked.places × NoAsks running.new.looked.files)
         ⊎ (IsLeftBehind (seen_to looks.old (reached - 1)) looks.new × (refusals.new ≡ refusals.old + 1)) }
     ensures state { running.new.state ≡ running.old.state }
     ensures cells { running.new.looked.cells ≡ running.old.looked.cells }

@@ -31,12 +31,12 @@ pub struct Runner {
 impl Model for Runner {
     ghost use Rattle.std.specs.Prelude.{map};
     ghost use Rattle.std.specs.Coded.{codes};
-    ghost use Rattle.machine.specs.Views.{cells_code};
+    ghost use Rattle.machine.specs.Views.{cells_code, changes_code, files_code};
     ghost use Rattle.replay.specs.RunnerView.{RunnerView, IsSound, seen_with};
 
     ghost Value = { RunnerView };
 
-    ghost coded = { Prim.hlevel (codes, cells_code) };
+    ghost coded = { Prim.hlevel (codes, cells_code, changes_code, files_code) };
 
     ghost view = { λ r. record { session = r.last_run.session; spacing = r.spacing; slots = r.ring.capacity; checkpoints = map (seen_with r.last_run.text.items) r.ring.items; refused = r.refusals } };
 
@@ -126,7 +126,10 @@ impl Runner {
         if let Some(refusal) = refusal_of(&self.last_run.session, &edit) {
             return Err(refusal);
         }
-        let touch = touch_of(&self.looks, &self.last_run.session, &edit);
+        let alloc = *self.last_run.text.allocator();
+        let Ok(touch) = touch_of(alloc, &self.looks, &self.last_run.session, &edit) else {
+            return Err(EditError::OutOfMemory);
+        };
         match apply(&mut self.last_run.session, &edit) {
             Ok(()) => {}
             Err(AllocError) => return Err(EditError::OutOfMemory),

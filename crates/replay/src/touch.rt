@@ -1,12 +1,15 @@
-ghost use Rattle.std.specs.Prelude.{◌≡◌, ◌==◌, ◌+◌, ◌<◌, ◌≤◌, IsTrue, ◌↔◌, length, slice_get, if◌then◌else◌};
+ghost use Rattle.std.specs.Prelude.{◌≡◌, ◌==◌, ◌+◌, ◌<◌, ◌≤◌, IsTrue, ◌↔◌, Some, IfOk, option_copied, length, slice_get, if◌then◌else◌};
 ghost use Rattle.machine.specs.Machine.{ask, Cell, Script};
 ghost use Rattle.machine.specs.Session.{spliced};
 ghost use Rattle.replay.specs.FirstLooks.{IsFirstLooks, step_of};
-ghost use Rattle.replay.specs.Edits.{with_poke, with_splice};
+ghost use Rattle.replay.specs.Edits.{with_host_file, with_poke, with_splice};
+ghost use Rattle.hostfiles.specs.Hosts.{records_in};
 ghost use Rattle.replay.specs.Touch.{IsNotedTouch, lesser};
 
 use crate::first_looks::FirstLooks;
-use machine::{PROGRAM_LIMIT, Session};
+use hostfiles::{FilesError, Key};
+use machine::{HostFile, HostFiles, Name, PROGRAM_LIMIT, Session};
+use std::alloc::{AllocError, Global};
 
 /// The least noted step that looked at a byte which a poke changes, or the step below which all looks are noted. The place
 /// counts from the program's first byte.
@@ -54,6 +57,38 @@ pub fn splice_touch(
         touch = lesser_unless(looks, is_same, place, touch);
     }
     touch
+}
+
+/// The least noted step that asked something of the host files which has another answer, once the file of a key is set to these
+/// records, or removed; or the step below which all looks are noted.
+pub fn file_touch(looks: &FirstLooks, session: &Session, key: &Key, new: Option<&HostFile>) -> u64
+    ensures { IsNotedTouch (ask session.now) (ask (with_host_file session.now key.now (option_copied new.entry))) looks.now result }
+{
+    looks
+        .files()
+        .touch_of_change(looks.seen(), session.files(), key, new)
+}
+
+/// The same, for a file that is set to these bytes. `Err` where memory is refused.
+#[tactic(auto, using(crate::proofs::FileTouch::room_alone))]
+pub fn set_touch(
+    alloc: Global,
+    looks: &FirstLooks,
+    session: &Session,
+    name: &Name,
+    bytes: &[u8],
+) -> Result<u64, AllocError>
+    requires { length bytes.now ≤ 8388608 }
+    ensures { IfOk result (λ touch. IsNotedTouch (ask session.now) (ask (with_host_file session.now name.now (Some (records_in bytes.now)))) looks.now touch) }
+{
+    let mut files = HostFiles::new(alloc);
+    match files.set(*name, bytes) {
+        Ok(()) => {}
+        Err(FilesError::OutOfMemory) => return Err(AllocError),
+        Err(_) => unreachable!(), // it is the only file, and not too long
+    }
+    let key = name.key();
+    Ok(file_touch(looks, session, &key, files.file(&key)))
 }
 
 // Whether a place has the same byte, or none, before and after.

@@ -1,7 +1,7 @@
 // The console and the calls, over a plain memory.
 
 use crate::fixtures::{WARM_BOOT, blank};
-use bdos::Cause::{NoDollar, Unsupported, WarmBoot};
+use bdos::Cause::{BadDrive, NoDollar, Unsupported, WarmBoot};
 use bdos::{Desk, Served, call};
 use i8080::{Bus, Regs};
 use std::test::Fail;
@@ -71,6 +71,45 @@ fn calls_print_and_return_or_stop(rt: HostRuntime) -> Result<(), Fail> {
         assert_eq!(rt; answer, served, "call {number}");
         assert_eq!(rt; regs, wanted, "call {number}");
         assert_eq!(rt; desk.text(), text, "call {number}");
+    }
+    Ok(())
+}
+
+// Each row is a call's number, E, and the value or the drive that is not there, and then the current drive and the buffer address.
+const DRIVES: [(u8, u8, Result<u8, u8>, u8, u16); 9] = [
+    (25, 0, Ok(0), 0, 0x0080),
+    (14, 3, Ok(0), 3, 0x0080),
+    (25, 0, Ok(3), 3, 0x0080),
+    (14, 4, Err(4), 3, 0x0080),
+    (24, 0, Ok(0x0f), 3, 0x0080),
+    (26, 0x78, Ok(0), 3, 0x0278),
+    (14, 1, Ok(0), 1, 0x0278),
+    (13, 0, Ok(0), 0, 0x0080),
+    (25, 0, Ok(0), 0, 0x0080),
+];
+
+#[test]
+fn drives_are_selected_and_reset(rt: HostRuntime) -> Result<(), Fail> {
+    let mut memory = blank(rt.alloc())?;
+    for (at, byte) in CELLS {
+        memory.write(at, byte);
+    }
+    let mut desk = Desk::new(rt.alloc());
+    for (number, e, wanted, drive, buffer) in DRIVES {
+        let mut regs = CALLING;
+        regs.c = number;
+        regs.e = e;
+        let answer = match call(&mut regs, &mut memory, &mut desk, &[])? {
+            Served::Went => Ok(regs.a),
+            Served::Stop(BadDrive(drive)) => Err(drive),
+            Served::Stop(_) => Err(0xff),
+        };
+        assert_eq!(rt; answer, wanted, "call {number}");
+        assert_eq!(rt;
+            (desk.drive(), desk.buffer()),
+            (drive, buffer),
+            "call {number}"
+        );
     }
     Ok(())
 }

@@ -3,8 +3,8 @@
 ghost use Rattle.std.specs.Prelude.{vec_len};
 
 use self::Act::{Ends, Holds, Insert, Remove, Replace, Run};
-use crate::fixtures::{HI, number_of, zeros};
-use machine::{Bytes, Cause, Meter, Session};
+use crate::fixtures::{HI, number_of, session_of, zeros};
+use machine::{Bytes, Cause, Meter};
 use replay::{Edit, Options, Runner};
 use std::alloc::{AllocError, Global};
 use std::process::Abort;
@@ -102,7 +102,12 @@ fn acts(
     script: &[u8],
     rows: &[(Act<'_>, &[u64])],
 ) -> Result<(), Fail> {
-    let session = Session::new(program.to_vec(alloc)?, script.to_vec(alloc)?, 1_000_000)?;
+    let session = session_of(
+        alloc,
+        program.to_vec(alloc)?,
+        script.to_vec(alloc)?,
+        1_000_000,
+    )?;
     let options = Options {
         spacing: 4,
         slots: 64,

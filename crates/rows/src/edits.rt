@@ -3,7 +3,7 @@
 ghost use Rattle.std.specs.Prelude.{None, vec_len, ◌≤◌};
 
 use crate::fixtures::{HI, runner_of};
-use cpmrun::{Failed, Over, Reader, ReplayFault, Writer, command, replay};
+use cpmrun::{Failed, Over, Reader, ReplayFault, Writer, replay};
 use machine::Meter;
 use std::alloc::Global;
 use std::process::Abort;
@@ -183,32 +183,5 @@ fn a_line_may_be_too_long(rt: HostRuntime) -> Result<(), Fail> {
     let (screen, answer) = replayed(&rt, text.as_slice(), 4096, false, 4096)?;
     assert_eq!(rt; screen.text.as_slice(), [].as_slice());
     assert_eq!(rt; answer, Err(ReplayFault::LineTooLong(1)));
-    Ok(())
-}
-
-// The words, with their status and what stands on standard error.
-#[test]
-fn other_words_and_files_are_faults(rt: HostRuntime) -> Result<(), Fail> {
-    for (words, told) in [
-        (
-            &["none.com", "--edits", "none.txt"][..],
-            &b"cpmrun: cannot read none.com\n"[..],
-        ),
-        (
-            &["none.com", "--edit", "none.txt"][..],
-            b"usage: cpmrun PROGRAM --edits FILE\n",
-        ),
-        (&[][..], b"usage: cpmrun PROGRAM --edits FILE\n"),
-    ] {
-        let mut given = Vec::new(rt.alloc());
-        for word in words {
-            given.push(String::from_str(rt.alloc(), word)?)?;
-        }
-        let mut out = Over::new(Vec::new(rt.alloc()));
-        let mut err = Over::new(Vec::new(rt.alloc()));
-        assert_eq!(rt; command(&rt, given.as_slice(), &mut out, &mut err), 1);
-        assert_eq!(rt; out.into_inner().as_slice(), [].as_slice());
-        assert_eq!(rt; err.into_inner().as_slice(), told);
-    }
     Ok(())
 }

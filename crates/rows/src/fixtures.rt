@@ -1,7 +1,8 @@
 ghost use Rattle.std.specs.Prelude.{◌≡◌, vec_len, IfOk};
 
+use hostfiles::HostFiles;
 use i8080::Flags;
-use machine::{Cause, Meter, Regs, Session};
+use machine::{Cause, Meter, Regs, Session, SessionError};
 use pagemem::PlainMemory;
 use replay::{EditError, Options, Runner};
 use std::alloc::{AllocError, Global};
@@ -45,6 +46,22 @@ pub fn blank(alloc: Global) -> Result<PlainMemory, AllocError> {
     Ok(PlainMemory::new(zeros(alloc, 65_536)?))
 }
 
+/// A session without a command tail and without host files, or its refusal.
+pub fn session_of(
+    alloc: Global,
+    program: Vec<u8>,
+    script: Vec<u8>,
+    limit: u64,
+) -> Result<Session, SessionError> {
+    Session::new(
+        program,
+        Vec::new(alloc),
+        HostFiles::new(alloc),
+        script,
+        limit,
+    )
+}
+
 /// A runner of a program without a script, with a checkpoint each four steps.
 pub fn runner_of(alloc: Global, program: &[u8], limit: u64) -> Result<Runner, Fail> {
     let options = Options {
@@ -61,7 +78,7 @@ pub fn runner_with(
     limit: u64,
     options: Options,
 ) -> Result<Runner, Fail> {
-    let session = Session::new(program.to_vec(alloc)?, Vec::new(alloc), limit)?;
+    let session = session_of(alloc, program.to_vec(alloc)?, Vec::new(alloc), limit)?;
     Ok(Runner::new(alloc, session, options)?)
 }
 

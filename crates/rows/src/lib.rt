@@ -18,3 +18,5 @@ mod instructions;
 mod pages;
 #[cfg(test)]
 mod sessions;
+#[cfg(test)]
+mod tails;

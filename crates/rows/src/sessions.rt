@@ -1,7 +1,7 @@
 // Sessions that are edited and run again.
 
-use crate::fixtures::{Ended, HI, WARM_BOOT, number_of, rerun, runner_of, zeros};
-use machine::{Bytes, Cause, Meter, Regs, Session, whole_is_laid};
+use crate::fixtures::{Ended, HI, WARM_BOOT, number_of, rerun, runner_of, session_of, zeros};
+use machine::{Bytes, Cause, Meter, Regs, whole_is_laid};
 use replay::{Edit, EditError, Options, OptionsError, Runner, prefix_dependence};
 use std::alloc::{AllocError, Global};
 use std::process::Abort;
@@ -122,7 +122,7 @@ fn a_rerun_is_the_run_of_the_edited_session(rt: HostRuntime) -> Result<(), Fail>
 
 // The number of a refusal of options; 0 where they are taken.
 fn options_answer(alloc: Global, spacing: u64, slots: usize) -> Result<u8, Fail> {
-    let session = Session::new(Vec::new(alloc), Vec::new(alloc), 0)?;
+    let session = session_of(alloc, Vec::new(alloc), Vec::new(alloc), 0)?;
     match Runner::new(alloc, session, Options { spacing, slots }) {
         Ok(_runner) => Ok(0),
         Err(error) => Ok(error.number()),
@@ -136,7 +136,7 @@ fn session_answer(
     script: usize,
     limit: u64,
 ) -> Result<u8, AllocError> {
-    match Session::new(zeros(alloc, program)?, zeros(alloc, script)?, limit) {
+    match session_of(alloc, zeros(alloc, program)?, zeros(alloc, script)?, limit) {
         Ok(_session) => Ok(0),
         Err(error) => Ok(error.number()),
     }

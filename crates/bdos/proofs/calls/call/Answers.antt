@@ -19,3 +19,18 @@ returns-in-ReadConsoleBuffer g c n within = named (names n _ _ c.decode.ensures 
 
 pub returns-in-VersionNumber : goal.returns-in-VersionNumber
 returns-in-VersionNumber g c n within = named (names n _ _ c.decode.ensures c.in-Some.is c.in-VersionNumber.is) (c.version_number.ensures _)
+
+pub returns-in-ResetDisks : goal.returns-in-ResetDisks
+returns-in-ResetDisks g c n within = named (names n _ _ c.decode.ensures c.in-Some.is c.in-ResetDisks.is) (c.reset_disks.ensures _)
+
+pub returns-in-SelectDisk : goal.returns-in-SelectDisk
+returns-in-SelectDisk g c n within = named (names n _ _ c.decode.ensures c.in-Some.is c.in-SelectDisk.is) (c.select_disk.ensures _)
+
+pub returns-in-LoginVector : goal.returns-in-LoginVector
+returns-in-LoginVector g c n within = named (names n _ _ c.decode.ensures c.in-Some.is c.in-LoginVector.is) (c.login_vector.ensures _)
+
+pub returns-in-CurrentDisk : goal.returns-in-CurrentDisk
+returns-in-CurrentDisk g c n within = named (names n _ _ c.decode.ensures c.in-Some.is c.in-CurrentDisk.is) (c.current_disk.ensures _)
+
+pub returns-in-SetBufferAddress : goal.returns-in-SetBufferAddress
+returns-in-SetBufferAddress g c n within = named (names n _ _ c.decode.ensures c.in-Some.is c.in-SetBufferAddress.is) (c.set_buffer_address.ensures _)

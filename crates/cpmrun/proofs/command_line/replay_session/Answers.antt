@@ -1,7 +1,26 @@
-use Rattle.std.proofs.Common.{[]}
+use Rattle.std.proofs.Common.{[], ap, subst}
 use Rattle.std.proofs.KnownBytes.{Consumes-nil}
+use Rattle.std.proofs.lemmas.Result.{IfErr-weaker}
+use Rattle.machine.specs.Views.{Session}
+use Rattle.replay.specs.RunnerView.{RunnerView}
+use Rattle.cpmrun.specs.Progress.{Faults}
+use Rattle.cpmrun.proofs.Answering.{writes_replay}
 use Rattle.cpmrun.proofs.Stepping.{at_once}
 use Rattle.cpmrun.proofs.command_line.replay_session.Goals as goal
 
 pub returns-in-Err-OutOfMemory-clause-fault : goal.returns-in-Err-OutOfMemory-clause-fault
 returns-in-Err-OutOfMemory-clause-fault g c = ([], c.args.session, Consumes-nil _, at_once _ c.args.session _)
+
+-- a new runner has the session that it was given
+pub returns-clause-ok : goal.returns-clause-ok
+returns-clause-ok g c =
+    let same = ap (λ (r : RunnerView). r.session) c.in-Ok.ensures.ok in
+    writes_replay c.args.session c.in-Ok.runner.session c.replay.new.runner.session _ _ _ _ c.replay.result same c.replay.ensures.ok
+
+pub returns-clause-fault : goal.returns-clause-fault
+returns-clause-fault g c =
+    let same = ap (λ (r : RunnerView). r.session) c.in-Ok.ensures.ok in
+    IfErr-weaker c.replay.result _ _
+    (λ f h. let (bytes, consumed, faults) = h in
+    (bytes, c.replay.new.runner.session, consumed, subst (λ (s : Session). Faults (g.R.Reader.left c.replay.new.reader) s (g.W.Writer.holds c.args.writer.now) bytes c.replay.new.runner.session (g.W.Writer.holds c.replay.new.writer) f) same faults))
+    c.replay.ensures.fault

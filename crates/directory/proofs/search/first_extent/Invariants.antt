@@ -9,4 +9,4 @@ invariant-loop-extent g l =
     ≡ first_where (matches l.pattern l.ex) (chunk_from l.key (finmap.get (g.T.Files.files l.files) l.key) l.fn.from)
 
 abbrev pub decreases-loop-extent : goal.decreases-loop-extent
-decreases-loop-extent g l = 512 - l.extent
+decreases-loop-extent g l = l.end - l.extent

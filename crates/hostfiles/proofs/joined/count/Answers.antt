@@ -1,10 +1,14 @@
 use Rattle.std.proofs.Common.{sym, ◌∙◌, ◌≤◌, ◌+◌, ◌-◌, ◌*◌, ◌≡◌, true, false, get_or, arith}
-use Rattle.hostfiles.specs.Files.{entry_at, file_of, shape_of}
-use Rattle.hostfiles.proofs.CountLemmas.{past_extent, none_behind, count_found, count_empty}
+use Rattle.hostfiles.specs.Files.{entry_at, file_of, shape_of, place_of, length_at}
+use Rattle.hostfiles.proofs.CountLemmas.{none_past, none_behind, count_found, count_empty}
 use Rattle.hostfiles.proofs.joined.count.Goals as goal
 
 pub loop-i-init : goal.loop-i-init
-loop-i-init c = (omega arith, past_extent (shape_of (file_of c.args.host.now c.args.key.now (entry_at c.args.journal.now.entries c.args.key.now))) c.args.extent)
+loop-i-init c = (
+  c.places_in-i.ensures.within,
+  none_past (place_of c.args.host.now c.args.key.now (entry_at c.args.journal.now.entries c.args.key.now)) (length_at c.args.host.now c.args.journal.now.entries c.args.key.now) c.args.extent _
+      (λ k l u. let past = c.places_in-i.ensures.past k l u in let count = c.length.ensures in omega arith),
+)
 
 pub returns-then-holds-clause-value : goal.returns-then-holds-clause-value
 returns-then-holds-clause-value c =

@@ -1,4 +1,5 @@
+use Rattle.machine.specs.WrittenCells.{devices_of}
 use Rattle.machine.proofs.steps.proceed.Goals as goal
 
 pub returns : goal.returns
-returns c = c.carry_out.ensures c.args.desk.now
+returns c = c.carry_out.ensures (devices_of c.args.desk.now c.args.changes.now) c.requires

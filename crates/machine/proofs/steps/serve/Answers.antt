@@ -2,5 +2,8 @@ use Rattle.std.proofs.Common.{rules}
 use Rattle.machine.proofs.StepLemmas.{at_limit}
 use Rattle.machine.proofs.steps.serve.Goals as goal
 
-pub returns : goal.returns
-returns c = at_limit c.args.desk.now c.call.new.desk c.script.ensures.value c.script.ensures.within c.call.ensures (search rules) (search rules) (search rules) (search rules) (search rules) (search rules) (search rules)
+pub returns-clause-serves : goal.returns-clause-serves
+returns-clause-serves c g =
+    at_limit c.args.desk.now c.call.new.desk c.script.ensures.value c.script.ensures.within c.call.ensures.serves
+    (record { own = search rules; beneath = search rules; looks = search rules }) (record { own = search rules; beneath = search rules; looks = search rules }) (search rules)
+    (record { host = search rules; own = search rules; looks = search rules }) (record { host = search rules; own = search rules; looks = search rules }) (search rules)

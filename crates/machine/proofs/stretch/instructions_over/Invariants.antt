@@ -1,11 +1,10 @@
 use Rattle.std.proofs.Common.{◌≡◌, ◌-◌, ◌≤◌, ◌<◌, ◌⊎◌, Some}
 use Rattle.pagemem.specs.Overlay.{own_of, looks_of}
 use Rattle.pagemem.specs.ViewParts.{overlay_in, image_in, loan_of}
-use Rattle.bdos.specs.Places.{Watched}
 use Rattle.machine.specs.Views.{Session}
 use Rattle.machine.specs.Session.{image_of}
 use Rattle.machine.specs.Machine.{ask, after}
-use Rattle.machine.specs.WrittenCells.{state_with}
+use Rattle.machine.specs.WrittenCells.{Devices, state_with}
 use Rattle.machine.specs.Steps.{looked_in}
 use Rattle.machine.specs.Stretch.{LooksAtNothingNew}
 use Rattle.machine.proofs.stretch.instructions_over.Given as goal
@@ -17,8 +16,8 @@ invariant-loop-n l = record {
   image : image_in l.view ≡ image_in l.fn.view;
   loan : loan_of l.view ≡ loan_of l.fn.view;
   same : looks_of (overlay_in l.view) ≡ looks_of (overlay_in l.fn.view);
-  at : (s : Session) (d : Watched) → image_in l.fn.view ≡ image_of s → after (ask s) l.from ≡ Some (state_with l.fn.regs d.desk (own_of (overlay_in l.fn.view))) → after (ask s) l.n ≡ Some (state_with l.regs d.desk (own_of (overlay_in l.view)));
-  quiet : (s : Session) (d : Watched) → image_in l.fn.view ≡ image_of s → after (ask s) l.from ≡ Some (state_with l.fn.regs d.desk (own_of (overlay_in l.fn.view))) → LooksAtNothingNew (ask s) (looked_in (overlay_in l.fn.view) d) l.from l.n;
+  at : (s : Session) (d : Devices) → image_in l.fn.view ≡ image_of s → after (ask s) l.from ≡ Some (state_with l.fn.regs d (own_of (overlay_in l.fn.view))) → after (ask s) l.n ≡ Some (state_with l.regs d (own_of (overlay_in l.view)));
+  quiet : (s : Session) (d : Devices) → image_in l.fn.view ≡ image_of s → after (ask s) l.from ≡ Some (state_with l.fn.regs d (own_of (overlay_in l.fn.view))) → LooksAtNothingNew (ask s) (looked_in (overlay_in l.fn.view) d) l.from l.n;
 }
 
 abbrev pub decreases-loop-n : goal.decreases-loop-n

@@ -30,7 +30,7 @@ resume-ran-requires-clause-low c = rw c.in_ok-from.ensures.step (start_within c.
 pub resume-ran-requires-clause-valid : goal.resume-ran-requires-clause-valid
 resume-ran-requires-clause-valid c = stands_valid (ask c.args.last_run.now.session) c.args.last_run.now.text.items c.args.ring.now.items c.requires.sound.stands
 
-failed : (c : goal.After-drop-kept-inside) → Left (ask c.args.last_run.now.session) c.resume-ran.new.running.state c.put_by-kept.new.text.items c.resume-ran.new.ring.items
+failed : (c : goal.After-drop-kept-inside-in_err-steps) → Left (ask c.args.last_run.now.session) c.resume-ran.new.running.state c.put_by-kept.new.text.items c.resume-ran.new.ring.items
 failed c =
     let at = c.resume-ran.ensures.at in
     left (ask c.args.last_run.now.session) c.args.last_run.now.session.limit c.newest_step-newest.result c.in_ok-from.from c.limit.result c.resume-ran.new.running.state c.args.ring.now c.resume-ran.new.ring

@@ -6,9 +6,9 @@ use Rattle.machine.proofs.kept.Kept.cell.Goals as goal
 
 pub returns-in-Some : goal.returns-in-Some
 returns-in-Some c =
-    rw (← c.self.view_is) (λ text. sym (cell_written (ask c.args.session.now) (own_in c.self.inside.cells) (within_cells c.self.inside.cells) c.args.a c.in-Some.byte (sym c.written.ensures ∙ c.in-Some.is)))
+    rw (← c.self.view_is) (λ text. sym (cell_written (ask c.args.session.now) (own_in c.self.inside.cells) c.self.inside.journal.entries (within_cells c.self.inside.cells) c.args.a c.in-Some.byte (sym c.written.ensures ∙ c.in-Some.is)))
 
 pub returns-in-None : goal.returns-in-None
 returns-in-None c =
     rw (← c.self.view_is) (λ text. c.at.ensures ∙ ap (λ (f : ℕ → ℕ). f c.args.a) c.image.ensures
-    ∙ sym (cell_asked (ask c.args.session.now) (own_in c.self.inside.cells) (within_cells c.self.inside.cells) c.args.a (sym c.written.ensures ∙ c.in-None.is)))
+    ∙ sym (cell_asked (ask c.args.session.now) (own_in c.self.inside.cells) c.self.inside.journal.entries (within_cells c.self.inside.cells) c.args.a (sym c.written.ensures ∙ c.in-None.is)))

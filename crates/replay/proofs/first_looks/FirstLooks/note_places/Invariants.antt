@@ -12,6 +12,7 @@ invariant-loop-next l = record {
   none : l.next ≡ None → NoPlaces l.running.looked.places;
   state : l.running.state ≡ l.initial.running.state;
   cells : l.running.looked.cells ≡ l.initial.running.looked.cells;
+  files : l.running.looked.files ≡ l.initial.running.looked.files;
 }
 
 abbrev pub decreases-loop-next : goal.decreases-loop-next

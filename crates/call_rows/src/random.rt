@@ -1,0 +1,204 @@
+// The calls of random places: what stands there, and how long a file is.
+
+use crate::steps::Step::{All, Are, Call, Fill, Put};
+use crate::steps::{
+    ANN, BEN, BLOCK, BUFFER, CR, EX, FILE_SIZE, FILL_RANDOM, MAKE, R0, READ_RANDOM, SET_RANDOM,
+    Step, WRITE_RANDOM, steps,
+};
+use std::test::Fail;
+
+// The last place that a file can have is 65,535. Its extent is 511, whose low five bits are in ex. Places above can't be told.
+const LONGEST: &[Step<'_>] = &[
+    Put(BLOCK, ANN),
+    Call(MAKE, BLOCK, 0),
+    Put(R0, b"\xff\xff\0"),
+    Fill(BUFFER, 128, b'w'),
+    Call(WRITE_RANDOM, BLOCK, 0),
+    Are(EX, b"\x1f\0\x0f"),
+    Are(CR, b"\x7f\xff\xff\0"),
+    Call(FILE_SIZE, BLOCK, 0),
+    Are(R0, b"\0\0\x01"),
+    Call(READ_RANDOM, BLOCK, 6),
+    Call(WRITE_RANDOM, BLOCK, 6),
+    Call(FILL_RANDOM, BLOCK, 6),
+    Are(EX, b"\x1f\0\x0f"),
+    Are(CR, b"\x7f\0\0\x01"),
+    All(BUFFER, 128, b'w'),
+];
+
+#[test]
+fn the_longest_file_has_65_536_places(rt: HostRuntime) -> Result<(), Fail> {
+    steps(&rt, rt.alloc(), &[], LONGEST)
+}
+
+// A place that was not written: 1 where its extent holds a record, else 4; buffer and control block stay.
+const HOLE: &[Step<'_>] = &[
+    Put(BLOCK, ANN),
+    Call(MAKE, BLOCK, 0),
+    Put(R0, b"\x02"),
+    Fill(BUFFER, 128, b'w'),
+    Call(WRITE_RANDOM, BLOCK, 0),
+    Are(EX, b"\0\0\0"),
+    Are(CR, b"\x02"),
+    Fill(BUFFER, 128, b'-'),
+    Put(R0, b"\0"),
+    Call(READ_RANDOM, BLOCK, 1),
+    Put(R0, b"\x03"),
+    Call(READ_RANDOM, BLOCK, 1),
+    Put(R0, b"\xc8"),
+    Call(READ_RANDOM, BLOCK, 4),
+    Are(CR, b"\x02\xc8\0\0"),
+    All(BUFFER, 128, b'-'),
+];
+
+#[test]
+fn a_place_in_a_written_extent_is_a_hole(rt: HostRuntime) -> Result<(), Fail> {
+    steps(&rt, rt.alloc(), &[], HOLE)
+}
+
+const WRITTEN: &[Step<'_>] = &[
+    Put(BLOCK, ANN),
+    Call(MAKE, BLOCK, 0),
+    Put(R0, b"\x02"),
+    Fill(BUFFER, 128, b'w'),
+    Call(WRITE_RANDOM, BLOCK, 0),
+    Fill(BUFFER, 128, b'-'),
+    Put(CR, b"\x11"),
+    Call(READ_RANDOM, BLOCK, 0),
+    All(BUFFER, 128, b'w'),
+    Are(EX, b"\0\0\0"),
+    Are(CR, b"\x02\x02\0\0"),
+    Call(FILE_SIZE, BLOCK, 0),
+    Are(R0, b"\x03\0\0"),
+];
+
+#[test]
+fn a_written_place_is_read_and_is_the_place_then(rt: HostRuntime) -> Result<(), Fail> {
+    steps(&rt, rt.alloc(), &[], WRITTEN)
+}
+
+const FILLED: &[Step<'_>] = &[
+    Put(BLOCK, ANN),
+    Call(MAKE, BLOCK, 0),
+    Put(R0, b"\x02"),
+    Fill(BUFFER, 128, b'w'),
+    Call(FILL_RANDOM, BLOCK, 0),
+    Are(CR, b"\x02\x02\0\0"),
+    Put(R0, b"\0"),
+    Call(READ_RANDOM, BLOCK, 0),
+    All(BUFFER, 128, 0),
+    Are(CR, b"\0\0\0\0"),
+    Put(R0, b"\x02"),
+    Call(READ_RANDOM, BLOCK, 0),
+    All(BUFFER, 128, b'w'),
+    Put(R0, b"\x03"),
+    Call(READ_RANDOM, BLOCK, 1),
+];
+
+#[test]
+fn places_before_a_record_are_filled_with_zeros(rt: HostRuntime) -> Result<(), Fail> {
+    steps(&rt, rt.alloc(), &[], FILLED)
+}
+
+// A hole that an earlier write left stays where function 40 fills the places after it.
+const OLDER_HOLE: &[Step<'_>] = &[
+    Put(BLOCK, ANN),
+    Call(MAKE, BLOCK, 0),
+    Put(R0, b"\x01"),
+    Call(WRITE_RANDOM, BLOCK, 0),
+    Put(R0, b"\x03"),
+    Call(FILL_RANDOM, BLOCK, 0),
+    Fill(BUFFER, 128, b'-'),
+    Put(R0, b"\0"),
+    Call(READ_RANDOM, BLOCK, 1),
+    All(BUFFER, 128, b'-'),
+    Put(R0, b"\x02"),
+    Call(READ_RANDOM, BLOCK, 0),
+    All(BUFFER, 128, 0),
+];
+
+#[test]
+fn an_older_hole_stays(rt: HostRuntime) -> Result<(), Fail> {
+    steps(&rt, rt.alloc(), &[], OLDER_HOLE)
+}
+
+// An empty file has no record in any extent; one record makes its extent a written one.
+const PAST_THE_END: &[Step<'_>] = &[
+    Put(BLOCK, ANN),
+    Call(MAKE, BLOCK, 0),
+    Call(READ_RANDOM, BLOCK, 4),
+    Call(WRITE_RANDOM, BLOCK, 0),
+    Put(R0, b"\x01"),
+    Call(READ_RANDOM, BLOCK, 1),
+    Put(R0, b"\x7f"),
+    Call(READ_RANDOM, BLOCK, 1),
+    Put(R0, b"\x80"),
+    Call(READ_RANDOM, BLOCK, 4),
+];
+
+#[test]
+fn a_place_past_the_end_is_told_by_its_extent(rt: HostRuntime) -> Result<(), Fail> {
+    steps(&rt, rt.alloc(), &[], PAST_THE_END)
+}
+
+// Place 300 is told by 2 in ex and 44 in cr, and no other extent holds a record.
+const FAR: &[Step<'_>] = &[
+    Put(BLOCK, ANN),
+    Call(MAKE, BLOCK, 0),
+    Put(R0, b"\x2c\x01"),
+    Call(WRITE_RANDOM, BLOCK, 0),
+    Are(EX, b"\x02\0\0"),
+    Are(CR, b"\x2c\x2c\x01\0"),
+    Put(R0, b"\0\0"),
+    Call(READ_RANDOM, BLOCK, 4),
+    Put(R0, b"\0\x01"),
+    Call(READ_RANDOM, BLOCK, 1),
+    Call(FILE_SIZE, BLOCK, 0),
+    Are(R0, b"\x2d\x01\0"),
+];
+
+#[test]
+fn an_extent_without_a_record_gives_4(rt: HostRuntime) -> Result<(), Fail> {
+    steps(&rt, rt.alloc(), &[], FAR)
+}
+
+// Where no file has the name, all else of the control block is without effect, but for its length, which becomes 0.
+const ABSENT: &[Step<'_>] = &[
+    Put(BLOCK, BEN),
+    Put(CR, b"\x11\x22\x33\x01"),
+    Call(READ_RANDOM, BLOCK, 0xff),
+    Call(WRITE_RANDOM, BLOCK, 0xff),
+    Call(FILL_RANDOM, BLOCK, 0xff),
+    Are(EX, b"\0\0\0"),
+    Are(CR, b"\x11\x22\x33\x01"),
+    Call(FILE_SIZE, BLOCK, 0xff),
+    Are(CR, b"\x11\0\0\0"),
+];
+
+#[test]
+fn a_file_that_is_not_there_gives_255(rt: HostRuntime) -> Result<(), Fail> {
+    steps(&rt, rt.alloc(), &[("ann", 300)], ABSENT)
+}
+
+// The sequential place is 4,096 times s2 and 128 times ex and cr, whether there is a file or not.
+const PLACES: &[Step<'_>] = &[
+    Put(BLOCK, ANN),
+    Put(EX, b"\x05\x77\x01"),
+    Put(CR, b"\x07"),
+    Call(SET_RANDOM, BLOCK, 0),
+    Are(EX, b"\x05\x77\x01"),
+    Are(CR, b"\x07\x87\x12\0"),
+    Put(EX, b"\x1f\0\x0f"),
+    Put(CR, b"\x7f"),
+    Call(SET_RANDOM, BLOCK, 0),
+    Are(R0, b"\xff\xff\0"),
+    Put(EX, b"\0\0\x10"),
+    Put(CR, b"\0"),
+    Call(SET_RANDOM, BLOCK, 0),
+    Are(R0, b"\0\0\x01"),
+];
+
+#[test]
+fn a_sequential_place_becomes_the_random_one(rt: HostRuntime) -> Result<(), Fail> {
+    steps(&rt, rt.alloc(), &[], PLACES)
+}

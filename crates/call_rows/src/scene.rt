@@ -1,0 +1,122 @@
+// What a call works on: memory, files and the desk.
+
+ghost use Rattle.std.specs.Prelude.{◌≡◌, vec_len, IfOk};
+
+use bdos::{Desk, Served};
+use cpmfiles::{Changes, HostFiles, Name, Table};
+use i8080::{Bus, Flags, Regs};
+use pagemem::PlainMemory;
+use std::alloc::{AllocError, Global};
+use std::test::Fail;
+use system_calls::call;
+
+/// Where each call goes back to.
+const CALLER: u16 = 0x0345;
+
+/// Where the address of the caller lies.
+const STACK: u16 = 0xfdfe;
+
+/// A memory with the caller's address on the stack, host files with what was done to them, and a desk.
+#[derive(Drop)]
+pub struct Scene {
+    pub memory: PlainMemory,
+    pub host: HostFiles,
+    pub changes: Changes,
+    pub desk: Desk,
+}
+
+impl Scene {
+    /// A scene at its beginning, with host files, each of so many bytes `x`.
+    pub fn new(alloc: Global, files: &[(&str, usize)]) -> Result<Scene, Fail> {
+        let mut memory = PlainMemory::new(zeros(alloc)?);
+        memory.write(STACK, 0x45);
+        memory.write(STACK.wrapping_add(1), 0x03);
+        let mut host = HostFiles::new(alloc);
+        for (text, length) in files {
+            let bytes = vec![in alloc; b'x'; *length]?;
+            host.set(Name::parse(text)?, bytes.as_slice())?;
+        }
+        Ok(Scene {
+            memory,
+            host,
+            changes: Changes::new(alloc),
+            desk: Desk::new(alloc),
+        })
+    }
+
+    /// Carries out a call with a word in DE.
+    pub fn call(&mut self, number: u8, word: u16) -> Result<(Served, Regs), AllocError> {
+        let mut regs = calling(number, word);
+        let Scene {
+            memory,
+            host,
+            changes,
+            desk,
+        } = self;
+        let served = serve(&mut regs, memory, host, changes, desk)?;
+        Ok((served, regs))
+    }
+
+    /// Writes bytes into the cells from an address on; the cell after 0FFFFH is 0000H.
+    pub fn put(&mut self, at: u16, bytes: &[u8]) {
+        let mut address = at;
+        for byte in bytes {
+            self.memory.write(address, *byte);
+            address = address.wrapping_add(1);
+        }
+    }
+}
+
+// Carries out the call of the registers.
+fn serve(
+    regs: &mut Regs,
+    memory: &mut PlainMemory,
+    host: &HostFiles,
+    changes: &mut Changes,
+    desk: &mut Desk,
+) -> Result<Served, AllocError> {
+    let mut table = Table::new(host, changes);
+    call(regs, memory, &mut table, desk, &[])
+}
+
+// A memory's bytes.
+fn zeros(alloc: Global) -> Result<Vec<u8>, AllocError>
+    ensures { IfOk result (λ v. vec_len v ≡ 65536) }
+{
+    Ok(vec![in alloc; 0; 65_536]?)
+}
+
+/// The registers before a call with a word in DE.
+pub fn calling(number: u8, word: u16) -> Regs {
+    Regs {
+        a: 0x11,
+        b: 0x22,
+        c: number,
+        d: (word / 256) as u8,
+        e: (word % 256) as u8,
+        h: 0x33,
+        l: 0x44,
+        sp: STACK,
+        pc: 0xfe06,
+        flags: Flags {
+            s: true,
+            z: false,
+            ac: true,
+            p: false,
+            cy: true,
+        },
+    }
+}
+
+/// The registers after such a call went back with a value of one byte, which is in A and L.
+pub fn returned(number: u8, word: u16, value: u8) -> Regs {
+    Regs {
+        a: value,
+        b: 0,
+        h: 0,
+        l: value,
+        sp: STACK.wrapping_add(2),
+        pc: CALLER,
+        ..calling(number, word)
+    }
+}

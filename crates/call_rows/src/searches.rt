@@ -1,0 +1,136 @@
+// Searches of the directory: an entry is put into the buffer, and three unused ones after it.
+
+use crate::steps::Step::{All, Are, Call, Fill, Put};
+use crate::steps::{
+    ALL_NAMES, ANN, BLOCK, BUFFER, DELETE, EX, MAKE, OTHER, R0, SEARCH_FIRST, SEARCH_NEXT, Step,
+    WRITE_RANDOM, steps,
+};
+use std::test::Fail;
+
+// A search goes on in the files as they are now. Function 18 reads no control block, so that any word may be in DE.
+const GOES_ON: &[Step<'_>] = &[
+    Put(BLOCK, ALL_NAMES),
+    Call(SEARCH_FIRST, BLOCK, 0),
+    Are(BUFFER, b"\0ANN        \0\0\0\x01"),
+    All(0x0310, 16, 0),
+    All(0x0320, 96, 0xe5),
+    Are(0x0380, b"\0"),
+    Put(OTHER, b"\0B??????????"),
+    Call(DELETE, OTHER, 0),
+    Call(SEARCH_NEXT, 0x1234, 0),
+    Are(BUFFER, b"\0CAT        \0\0\0\0"),
+    All(0x0310, 16, 0),
+    All(0x0320, 96, 0xe5),
+    Are(0x0380, b"\0"),
+    Are(BLOCK, ALL_NAMES),
+];
+
+#[test]
+fn a_search_goes_on_after_a_deletion(rt: HostRuntime) -> Result<(), Fail> {
+    let files = &[("ann", 1), ("ben", 130), ("cat", 0)];
+    steps(&rt, rt.alloc(), files, GOES_ON)
+}
+
+const NO_SEARCH: &[Step<'_>] = &[
+    Fill(BUFFER, 128, b'-'),
+    Call(SEARCH_NEXT, BLOCK, 0xff),
+    All(BUFFER, 128, b'-'),
+];
+
+#[test]
+fn nothing_goes_on_without_a_search(rt: HostRuntime) -> Result<(), Fail> {
+    steps(&rt, rt.alloc(), &[("ann", 1)], NO_SEARCH)
+}
+
+// Once no entry is left, the search is over, even if a file is made that would match.
+const ENDED: &[Step<'_>] = &[
+    Put(BLOCK, ALL_NAMES),
+    Call(SEARCH_FIRST, BLOCK, 0),
+    Fill(BUFFER, 128, b'-'),
+    Call(SEARCH_NEXT, BLOCK, 0xff),
+    All(BUFFER, 128, b'-'),
+    Put(OTHER, b"\0NEW        "),
+    Call(MAKE, OTHER, 0),
+    Call(SEARCH_NEXT, BLOCK, 0xff),
+    All(BUFFER, 128, b'-'),
+    Are(BLOCK, ALL_NAMES),
+];
+
+#[test]
+fn a_search_ends_with_the_last_entry(rt: HostRuntime) -> Result<(), Fail> {
+    steps(&rt, rt.alloc(), &[("ann", 1)], ENDED)
+}
+
+// A search that finds nothing ends that before it.
+const NONE_FOUND: &[Step<'_>] = &[
+    Put(BLOCK, ALL_NAMES),
+    Call(SEARCH_FIRST, BLOCK, 0),
+    Fill(BUFFER, 128, b'-'),
+    Put(OTHER, b"\0Z??????????"),
+    Call(SEARCH_FIRST, OTHER, 0xff),
+    Call(SEARCH_NEXT, BLOCK, 0xff),
+    All(BUFFER, 128, b'-'),
+];
+
+#[test]
+fn a_search_that_finds_nothing_ends_the_one_before(rt: HostRuntime) -> Result<(), Fail> {
+    steps(&rt, rt.alloc(), &[("ann", 1), ("ben", 1)], NONE_FOUND)
+}
+
+// 16,385 bytes are a full extent and one record more. The ex of a pattern is that of an entry, or `?` for each.
+const ALL_EXTENTS: &[Step<'_>] = &[
+    Put(BLOCK, ANN),
+    Put(EX, b"?"),
+    Call(SEARCH_FIRST, BLOCK, 0),
+    Are(BUFFER, b"\0ANN        \0\0\0\x80"),
+    Call(SEARCH_NEXT, BLOCK, 0),
+    Are(BUFFER, b"\0ANN        \x01\0\0\x01"),
+    Call(SEARCH_NEXT, BLOCK, 0xff),
+];
+
+#[test]
+fn each_extent_has_an_entry(rt: HostRuntime) -> Result<(), Fail> {
+    let files = &[("ann", 16_385), ("ben", 1)];
+    steps(&rt, rt.alloc(), files, ALL_EXTENTS)
+}
+
+const ONE_EXTENT: &[Step<'_>] = &[
+    Put(BLOCK, ANN),
+    Call(SEARCH_FIRST, BLOCK, 0),
+    Are(BUFFER, b"\0ANN        \0\0\0\x80"),
+    Call(SEARCH_NEXT, BLOCK, 0xff),
+    Put(EX, b"\x01"),
+    Call(SEARCH_FIRST, BLOCK, 0),
+    Are(BUFFER, b"\0ANN        \x01\0\0\x01"),
+    Call(SEARCH_NEXT, BLOCK, 0xff),
+    Put(EX, b"\x02"),
+    Call(SEARCH_FIRST, BLOCK, 0xff),
+];
+
+#[test]
+fn an_extent_is_found_by_its_number(rt: HostRuntime) -> Result<(), Fail> {
+    let files = &[("ann", 16_385), ("ben", 1)];
+    steps(&rt, rt.alloc(), files, ONE_EXTENT)
+}
+
+// Place 4,096 is the first of extent 32, whose entry has 0 in ex and 1 in s2. Extents without a record have no entry.
+const HIGH_EXTENT: &[Step<'_>] = &[
+    Put(BLOCK, ANN),
+    Call(MAKE, BLOCK, 0),
+    Put(R0, b"\0\x10"),
+    Call(WRITE_RANDOM, BLOCK, 0),
+    Put(EX, b"?"),
+    Call(SEARCH_FIRST, BLOCK, 0),
+    Are(BUFFER, b"\0ANN        \0\0\x01\x01"),
+    All(0x0310, 16, 0),
+    Call(SEARCH_NEXT, BLOCK, 0xff),
+    Put(EX, b"\0"),
+    Call(SEARCH_FIRST, BLOCK, 0xff),
+    Put(EX, b"\x20"),
+    Call(SEARCH_FIRST, BLOCK, 0),
+];
+
+#[test]
+fn an_entry_has_the_high_part_of_its_extent(rt: HostRuntime) -> Result<(), Fail> {
+    steps(&rt, rt.alloc(), &[], HIGH_EXTENT)
+}

@@ -1,0 +1,171 @@
+// Calls one after another, with their values and what they leave in memory.
+
+use crate::scene::{Scene, calling, returned};
+use bdos::Cause::BadDrive;
+use bdos::Served;
+use i8080::Bus;
+use std::alloc::{AllocError, Global};
+use std::process::Abort;
+use std::test::Fail;
+
+/// The numbers of the calls, by the CP/M 2.2 Interface Guide.
+pub const RESET_DISKS: u8 = 13;
+
+pub const SELECT_DISK: u8 = 14;
+
+pub const OPEN: u8 = 15;
+
+pub const CLOSE: u8 = 16;
+
+pub const SEARCH_FIRST: u8 = 17;
+
+pub const SEARCH_NEXT: u8 = 18;
+
+pub const DELETE: u8 = 19;
+
+pub const READ: u8 = 20;
+
+pub const WRITE: u8 = 21;
+
+pub const MAKE: u8 = 22;
+
+pub const RENAME: u8 = 23;
+
+pub const SET_BUFFER: u8 = 26;
+
+pub const READ_RANDOM: u8 = 33;
+
+pub const WRITE_RANDOM: u8 = 34;
+
+pub const FILE_SIZE: u8 = 35;
+
+pub const SET_RANDOM: u8 = 36;
+
+pub const FILL_RANDOM: u8 = 40;
+
+/// The first control block of page zero.
+pub const BLOCK: u16 = 0x005c;
+
+/// Its bytes ex, s1 and s2; ex and s2 belong to the sequential place.
+pub const EX: u16 = 0x0068;
+
+/// Its byte rc, the count of an extent.
+pub const RC: u16 = 0x006b;
+
+/// Its byte 16, after which the new name of a rename stands.
+pub const NEW_NAME: u16 = 0x006c;
+
+/// Its byte cr, the last of the sequential place.
+pub const CR: u16 = 0x007c;
+
+/// Its random place: r0, r1 and r2, the low one first.
+pub const R0: u16 = 0x007d;
+
+/// Another control block.
+pub const OTHER: u16 = 0x0200;
+
+/// Where records go, unless a test says otherwise.
+pub const BUFFER: u16 = 0x0300;
+
+/// Names in control blocks, on the current drive.
+pub const ANN: &[u8] = b"\0ANN        ";
+
+pub const BEN: &[u8] = b"\0BEN        ";
+
+pub const CAT: &[u8] = b"\0CAT        ";
+
+/// The pattern of all names, on the current drive.
+pub const ALL_NAMES: &[u8] = b"\0???????????";
+
+/// What a test does, and what it compares.
+#[derive(Clone, Copy, Debug)]
+pub enum Step<'a> {
+    /// Bytes are put into the cells from an address on.
+    Put(u16, &'a [u8]),
+    /// So many cells from an address on get this byte.
+    Fill(u16, u16, u8),
+    /// A call with a word in DE goes back with a value.
+    Call(u8, u16, u8),
+    /// A call with a word in DE stops, for there is no drive of this number.
+    NoDrive(u8, u16, u8),
+    /// These bytes stand in the cells from an address on.
+    Are(u16, &'a [u8]),
+    /// This byte stands in so many cells from an address on.
+    All(u16, u16, u8),
+}
+
+use Step::{All, Are, Call, Fill, NoDrive, Put};
+
+/// Carries out steps over host files, each of so many bytes `x`. The buffer begins at 0300H.
+pub fn steps(
+    rt: &impl Abort,
+    alloc: Global,
+    files: &[(&str, usize)],
+    rows: &[Step<'_>],
+) -> Result<(), Fail> {
+    let mut scene = Scene::new(alloc, files)?;
+    scene.desk.set_buffer(BUFFER);
+    for step in rows {
+        carry_out(rt, &mut scene, *step)?;
+    }
+    Ok(())
+}
+
+fn carry_out(rt: &impl Abort, scene: &mut Scene, step: Step<'_>) -> Result<(), AllocError> {
+    match step {
+        Put(at, bytes) => scene.put(at, bytes),
+        Fill(at, count, byte) => fill(scene, at, count, byte),
+        Call(number, word, value) => goes_back(rt, scene, number, word, value)?,
+        NoDrive(number, word, drive) => stops(rt, scene, number, word, drive)?,
+        Are(at, bytes) => are(rt, scene, at, bytes),
+        All(at, count, byte) => all(rt, scene, at, count, byte),
+    }
+    Ok(())
+}
+
+fn fill(scene: &mut Scene, at: u16, count: u16, byte: u8) {
+    for i in 0..count {
+        scene.memory.write(at.wrapping_add(i), byte);
+    }
+}
+
+fn goes_back(
+    rt: &impl Abort,
+    scene: &mut Scene,
+    number: u8,
+    word: u16,
+    value: u8,
+) -> Result<(), AllocError> {
+    let (served, regs) = scene.call(number, word)?;
+    assert_eq!(rt; served, Served::Went, "call {number}");
+    assert_eq!(rt; regs, returned(number, word, value), "call {number}");
+    Ok(())
+}
+
+fn stops(
+    rt: &impl Abort,
+    scene: &mut Scene,
+    number: u8,
+    word: u16,
+    drive: u8,
+) -> Result<(), AllocError> {
+    let (served, regs) = scene.call(number, word)?;
+    assert_eq!(rt; served, Served::Stop(BadDrive(drive)), "call {number}");
+    assert_eq!(rt; regs, calling(number, word), "call {number}");
+    Ok(())
+}
+
+fn are(rt: &impl Abort, scene: &mut Scene, at: u16, bytes: &[u8]) {
+    let mut address = at;
+    for byte in bytes {
+        assert_eq!(rt; scene.memory.read(address), *byte, "cell {address}");
+        address = address.wrapping_add(1);
+    }
+}
+
+fn all(rt: &impl Abort, scene: &mut Scene, at: u16, count: u16, byte: u8) {
+    for i in 0..count {
+        let address = at.wrapping_add(i);
+        assert_eq!(rt; scene.memory.read(address), byte, "cell {address}");
+    }
+}

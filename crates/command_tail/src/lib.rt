@@ -1,0 +1,7 @@
+//! What a program finds of its command tail: the CP/M 2.2 Interface Guide, page zero.
+#![tactic(auto)]
+
+mod page;
+mod word;
+
+pub use page::{TAIL_LIMIT, page_zero};

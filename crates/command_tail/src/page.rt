@@ -1,0 +1,63 @@
+// Page zero of a command tail.
+
+ghost use Rattle.std.specs.Prelude.{◌≡◌, ◌+◌, ◌≤◌, length};
+ghost use Rattle.command_tail.specs.PageZero.{page_zero, page_of, tail_cells, written};
+
+use crate::word::{named_by, split_word};
+use filenames::fill;
+
+/// The most bytes of a command tail.
+pub const TAIL_LIMIT: usize = 126;
+
+/// The jump to the warm start, the I/O byte, the drive, and the jump to the BDOS.
+const JUMPS: [u8; 8] = [0xc3, 0x03, 0xff, 0, 0, 0xc3, 0x06, 0xfe];
+
+/// Page zero with a command tail: the jumps to the warm start and to the BDOS, at 005CH and 006CH the drive byte and the name of the
+/// tail's first two words, and from 0080H on 0 for an empty tail, else its length plus one, a blank and the tail. Its letters are
+/// raised.
+pub fn page_zero(tail: &[u8]) -> [u8; 256]
+    requires { length tail.now ≤ TAIL_LIMIT }
+    ensures { result ≡ page_zero tail.now }
+{
+    let mut raised = [0; TAIL_LIMIT];
+    fill(&mut raised, tail);
+    page_of(&raised[..tail.len()])
+}
+
+// Page zero with a tail of raised letters.
+fn page_of(tail: &[u8]) -> [u8; 256]
+    requires { length tail.now ≤ TAIL_LIMIT }
+    ensures { result ≡ page_of tail.now }
+{
+    let (first, rest) = split_word(tail);
+    let (second, _) = split_word(rest);
+    let mut page = [0; 256];
+    write(&mut page, 0, &JUMPS);
+    write(&mut page, 0x5c, &named_by(first));
+    write(&mut page, 0x6c, &named_by(second));
+    write(&mut page, 0x80, &tail_cells(tail));
+    page
+}
+
+// Writes bytes from a cell on.
+fn write(cells: &mut [u8], at: usize, bytes: &[u8])
+    requires { at + length bytes.now ≤ length cells.old }
+    ensures { cells.new ≡ written cells.old at bytes.now }
+{
+    cells[at..at + bytes.len()].copy_from_slice(bytes);
+}
+
+// The cells from 0080H on.
+fn tail_cells(tail: &[u8]) -> [u8; 128]
+    requires { length tail.now ≤ TAIL_LIMIT }
+    ensures { result ≡ tail_cells tail.now }
+{
+    let mut cells = [0; 128];
+    if tail.is_empty() {
+        return cells;
+    }
+    cells[0] = tail.len() as u8 + 1;
+    cells[1] = b' ';
+    write(&mut cells, 2, tail);
+    cells
+}

@@ -1,0 +1,24 @@
+use Rattle.std.proofs.Common.{◌∙◌, refl, codes}
+use Rattle.clap.specs.Words.{found_of}
+use Rattle.clap.proofs.WalkLemmas.{first_value-rows}
+use Rattle.command_words.proofs.Matching.{four_texts, text_or_none}
+use Rattle.command_words.proofs.words.words_of.Goals as goal
+
+pub returns-clause-says : goal.returns-clause-says
+returns-clause-says c =
+    let f = found_of c.args.matches.now in
+    record {
+      program = c.in_ok-get_str.ensures ∙ first_value-rows f (codes "PROGRAM");
+      tail = text_or_none c.get_str-2.result _ c.unwrap_or.result _ c.unwrap_or.ensures refl (c.get_str-2.ensures ∙ first_value-rows f (codes "TAIL"));
+      files = four_texts _ _ _ _ _ _ _ _
+          (c.get_str-3.ensures ∙ first_value-rows f (codes "files")) (c.get_str-4.ensures ∙ first_value-rows f (codes "files-b"))
+          (c.get_str-5.ensures ∙ first_value-rows f (codes "files-c")) (c.get_str-6.ensures ∙ first_value-rows f (codes "files-d"));
+      console = c.get_str-7.ensures ∙ first_value-rows f (codes "console");
+      limit = c.in_ok-number.ensures.said;
+      out = four_texts _ _ _ _ _ _ _ _
+          (c.get_str-8.ensures ∙ first_value-rows f (codes "out")) (c.get_str-9.ensures ∙ first_value-rows f (codes "out-b"))
+          (c.get_str-10.ensures ∙ first_value-rows f (codes "out-c")) (c.get_str-11.ensures ∙ first_value-rows f (codes "out-d"));
+      edits = c.get_str-12.ensures ∙ first_value-rows f (codes "edits");
+      spacing = c.in_ok-number-2.ensures.said;
+      slots = c.in_ok-number-3.ensures.said;
+    }

@@ -1,0 +1,175 @@
+ghost use Rattle.std.specs.Prelude.{◌≡◌, false, codes, IfOk};
+ghost use Rattle.clap.specs.Words.{app_of, rule_of};
+ghost use Rattle.command_words.specs.CommandLine.{command_line, file_rules, folder_rules, number_rule, number_rules, option_rule, output_rules, place_rules, with_rules};
+
+use clap::{Arg, Command, value_parser};
+use std::alloc::{AllocError, Global};
+
+/// The version that `--version` prints.
+const VERSION: &str = "0.1.0";
+
+const ABOUT: &str = "Runs a program of CP/M 2.2, or replays edits of its session.";
+
+const AFTER_HELP: &str = "\
+Example:
+  cpmrun hello.com \"note.txt\" --files disk --out changed
+      runs hello.com with the tail note.txt over the files in the folder disk, and writes the
+      files that it changed into the folder changed
+
+A TAIL that begins with '-' stands last, after '--'.
+
+Exit status:
+  0   the program came to the warm start, the edits were replayed, or help was asked for
+  1   a fault of use, of a device or of the host files, or a session that is refused
+  2   an edit line is malformed or too long
+  3   the program stopped by Limit
+  4   by Halt
+  5   by Undefined
+  6   by SystemArea
+  7   by ConsoleExhausted
+  8   by NoDollar
+  9   by Unsupported
+  10  by BadDrive
+  12  memory was refused";
+
+/// An option whose value is a path.
+fn path_option<'a>(alloc: Global, name: &'a str, value: &'a str, help: &'a str) -> Arg<'a>
+    ensures rule { rule_of result ≡ option_rule name.entry.now }
+    ensures local { result.global ≡ false }
+{
+    Arg::new(alloc, name)
+        .long(name)
+        .value_name(value)
+        .help(help)
+}
+
+/// The command with the two words that stand by their place.
+fn with_places<'a>(alloc: Global, command: Command<'a>) -> Result<Command<'a>, AllocError>
+    ensures { IfOk result (λ c. app_of c ≡ with_rules (app_of command.entry) place_rules) }
+{
+    command
+        .arg(
+            Arg::new(alloc, "PROGRAM")
+                .required(true)
+                .help("The .COM file to be run, of at most 64,512 bytes"),
+        )?
+        .arg(Arg::new(alloc, "TAIL").help(
+            "The command tail, as typed after the program's name: one word, which may hold blanks, of at most 126 bytes [default: none]",
+        ))
+}
+
+/// The command with the options for the folders of host files.
+fn with_folders<'a>(alloc: Global, command: Command<'a>) -> Result<Command<'a>, AllocError>
+    ensures { IfOk result (λ c. app_of c ≡ with_rules (app_of command.entry) folder_rules) }
+{
+    command
+        .arg(path_option(
+            alloc,
+            "files",
+            "DIR",
+            "The folder of the files of drive A [default: no files]",
+        ))?
+        .arg(path_option(alloc, "files-b", "DIR", "The same of drive B"))?
+        .arg(path_option(alloc, "files-c", "DIR", "The same of drive C"))?
+        .arg(path_option(alloc, "files-d", "DIR", "The same of drive D"))
+}
+
+/// The command with the options for the folders that changed files are written to.
+fn with_outputs<'a>(alloc: Global, command: Command<'a>) -> Result<Command<'a>, AllocError>
+    ensures { IfOk result (λ c. app_of c ≡ with_rules (app_of command.entry) output_rules) }
+{
+    command
+        .arg(path_option(
+            alloc,
+            "out",
+            "DIR",
+            "The folder that changed files of drive A are written to; of no effect with --edits [default: they are not written]",
+        ))?
+        .arg(path_option(alloc, "out-b", "DIR", "The same of drive B"))?
+        .arg(path_option(alloc, "out-c", "DIR", "The same of drive C"))?
+        .arg(path_option(alloc, "out-d", "DIR", "The same of drive D"))
+}
+
+/// The command with the options for single files.
+fn with_files<'a>(alloc: Global, command: Command<'a>) -> Result<Command<'a>, AllocError>
+    ensures { IfOk result (λ c. app_of c ≡ with_rules (app_of command.entry) file_rules) }
+{
+    command
+        .arg(path_option(
+            alloc,
+            "console",
+            "FILE",
+            "What is typed at the console, at most 1,048,576 bytes [default: nothing]",
+        ))?
+        .arg(path_option(
+            alloc,
+            "edits",
+            "FILE",
+            "The edit lines to be replayed, each answered on standard output [default: the session is run once]",
+        ))
+}
+
+/// The limit of steps.
+fn limit_option<'a>(alloc: Global) -> Arg<'a>
+    ensures rule { rule_of result ≡ number_rule (codes "limit") 0 4000000000 (codes "1000000") }
+    ensures local { result.global ≡ false }
+{
+    Arg::new(alloc, "limit")
+        .long("limit")
+        .value_name("N")
+        .value_parser(value_parser!(u64).range(0..=4_000_000_000))
+        .default_value("1000000")
+        .help("The steps after which a run stops, 0 to 4,000,000,000")
+}
+
+/// The steps from one checkpoint to the next.
+fn spacing_option<'a>(alloc: Global) -> Arg<'a>
+    ensures rule { rule_of result ≡ number_rule (codes "spacing") 1 1000000000 (codes "10000") }
+    ensures local { result.global ≡ false }
+{
+    Arg::new(alloc, "spacing")
+        .long("spacing")
+        .value_name("N")
+        .value_parser(value_parser!(u64).range(1..=1_000_000_000))
+        .default_value("10000")
+        .help("The steps from one checkpoint to the next, 1 to 1,000,000,000")
+}
+
+/// The most checkpoints.
+fn slots_option<'a>(alloc: Global) -> Arg<'a>
+    ensures rule { rule_of result ≡ number_rule (codes "slots") 1 4096 (codes "64") }
+    ensures local { result.global ≡ false }
+{
+    Arg::new(alloc, "slots")
+        .long("slots")
+        .value_name("N")
+        .value_parser(value_parser!(u64).range(1..=4096))
+        .default_value("64")
+        .help("The most checkpoints that are kept, 1 to 4,096")
+}
+
+/// The command with the options for numbers.
+fn with_numbers<'a>(alloc: Global, command: Command<'a>) -> Result<Command<'a>, AllocError>
+    ensures { IfOk result (λ c. app_of c ≡ with_rules (app_of command.entry) number_rules) }
+{
+    command
+        .arg(limit_option(alloc))?
+        .arg(spacing_option(alloc))?
+        .arg(slots_option(alloc))
+}
+
+/// The command line of `cpmrun`, whose words begin after the program's name.
+pub fn command<'a>(alloc: Global) -> Result<Command<'a>, AllocError>
+    ensures { IfOk result (λ c. app_of c ≡ command_line) }
+{
+    let command = Command::new(alloc, "cpmrun")
+        .no_binary_name(true)
+        .version(VERSION)
+        .about(ABOUT)
+        .after_help(AFTER_HELP);
+    let command = with_places(alloc, command)?;
+    let command = with_folders(alloc, command)?;
+    let command = with_files(alloc, command)?;
+    let command = with_outputs(alloc, command)?;
+    with_numbers(alloc, command)
+}

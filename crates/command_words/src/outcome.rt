@@ -1,0 +1,28 @@
+ghost use Rattle.std.specs.Prelude.{◌≡◌};
+ghost use Rattle.clap.specs.Values.{kind_of};
+ghost use Rattle.command_words.specs.Outcome.{outcome_of};
+
+use clap::Error;
+use clap::error::ErrorKind;
+
+/// What a program is to do with an error of `read_words`.
+#[derive(Clone, Copy, Debug, PartialEq, Eq)]
+pub enum Outcome {
+    /// Help or the version was asked for. The error's text goes to standard output; the status is 0.
+    Information,
+    /// The words are a fault of use. The error's text goes to standard error; the status is 1.
+    Misuse,
+    /// Memory was refused. The error's text is not the program's; the status is 12.
+    OutOfMemory,
+}
+
+/// What an error of `read_words` comes to, by its kind.
+pub fn outcome_of(error: &Error) -> Outcome
+    ensures { result ≡ outcome_of (kind_of error.now) }
+{
+    match error.kind() {
+        ErrorKind::OutOfMemory => Outcome::OutOfMemory,
+        ErrorKind::DisplayHelp | ErrorKind::DisplayVersion => Outcome::Information,
+        _ => Outcome::Misuse,
+    }
+}

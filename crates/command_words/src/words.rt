@@ -1,0 +1,90 @@
+ghost use Rattle.std.specs.Prelude.{◌≤◌, IfOk, IfSome, map, string_bytes};
+ghost use Rattle.clap.specs.Words.{FailsBy, found_of, rows_of};
+ghost use Rattle.command_words.specs.CommandLine.{Says, SaysNumber, faults_at, matches_at};
+
+use crate::options::command;
+use clap::{ArgMatches, Error};
+use std::alloc::{AllocError, Global};
+
+/// The words of the command line. Paths are as they were given.
+#[derive(Drop)]
+pub struct Words<'a> {
+    /// The path of the program.
+    pub program: &'a str,
+    /// The command tail; empty where none was given.
+    pub tail: &'a str,
+    /// The folder of the host files of each drive, A to D.
+    pub files: [Option<&'a str>; 4],
+    /// The path of the script; where there is none, the script is empty.
+    pub console: Option<&'a str>,
+    /// The limit of steps: 0 to 4,000,000,000.
+    pub limit: u64,
+    /// The folder that changed files of each drive are written to, A to D.
+    pub out: [Option<&'a str>; 4],
+    /// The path of the edit lines; where there is none, the session is run once.
+    pub edits: Option<&'a str>,
+    /// The steps from one checkpoint to the next: 1 to 1,000,000,000.
+    pub spacing: u64,
+    /// The most checkpoints that are kept: 1 to 4,096.
+    pub slots: usize,
+}
+
+/// The number of an option, where it is there and in its range.
+fn number(matches: &ArgMatches<'_>, id: &str, least: u64, most: u64) -> Option<u64>
+    ensures said { IfSome result (SaysNumber (rows_of (found_of matches.now)) id.now) }
+    ensures low { IfSome result (λ n. least ≤ n) }
+    ensures high { IfSome result (λ n. n ≤ most) }
+{
+    match matches.get_one::<u64>(id) {
+        Some(n) if least <= n && n <= most => Some(n),
+        _ => None,
+    }
+}
+
+/// The words of the matches, where each that has to be there is, and each number is in its range.
+fn words_of<'a>(matches: &ArgMatches<'a>) -> Option<Words<'a>>
+    ensures says { IfSome result (Says (rows_of (found_of matches.now))) }
+    ensures limit { IfSome result (λ w. w.limit ≤ 4000000000) }
+    ensures spacing { IfSome result (λ w. (1 ≤ w.spacing) × (w.spacing ≤ 1000000000)) }
+    ensures slots { IfSome result (λ w. (1 ≤ w.slots) × (w.slots ≤ 4096)) }
+{
+    Some(Words {
+        program: matches.get_str("PROGRAM")?,
+        tail: matches.get_str("TAIL").unwrap_or(""),
+        files: [
+            matches.get_str("files"),
+            matches.get_str("files-b"),
+            matches.get_str("files-c"),
+            matches.get_str("files-d"),
+        ],
+        console: matches.get_str("console"),
+        limit: number(matches, "limit", 0, 4_000_000_000)?,
+        out: [
+            matches.get_str("out"),
+            matches.get_str("out-b"),
+            matches.get_str("out-c"),
+            matches.get_str("out-d"),
+        ],
+        edits: matches.get_str("edits"),
+        spacing: number(matches, "spacing", 1, 1_000_000_000)?,
+        slots: number(matches, "slots", 1, 4096)? as usize,
+    })
+}
+
+/// The words after the program's name, as `clap` matches them with the command line. An error is `clap`'s: `outcome_of` tells whether
+/// help was asked for, the words are a fault of use, or memory was refused.
+pub fn read_words<'a>(alloc: Global, words: &'a [String]) -> Result<Words<'a>, Error>
+    ensures says { IfOk result (Says (matches_at (map string_bytes words.entry.now))) }
+    ensures fails { FailsBy (faults_at (map string_bytes words.entry.now)) result }
+    ensures limit { IfOk result (λ w. w.limit ≤ 4000000000) }
+    ensures spacing { IfOk result (λ w. (1 ≤ w.spacing) × (w.spacing ≤ 1000000000)) }
+    ensures slots { IfOk result (λ w. (1 ≤ w.slots) × (w.slots ≤ 4096)) }
+{
+    let mut command = command(alloc)?;
+    let matches = command.try_get_matches_from_mut(words)?;
+    match words_of(&matches) {
+        Some(words) => Ok(words),
+        // clap has seen to it that each is there and in its range, so this is never reached.
+        None => Err(Error::from(AllocError)),
+    }
+}

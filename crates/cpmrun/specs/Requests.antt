@@ -1,0 +1,35 @@
+-- What the words of the command line ask for.
+use Rattle.std.specs.Prelude.{◌≡◌, ℕ, ◌≤◌, List, []}
+use Rattle.command_words.specs.CommandLine.{Says, faults_at, matches_at}
+use Rattle.command_words.specs.Outcome.{ComesTo}
+use Rattle.command_words.specs.declared.outcome.Outcome.TheVariants as outcome
+use Rattle.command_words.specs.declared.words.Words.{Words}
+use Rattle.cpmrun.specs.declared.request.Request.{Request}
+use Rattle.cpmrun.specs.declared.request.Request.TheVariants.{Session, Information}
+use Rattle.cpmrun.specs.declared.fault.Fault.{Fault}
+use Rattle.cpmrun.specs.declared.fault.Fault.TheVariants.{Use, NotText, CannotRead, CannotWrite, Folders, Refused, Malformed, TooLong, OutOfMemory}
+
+-- the words are no fault of use, and say this
+pub record AreWords (words : List (List ℕ)) (w : Words) : Type 0 where
+  pub fine : faults_at words ≡ []
+  pub says : Says (matches_at words) w
+  pub limit : w.limit ≤ 4000000000
+  pub spacing : (1 ≤ w.spacing) × (w.spacing ≤ 1000000000)
+  pub slots : (1 ≤ w.slots) × (w.slots ≤ 4096)
+
+-- what words ask for: a session, or help or the version
+abbrev pub IsRequestOf : List (List ℕ) → Request → Type 0
+IsRequestOf words (Session w) = AreWords words w
+IsRequestOf words (Information text) = ComesTo words outcome.Information
+
+-- why words ask for nothing: they are a fault of use, or memory was refused
+abbrev pub Misread : List (List ℕ) → Fault → Type 0
+Misread words (Use text) = ComesTo words outcome.Misuse
+Misread words NotText = ⊥
+Misread words (CannotRead path) = ⊥
+Misread words CannotWrite = ⊥
+Misread words (Folders f) = ⊥
+Misread words (Refused n) = ⊥
+Misread words (Malformed k) = ⊥
+Misread words (TooLong k) = ⊥
+Misread words OutOfMemory = Unit {0}

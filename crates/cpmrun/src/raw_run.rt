@@ -1,0 +1,175 @@
+// One run of a session, without edits.
+
+ghost use Rattle.std.specs.Prelude.{◌≡◌, ◌^◌, ◌<◌, ◌≤◌, ◌++◌, true, IfOk, IfErr, OnOk, OnErr, string_bytes};
+ghost use Rattle.hostfiles.specs.Files.{has};
+ghost use Rattle.replay.specs.Cold.{cold};
+ghost use Rattle.replay.specs.Report.{reported_run, session_of};
+ghost use Rattle.cpmrun.specs.Program.{WritesOrFails};
+ghost use Rattle.cpmrun.specs.RawRun.{BreaksRun, RunsOnce, Unwritten, gone_lines, stop_line, stop_status};
+ghost use Rattle.cpmrun.specs.Writing.{Writes};
+
+use crate::changed_lines::write_piece;
+use crate::ends::{Failed, Writer, write_all};
+use crate::fault::Fault;
+use crate::gone_lines::write_gone_files;
+use crate::reply::cause_text;
+use folders::write_to_drive;
+use hostfiles::{Changes, HostFiles, Journal, Name};
+use machine::{Cause, Meter, Session};
+use replay::{Options, OptionsError, Report, Runner};
+use std::alloc::{AllocError, Global};
+use std::rt::Files;
+
+/// The exit status after a run that stopped by this cause.
+fn stop_status(cause: Cause) -> u8
+    ensures { result ≡ stop_status cause }
+{
+    match cause {
+        Cause::WarmBoot => 0,
+        Cause::Limit => 3,
+        Cause::Halt => 4,
+        Cause::Undefined(_) => 5,
+        Cause::SystemArea(_) => 6,
+        Cause::ConsoleExhausted => 7,
+        Cause::NoDollar => 8,
+        Cause::Unsupported(_) => 9,
+        Cause::BadDrive(_) => 10,
+    }
+}
+
+/// The line that tells why a run stopped.
+fn stop_line(alloc: Global, cause: Cause) -> Result<String, AllocError>
+    ensures { IfOk result (λ s. string_bytes s ≡ stop_line cause) }
+{
+    let cause = cause_text(alloc, cause)?;
+    format!(in alloc; "stop {cause}\n")
+}
+
+/// Writes a file as the run left it into the folder of its drive, where that has one.
+fn write_file<'a, R: Files + AllocGlobal>(
+    rt: &R,
+    folders: &[Option<&'a str>; 4],
+    host: &HostFiles,
+    changes: &Changes,
+    name: &Name,
+) -> Result<(), Fault<'a>>
+    requires { has host.now changes.now.journal.entries name.now ≡ true }
+    ensures { IfErr result (Unwritten folders.now) }
+{
+    match write_to_drive(rt, folders, host, changes, name) {
+        Ok(()) => Ok(()),
+        Err(fault) => Err(Fault::Folders(fault)),
+    }
+}
+
+/// Writes the changed files of the run that are there at its stop into the folders of their drives, where these have any, in the
+/// order of their names.
+fn write_changed<'a, R: Files + AllocGlobal>(
+    rt: &R,
+    folders: &[Option<&'a str>; 4],
+    report: &Report<'_>,
+) -> Result<(), Fault<'a>>
+    ensures { IfErr result (Unwritten folders.now) }
+{
+    let Ok(changes) = report.changes(rt.alloc()) else {
+        return Err(Fault::OutOfMemory);
+    };
+    let mut after: Option<Name> = None;
+    while let Some(name) = report.next_changed(after.as_ref()) {
+        if report.has(&name) {
+            write_file(rt, folders, report.files(), &changes, &name)?;
+        }
+        after = Some(name);
+    }
+    Ok(())
+}
+
+/// Writes a line, and then the lines of the changed files that are gone. Where the writer fails, some first part of this is written.
+fn write_lines<E: Writer>(
+    err: &mut E,
+    line: &[u8],
+    host: &HostFiles,
+    journal: &Journal,
+) -> Result<(), Failed>
+    requires { E.failures err.old < 2 ^ 63 }
+    ensures { Writes (E.holds err.old) (E.holds err.new) (E.failures err.old) (E.failures err.new) (line.now ++ gone_lines host.now journal.now.entries) result }
+{
+    write_piece(err, line)?;
+    write_gone_files(err, host, journal)
+}
+
+/// Tells a line, and then the changed files that are gone. A failure of the writer ends this, and is passed over.
+fn tell_lines<E: Writer>(err: &mut E, line: &[u8], host: &HostFiles, journal: &Journal)
+    requires { E.failures err.old < 2 ^ 63 }
+    ensures { WritesOrFails (E.holds err.old) (E.holds err.new) (E.failures err.old) (E.failures err.new) (line.now ++ gone_lines host.now journal.now.entries) }
+{
+    let _ = write_lines(err, line, host, journal);
+}
+
+/// Tells on standard error why the run stopped, and which of the changed files are gone. A failure of the writer is passed over;
+/// where memory is refused, nothing is written.
+fn tell_stop<'a, E: Writer>(
+    alloc: Global,
+    report: &Report<'_>,
+    err: &mut E,
+) -> Result<(), Fault<'a>>
+    requires { E.failures err.old < 2 ^ 63 }
+    ensures told { OnOk result (WritesOrFails (E.holds err.old) (E.holds err.new) (E.failures err.old) (E.failures err.new)
+        (stop_line (reported_run report.now).cause ++ gone_lines (session_of report.now).files (reported_run report.now).state.own.files)) }
+    ensures memory { IfErr result (λ f. f ≡ Fault.OutOfMemory) }
+    ensures untold { OnErr result (err.new ≡ err.old) }
+{
+    match stop_line(alloc, report.cause()) {
+        Ok(text) => {
+            tell_lines(err, text.as_bytes(), report.files(), report.journal());
+            Ok(())
+        }
+        Err(AllocError) => Err(Fault::OutOfMemory),
+    }
+}
+
+/// Options for a run that is not run again: one checkpoint at most, in a run of up to 1,000,000,000 steps.
+fn options() -> Options
+    ensures { result ≡ record { spacing = 1000000000; slots = 1 } }
+{
+    Options {
+        spacing: 1_000_000_000,
+        slots: 1,
+    }
+}
+
+/// Runs a session once: what it prints goes to `out` as it is, then each changed file that is there at the
+/// stop is written into the folder of its drive, where that has one, and then a line on `err` tells why the
+/// run stopped, and one more each changed file that is gone. It gives the exit status for the stop. A fault
+/// leaves `err` as it was.
+pub fn run_once<'a, R: Files + AllocGlobal, O: Writer, E: Writer>(
+    rt: &R,
+    folders: &[Option<&'a str>; 4],
+    session: Session,
+    meter: &mut Meter,
+    out: &mut O,
+    err: &mut E,
+) -> Result<u8, Fault<'a>>
+    requires meter { meter.old ≤ 2 ^ 63 }
+    requires out { O.failures out.old < 2 ^ 63 }
+    requires err { E.failures err.old < 2 ^ 63 }
+    ensures done { IfOk result (λ status. RunsOnce session status (O.holds out.old) (O.holds out.new) (E.holds err.old) (E.holds err.new) (E.failures err.old) (E.failures err.new)) }
+    ensures fault { IfErr result (BreaksRun folders.now session (O.holds out.old) (O.holds out.new) (O.failures out.old) (O.failures out.new)) }
+    ensures untold { OnErr result (err.new ≡ err.old) }
+{
+    let alloc = rt.alloc();
+    let mut runner = match Runner::new(alloc, session, options()) {
+        Ok(runner) => runner,
+        Err(OptionsError::OutOfMemory) => return Err(Fault::OutOfMemory),
+        Err(_) => unreachable!(),
+    };
+    let Ok(report) = runner.rerun(meter) else {
+        return Err(Fault::OutOfMemory);
+    };
+    let Ok(()) = write_all(out, report.text()) else {
+        return Err(Fault::CannotWrite);
+    };
+    write_changed(rt, folders, &report)?;
+    tell_stop(alloc, &report, err)?;
+    Ok(stop_status(report.cause()))
+}

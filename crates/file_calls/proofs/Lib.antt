@@ -1,0 +1,4 @@
+pub mod Extending
+pub mod Shapes
+pub mod Drives
+pub mod Deletion

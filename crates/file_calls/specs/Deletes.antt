@@ -1,0 +1,28 @@
+-- What a function leaves that deletes files.
+use Rattle.std.specs.Prelude.{◌≡◌, Bool, true, false, List, [], ◌∷◌, IfOk, OnOk, OnErr}
+use Rattle.std.specs.declared.result.Result.{Result}
+use Rattle.std.specs.declared.alloc.AllocError.{AllocError}
+use Rattle.interaction_trees.specs.Tree.{result_of, asked}
+use Rattle.hostfiles.specs.Hosts.{Key}
+use Rattle.hostfiles.specs.Files.{Own, deleted}
+use Rattle.hostfiles.specs.Looks.{Extends}
+use Rattle.file_calls.specs.Questions.{FileTree, Drives, file_answers, look_for_all}
+
+-- the names deleted, one after another
+abbrev pub without : Own → List Key → Own
+without own [] = own
+without own (key ∷ keys) = without (deleted own key) keys
+
+abbrev pub is_some_named : List Key → Bool
+is_some_named [] = false
+is_some_named (key ∷ keys) = true
+
+-- the names are those that a tree ends with, and the answer is whether there are some
+pub record Deletes (t : FileTree (List Key)) (v : Drives) (result : Result Bool AllocError) (v' : Drives) : Type 0 where
+  pub found : IfOk result (λ some. some ≡ is_some_named (result_of (file_answers v.host v.own) t))
+  pub own : OnOk result (v'.own ≡ without v.own (result_of (file_answers v.host v.own) t))
+  pub looks : OnOk result (v'.looks ≡ look_for_all v.own (asked (file_answers v.host v.own) t) v.looks)
+  pub err_own : OnErr result (v'.own ≡ v.own)
+  pub extends : Extends v.looks v'.looks
+  pub host : v'.host ≡ v.host
+  pub lender : v'.lender ≡ v.lender

@@ -1,0 +1,175 @@
+-- What each file call asks of the files, and what it finds. (CP/M 2.2 Interface Guide, functions 15 to 23 and 33 to 40; the values
+-- of the calls, and files with holes, are this project's profile.)
+use Rattle.std.specs.Prelude.{◌≢◌, ℕ, ◌+◌, ◌/◌, ◌==◌, ◌&&◌, Bool, true, false, not, List, [], ◌∷◌, length, filter, map, flat_map, Option, Some, None, nat_lt, if◌then◌else◌, slice_index}
+use Rattle.interaction_trees.specs.Tree.{Return, Query}
+use Rattle.filenames.specs.Names.{is_sayable}
+use Rattle.filenames.specs.ControlBlock.{name_at, place_of, random_of}
+use Rattle.directory.specs.Entries.{Shape, count_at, first_where, entries_of, is_after, matches, position_in, entry_bytes, is_match}
+use Rattle.directory.specs.declared.entry.Entry.{Entry}
+use Rattle.directory.specs.declared.entry.Position.{Position}
+use Rattle.hostfiles.specs.Hosts.{Key, Record}
+use Rattle.cpmfiles.specs.Tables.{has_wildcard, is_rename}
+use Rattle.file_calls.specs.declared.block.Block.{Block}
+use Rattle.file_calls.specs.declared.function.FileFunction.{FileFunction}
+use Rattle.file_calls.specs.declared.function.FileFunction.TheVariants.{Open, Close, SearchFirst, ReadSequential, WriteSequential, Make, Rename, ReadRandom, WriteRandom, FileSize, SetRandomRecord, WriteRandomZeroFill}
+use Rattle.directory.specs.declared.entry.Search.{Search}
+use Rattle.file_calls.specs.declared.finding.Write.{Write}
+use Rattle.file_calls.specs.declared.finding.Finding.{Finding}
+use Rattle.file_calls.specs.declared.finding.Finding.TheVariants as finding
+use Rattle.file_calls.specs.Questions.{FileTree, Listing, IsThere, ShapeOf, Content, FilesOn}
+
+-- the key at bytes 1 to 11 of a control block, and the new key of a rename, at bytes 17 to 27
+abbrev pub key_of : Block → Key
+key_of b = b.drive ∷ name_at b.fcb 1
+
+abbrev pub new_key_of : Block → Key
+new_key_of b = b.drive ∷ name_at b.fcb 17
+
+-- the value of a call that finds no file
+abbrev pub absent : Finding
+absent = finding.Value 0xff
+
+-- a call of a file that is not there gives 0FFH
+abbrev pub if_there : Key → FileTree Finding → FileTree Finding
+if_there key t = Query (IsThere key) (λ there. if there then t else Return absent)
+
+-- function 15: the count of the extent that the control block names
+abbrev pub open_file : Block → FileTree Finding
+open_file b = if_there (key_of b) (Query (ShapeOf (key_of b)) (λ s. Return (finding.Opened (count_at s (slice_index b.fcb 12)))))
+
+-- function 16 changes nothing
+abbrev pub close_file : Block → FileTree Finding
+close_file b = if_there (key_of b) (Return (finding.Value 0))
+
+-- an entry, and from where the search goes on
+abbrev pub entry_found : Key → ℕ → Option Entry → Finding
+entry_found pattern ex None = finding.NoEntry
+entry_found pattern ex (Some e) = finding.FirstEntry (record { pattern = pattern; extent = ex; last = entry_bytes e })
+
+-- the first entry of files that matches, after a position if it is given
+abbrev pub next_among : Key → ℕ → Option Position → Listing → Option Entry
+next_among pattern ex after files = first_where (λ e. is_after after e && matches pattern ex e) (flat_map (λ f. entries_of f.0 f.1) files)
+
+abbrev pub searching : Key → ℕ → Option Position → FileTree Finding
+searching pattern ex after = Query (FilesOn (slice_index pattern 0)) (λ files. Return (entry_found pattern ex (next_among pattern ex after files)))
+
+-- function 17: the first entry that matches
+abbrev pub search_first : Block → FileTree Finding
+search_first b = searching (key_of b) (slice_index b.fcb 12) None
+
+-- function 18: the first one after that given last, in the files as they are now
+abbrev pub search_next : Option Search → FileTree Finding
+search_next None = Return finding.NoEntry
+search_next (Some s) = searching s.pattern s.extent (Some (position_in (slice_index s.pattern 0) s.last))
+
+-- function 19: the names that are deleted; a pattern with `?` names all that match
+abbrev pub matching : Key → Listing → List Key
+matching pattern files = filter (is_match pattern) (map (λ f. f.0) files)
+
+abbrev pub deletion : Block → FileTree (List Key)
+deletion b =
+    if has_wildcard (key_of b) then Query (FilesOn b.drive) (λ files. Return (matching (key_of b) files))
+    else Query (IsThere (key_of b)) (λ there. Return (if there then key_of b ∷ [] else []))
+
+-- the record at a place, or the value where none stands there
+abbrev pub record_found : ℕ → ℕ → Option Record → Finding
+record_found next value None = finding.Value value
+record_found next value (Some r) = finding.Found r next
+
+-- function 20: the record at the place of the control block, and 1 where none stands there
+abbrev pub read_sequential : Block → FileTree Finding
+read_sequential b = if_there (key_of b) (Query (ShapeOf (key_of b)) (λ s.
+    if nat_lt (place_of b.fcb) (length s) then Query (Content (key_of b) (place_of b.fcb)) (λ r. Return (record_found (place_of b.fcb + 1) 1 r))
+    else Return (finding.Value 1)))
+
+-- a record is to be written at a place of a file of this length, and then the control block has the next place
+abbrev pub writing : Block → ℕ → ℕ → Bool → FileTree Finding
+writing b place next filled = Query (ShapeOf (key_of b)) (λ s. Return (finding.Write (record { key = key_of b; length = length s; place = place; next = next; filled = filled })))
+
+-- function 21; a file has at most 65,536 places
+abbrev pub write_sequential : Block → FileTree Finding
+write_sequential b = if_there (key_of b) (if nat_lt (place_of b.fcb) 65536 then writing b (place_of b.fcb) (place_of b.fcb + 1) false else Return (finding.Value 2))
+
+-- function 22: a name that can be said and that no file has
+abbrev pub make_file : Block → FileTree Finding
+make_file b =
+    if is_sayable (key_of b) then Query (IsThere (key_of b)) (λ there. Return (if there then absent else finding.Make (key_of b)))
+    else Return absent
+
+-- function 23: both keys are asked, whatever the first answers
+abbrev pub rename_file : Block → FileTree Finding
+rename_file b =
+    if is_rename (key_of b) (new_key_of b)
+    then Query (IsThere (key_of b)) (λ there. Query (IsThere (new_key_of b)) (λ taken.
+    Return (if there && not taken then finding.Rename (key_of b) (new_key_of b) else absent)))
+    else Return absent
+
+-- a random place that holds no record: 1 where its extent holds one, else 4
+abbrev pub missing : Shape → ℕ → ℕ
+missing s place = if count_at s (place / 128) == 0 then 4 else 1
+
+-- a random place past 65,535 gives 6
+abbrev pub if_in_range : Block → FileTree Finding → FileTree Finding
+if_in_range b t = if_there (key_of b) (if slice_index b.fcb 35 == 0 then t else Return (finding.Value 6))
+
+-- function 33
+abbrev pub read_random : Block → FileTree Finding
+read_random b = if_in_range b (Query (ShapeOf (key_of b)) (λ s.
+    if nat_lt (random_of b.fcb) (length s) then Query (Content (key_of b) (random_of b.fcb)) (λ r. Return (record_found (random_of b.fcb) (missing s (random_of b.fcb)) r))
+    else Return (finding.Value (missing s (random_of b.fcb)))))
+
+-- functions 34 and 40, of which the second fills the places up to the record with zeros
+abbrev pub write_random : Bool → Block → FileTree Finding
+write_random filled b = if_in_range b (writing b (random_of b.fcb) (random_of b.fcb) filled)
+
+-- function 35: the length
+abbrev pub file_size : Block → FileTree Finding
+file_size b = Query (IsThere (key_of b)) (λ there. if there then Query (ShapeOf (key_of b)) (λ s. Return (finding.Length (length s))) else Return finding.NoLength)
+
+-- function 36 asks for no file
+abbrev pub set_random : Block → FileTree Finding
+set_random b = Return (finding.RandomPlace (place_of b.fcb))
+
+-- what each call asks and finds
+abbrev pub found : FileFunction → Block → FileTree Finding
+found Open b = open_file b
+found Close b = close_file b
+found SearchFirst b = search_first b
+found ReadSequential b = read_sequential b
+found WriteSequential b = write_sequential b
+found Make b = make_file b
+found Rename b = rename_file b
+found ReadRandom b = read_random b
+found WriteRandom b = write_random false b
+found FileSize b = file_size b
+found SetRandomRecord b = set_random b
+found WriteRandomZeroFill b = write_random true b
+
+-- how many bytes of its control block a call reads: 36 where it has a random place
+abbrev pub block_length : FileFunction → ℕ
+block_length Open = 33
+block_length Close = 33
+block_length SearchFirst = 33
+block_length ReadSequential = 33
+block_length WriteSequential = 33
+block_length Make = 33
+block_length Rename = 33
+block_length ReadRandom = 36
+block_length WriteRandom = 36
+block_length FileSize = 36
+block_length SetRandomRecord = 36
+block_length WriteRandomZeroFill = 36
+
+-- the keys of a rename are not the same
+abbrev pub IsApart : Finding → Type 0
+IsApart (finding.Value v) = Unit {0}
+IsApart (finding.Opened n) = Unit {0}
+IsApart (finding.FirstEntry s) = Unit {0}
+IsApart finding.NoEntry = Unit {0}
+IsApart (finding.Found r n) = Unit {0}
+IsApart (finding.Write w) = Unit {0}
+IsApart (finding.Make key) = Unit {0}
+IsApart (finding.Rename old new) = old ≢ new
+IsApart (finding.Length n) = Unit {0}
+IsApart finding.NoLength = Unit {0}
+IsApart (finding.RandomPlace n) = Unit {0}

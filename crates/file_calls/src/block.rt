@@ -1,0 +1,38 @@
+ghost use Rattle.std.specs.Prelude.{◌≡◌, ◌∷◌};
+ghost use Rattle.file_calls.specs.FileCalls.{key_of, new_key_of};
+
+use cpmfiles::{Fcb, Key};
+
+/// A file control block on its drive.
+#[derive(Clone, Copy)]
+pub struct Block {
+    /// The drive that the control block names: 0 to 3 for A to D.
+    pub drive: u8,
+    /// The control block.
+    pub fcb: Fcb,
+}
+
+impl Block {
+    /// The key of the file that the control block names, at its bytes 1 to 11.
+    pub fn key(&self) -> Key
+        ensures { result ≡ key_of self.now }
+    {
+        on_drive(self.drive, self.fcb.key())
+    }
+
+    /// The new key of a rename, at bytes 17 to 27.
+    pub fn new_key(&self) -> Key
+        ensures { result ≡ new_key_of self.now }
+    {
+        on_drive(self.drive, self.fcb.new_key())
+    }
+}
+
+// A name on a drive.
+fn on_drive(drive: u8, name: [u8; 11]) -> Key
+    ensures { result ≡ drive ∷ name }
+{
+    let mut key = [drive; 12];
+    key[1..12].copy_from_slice(&name);
+    key
+}

@@ -1,0 +1,79 @@
+ghost use Rattle.std.specs.Prelude.{◌≡◌, IfOk, if◌then◌else◌};
+ghost use Rattle.file_calls.specs.FileCalls.{found, block_length, IsApart};
+ghost use Rattle.file_calls.specs.Questions.{drives_of};
+ghost use Rattle.file_calls.specs.Asks.{Asks};
+
+use crate::block::Block;
+use crate::finding::Finding;
+use crate::inquiry::{
+    close_file, file_size, make_file, open_file, read_random, read_sequential, rename_file,
+    search_first, set_random, write_random, write_sequential,
+};
+use cpmfiles::Table;
+use std::alloc::AllocError;
+
+/// A call that names a file by a control block, but for a deletion. (CP/M 2.2 Interface Guide.)
+#[derive(Clone, Copy, Debug, PartialEq, Eq)]
+pub enum FileFunction {
+    /// 15: an extent of a file.
+    Open,
+    /// 16: a file that is no longer used.
+    Close,
+    /// 17: the first entry of the directory that matches.
+    SearchFirst,
+    /// 20: the record at the place of the control block.
+    ReadSequential,
+    /// 21: a record to that place.
+    WriteSequential,
+    /// 22: a new file.
+    Make,
+    /// 23: another name for a file.
+    Rename,
+    /// 33: the record at the random place.
+    ReadRandom,
+    /// 34: a record to that place.
+    WriteRandom,
+    /// 35: how long a file is.
+    FileSize,
+    /// 36: the place of the control block as the random one.
+    SetRandomRecord,
+    /// 40: a record to the random place, with zeros before it.
+    WriteRandomZeroFill,
+}
+
+impl FileFunction {
+    /// Whether the call reads the random place of its control block, and so 36 bytes of it; else it reads 33.
+    pub fn has_random_place(self) -> bool
+        ensures { block_length self ≡ (if result then 36 else 33) }
+    {
+        match self {
+            FileFunction::ReadRandom
+            | FileFunction::WriteRandom
+            | FileFunction::FileSize
+            | FileFunction::SetRandomRecord
+            | FileFunction::WriteRandomZeroFill => true,
+            _ => false,
+        }
+    }
+
+    /// What the call finds.
+    pub fn inquire(self, table: &mut Table<'_>, block: &Block) -> Result<Finding, AllocError>
+        ensures asks { Asks (found self block.now) (drives_of table.old) result (drives_of table.new) }
+        ensures apart { IfOk result IsApart }
+    {
+        match self {
+            FileFunction::Open => open_file(table, block),
+            FileFunction::Close => close_file(table, block),
+            FileFunction::SearchFirst => Ok(search_first(table, block)),
+            FileFunction::ReadSequential => read_sequential(table, block),
+            FileFunction::WriteSequential => write_sequential(table, block),
+            FileFunction::Make => make_file(table, block),
+            FileFunction::Rename => rename_file(table, block),
+            FileFunction::ReadRandom => read_random(table, block),
+            FileFunction::WriteRandom => write_random(table, block, false),
+            FileFunction::FileSize => file_size(table, block),
+            FileFunction::SetRandomRecord => Ok(set_random(table, block)),
+            FileFunction::WriteRandomZeroFill => write_random(table, block, true),
+        }
+    }
+}

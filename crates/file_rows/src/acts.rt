@@ -1,0 +1,92 @@
+// Calls of a table with what they answer.
+
+use crate::fixtures::{are_asked, filled};
+use cpmfiles::{Ask, Changes, HostFiles, Key, Table};
+use std::alloc::AllocError;
+use std::process::Abort;
+
+/// A call of a table, and its answer. A record is told by the one byte of which it is made.
+#[derive(Clone, Copy, Debug)]
+pub enum Act {
+    Has(Key, bool),
+    Records(Key, Option<u32>),
+    Extent(Key, u32, Option<u8>),
+    // None: it can't be read.
+    Read(Key, u32, Option<u8>),
+    Write(Key, u32, u8, bool),
+    Fill(Key, u32, u8, bool),
+    Make(Key, bool),
+    Delete(Key, u64),
+    Rename(Key, Key, bool),
+}
+
+use Act::{Delete, Extent, Fill, Has, Make, Read, Records, Rename, Write};
+
+// Reads a record: where it can't be read, what was there before stays.
+fn reads(
+    rt: &impl Abort,
+    table: &mut Table<'_>,
+    key: &Key,
+    place: u32,
+    wanted: Option<u8>,
+) -> Result<(), AllocError> {
+    let mut found = filled(0xee);
+    assert_eq!(rt; table.read(key, place, &mut found)?, wanted.is_some());
+    assert_eq!(rt; found, filled(wanted.unwrap_or(0xee)));
+    Ok(())
+}
+
+fn carry_out(rt: &impl Abort, table: &mut Table<'_>, act: Act) -> Result<(), AllocError> {
+    match act {
+        Has(key, there) => assert_eq!(rt; table.has(&key)?, there),
+        Records(key, count) => assert_eq!(rt; table.records(&key)?, count),
+        Extent(key, e, count) => assert_eq!(rt; table.extent(&key, e)?, count),
+        Read(key, place, byte) => reads(rt, table, &key, place, byte)?,
+        _ => change(rt, table, act)?,
+    }
+    Ok(())
+}
+
+fn change(rt: &impl Abort, table: &mut Table<'_>, act: Act) -> Result<(), AllocError> {
+    match act {
+        Write(key, place, byte, done) if place < 65_536 => {
+            assert_eq!(rt; table.write(&key, place, &filled(byte))?, done);
+        }
+        Fill(key, place, byte, done) if place < 65_536 => {
+            assert_eq!(rt; table.write_filled(&key, place, &filled(byte))?, done);
+        }
+        Make(key, done) => assert_eq!(rt; table.make(&key)?, done),
+        Delete(key, count) => assert_eq!(rt; table.delete(&key)?, count),
+        Rename(old, new, done) => assert_eq!(rt; table.rename(&old, &new)?, done),
+        _ => panic!(rt; "{act:?}"),
+    }
+    Ok(())
+}
+
+/// Carries out each call, and compares all questions that were asked up to then.
+pub fn acts(
+    rt: &impl Abort,
+    host: &HostFiles,
+    changes: &mut Changes,
+    rows: &[(Act, &[Ask])],
+) -> Result<(), AllocError> {
+    for (act, asks) in rows {
+        carry_out(rt, &mut Table::new(host, changes), *act)?;
+        assert!(rt; are_asked(changes, asks)?, "after {act:?}");
+    }
+    Ok(())
+}
+
+/// Carries out each call.
+pub fn all(
+    rt: &impl Abort,
+    host: &HostFiles,
+    changes: &mut Changes,
+    rows: &[Act],
+) -> Result<(), AllocError> {
+    let mut table = Table::new(host, changes);
+    for act in rows {
+        carry_out(rt, &mut table, *act)?;
+    }
+    Ok(())
+}

@@ -1,0 +1,70 @@
+// Deletions by patterns.
+
+use crate::acts::Act::{Delete, Has, Make, Records, Write};
+use crate::acts::{Act, acts, all};
+use crate::fixtures::{ANN, BEN, CAT, hosts};
+use crate::searches::{ALL, search};
+use cpmfiles::{Ask, Changes, Key};
+use std::test::Fail;
+
+const OTHER: Key = *b"\x01ANN        ";
+
+// The directory alone is asked, and each file that matches is told, whether the host or the program made it.
+#[test]
+fn all_files_that_match_are_deleted(rt: HostRuntime) -> Result<(), Fail> {
+    let host = hosts(rt.alloc(), &[("ann", 1), ("ben", 1), ("b:ann", 1)])?;
+    let mut changes = Changes::new(rt.alloc());
+    const MADE: &[Ask] = &[Ask::Has(CAT)];
+    const ASKS: &[Ask] = &[Ask::Has(CAT), Ask::Directory(0)];
+    const ROWS: &[(Act, &[Ask])] = &[
+        (Make(CAT, true), MADE),
+        (Delete(*b"\0?A?        ", 1), ASKS),
+        (Has(CAT, false), ASKS),
+        (Delete(*b"\0??N        ", 2), ASKS),
+        (Delete(ALL, 0), ASKS),
+        (Has(ANN, false), ASKS),
+        (Has(BEN, false), ASKS),
+    ];
+    acts(&rt, &host, &mut changes, ROWS)?;
+    search(&rt, &host, &mut changes, &ALL, b'?', &[])?;
+    search(&rt, &host, &mut changes, &OTHER, b'?', &[(OTHER, 0, 1)])?;
+    Ok(())
+}
+
+#[test]
+fn a_deletion_keeps_what_does_not_match(rt: HostRuntime) -> Result<(), Fail> {
+    let host = hosts(rt.alloc(), &[("ann", 1), ("ben", 1), ("cat", 1)])?;
+    let mut changes = Changes::new(rt.alloc());
+    const CALLS: &[Act] = &[
+        Write(BEN, 4, b'a', true),
+        Delete(*b"\0A??        ", 1),
+        Delete(*b"\x01???????????", 0),
+        Records(ANN, None),
+        Records(BEN, Some(5)),
+        Delete(*b"\0C?T        ", 1),
+        Make(ANN, true),
+    ];
+    all(&rt, &host, &mut changes, CALLS)?;
+    search(
+        &rt,
+        &host,
+        &mut changes,
+        &ALL,
+        0,
+        &[(ANN, 0, 0), (BEN, 0, 5)],
+    )?;
+    Ok(())
+}
+
+#[test]
+fn a_deletion_by_pattern_takes_512_files(rt: HostRuntime) -> Result<(), Fail> {
+    let host = crate::hosts::many(rt.alloc(), 512)?;
+    let mut changes = Changes::new(rt.alloc());
+    const ASKS: &[Ask] = &[Ask::Directory(2)];
+    const ROWS: &[(Act, &[Ask])] = &[
+        (Delete(*b"\x02F??????????", 128), ASKS),
+        (Delete(*b"\x02???????????", 0), ASKS),
+    ];
+    acts(&rt, &host, &mut changes, ROWS)?;
+    Ok(())
+}

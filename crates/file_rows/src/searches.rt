@@ -1,0 +1,119 @@
+// Searches that go on while files change, and what a search asks of host files.
+
+use crate::acts::Act::{Delete, Make, Rename, Write};
+use crate::acts::{Act, all};
+use crate::fixtures::{ANN, BEN, CAT, are_asked, hosts};
+use cpmfiles::Ask::Directory;
+use cpmfiles::{Changes, HostFiles, Key, Table};
+use std::alloc::{AllocError, Global};
+use std::process::Abort;
+use std::test::Fail;
+
+/// The pattern of all files of drive A.
+pub const ALL: Key = *b"\0???????????";
+
+/// An entry: the file's key, the extent, and its count.
+pub type Found = (Key, u16, u8);
+
+const ANN_0: Found = (ANN, 0, 1);
+
+const BEN_0: Found = (BEN, 0, 1);
+
+/// The bytes of an entry.
+pub fn entry(key: &Key, extent: u16, count: u8) -> [u8; 32] {
+    let mut bytes = [0; 32];
+    for i in 1..12 {
+        bytes[i] = key[i];
+    }
+    bytes[12] = (extent % 32) as u8;
+    bytes[14] = (extent / 32 % 16) as u8;
+    bytes[15] = count;
+    bytes
+}
+
+/// The first entry that matches a pattern.
+pub fn found(
+    host: &HostFiles,
+    changes: &mut Changes,
+    pattern: &Key,
+    ex: u8,
+) -> Result<Option<[u8; 32]>, AllocError> {
+    Table::new(host, changes).next_entry(pattern, ex, None)
+}
+
+/// Compares all entries that match a pattern with these.
+pub fn search(
+    rt: &impl Abort,
+    host: &HostFiles,
+    changes: &mut Changes,
+    pattern: &Key,
+    ex: u8,
+    wanted: &[Found],
+) -> Result<(), AllocError> {
+    let mut table = Table::new(host, changes);
+    let mut last = None;
+    for (key, extent, count) in wanted {
+        let next = table.next_entry(pattern, ex, last)?;
+        assert_eq!(rt; next, Some(entry(key, *extent, *count)), "{pattern:?}");
+        last = next;
+    }
+    assert_eq!(rt; table.next_entry(pattern, ex, last)?, None, "{pattern:?}");
+    Ok(())
+}
+
+// The bytes of an entry.
+fn bytes_of(found: &Found) -> [u8; 32] {
+    entry(&found.0, found.1, found.2)
+}
+
+// After an entry and a call, the next entry.
+fn goes_on(
+    rt: &impl Abort,
+    alloc: Global,
+    last: &Found,
+    call: Act,
+    wanted: Option<&Found>,
+) -> Result<(), Fail> {
+    let host = hosts(alloc, &[("ann", 1), ("ben", 1)])?;
+    let mut changes = Changes::new(alloc);
+    all(rt, &host, &mut changes, &[call])?;
+    let mut table = Table::new(&host, &mut changes);
+    let next = table.next_entry(&ALL, b'?', Some(bytes_of(last)))?;
+    match wanted {
+        Some(found) => assert_eq!(rt; next, Some(bytes_of(found)), "{call:?}"),
+        None => assert_eq!(rt; next, None, "{call:?}"),
+    }
+    Ok(())
+}
+
+// It takes the files as they are now: those that were made, made longer, renamed and deleted since.
+#[test]
+fn a_search_goes_on_from_the_entry_given(rt: HostRuntime) -> Result<(), Fail> {
+    const ROWS: &[(Found, Act, Option<&Found>)] = &[
+        (ANN_0, Delete(ANN, 1), Some(&BEN_0)),
+        (ANN_0, Delete(BEN, 1), None),
+        (BEN_0, Delete(BEN, 1), None),
+        (BEN_0, Make(CAT, true), Some(&(CAT, 0, 0))),
+        (ANN_0, Write(ANN, 256, 1, true), Some(&(ANN, 2, 1))),
+        ((ANN, 1, 1), Write(ANN, 256, 1, true), Some(&(ANN, 2, 1))),
+        ((ANN, 2, 1), Write(ANN, 256, 1, true), Some(&BEN_0)),
+        (BEN_0, Rename(ANN, CAT, true), Some(&(CAT, 0, 1))),
+        ((ANN, 511, 128), Write(BEN, 0, 1, true), Some(&BEN_0)),
+    ];
+    for (last, call, wanted) in ROWS {
+        goes_on(&rt, rt.alloc(), last, *call, *wanted)?;
+    }
+    Ok(())
+}
+
+#[test]
+fn a_search_asks_the_directory_of_its_drive(rt: HostRuntime) -> Result<(), Fail> {
+    let host = hosts(rt.alloc(), &[("ann", 1), ("b:ann", 1)])?;
+    let mut changes = Changes::new(rt.alloc());
+    search(&rt, &host, &mut changes, &ANN, 0, &[(ANN, 0, 1)])?;
+    assert!(rt; are_asked(&changes, &[Directory(0)])?);
+    search(&rt, &host, &mut changes, &ALL, b'?', &[(ANN, 0, 1)])?;
+    search(&rt, &host, &mut changes, &*b"\x03???????????", 0, &[])?;
+    assert!(rt; are_asked(&changes, &[Directory(0), Directory(3)])?);
+    Ok(())
+}

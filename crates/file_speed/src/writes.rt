@@ -1,0 +1,144 @@
+// Records that are read and written.
+
+ghost use Rattle.std.specs.Prelude.{◌<◌, ◌≤◌};
+
+use crate::files::{KEY, PLACES, made, one_file};
+use crate::watch::Watch;
+use cpmfiles::{Changes, HostFiles, Table};
+use std::alloc::{AllocError, Global};
+use std::io;
+use std::time::CpuClock;
+
+/// In which order all places are gone through.
+#[derive(Clone, Copy)]
+enum Order {
+    Rising,
+    Scattered,
+}
+
+impl Order {
+    // The place that is gone to as the `i`th. Scattered places leap from extent to extent, and each comes once.
+    fn place(self, i: u32) -> u32
+        requires { i < 65536 }
+        ensures { result < 65536 }
+    {
+        let mixed = (i * 25_173 + 13_849) % PLACES;
+        match self {
+            Order::Rising => i,
+            Order::Scattered => (mixed ^ (mixed >> 8)).wrapping_mul(40_503) % PLACES,
+        }
+    }
+}
+
+fn write_all(table: &mut Table<'_>, order: Order, byte: u8) -> Result<(), AllocError> {
+    for i in 0..PLACES {
+        table.write(&KEY, order.place(i), &[byte; 128])?;
+    }
+    Ok(())
+}
+
+fn read_all(table: &mut Table<'_>, order: Order) -> Result<(), AllocError> {
+    let mut bytes = [0; 128];
+    for i in 0..PLACES {
+        table.read(&KEY, order.place(i), &mut bytes)?;
+    }
+    Ok(())
+}
+
+/// A host file that is read, read again, written over, and read once more.
+pub fn host_file(rt: &(impl Print + CpuClock), alloc: Global, watch: &mut Watch) -> io::Result<()> {
+    let host = one_file(alloc, 8_388_608)?;
+    watch.lap(rt, "host-set", PLACES)?;
+    in_one_order(rt, alloc, watch, &host, Order::Rising)?;
+    in_one_order(rt, alloc, watch, &host, Order::Scattered)
+}
+
+fn in_one_order(
+    rt: &(impl Print + CpuClock),
+    alloc: Global,
+    watch: &mut Watch,
+    host: &HostFiles,
+    order: Order,
+) -> io::Result<()> {
+    let names = match order {
+        Order::Rising => [
+            "host-read",
+            "host-read-again",
+            "host-write",
+            "own-read",
+            "own-write",
+        ],
+        Order::Scattered => [
+            "scattered-host-read",
+            "scattered-host-read-again",
+            "scattered-host-write",
+            "scattered-own-read",
+            "scattered-own-write",
+        ],
+    };
+    let mut changes = Changes::new(alloc);
+    let mut table = Table::new(host, &mut changes);
+    watch.skip(rt)?;
+    read_all(&mut table, order)?;
+    watch.lap(rt, names[0], PLACES)?;
+    read_all(&mut table, order)?;
+    watch.lap(rt, names[1], PLACES)?;
+    write_all(&mut table, order, 1)?;
+    watch.lap(rt, names[2], PLACES)?;
+    read_all(&mut table, order)?;
+    watch.lap(rt, names[3], PLACES)?;
+    write_all(&mut table, order, 2)?;
+    watch.lap(rt, names[4], PLACES)
+}
+
+const COPIES: u32 = 100;
+
+/// Copies of a run's changes, by which one record or each of an 8 MB file was written; then in each copy a first and a second write.
+pub fn copies(
+    rt: &(impl Print + CpuClock),
+    alloc: Global,
+    watch: &mut Watch,
+    names: [&str; 3],
+    count: u32,
+) -> io::Result<()>
+    requires { count ≤ 65536 }
+{
+    let host = HostFiles::new(alloc);
+    let changes = made(alloc, &host, count)?;
+    let mut all = Vec::with_capacity(alloc, COPIES as usize)?;
+    watch.skip(rt)?;
+    for _ in 0..COPIES {
+        all.push(changes.snapshot()?)?;
+    }
+    watch.lap(rt, names[0], COPIES)?;
+    let first = write_each(alloc, &host, all)?;
+    watch.lap(rt, names[1], COPIES)?;
+    let second = write_each(alloc, &host, first)?;
+    watch.lap(rt, names[2], COPIES)?;
+    drop(second);
+    Ok(())
+}
+
+// Writes the first record in each copy.
+fn write_each(
+    alloc: Global,
+    host: &HostFiles,
+    copies: Vec<Changes>,
+) -> Result<Vec<Changes>, AllocError> {
+    let mut written = Vec::with_capacity(alloc, copies.len())?;
+    for copy in copies {
+        let mut changes = copy;
+        Table::new(host, &mut changes).write(&KEY, 0, &[1; 128])?;
+        written.push(changes)?;
+    }
+    Ok(written)
+}
+
+/// A new file of which the last place alone is written, with zeros before it.
+pub fn gap(rt: &(impl Print + CpuClock), alloc: Global, watch: &mut Watch) -> io::Result<()> {
+    let host = HostFiles::new(alloc);
+    let mut changes = made(alloc, &host, 0)?;
+    watch.skip(rt)?;
+    Table::new(&host, &mut changes).write_filled(&KEY, 65_535, &[1; 128])?;
+    watch.lap(rt, "fill-gap", 1)
+}

@@ -1,0 +1,86 @@
+-- Names of files in the folder of a drive.
+use Rattle.std.proofs.Common.{◌≡◌, ◌<◌, ℕ, Bool, true, false, cond, ◌&&◌, ◌||◌, List, [], ◌∷◌, length, drop, nat_lt, slice_index, Option, Some, None, refl, ap, sym, ◌∙◌, arith}
+use Rattle.std.specs.Prelude.{Result, Ok, Err, slice_set, ◌==◌}
+use Rattle.std.proofs.lemmas.Bool.Decides.{nat_tests}
+use Rattle.std.specs.List.{before_first, after_first, list_any}
+use Rattle.filenames.proofs.NameLemmas.{sayable_parts}
+use Rattle.filenames.specs.Names.{Key, is_allowed, is_colon, is_dot, is_field, is_sayable, is_valid, key_of, name_field, type_field, named, on_drive, drive_of, plain_name, has_drive, name_of}
+use Rattle.folders.specs.Entries.{key_in, ok_or_none}
+
+all_four : (a b c d : Bool) → a ≡ true → b ≡ true → c ≡ true → d ≡ true → (a && b && c && d) ≡ true
+all_four true true true true p q r s = refl
+all_four false b c d p q r s = cc
+all_four true false c d p q r s = cc
+all_four true true false d p q r s = cc
+all_four true true true false p q r s = cc
+
+below_four : (drive : ℕ) → drive < 4 → nat_lt drive 4 ≡ true
+below_four drive d = grind (arith, nat_tests)
+
+-- a name on another drive is a name
+pub moved_is_sayable : (key : Key) (drive : ℕ) → length key ≡ 12 → drive < 4 → is_sayable key ≡ true → is_sayable (slice_set key 0 drive) ≡ true
+unfolding is_sayable
+moved_is_sayable [] drive n d s = absurd (omega arith)
+moved_is_sayable (k ∷ ks) drive n d s =
+    let parts = sayable_parts (k ∷ ks) s in
+    all_four (nat_lt drive 4) (is_allowed (slice_index (drive ∷ ks) 1)) (is_field (name_field (drive ∷ ks))) (is_field (type_field (drive ∷ ks)))
+    (below_four drive d) parts.first parts.name parts.kind
+
+-- a name without a `:` names no drive
+no_letter : (file : List ℕ) → list_any is_colon file ≡ false → has_drive file ≡ false
+no_letter [] h = refl
+no_letter (b ∷ []) h = refl
+no_letter (b ∷ c ∷ bs) h = neither (nat_lt 1 (length (b ∷ c ∷ bs))) (is_colon c) (second (is_colon b) (is_colon c) (list_any is_colon bs) h)
+  where
+    neither : (x y : Bool) → y ≡ false → (x && y) ≡ false
+    neither true y e = e
+    neither false y e = refl
+
+    second : (x y z : Bool) → (x || (y || z)) ≡ false → y ≡ false
+    second true y z e = cc
+    second false true z e = cc
+    second false false z e = refl
+
+-- the key that a result gives, put on a drive
+abbrev put_on : ℕ → Result Key ℕ → Result Key ℕ
+put_on drive (Ok key) = Ok (slice_set key 0 drive)
+put_on drive (Err n) = Err n
+
+by_tests : (a b c : Bool) (drive : ℕ) (key other : Key) → slice_set key 0 drive ≡ other
+    → cond a (Err 1) (cond b (Err 2) (cond c (Ok other) (Err 3))) ≡ put_on drive (cond a (Err 1) (cond b (Err 2) (cond c (Ok key) (Err 3))))
+by_tests true b c drive key other e = refl
+by_tests false true c drive key other e = refl
+by_tests false false true drive key other e = ap Ok (sym e)
+by_tests false false false drive key other e = refl
+
+-- a name on a drive is the same name on drive A, put on it
+named_on : (drive : ℕ) (name kind : List ℕ) → named drive name kind ≡ put_on drive (named 0 name kind)
+unfolding named
+named_on drive name kind = by_tests (length name == 0) (nat_lt 8 (length name) || nat_lt 3 (length kind)) (is_valid name && is_valid kind) drive (key_of 0 name kind) (key_of drive name kind) refl
+
+plain_of : (file : List ℕ) → list_any is_colon file ≡ false → name_of file ≡ plain_name 0 file
+unfolding name_of
+plain_of file h = ap (λ b. cond b (on_drive (drive_of (slice_index file 0)) (drop 2 file)) (plain_name 0 file)) (no_letter file h)
+
+key_by : (file : List ℕ) (drive : ℕ) → list_any is_colon file ≡ false → key_in drive file ≡ ok_or_none (put_on drive (name_of file))
+key_by file drive h = rw (h, plain_of file h) (ap ok_or_none (named_on drive (before_first is_dot file) (after_first is_dot file)))
+
+-- a file's name that says a name on drive A has the key of it on its drive
+pub said_key : (file : List ℕ) (drive : ℕ) (key : Key) → list_any is_colon file ≡ false → name_of file ≡ Ok key → key_in drive file ≡ Some (slice_set key 0 drive)
+said_key file drive key h e = key_by file drive h ∙ ap (λ r. ok_or_none (put_on drive r)) e
+
+-- and one that says none has none
+pub refused_key : (file : List ℕ) (drive n : ℕ) → list_any is_colon file ≡ false → name_of file ≡ Err n → key_in drive file ≡ None
+refused_key file drive n h e = key_by file drive h ∙ ap (λ r. ok_or_none (put_on drive r)) e
+
+either_none : (b : Bool) (r : Option Key) → r ≡ None → cond b None r ≡ None
+either_none true r e = refl
+either_none false r e = e
+
+nameless : (drive : ℕ) (kind : List ℕ) → ok_or_none (named drive [] kind) ≡ None
+unfolding named
+nameless drive kind = refl
+
+-- a name that begins with a `.` (46) is that of no host file
+pub dotted_key : (file : List ℕ) (drive : ℕ) → key_in drive (46 ∷ file) ≡ None
+dotted_key file drive = either_none (list_any is_colon (46 ∷ file)) (ok_or_none (plain_name drive (46 ∷ file))) (nameless drive (after_first is_dot (46 ∷ file)))

@@ -1,0 +1,4 @@
+pub mod EntryLemmas
+pub mod ListingLemmas
+pub mod ReadLemmas
+pub mod WriteLemmas

@@ -1,0 +1,14 @@
+use Rattle.std.proofs.Common.{◌≡◌, true, slice_index, rules}
+use Rattle.filenames.specs.Names.{is_sayable}
+use Rattle.folders.proofs.ListingLemmas.{put_or_not, still_there}
+use Rattle.folders.proofs.listing.Listing.add.Goals as goal
+
+pub invariant_of-self-2 : goal.invariant_of-self-2
+invariant_of-self-2 c =
+    let own = c.args.self.now in
+    let key = c.key-key.result in
+    record {
+      names = put_or_not (λ k. is_sayable k ≡ true) _ _ key _ c.insert.result c.insert.ensures.ok c.insert.ensures.err c.key-key.ensures.sayable own.names;
+      on_drive = put_or_not (λ k. slice_index k 0 ≡ own.drive) _ _ key _ c.insert.result c.insert.ensures.ok c.insert.ensures.err (search rules) own.on_drive;
+      twice_there = λ k h. still_there _ _ key _ c.insert.result c.insert.ensures.ok c.insert.ensures.err k (own.twice_there k h);
+    }

@@ -1,0 +1,29 @@
+-- Names of files in the folder of a drive: this project's profile.
+use Rattle.std.specs.Prelude.{ℕ, ◌==◌, ◌-◌, ◌++◌, ◌∷◌, [], Bool, false, not, List, Option, Some, None, Result, Ok, Err, if◌then◌else◌, codes, slice_get, slice_set, length}
+use Rattle.std.specs.List.{list_any}
+use Rattle.std.specs.Option.{option_map_or}
+use Rattle.filenames.specs.Names.{Key, is_colon, plain_name, printed}
+
+abbrev pub ok_or_none : Result Key ℕ → Option Key
+ok_or_none (Ok key) = Some key
+ok_or_none (Err n) = None
+
+-- the key that a file in the folder of a drive has by its name there, if it is that of a host file: a name with a `:` is passed over
+abbrev pub key_in : ℕ → List ℕ → Option Key
+key_in drive file = if list_any is_colon file then None else ok_or_none (plain_name drive file)
+
+-- the name in the folder: as printed of drive A, so without a letter and `:`
+abbrev pub file_text : Key → List ℕ
+file_text key = printed (slice_set key 0 0)
+
+-- the name while the file is written
+abbrev pub temporary_text : Key → List ℕ
+temporary_text key = codes "." ++ file_text key ++ codes ".new"
+
+-- a `/` is wanted behind a folder: it is not empty, and its last byte is no `/`
+abbrev pub needs_slash : List ℕ → Bool
+needs_slash folder = option_map_or (λ last. not (last == 47)) (slice_get folder (length folder - 1)) false
+
+-- a folder and the name of a file in it, with a `/` between
+abbrev pub path_text : List ℕ → List ℕ → List ℕ
+path_text folder file = folder ++ (if needs_slash folder then 47 ∷ [] else []) ++ file

@@ -1,0 +1,30 @@
+-- Why folders are not read or a file is not written, and what tells it.
+use Rattle.std.specs.Prelude.{◌≡◌, ℕ, List, ◌++◌, codes, string_bytes}
+use Rattle.std.specs.Fmt.{decimal}
+use Rattle.filenames.specs.Names.{printed}
+use Rattle.folders.specs.declared.fault.Fault.{Fault}
+use Rattle.folders.specs.declared.fault.Fault.TheVariants.{CannotRead, CannotWrite, TwoFiles, Refused, OutOfMemory}
+
+-- what is printed of a fault
+abbrev pub text_of : Fault → List ℕ
+text_of (CannotRead path) = codes "cannot read " ++ string_bytes path
+text_of (CannotWrite path) = codes "cannot write " ++ string_bytes path
+text_of (TwoFiles name) = codes "two files are " ++ printed name
+text_of (Refused name n) = codes "file " ++ printed name ++ codes " refused " ++ decimal n
+text_of OutOfMemory = codes "out of memory"
+
+-- the file or folder of this path could not be read, or memory was refused
+abbrev pub Unread : List ℕ → Fault → Type 0
+Unread path (CannotRead p) = string_bytes p ≡ path
+Unread path (CannotWrite p) = ⊥
+Unread path (TwoFiles name) = ⊥
+Unread path (Refused name n) = ⊥
+Unread path OutOfMemory = Unit {0}
+
+-- the file of this path could not be written, or memory was refused
+abbrev pub Unwritten : List ℕ → Fault → Type 0
+Unwritten path (CannotRead p) = ⊥
+Unwritten path (CannotWrite p) = string_bytes p ≡ path
+Unwritten path (TwoFiles name) = ⊥
+Unwritten path (Refused name n) = ⊥
+Unwritten path OutOfMemory = Unit {0}

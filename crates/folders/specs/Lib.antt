@@ -1,0 +1,5 @@
+pub mod Entries
+pub mod Faults
+pub mod Listings
+pub mod Folders
+pub mod Written

@@ -1,0 +1,15 @@
+//! The folders of the host that stand for the drives A to D: their files are read as host files, and changed files are
+//! written into them.
+#![tactic(auto)]
+
+mod entry;
+mod fault;
+mod listing;
+mod reading;
+mod writing;
+
+pub use entry::{file_name, name_in_folder, path_in, temporary_name};
+pub use fault::Fault;
+pub use listing::Listing;
+pub use reading::{read_folder, read_folders};
+pub use writing::{write_file, write_records, write_to_drive};

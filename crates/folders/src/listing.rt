@@ -1,0 +1,70 @@
+// The files of a folder by the names that they give.
+
+ghost use Rattle.std.specs.Prelude.{◌≡◌, ◌<◌, ℕ, List, true, false, None, Some, OnOk, OnErr, slice_index};
+ghost use Rattle.std.specs.FinMap as finmap;
+ghost use Rattle.std.specs.Option.{ForSome};
+ghost use Rattle.filenames.specs.Names.{is_sayable};
+ghost use Rattle.folders.specs.Listings.{least};
+
+use filenames::{Key, Name};
+use keymaps::KeyMap;
+use std::alloc::{AllocError, Global};
+use std::cmp::Ordering;
+
+/// The files in the folder of a drive that are host files, and whether two of them have one name.
+#[derive(Drop)]
+pub struct Listing {
+    /// The drive, 0 to 3 for A to D.
+    pub drive: u8,
+    /// The name in the folder of the file of each key: of two files of one key, that of the one listed first.
+    pub files: KeyMap<String>,
+    /// The least key that two files have.
+    pub twice: Option<Key>,
+    ghost names: { (k : List ℕ) → finmap.contains_key files k ≡ true → is_sayable k ≡ true },
+    ghost on_drive: { (k : List ℕ) → finmap.contains_key files k ≡ true → slice_index k 0 ≡ drive },
+    ghost twice_there: { ForSome twice (λ k. finmap.contains_key files k ≡ true) },
+}
+
+impl Listing {
+    /// No file. Takes no memory.
+    pub fn new(alloc: Global, drive: u8) -> Listing
+        ensures drive { result.drive ≡ drive }
+        ensures files { result.files ≡ finmap.empty }
+        ensures twice { result.twice ≡ None }
+    {
+        Listing {
+            drive,
+            files: KeyMap::new(alloc),
+            twice: None,
+        }
+    }
+
+    /// Adds a file by the name that it gives, on the listing's drive, and its name in the folder. An error changes nothing.
+    pub fn add(&mut self, name: &Name, file: String) -> Result<(), AllocError>
+        requires { slice_index name.now 0 ≡ self.old.drive }
+        ensures drive { self.new.drive ≡ self.old.drive }
+        ensures once { OnOk result (finmap.contains_key self.old.files name.now ≡ false → (self.new.files ≡ finmap.insert self.old.files name.now file) × (self.new.twice ≡ self.old.twice)) }
+        ensures again { OnOk result (finmap.contains_key self.old.files name.now ≡ true → (self.new.files ≡ self.old.files) × (self.new.twice ≡ Some (least name.now self.old.twice))) }
+        ensures err { OnErr result (self.new ≡ self.old) }
+    {
+        let key = name.key();
+        if self.files.contains_key(&key) {
+            self.twice = Some(least(key, self.twice));
+            return Ok(());
+        }
+        self.files.insert(key, file)
+    }
+}
+
+// The lesser of two keys, where there are two.
+fn least(key: Key, other: Option<Key>) -> Key
+    ensures { result ≡ least key other }
+{
+    let Some(other) = other else {
+        return key;
+    };
+    match other.cmp(&key) {
+        Ordering::Less => other,
+        _ => key,
+    }
+}

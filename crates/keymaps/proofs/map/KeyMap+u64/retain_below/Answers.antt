@@ -1,0 +1,10 @@
+use Rattle.std.proofs.Common.{rules, nat_lt}
+use Rattle.std.specs.Cmp.Lexicographic.{nat_list_cmp_total}
+use Rattle.std.proofs.lemmas.Map.Made.{filter_same_pairs}
+use Rattle.keymaps.proofs.Below.{get_below}
+use Rattle.keymaps.proofs.map.KeyMap+u64.retain_below.Goals as goal
+
+pub returns : goal.returns
+returns c =
+    let e = filter_same_pairs _ (λ p. nat_lt p.1 c.args.limit) _ (λ k v b w f' t. search rules) _ _ c.retain.ensures.filtered in
+    λ q. get_below nat_list_cmp_total c.args.limit _ _ _ c.self.view_is c.retain.ensures.was_ordered e q

@@ -1,0 +1,130 @@
+-- The files as one map begin, answer and change as what was done to the files, laid over the host files.
+use Rattle.std.proofs.Common.{◌≡◌, ℕ, ◌&&◌, Bool, true, false, cond, T, List, [], ◌∷◌, length, map, Option, Some, None, is_some, unwrap_or, refl, sym, ap, subst, ◌∙◌, arith, inl, inr}
+use Rattle.std.proofs.lemmas.Bool.{cases_lt}
+use Rattle.std.proofs.lemmas.List.{get_or-map, length-map}
+use Rattle.std.proofs.lemmas.List.FromFn.{fill_by_all}
+use Rattle.std.proofs.lemmas.Option.{slice_get-get_or}
+use Rattle.std.specs.List.{range_with_len, filter}
+use Rattle.std.specs.Option.{option_map}
+use Rattle.std.specs.Ordering.{nat_cmp, is_lt}
+use Rattle.std.specs.Cmp.Lexicographic.{slice_cmp, nat_list_cmp_total}
+use Rattle.std.specs.FinMap.{get, insert, empty, entries, entries_sorted, get-entries, get-empty, get-from_entries, same_map}
+use Rattle.std.specs.FinMap.Entries.{below_all, is_sorted, find-where_key, is_sorted-where_key, same_entries}
+use Rattle.keymaps.proofs.Views.{same_key}
+use Rattle.hostfiles.specs.Hosts.{Key, Record, Host}
+use Rattle.hostfiles.specs.Files.{File, Own, has, entry_at, length_at, place_at, place_by, place_of, file_of, file_at, shape_of, shapes, files, deleted, wrote, wrote_filled}
+use Rattle.hostfiles.specs.Laid.{written, written_filled}
+use Rattle.hostfiles.proofs.FileLemmas.{get-files, get-shapes, files-made, files-deleted}
+use Rattle.hostfiles.proofs.LaidLemmas.{below, not_below, entry_file, files-wrote, files-renamed, files-read}
+use Rattle.hostfiles.proofs.FilledLemmas.{files-filled}
+use Rattle.file_calls.specs.Questions.{FileQuestion, IsThere, ShapeOf, Content, FilesOn, is_on, files_on, file_answers, shape_here}
+use Rattle.file_calls.specs.Changes.{FileChange, Unchanged, Made, Deleted, Renamed, Stored, own_with}
+use Rattle.file_calls.specs.Deletes.{without}
+use Rattle.host_questions.proofs.Names.{find-mapped, alike}
+use Rattle.machine.specs.WholeFiles.{without_holes, loaded_files, file_in, answers_of, removed, changed}
+use Rattle.machine.proofs.FitLemmas.{IsFit}
+use Rattle.machine.proofs.TidyFiles.{IsTidy}
+
+-- ---- the host files
+
+all_stand : (u : List Record) → without_holes u ≡ map (λ k. place_by u k (get {R = nat_cmp} empty k) true) (range_with_len 0 (length u))
+all_stand u = fill_by_all (λ k. place_by u k (get {R = nat_cmp} empty k) true) (without_holes u) (length u) None (length-map u (λ r. Some r))
+    (λ k h. get_or-map (λ r. Some r) u k [] None h ∙ sym (ap (λ o. place_by u k o true) (get-empty nat_cmp k) ∙ slice_get-get_or u k [] h))
+
+host_file : (host : Host) (q : Key) → option_map without_holes (get host q) ≡ entry_file host q None
+host_file host q = by (get host q) where
+  by : (o : Option (List Record)) → option_map without_holes o ≡ cond (is_some o) (Some (map (λ k. place_by (unwrap_or o []) k (get {R = nat_cmp} empty k) true) (range_with_len 0 (length (unwrap_or o []))))) None
+  by None = refl
+  by (Some u) = ap (λ (f : File). Some f) (all_stand u)
+
+-- with nothing done, all files are the host's
+pub loaded_is : (host : Host) → loaded_files host ≡ files host empty
+unfolding loaded_files
+loaded_is host = same_map nat_list_cmp_total same_key _ _ (λ q.
+    get-from_entries nat_list_cmp_total (map (λ e. (e.0, without_holes e.1)) (entries host)) q
+    ∙ find-mapped without_holes q (entries host)
+    ∙ ap (option_map without_holes) (sym (get-entries host q))
+    ∙ host_file host q
+    ∙ ap (entry_file host q) (sym (get-empty (slice_cmp nat_cmp) q))
+    ∙ sym (get-files host empty q))
+
+-- ---- files of a drive
+
+module _ {A B : Type 0} (g : A → B) where
+  below-mapped : (x : Key) (es : List (Key × A)) → below_all (slice_cmp nat_cmp) x (map (λ e. (e.0, g e.1)) es) ≡ below_all (slice_cmp nat_cmp) x es
+  below-mapped x [] = refl
+  below-mapped x (e ∷ es) = ap (λ b. is_lt (slice_cmp nat_cmp x e.0) && b) (below-mapped x es)
+
+  sorted-mapped : (es : List (Key × A)) → is_sorted (slice_cmp nat_cmp) (map (λ e. (e.0, g e.1)) es) ≡ is_sorted (slice_cmp nat_cmp) es
+  sorted-mapped [] = refl
+  sorted-mapped (e ∷ es) = λ i. below-mapped e.0 es i && sorted-mapped es i
+
+module _ (host : Host) (own : Own) where
+  -- those of a drive, with their shapes
+  files_of_drive : (drive : ℕ) → map (λ e. (e.0, shape_of e.1)) (filter (λ e. is_on drive e.0) (entries (files host own))) ≡ files_on drive (shapes host own)
+  unfolding files_on
+  files_of_drive drive =
+      same_entries (slice_cmp nat_cmp) nat_list_cmp_total same_key (map (λ e. (e.0, shape_of e.1)) (filter (λ e. is_on drive e.0) (entries (files host own)))) (filter (λ e. is_on drive e.0) (entries (shapes host own)))
+      (subst T (sym (sorted-mapped shape_of (filter (λ e. is_on drive e.0) (entries (files host own))))) (is_sorted-where_key (slice_cmp nat_cmp) (is_on drive) (entries (files host own)) (entries_sorted (files host own))))
+      (is_sorted-where_key (slice_cmp nat_cmp) (is_on drive) (entries (shapes host own)) (entries_sorted (shapes host own)))
+      (λ q.
+      find-mapped shape_of q (filter (λ e. is_on drive e.0) (entries (files host own)))
+      ∙ ap (option_map shape_of) (find-where_key (slice_cmp nat_cmp) (is_on drive) q (alike drive q) (entries (files host own)) ∙ ap (λ o. cond (is_on drive q) o None) (sym (get-entries (files host own) q) ∙ get-files host own q))
+      ∙ shaped (is_on drive q) (file_at host own q)
+      ∙ sym (find-where_key (slice_cmp nat_cmp) (is_on drive) q (alike drive q) (entries (shapes host own)) ∙ ap (λ o. cond (is_on drive q) o None) (sym (get-entries (shapes host own) q) ∙ get-shapes host own q))) where
+        shaped : (b : Bool) (o : Option File) → option_map shape_of (cond b o None) ≡ cond b (option_map shape_of o) None
+        shaped true o = refl
+        shaped false o = refl
+
+  -- ---- what files answer
+
+  module _ (tidy : IsTidy host own) where
+    file_is : (key : Key) → file_in (files host own) key ≡ file_of host key (entry_at own key)
+    file_is key = ap (λ o. unwrap_or o []) (get-files host own key) ∙ by (has host own key) refl where
+      by : (b : Bool) → has host own key ≡ b → unwrap_or (cond b (Some (file_of host key (entry_at own key))) None) [] ≡ file_of host key (entry_at own key)
+      by true h = refl
+      by false h = ap (λ n. map (place_of host key (entry_at own key)) (range_with_len 0 n)) (sym (tidy.absent key h))
+
+    place_is : (key : Key) (k : ℕ) (b : Bool) → has host own key ≡ b → cond b (place_at host own key k) None ≡ place_of host key (entry_at own key) k
+    place_is key k true h = elim (cases_lt k (length_at host own key)) [
+      | inl l ↦ ap (λ b. cond b (place_of host key (entry_at own key) k) None) (below k (length_at host own key) l)
+      | inr l ↦ ap (λ b. cond b (place_of host key (entry_at own key) k) None) (not_below k (length_at host own key) l) ∙ sym (tidy.ends key k l)
+    ]
+    place_is key k false h = sym (tidy.ends key k (rw (tidy.absent key h) (omega arith)))
+
+    pub answer_is : (q : FileQuestion) → answers_of (files host own) q ≡ file_answers host own q
+    unfolding shape_here
+    answer_is (IsThere key) = ap is_some (get-files host own key) ∙ by (has host own key) where
+      by : (b : Bool) → is_some (cond b (Some (file_of host key (entry_at own key))) None) ≡ b
+      by true = refl
+      by false = refl
+    answer_is (ShapeOf key) = ap shape_of (file_is key)
+    answer_is (Content key k) = sym (files-read host own key k) ∙ place_is key k (has host own key) refl
+    answer_is (FilesOn drive) = files_of_drive drive
+
+-- ---- a change
+
+module _ (host : Host) where
+  there : (own : Own) (key : Key) → has host own key ≡ true → get (files host own) key ≡ Some (file_in (files host own) key)
+  there own key h =
+      let is : get (files host own) key ≡ Some (file_of host key (entry_at own key)) = get-files host own key ∙ ap (λ b. cond b (Some (file_of host key (entry_at own key))) None) h in
+      is ∙ sym (ap (λ o. Some (unwrap_or o [])) is)
+
+  removed_is : (own : Own) (keys : List Key) → removed (files host own) keys ≡ files host (without own keys)
+  removed_is own [] = refl
+  removed_is own (key ∷ keys) = ap (λ m. removed m keys) (sym (files-deleted host own key)) ∙ removed_is (deleted own key) keys
+
+  stored_is : (own : Own) (filled : Bool) (key : Key) (k : ℕ) (r : Record) → IsTidy host own → has host own key ≡ true
+      → insert (files host own) key (cond filled (written_filled k r (file_in (files host own) key)) (written k r (file_in (files host own) key)))
+      ≡ files host (cond filled (wrote_filled (length_at host own key) own key k r) (wrote (length_at host own key) own key k r))
+  stored_is own true key k r tidy h = sym (files-filled host own key k r (file_in (files host own) key) (there own key h))
+  stored_is own false key k r tidy h = sym (files-wrote host own key k r (file_in (files host own) key) (tidy.ends key) (there own key h))
+
+  pub changed_is : (own : Own) (change : FileChange) → IsTidy host own → IsFit host own change → changed change (files host own) ≡ files host (own_with change own)
+  changed_is own Unchanged tidy fits = refl
+  changed_is own (Made key) tidy fits = sym (files-made host own key)
+  changed_is own (Deleted keys) tidy fits = removed_is own keys
+  changed_is own (Renamed old new) tidy fits = sym (files-renamed host own old new (file_in (files host own) old) (there own old fits.1))
+  changed_is own (Stored w r) tidy fits =
+      stored_is own w.filled w.key w.place r tidy fits.1
+      ∙ ap (λ n. files host (cond w.filled (wrote_filled n own w.key w.place r) (wrote n own w.key w.place r))) (sym fits.0)

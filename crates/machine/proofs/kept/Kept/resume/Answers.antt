@@ -1,0 +1,6 @@
+use Rattle.std.proofs.Common.{rules}
+use Rattle.machine.proofs.HostLemmas.{nothing_asked}
+use Rattle.machine.proofs.kept.Kept.resume.Goals as goal
+
+pub returns-clause-looked : goal.returns-clause-looked
+returns-clause-looked c = record { cells = c.requires.looks; places = c.over.ensures.places; files = λ a. nothing_asked c.args.changes.looks a c.requires.asks }

@@ -1,0 +1,156 @@
+-- Questions of the host files that are taken one after the other.
+use Rattle.std.proofs.Common.{◌≡◌, ℕ, zero, suc, ◌+◌, ◌-◌, ◌<◌, Bool, true, false, ◌||◌, ◌&&◌, ◌==◌, cond, List, [], ◌∷◌, length, Option, Some, None, is_some, get_or, slice_set, get_or-set_same, get_or-set_other, refl, sym, ap, ◌∙◌, arith, inl, inr, IfSome, IfNone}
+use Rattle.std.proofs.lemmas.Bool.Decides.{eqb_tells}
+use Rattle.std.proofs.lemmas.Bool.{le-ltb}
+use Rattle.std.specs.Ordering.{nat_cmp, eq_by_cmp, is_eq, ordering_then}
+use Rattle.std.specs.declared.cmp.Ordering.TheVariants.{Less, Equal, Greater}
+use Rattle.std.specs.Cmp.{unsigned_tied}
+use Rattle.std.specs.Cmp.Lexicographic.{slice_cmp, nat_list_cmp_total}
+use Rattle.std.specs.Cmp.{IsTotalOrder, eq_by_cmp_equiv}
+use Rattle.std.specs.declared.cmp.Ordering.{Ordering}
+use Rattle.std.specs.FinMap.{FinMap, IsAntisymmetric, get, len, insert, remove, contains_key, get-insert, get-remove, len-insert, same_map}
+use Rattle.keymaps.specs.Order.{place_cmp}
+use Rattle.keymaps.proofs.Views.{places_total, same_key, same_place, insert_same, key_of}
+use Rattle.hostfiles.specs.Hosts.{Key}
+use Rattle.hostfiles.specs.Looks.{is_looked, is_same_ask, forgot}
+use Rattle.hostfiles.specs.declared.looks.Looks.{Looks}
+use Rattle.hostfiles.specs.declared.looks.Ask.{Ask}
+use Rattle.hostfiles.specs.declared.looks.Ask.TheVariants.{Has, Length, Rec, Directory}
+use Rattle.machine.specs.Views.{Running}
+use Rattle.machine.specs.Machine.{Question, Cell, Script, OfHost, same_question}
+use Rattle.machine.proofs.HostLemmas.{same_place_tie}
+use Rattle.replay.specs.FirstLooks.{or_else, mark, erased, is_left_ask, is_ask_of, NoAsks}
+
+pub marks_join : (o : Option ℕ) (a b : Bool) (n : ℕ) → or_else (or_else o (mark a n)) (mark b n) ≡ or_else o (mark (a || b) n)
+marks_join (Some m) a b n = refl
+marks_join None true b n = refl
+marks_join None false b n = refl
+
+-- ---- one key is taken out
+
+twice : {X : Type 0} (b : Bool) (x y z : X) → cond b x (cond b y z) ≡ cond b x z
+twice true x y z = refl
+twice false x y z = refl
+
+module _ {K X : Type 0} {R : K → K → Ordering} (o : IsTotalOrder R) (same : IsAntisymmetric R) where
+  put_back : (m : FinMap R X) (k : K) (v : X) → get m k ≡ Some v → insert (remove m k) k v ≡ m
+  put_back m k v at =
+      same_map o same _ _ (λ q. get-insert o (remove m k) k v q ∙ ap (cond (eq_by_cmp R q k) (Some v)) (get-remove o m k q) ∙ twice (eq_by_cmp R q k) (Some v) None (get m q) ∙ sym (get-insert o m k v q))
+      ∙ insert_same o same m k v at
+
+  gone : (m : FinMap R X) (k : K) → contains_key (remove m k) k ≡ false
+  gone m k = ap is_some (get-remove o m k k ∙ ap (λ b. cond b None (get m k)) ((eq_by_cmp_equiv o).refl k))
+
+  one_key_less : (m : FinMap R X) (k : K) (v : X) → get m k ≡ Some v → len (remove m k) < len m
+  one_key_less m k v at =
+      let count : len m ≡ len (remove m k) + 1 = ap len (sym (put_back m k v at)) ∙ len-insert o (remove m k) k v ∙ ap (λ b. cond b (len (remove m k)) (len (remove m k) + 1)) (gone m k) in
+      omega arith
+
+  fewer_keys : (m : FinMap R X) (k : K) (v : Option X) → get m k ≡ v → is_some v ≡ true → len (remove m k) < len m
+  fewer_keys m k None at there = absurd (cc)
+  fewer_keys m k (Some v) at there = one_key_less m k v at
+
+  key_split : (m : FinMap R X) (k x : K) → contains_key m k ≡ true → contains_key m x ≡ (eq_by_cmp R x k || contains_key (remove m k) x)
+  key_split m k x there = by (eq_by_cmp R x k) refl where
+    by : (b : Bool) → eq_by_cmp R x k ≡ b → contains_key m x ≡ (b || contains_key (remove m k) x)
+    by true e = ap (contains_key m) (key_of same x k e) ∙ there
+    by false e = sym (ap is_some (get-remove o m k x ∙ ap (λ b. cond b None (get m x)) e))
+
+-- ---- the questions that are left
+
+abbrev pub trues : List Bool → ℕ
+trues [] = 0
+trues (true ∷ bs) = suc (trues bs)
+trues (false ∷ bs) = trues bs
+
+fewer_trues : (ds : List Bool) (d : ℕ) → get_or ds d false ≡ true → trues (slice_set ds d false) < trues ds
+fewer_trues [] d h = absurd (cc)
+fewer_trues (true ∷ bs) zero h = omega arith
+fewer_trues (false ∷ bs) zero h = absurd (cc)
+fewer_trues (true ∷ bs) (suc d) h = let less = fewer_trues bs d h in omega (arith, less)
+fewer_trues (false ∷ bs) (suc d) h = fewer_trues bs d h
+
+abbrev pub look_count : Looks → ℕ
+look_count l = len l.has + len l.lengths + len l.records + trues l.directories
+
+fewer : (ask : Ask) (l : Looks) → is_looked l ask ≡ true → look_count (forgot ask l) < look_count l
+fewer (Has key) l h = let less = fewer_keys nat_list_cmp_total same_key l.has key _ refl h in omega (arith, less)
+fewer (Length key) l h = let less = fewer_keys nat_list_cmp_total same_key l.lengths key _ refl h in omega (arith, less)
+fewer (Rec key k) l h = let less = fewer_keys places_total same_place l.records (key, k) _ refl h in omega (arith, less)
+fewer (Directory d) l h = let less = fewer_trues l.directories d h in omega (arith, less)
+
+-- how many questions there are yet to be noted
+abbrev pub left_asks : Option Ask → Looks → ℕ
+left_asks None asked = look_count asked
+left_asks (Some ask) asked = suc (look_count asked)
+
+split : (ask : Ask) (l : Looks) → is_looked l ask ≡ true → (a : Ask) → is_looked l a ≡ (is_same_ask a ask || is_looked (forgot ask l) a)
+split (Has key) l h (Has x) = key_split nat_list_cmp_total same_key l.has key x h
+split (Has key) l h (Length x) = refl
+split (Has key) l h (Rec x j) = refl
+split (Has key) l h (Directory d) = refl
+split (Length key) l h (Has x) = refl
+split (Length key) l h (Length x) = key_split nat_list_cmp_total same_key l.lengths key x h
+split (Length key) l h (Rec x j) = refl
+split (Length key) l h (Directory d) = refl
+split (Rec key k) l h (Has x) = refl
+split (Rec key k) l h (Length x) = refl
+split (Rec key k) l h (Rec x j) = key_split places_total same_place l.records (key, k) (x, j) h ∙ ap (λ b. b || is_looked (forgot (Rec key k) l) (Rec x j)) (same_place_tie x key j k)
+split (Rec key k) l h (Directory d) = refl
+split (Directory drive) l h (Has x) = refl
+split (Directory drive) l h (Length x) = refl
+split (Directory drive) l h (Rec x j) = refl
+split (Directory drive) l h (Directory d) = elim (eqb_tells d drive) [
+  | inl same ↦ rw same.0 (ap (λ n. get_or l.directories n false) same.1 ∙ h)
+  | inr other ↦ rw other.0 (sym (get_or-set_other l.directories drive d false false other.1))
+]
+
+-- what a call gave that takes a question
+pub record TakesAsk (next : Option Ask) (old new : Looks) : Type 0 where
+  pub left : (a : Ask) → is_looked old a ≡ is_left_ask next new a
+  pub less : left_asks next new < suc (look_count old)
+  pub none : next ≡ None → NoAsks new
+
+pub takes_ask : (next : Option Ask) (old new : Looks) → IfSome next (λ ask. is_looked old ask ≡ true) → IfSome next (λ ask. new ≡ forgot ask old) → IfNone next ((a : Ask) → is_looked old a ≡ false) → IfNone next (new ≡ old) → TakesAsk next old new
+takes_ask None old new one taken none same = record {
+  left = λ a. ap (λ l. is_looked l a) (sym same);
+  less = let count : look_count new ≡ look_count old = ap look_count same in omega (arith, count);
+  none = λ e a. ap (λ l. is_looked l a) same ∙ none a;
+}
+takes_ask (Some ask) old new one taken none same = record {
+  left = λ a. split ask old one a ∙ ap (λ l. is_same_ask a ask || is_looked l a) (sym taken);
+  less = let fall : look_count (forgot ask old) < look_count old = fewer ask old one in let count : look_count new ≡ look_count (forgot ask old) = ap look_count taken in omega (arith, fall, count);
+  none = λ e. absurd (cc);
+}
+
+pub left_falls : (ask : Ask) (next : Option Ask) (old new : Looks) → TakesAsk next old new → left_asks next new < left_asks (Some ask) old
+left_falls ask next old new t = t.less
+
+-- a question is noted, and one more is taken
+pub one_noted : (ask : Ask) (next : Option Ask) (old new : Looks) (a : Ask) (o p : Option ℕ) (n : ℕ) → TakesAsk next old new → p ≡ or_else o (mark (is_same_ask a ask) n)
+    → or_else p (mark (is_left_ask next new a) n) ≡ or_else o (mark (is_left_ask (Some ask) old a) n)
+one_noted ask next old new a o p n t e =
+    ap (λ x. or_else x (mark (is_left_ask next new a) n)) e ∙ marks_join o (is_same_ask a ask) (is_left_ask next new a) n
+    ∙ ap (λ b. or_else o (mark (is_same_ask a ask || b) n)) (sym (t.left a))
+
+if_none : {P Q : Type 0} (o : Option Ask) → (P → Q) → IfNone o P → IfNone o Q
+if_none None f h = f h
+if_none (Some ask) f h = tt
+
+-- the same of every question
+pub one_noted_question : (ask : Ask) (next : Option Ask) (old new : Looks) (q : Question) (o p : Option ℕ) (n : ℕ) → TakesAsk next old new → p ≡ or_else o (mark (same_question q (OfHost ask)) n)
+    → or_else p (mark (is_ask_of next new q) n) ≡ or_else o (mark (is_ask_of (Some ask) old q) n)
+one_noted_question ask next old new (Cell a) o p n t e = ap (λ x. or_else x (mark false n)) e ∙ marks_join o false false n
+one_noted_question ask next old new (Script k) o p n t e = ap (λ x. or_else x (mark false n)) e ∙ marks_join o false false n
+one_noted_question ask next old new (OfHost a) o p n t e = one_noted ask next old new a o p n t e
+
+-- what is noted now is erased again
+pub erased_mark : (o : Option ℕ) (b : Bool) (n : ℕ) → erased n (or_else o (mark b n)) ≡ erased n o
+erased_mark (Some m) b n = refl
+erased_mark None false n = refl
+erased_mark None true n = ap (λ c. cond c (Some n) None) (le-ltb n n (omega arith))
+
+module _ (old new : Running) (next : Option Ask) where
+  pub taken_from : IfSome next (λ ask. is_looked old.looked.files ask ≡ true) → IfSome next (λ ask. new.looked.files ≡ forgot ask old.looked.files) → IfNone next ((a : Ask) → is_looked old.looked.files a ≡ false)
+      → IfNone next (new ≡ old) → TakesAsk next old.looked.files new.looked.files
+  taken_from one taken none same = takes_ask next old.looked.files new.looked.files one taken none (if_none next (λ e. ap (λ (r : Running). r.looked.files) e) same)

@@ -1,0 +1,44 @@
+-- What the change of a host file touches.
+use Rattle.std.proofs.Common.{◌≡◌, ℕ, ◌≤◌, ◌<◌, Bool, true, false, ◌||◌, cond, List, length, Option, Some, None, inl, inr, refl, subst, sym, ap, ◌∙◌, arith, nat_lt}
+use Rattle.std.proofs.lemmas.Bool.{le-ltb, lt-ltb}
+use Rattle.std.specs.Cmp.Lexicographic.{nat_list_cmp_total}
+use Rattle.std.specs.FinMap.{empty, get, insert, contains_key, len, len-empty}
+use Rattle.keymaps.proofs.Views.{same_key, get_here}
+use Rattle.hostfiles.specs.Hosts.{Key, Record, Host, has_room, refusal_of}
+use Rattle.file_steps.specs.declared.steps.FileSteps.{FileSteps}
+use Rattle.file_steps.specs.Touch.{with_file, IsFileTouch}
+use Rattle.machine.specs.Views.{Session}
+use Rattle.machine.specs.Machine.{Question, Cell, Script, OfHost, ask}
+use Rattle.replay.specs.FirstLooks.{Noted, step_of}
+use Rattle.replay.specs.Edits.{with_host_file}
+use Rattle.replay.specs.Touch.{IsNotedTouch}
+
+module _ (s : Session) (key : Key) (file : Option (List Record)) (k : Noted) (t : ℕ) where
+  touched : IsFileTouch s.files (with_file s.files key file) k.files k.seen t → IsNotedTouch (ask s) (ask (with_host_file s key file)) k t
+  touched w = record {
+    within = w.within;
+    below = below;
+    here = elim w.here [ inl e ↦ inl e | inr h ↦ inr (OfHost h.0, h.1, h.2) ];
+  } where
+    below : (q : Question) (m : ℕ) → step_of k q ≡ Some m → m < t → ask s q ≡ ask (with_host_file s key file) q
+    below (Cell a) m there low = refl
+    below (Script j) m there low = refl
+    below (OfHost a) m there low = w.below a m there low
+
+  pub file_touched : (host : Host) (steps : FileSteps) (least : ℕ) → host ≡ s.files → steps ≡ k.files → least ≡ k.seen → IsFileTouch host (with_file host key file) steps least t
+      → IsNotedTouch (ask s) (ask (with_host_file s key file)) k t
+  file_touched host steps least same_host same_steps same_least w =
+      touched (subst (λ (n : ℕ). IsFileTouch s.files (with_file s.files key file) k.files n t) same_least
+      (subst (λ (f : FileSteps). IsFileTouch s.files (with_file s.files key file) f least t) same_steps
+      (subst (λ (h : Host). IsFileTouch h (with_file h key file) steps least t) same_host w)))
+
+-- there is room for one file that is not too long
+pub room_alone : (host : Host) (key : Key) (bytes : List ℕ) → host ≡ empty → length bytes ≤ 8388608 → refusal_of host key bytes ≡ None
+room_alone host key bytes none short = rw (le-ltb 8388608 (length bytes) short) (by (contains_key host key) (nat_lt (len host) 512) (rw (none, len-empty) refl)) where
+  by : (there few : Bool) → few ≡ true → cond {A = Option ℕ} (there || few) None (Some 2) ≡ None
+  by true few e = refl
+  by false true e = refl
+  by false false e = absurd (cc)
+
+pub file_alone : (host : Host) (key : Key) (records : List Record) → get (insert host key records) key ≡ Some records
+file_alone host key records = get_here nat_list_cmp_total same_key host key records

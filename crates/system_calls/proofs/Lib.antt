@@ -1,0 +1,6 @@
+pub mod Trees
+pub mod Chains
+pub mod Parts
+pub mod Runs
+pub mod Numbers
+pub mod DriveLemmas

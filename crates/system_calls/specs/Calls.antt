@@ -1,0 +1,52 @@
+-- The calls by their numbers. (CP/M 2.2 Interface Guide; function 40 is its "write random with zero fill".)
+use Rattle.std.specs.Prelude.{ℕ, ◌==◌, List, if◌then◌else◌}
+use Rattle.std.specs.declared.result.Result.{Result}
+use Rattle.std.specs.declared.alloc.AllocError.{AllocError}
+use Rattle.interaction_trees.specs.Tree.{Return}
+use Rattle.i8080.specs.declared.registers.Regs.{Regs}
+use Rattle.i8080.specs.Memory.{Memory}
+use Rattle.bdos.specs.declared.served.Served.{Served}
+use Rattle.bdos.specs.declared.desk.Spot.{Spot}
+use Rattle.bdos.specs.Places.{Watched}
+use Rattle.bdos.specs.Calls as desk_calls
+use Rattle.file_calls.specs.declared.function.FileFunction.TheVariants.{Open, Close, SearchFirst, ReadSequential, WriteSequential, Make, Rename, ReadRandom, WriteRandom, FileSize, SetRandomRecord, WriteRandomZeroFill}
+use Rattle.file_calls.specs.Questions.{Drives}
+use Rattle.file_calls.specs.Changes.{Unchanged}
+use Rattle.system_calls.specs.declared.function.SystemFunction.{SystemFunction}
+use Rattle.system_calls.specs.declared.function.SystemFunction.TheVariants.{OfFile, SearchNext, DeleteFile, OfDesk}
+use Rattle.system_calls.specs.Questions.{SystemTree, asking_state}
+use Rattle.system_calls.specs.FileCalls.{SystemEnd, file_call, delete_call, search_next_call}
+use Rattle.system_calls.specs.Fulfils.{Fulfils}
+
+abbrev pub system_function : ℕ → SystemFunction
+system_function number =
+    if number == 15 then OfFile Open
+    else if number == 16 then OfFile Close
+    else if number == 17 then OfFile SearchFirst
+    else if number == 18 then SearchNext
+    else if number == 19 then DeleteFile
+    else if number == 20 then OfFile ReadSequential
+    else if number == 21 then OfFile WriteSequential
+    else if number == 22 then OfFile Make
+    else if number == 23 then OfFile Rename
+    else if number == 33 then OfFile ReadRandom
+    else if number == 34 then OfFile WriteRandom
+    else if number == 35 then OfFile FileSize
+    else if number == 36 then OfFile SetRandomRecord
+    else if number == 40 then OfFile WriteRandomZeroFill
+    else OfDesk
+
+-- a call, over a script of at most n bytes; those of the desk are told by their numbers there
+abbrev pub called : ℕ → SystemFunction → Regs → Spot → SystemTree SystemEnd
+called n (OfFile f) r spot = file_call f r spot
+called n SearchNext r spot = search_next_call r spot
+called n DeleteFile r spot = delete_call r spot
+called n OfDesk r spot = asking_state (desk_calls.call n r spot) (λ e. Return (e, Unchanged))
+
+-- the call whose number is in C
+unfoldable pub call : ℕ → Regs → Spot → SystemTree SystemEnd
+call n r spot = called n (system_function r.c) r spot
+
+-- what a call leaves, over a script of at most n bytes
+abbrev pub Serves : ℕ → List ℕ → Regs → Memory → Watched → Drives → Result Served AllocError → Regs → Memory → Watched → Drives → Type 0
+Serves n script r m d v result r' m' d' v' = Fulfils (call n r d.desk.spot) script r m d v result r' m' d' v'

@@ -1,0 +1,5 @@
+pub mod Questions
+pub mod FileCalls
+pub mod Fulfils
+pub mod Calls
+pub mod Drives

@@ -1,0 +1,134 @@
+ghost use Rattle.std.specs.Prelude.{◌≡◌, ◌≤◌, ◌<◌, List, ℕ, Ok, IfSome, length, slice_index, if◌then◌else◌};
+ghost use Rattle.file_calls.specs.Questions.{drives_of};
+ghost use Rattle.i8080.specs.End.{Reads};
+ghost use Rattle.system_calls.specs.FileCalls.{file_call, delete_call, search_next_call, drive_named, block_read};
+ghost use Rattle.system_calls.specs.Calls.{Serves, call};
+ghost use Rattle.system_calls.specs.Drives.{AsksDrives};
+ghost use Rattle.system_calls.specs.Fulfils.{Fulfils};
+
+use crate::carry_on::carry_on;
+use crate::cells::fetch_cells;
+use crate::function::SystemFunction;
+use bdos::{Cause, Desk, Served, give_back};
+use cpmfiles::{Fcb, Table};
+use file_calls::{Block, FileFunction, delete_files, search_next};
+use i8080::{Bus, Regs, fetch, fetch_word, word_of};
+use std::alloc::AllocError;
+
+/// Carries out the call whose number is in C. A call that stops, and an `Err` (a want of memory), leave the registers, the written cells, the desk
+/// and the files as they were; what was looked at may have grown. (CP/M 2.2 Interface Guide.)
+#[tactic(auto, unfolding(crate::specs::Calls::call))]
+pub fn call<B: Bus>(
+    regs: &mut Regs,
+    bus: &mut B,
+    table: &mut Table<'_>,
+    desk: &mut Desk,
+    script: &[u8],
+) -> Result<Served, AllocError>
+    ensures serves { (n : ℕ) → length script.now ≤ n → Serves n script.now regs.old (B.memory bus.old) desk.old (drives_of table.old) result regs.new (B.memory bus.new) desk.new (drives_of table.new) }
+    ensures drives { (n : ℕ) → AsksDrives (call n regs.old desk.old.desk.spot) }
+{
+    match SystemFunction::decode(regs.c) {
+        SystemFunction::OfFile(function) => file_call(regs, bus, table, desk, function),
+        SystemFunction::SearchNext => search_next_call(regs, bus, table, desk),
+        SystemFunction::DeleteFile => delete_call(regs, bus, table, desk),
+        SystemFunction::OfDesk => bdos::call(regs, bus, desk, script),
+    }
+}
+
+// A call that names a file by a control block.
+fn file_call<B: Bus>(
+    regs: &mut Regs,
+    bus: &mut B,
+    table: &mut Table<'_>,
+    desk: &mut Desk,
+    function: FileFunction,
+) -> Result<Served, AllocError>
+    ensures serves { (script : List ℕ) → Fulfils (file_call function regs.old desk.old.desk.spot) script regs.old (B.memory bus.old) desk.old (drives_of table.old) result regs.new (B.memory bus.new) desk.new (drives_of table.new) }
+    ensures drive { desk.old.desk.spot.drive < 256 }
+{
+    let at = word_of(regs.e, regs.d);
+    let dr = fetch(bus, at);
+    let Some(drive) = drive_named(desk.drive(), dr) else {
+        return Ok(Served::Stop(Cause::BadDrive(dr)));
+    };
+    let block = fetch_block(bus, at, drive, dr, function.has_random_place());
+    let to = fetch_word(bus, regs.sp);
+    let finding = function.inquire(table, &block)?;
+    carry_on(finding, regs, bus, table, desk, to)
+}
+
+// Function 19, which deletes files.
+fn delete_call<B: Bus>(
+    regs: &mut Regs,
+    bus: &mut B,
+    table: &mut Table<'_>,
+    desk: &Desk,
+) -> Result<Served, AllocError>
+    ensures serves { (script : List ℕ) → Fulfils (delete_call regs.old desk.now.desk.spot) script regs.old (B.memory bus.old) desk.now (drives_of table.old) result regs.new (B.memory bus.new) desk.now (drives_of table.new) }
+    ensures drive { desk.now.desk.spot.drive < 256 }
+{
+    let at = word_of(regs.e, regs.d);
+    let dr = fetch(bus, at);
+    let Some(drive) = drive_named(desk.drive(), dr) else {
+        return Ok(Served::Stop(Cause::BadDrive(dr)));
+    };
+    let block = fetch_block(bus, at, drive, dr, false);
+    let to = fetch_word(bus, regs.sp);
+    let value = value_of(delete_files(table, &block)?);
+    give_back(regs, value, to);
+    Ok(Served::Went)
+}
+
+// The value of a deletion: 0 where a file was deleted.
+fn value_of(is_some_deleted: bool) -> u16
+    ensures { result ≡ (if is_some_deleted then 0 else 0xff) }
+{
+    if is_some_deleted { 0 } else { 0xff }
+}
+
+// Function 18, which goes on with a search.
+fn search_next_call<B: Bus>(
+    regs: &mut Regs,
+    bus: &mut B,
+    table: &mut Table<'_>,
+    desk: &mut Desk,
+) -> Result<Served, AllocError>
+    ensures serves { (script : List ℕ) → Fulfils (search_next_call regs.old desk.old.desk.spot) script regs.old (B.memory bus.old) desk.old (drives_of table.old) result regs.new (B.memory bus.new) desk.new (drives_of table.new) }
+    ensures search { IfSome desk.old.desk.spot.search (λ s. slice_index s.pattern 0 < 256) }
+{
+    let to = fetch_word(bus, regs.sp);
+    let finding = search_next(table, desk.search());
+    carry_on(finding, regs, bus, table, desk, to)
+}
+
+// The drive that the first byte of a control block names.
+fn drive_named(current: u8, dr: u8) -> Option<u8>
+    ensures { result ≡ drive_named current dr }
+{
+    match dr {
+        0 => Some(current),
+        1..=4 => Some(dr - 1),
+        _ => None,
+    }
+}
+
+// The control block at an address, whose drive byte was read: 36 bytes, or 33 and zeros.
+fn fetch_block<B: Bus>(bus: &mut B, at: u16, drive: u8, dr: u8, whole: bool) -> Block
+    ensures { Reads (block_read drive dr (if whole then 36 else 33) at) (B.memory bus.old) result (B.memory bus.new) }
+{
+    let mut bytes = [0; 36];
+    bytes[0] = dr;
+    if whole {
+        fetch_cells(bus, at.wrapping_add(1), &mut bytes[1..]);
+        return Block {
+            drive,
+            fcb: Fcb::from_bytes(&bytes),
+        };
+    }
+    fetch_cells(bus, at.wrapping_add(1), &mut bytes[1..33]);
+    Block {
+        drive,
+        fcb: Fcb::from_bytes(&bytes),
+    }
+}
