@@ -2,8 +2,8 @@
 #![tactic(auto)]
 
 #[cfg(test)]
+mod contents;
+#[cfg(test)]
 mod fixtures;
 #[cfg(test)]
 mod names;
-#[cfg(test)]
-mod records;

@@ -5,8 +5,8 @@
 #[cfg(test)]
 mod acts;
 #[cfg(test)]
+mod contents;
+#[cfg(test)]
 mod directories;
 #[cfg(test)]
 mod holes;
-#[cfg(test)]
-mod records;
