@@ -163,6 +163,9 @@ fn take_drive(directories: &mut [bool]) -> Option<u8>
     ensures some { IfSome result (λ drive. directories.new ≡ slice_set directories.old drive false) }
     ensures none { IfNone result ((directories.new ≡ directories.old) × ((drive : ℕ) → get_or directories.old drive false ≡ false)) }
 {
+    if !is_some_marked(directories) {
+        return None;
+    }
     for drive in 0..256 {
         if directories[drive] {
             directories[drive] = false;
@@ -170,4 +173,15 @@ fn take_drive(directories: &mut [bool]) -> Option<u8>
         }
     }
     None
+}
+
+// Whether a drive is marked. All marks are read, many at once, since nearly always none is.
+fn is_some_marked(directories: &[bool]) -> bool
+    ensures { result ≡ false → (drive : ℕ) → get_or directories.now drive false ≡ false }
+{
+    let mut some = false;
+    for drive in 0..directories.len() {
+        some = some | directories[drive];
+    }
+    some
 }
