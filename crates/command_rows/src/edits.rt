@@ -20,20 +20,16 @@ fn edit_lines_are_answered(rt: HostRuntime) -> Result<(), Fail> {
         ("take.com", TAKE),
         ("typed", b"x"),
         ("run", b"run\n"),
-        ("bogus", b"limit 5\nbogus\nrun\n"),
     ] {
         put(&rt, folder.as_str(), file, bytes)?;
     }
-    put_zeros(&rt, folder.as_str(), "long", 65_537)?;
-    for (words, status, out, told) in [
-        (&["@/p3.com", "--edits", "@/run"][..], 0, REPORT, ""),
+    for (words, out) in [
+        (&["@/p3.com", "--edits", "@/run"][..], REPORT),
         (
             &[
                 "--edits", "@/run", "@/p3.com", "a tail", "--out", "none", "--out-d", "none",
             ],
-            0,
             REPORT,
-            "",
         ),
         (
             &[
@@ -46,30 +42,30 @@ fn edit_lines_are_answered(rt: HostRuntime) -> Result<(), Fail> {
                 "1",
                 "--spacing=1",
             ],
-            0,
             AT_LIMIT,
-            "",
         ),
         (
             &["@/take.com", "--edits", "@/run", "--console", "@/typed"],
-            0,
             TAKEN,
-            "",
-        ),
-        (
-            &["@/p3.com", "--edits", "@/bogus"],
-            2,
-            "ok\n",
-            "cpmrun: line 2 is malformed\n",
-        ),
-        (
-            &["@/p3.com", "--edits", "@/long"],
-            2,
-            "",
-            "cpmrun: line 1 is too long\n",
         ),
     ] {
-        answers(&rt, folder.as_str(), words, status, out, told)?;
+        answers(&rt, folder.as_str(), words, 0, out, "")?;
+    }
+    remove_folder(&rt, folder.as_str())
+}
+
+#[test]
+fn a_fault_of_edit_lines_comes_after_the_replies(rt: HostRuntime) -> Result<(), Fail> {
+    let folder = make_folder(&rt, "faults")?;
+    put(&rt, folder.as_str(), "p3.com", HI)?;
+    put(&rt, folder.as_str(), "bogus", b"limit 5\nbogus\nrun\n")?;
+    put_zeros(&rt, folder.as_str(), "long", 65_537)?;
+    for (lines, out, told) in [
+        ("@/bogus", "ok\n", "cpmrun: line 2 is malformed\n"),
+        ("@/long", "", "cpmrun: line 1 is too long\n"),
+    ] {
+        let words = ["@/p3.com", "--edits", lines];
+        answers(&rt, folder.as_str(), &words, 2, out, told)?;
     }
     remove_folder(&rt, folder.as_str())
 }

@@ -1,13 +1,4 @@
-pub mod Parts
-pub mod Cutting
-pub mod Carrying
-pub mod Stepping
-pub mod Answering
-pub mod Grammar
 pub mod Telling
-pub mod Once
 pub mod Refusing
 pub mod Choosing
-pub mod SaidNames
-pub mod WrittenPieces
-pub mod Reporting
+pub mod Writing

@@ -2,7 +2,7 @@
 use Rattle.std.proofs.Common.{◌≡◌, ℕ, ◌+◌, inl, inr, List, take, arith, Option, Result, Ok, Err, OnOk, OnErr, IfSome, Some, None}
 use Rattle.std.specs.Option.{option_map}
 use Rattle.std.specs.Io.KnownBytes.{Appends}
-use Rattle.cpmrun.specs.Program.{WritesOrFails}
+use Rattle.edit_lines.specs.Writing.{WritesOrFails}
 
 -- what was written whole, or in part where writing failed
 pub written_or_failed : {U F : Type 0} (r : Result U F) (a b : Option (List ℕ)) (m n : ℕ) (text : List ℕ) → OnOk r (Appends a b text)

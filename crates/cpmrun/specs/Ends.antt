@@ -5,17 +5,17 @@ use Rattle.command_words.specs.Outcome.{ComesTo}
 use Rattle.command_words.specs.declared.outcome.Outcome.TheVariants.{Information}
 use Rattle.command_words.specs.declared.words.Words.{Words}
 use Rattle.machine.specs.Views.{Session}
-use Rattle.cpmrun.specs.declared.ending.ReplayFault.{ReplayFault}
-use Rattle.cpmrun.specs.declared.ending.ReplayFault.TheVariants as replay_fault
+use Rattle.edit_lines.specs.declared.ending.ReplayFault.{ReplayFault}
+use Rattle.edit_lines.specs.declared.ending.ReplayFault.TheVariants as replay_fault
 use Rattle.cpmrun.specs.declared.fault.Fault.{Fault}
 use Rattle.cpmrun.specs.declared.fault.Fault.TheVariants.{Use, NotText, CannotRead, CannotWrite, Folders, Refused, Malformed, TooLong, OutOfMemory}
 use Rattle.cpmrun.specs.Requests.{AreWords, Misread}
 use Rattle.cpmrun.specs.Loading.{IsOf, Unloaded}
-use Rattle.cpmrun.specs.Pieces.{lines_of}
+use Rattle.edit_lines.specs.Pieces.{lines_of}
 use Rattle.cpmrun.specs.Program.{Complains}
-use Rattle.cpmrun.specs.Progress.{Faults}
+use Rattle.edit_lines.specs.Progress.{Faults}
 use Rattle.cpmrun.specs.RawRun.{BreaksRun, RunsOnce}
-use Rattle.cpmrun.specs.Replay.{Finished, Replays}
+use Rattle.edit_lines.specs.Replay.{Finished, Replays}
 
 -- the text was written that some lines give, replayed to their end from this session
 pub record WritesReplay (first : Session) (held holds : Option (List ℕ)) : Type 0 where

@@ -1,14 +1,5 @@
-pub mod Pieces
-pub mod EditLine
-pub mod ReportText
-pub mod Reports
-pub mod Replay
-pub mod Progress
 pub mod Program
 pub mod Requests
 pub mod Loading
 pub mod RawRun
 pub mod Ends
-pub mod FileLines
-pub mod Writing
-pub mod ChangedLines

@@ -1,12 +1,12 @@
 -- What the program says of its faults: their statuses and their messages.
-use Rattle.std.specs.Prelude.{◌≡◌, ℕ, ◌<◌, List, [], ◌⊎◌, ◌++◌, codes, take, Option, string_bytes}
+use Rattle.std.specs.Prelude.{◌≡◌, ℕ, List, [], ◌⊎◌, ◌++◌, codes, Option, string_bytes}
 use Rattle.std.specs.Fmt.{decimal}
-use Rattle.std.specs.Io.KnownBytes.{Appends}
 use Rattle.folders.specs.Faults.{text_of}
 use Rattle.folders.specs.declared.fault.Fault.TheVariants as folder_fault
 use Rattle.cpmrun.specs.declared.fault.Fault.{Fault}
 use Rattle.cpmrun.specs.declared.fault.Fault.TheVariants.{Use, NotText, CannotRead, CannotWrite, Folders, Refused, Malformed, TooLong, OutOfMemory}
-use Rattle.cpmrun.specs.ReportText.{line}
+use Rattle.edit_lines.specs.ReportText.{line}
+use Rattle.edit_lines.specs.Writing.{WritesOrFails}
 
 -- the exit status of a fault
 abbrev pub status_of : Fault → ℕ
@@ -35,11 +35,6 @@ message_of (Refused n) = line (codes "cpmrun: session refused " ++ decimal n)
 message_of (Malformed k) = codes "cpmrun: line " ++ decimal k ++ line (codes " is malformed")
 message_of (TooLong k) = codes "cpmrun: line " ++ decimal k ++ line (codes " is too long")
 message_of OutOfMemory = line (codes "cpmrun: out of memory")
-
--- the text was written, or a part of it where writing failed
-abbrev pub WritesOrFails : Option (List ℕ) → Option (List ℕ) → ℕ → ℕ → List ℕ → Type 0
-WritesOrFails held holds failed fails text =
-    Appends held holds text ⊎ ((failed < fails) × ((n : ℕ) × Appends held holds (take n text)))
 
 -- the fault has this status, and its message was written, or a part of it where writing failed
 abbrev pub Tells : Fault → ℕ → Option (List ℕ) → Option (List ℕ) → ℕ → ℕ → Type 0

@@ -1,22 +1,18 @@
 -- One run of a session: what it writes, its status, and what it leaves where it is broken off.
-use Rattle.std.specs.Prelude.{◌≡◌, ℕ, ◌<◌, ◌⊎◌, ◌++◌, List, [], map, Option, Some, None, codes, take}
-use Rattle.std.specs.List.{concat}
+use Rattle.std.specs.Prelude.{◌≡◌, ℕ, ◌<◌, ◌⊎◌, ◌++◌, List, Option, codes, take}
 use Rattle.std.specs.Borrow.{Bor}
 use Rattle.std.specs.Io.KnownBytes.{Appends}
 use Rattle.bdos.specs.declared.cause.Cause.{Cause}
 use Rattle.bdos.specs.declared.cause.Cause.TheVariants.{WarmBoot, Halt, Limit, Undefined, SystemArea, ConsoleExhausted, NoDollar, Unsupported, BadDrive}
 use Rattle.filenames.specs.Names.{Key}
-use Rattle.filenames.specs.Names as names
-use Rattle.hostfiles.specs.Hosts.{Record, Host}
-use Rattle.hostfiles.specs.Files.{Own}
-use Rattle.changed_files.specs.Changed.{told, changed_keys}
 use Rattle.folders.specs.Folders.{FailsToWrite}
 use Rattle.machine.specs.Views.{Session}
 use Rattle.replay.specs.Cold.{cold}
+use Rattle.edit_lines.specs.ChangedLines.{gone_lines}
+use Rattle.edit_lines.specs.ReportText.{cause_text, line}
+use Rattle.edit_lines.specs.Writing.{WritesOrFails}
 use Rattle.cpmrun.specs.declared.fault.Fault.{Fault}
 use Rattle.cpmrun.specs.declared.fault.Fault.TheVariants.{Use, NotText, CannotRead, CannotWrite, Folders, Refused, Malformed, TooLong, OutOfMemory}
-use Rattle.cpmrun.specs.Program.{WritesOrFails}
-use Rattle.cpmrun.specs.ReportText.{cause_text, line}
 
 -- the exit status after a run that stopped by this cause
 abbrev pub stop_status : Cause → ℕ
@@ -33,18 +29,6 @@ stop_status (BadDrive number) = 10
 -- the line that tells why a run stopped
 abbrev pub stop_line : Cause → List ℕ
 stop_line cause = line (codes "stop " ++ cause_text cause)
-
--- the line of a changed file that is gone; nothing for one that is there
-abbrev pub gone_text : Key → Option (List Record) → List ℕ
-gone_text key None = line (codes "gone " ++ names.printed key)
-gone_text key (Some records) = []
-
-abbrev pub gone_line : Host → Own → Key → List ℕ
-gone_line host own key = gone_text key (told host own key)
-
--- the lines of all changed files that are gone, in the order of their names
-abbrev pub gone_lines : Host → Own → List ℕ
-gone_lines host own = concat (map (gone_line host own) (changed_keys host own))
 
 -- what the run of a session prints
 abbrev pub printed : Session → List ℕ

@@ -5,16 +5,14 @@ ghost use Rattle.std.specs.Io.KnownBytes.{Consumes, IsAtEnd};
 ghost use Rattle.machine.specs.Views.{Session};
 ghost use Rattle.replay.specs.Options.{refusal_of};
 ghost use Rattle.cpmrun.specs.Ends.{BreaksReplay, Ends, EndsByFault, FaultOf, Informs, WritesReplay};
-ghost use Rattle.cpmrun.specs.Progress.{Faults};
+ghost use Rattle.edit_lines.specs.Progress.{Faults};
 
-use crate::ending::{Ending, ReplayFault};
-use crate::ends::{Over, Reader, Writer, write_all};
 use crate::fault::{Fault, complain};
 use crate::loading::{load, open};
 use crate::raw_run::run_once;
 use crate::request::{Request, read_request};
-use crate::stream::replay;
 use command_words::Words;
+use edit_lines::{Ending, Over, Reader, ReplayFault, Writer, replay, write_all};
 use machine::{Meter, Session};
 use replay::{Options, OptionsError, Runner};
 use std::alloc::Global;

@@ -1,7 +1,8 @@
 ghost use Rattle.std.specs.Prelude.{◌≡◌, ◌^◌, ◌<◌, IfOk, IfSome, IfNone, string_bytes};
-ghost use Rattle.cpmrun.specs.Program.{Complains, WritesOrFails};
+ghost use Rattle.cpmrun.specs.Program.{Complains};
+ghost use Rattle.edit_lines.specs.Writing.{WritesOrFails};
 
-use crate::ends::{Writer, write_all};
+use edit_lines::{Writer, write_all};
 use std::alloc::{AllocError, Global};
 
 /// Why the program ends with a status other than 0.

@@ -1,27 +1,16 @@
-//! The edge of the session runner: edit lines, replies, a replay over any reader and writer, and
-//! the program but for its `main`.
+//! The program but for its `main`: the words of its command line, what is loaded, one run or a replay of edit lines, and its faults.
 #![tactic(auto)]
 
-mod carry_out;
-mod changed_lines;
 mod command_line;
-mod ending;
-mod ends;
 mod fault;
-mod file_lines;
-mod gone_lines;
-mod line;
 mod loading;
 mod raw_run;
-mod reply;
 mod request;
-mod stream;
 
 pub use command_line::command;
 pub use command_words::{Words, read_words};
-pub use ending::{Ending, ReplayFault};
-pub use ends::{Failed, Over, Reader, Writer, write_all};
+pub use edit_lines::{
+    Command, Ending, Failed, Over, Reader, ReplayFault, Writer, cause_text, parse_line, refused,
+    replay,
+};
 pub use fault::{Fault, complain};
-pub use line::{Command, one_command, parse_line};
-pub use reply::{cause_text, refused};
-pub use stream::{one_replay, replay};

@@ -4,15 +4,12 @@ ghost use Rattle.std.specs.Prelude.{◌≡◌, ◌^◌, ◌<◌, ◌≤◌, ◌+
 ghost use Rattle.hostfiles.specs.Files.{has};
 ghost use Rattle.replay.specs.Cold.{cold};
 ghost use Rattle.replay.specs.Report.{reported_run, session_of};
-ghost use Rattle.cpmrun.specs.Program.{WritesOrFails};
-ghost use Rattle.cpmrun.specs.RawRun.{BreaksRun, RunsOnce, Unwritten, gone_lines, stop_line, stop_status};
-ghost use Rattle.cpmrun.specs.Writing.{Writes};
+ghost use Rattle.edit_lines.specs.ChangedLines.{gone_lines};
+ghost use Rattle.edit_lines.specs.Writing.{Writes, WritesOrFails};
+ghost use Rattle.cpmrun.specs.RawRun.{BreaksRun, RunsOnce, Unwritten, stop_line, stop_status};
 
-use crate::changed_lines::write_piece;
-use crate::ends::{Failed, Writer, write_all};
 use crate::fault::Fault;
-use crate::gone_lines::write_gone_files;
-use crate::reply::cause_text;
+use edit_lines::{Asked, Failed, Writer, cause_text, write_all, write_changed_files, write_piece};
 use folders::write_to_drive;
 use hostfiles::{Changes, HostFiles, Journal, Name};
 use machine::{Cause, Meter, Session};
@@ -95,7 +92,7 @@ fn write_lines<E: Writer>(
     ensures { Writes (E.holds err.old) (E.holds err.new) (E.failures err.old) (E.failures err.new) (line.now ++ gone_lines host.now journal.now.entries) result }
 {
     write_piece(err, line)?;
-    write_gone_files(err, host, journal)
+    write_changed_files(err, Asked::GoneAlone, host, journal)
 }
 
 /// Tells a line, and then the changed files that are gone. A failure of the writer ends this, and is passed over.

@@ -214,7 +214,7 @@ impl Session {
         ensures err { OnErr result (self.new ≡ self.old) }
     {
         let set = self.files.set(name, bytes);
-        let _ = self.files.len();
+        let _ = self.files.len(); // there are at most 512, none too long
         match set {
             Ok(()) => Ok(()),
             Err(FilesError::OutOfMemory) => Err(AllocError),
@@ -227,7 +227,7 @@ impl Session {
         ensures { self.new ≡ record self.old { files = finmap.remove self.old.files name.now } }
     {
         self.files.remove(name);
-        let _ = self.files.len();
+        let _ = self.files.len(); // as above
     }
 
     /// Sets the limit, in steps.

@@ -3,7 +3,8 @@ use Rattle.std.proofs.Common.{◌≡◌, ℕ, ◌<◌, ◌≤◌, Bool, true, fa
 use Rattle.std.proofs.lemmas.Bool.{lt-ltb, le-ltb, cases_lt}
 use Rattle.machine.specs.Machine.{Question, Answers}
 use Rattle.replay.specs.FirstLooks.{Noted, step_of}
-use Rattle.replay.specs.Touch.{IsNotedTouch, lesser}
+use Rattle.file_steps.specs.Steps.{lesser}
+use Rattle.replay.specs.Touch.{IsNotedTouch}
 
 -- the same as of a noted touch, for the questions that are done
 pub record IsLeast (IsDone : Question → Type 0) (f g : Answers) (k : Noted) (t : ℕ) : Type 0 where

@@ -1,5 +1,5 @@
 -- Which steps an edit touches.
-use Rattle.std.specs.Prelude.{◌≡◌, ℕ, ◌<◌, ◌≤◌, Option, Some, None, ◌⊎◌, nat_lt, if◌then◌else◌}
+use Rattle.std.specs.Prelude.{◌≡◌, ℕ, ◌<◌, ◌≤◌, Some, ◌⊎◌}
 use Rattle.interaction_trees.specs.Tree.{AgreeOn}
 use Rattle.machine.specs.Machine.{Question, Answers, looks}
 use Rattle.replay.specs.FirstLooks.{Noted, step_of}
@@ -13,7 +13,3 @@ pub record IsNotedTouch (f g : Answers) (k : Noted) (t : ℕ) : Type 0 where
   pub within : t ≤ k.seen
   pub below : (q : Question) (m : ℕ) → step_of k q ≡ Some m → m < t → f q ≡ g q
   pub here : (t ≡ k.seen) ⊎ ((q : Question) × (step_of k q ≡ Some t) × (f q ≡ g q → ⊥))
-
-abbrev pub lesser : Option ℕ → ℕ → ℕ
-lesser None n = n
-lesser (Some m) n = if nat_lt m n then m else n

@@ -79,13 +79,6 @@ impl FirstLooks {
         self.places.end()
     }
 
-    /// The first step that asked a question of the host files, where that is noted.
-    pub fn ask(&self, ask: &Ask) -> Option<u64>
-        ensures { result ≡ step_of self.now (OfHost ask.now) }
-    {
-        self.files.of(ask)
-    }
-
     /// The first steps of the questions of the host files.
     pub fn files(&self) -> &FileSteps
         ensures { result.now ≡ self.now.files }

@@ -1,10 +1,11 @@
 ghost use Rattle.std.specs.Prelude.{◌≡◌, ◌==◌, ◌+◌, ◌<◌, ◌≤◌, IsTrue, ◌↔◌, Some, IfOk, option_copied, length, slice_get, if◌then◌else◌};
+ghost use Rattle.file_steps.specs.Steps.{lesser};
 ghost use Rattle.machine.specs.Machine.{ask, Cell, Script};
 ghost use Rattle.machine.specs.Session.{spliced};
 ghost use Rattle.replay.specs.FirstLooks.{IsFirstLooks, step_of};
 ghost use Rattle.replay.specs.Edits.{with_host_file, with_poke, with_splice};
 ghost use Rattle.hostfiles.specs.Hosts.{records_in};
-ghost use Rattle.replay.specs.Touch.{IsNotedTouch, lesser};
+ghost use Rattle.replay.specs.Touch.{IsNotedTouch};
 
 use crate::first_looks::FirstLooks;
 use hostfiles::{FilesError, Key};

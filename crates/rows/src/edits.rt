@@ -3,7 +3,7 @@
 ghost use Rattle.std.specs.Prelude.{None, vec_len, ◌≤◌};
 
 use crate::fixtures::{HI, runner_of};
-use cpmrun::{Failed, Over, Reader, ReplayFault, Writer, replay};
+use edit_lines::{Failed, Over, Reader, ReplayFault, Writer, replay};
 use machine::Meter;
 use std::alloc::Global;
 use std::process::Abort;

@@ -3,9 +3,9 @@ use Rattle.std.proofs.KnownBytes.{Consumes-nil}
 use Rattle.std.proofs.lemmas.Result.{IfErr-weaker}
 use Rattle.machine.specs.Views.{Session}
 use Rattle.replay.specs.RunnerView.{RunnerView}
-use Rattle.cpmrun.specs.Progress.{Faults}
-use Rattle.cpmrun.proofs.Answering.{writes_replay}
-use Rattle.cpmrun.proofs.Stepping.{at_once}
+use Rattle.edit_lines.specs.Progress.{Faults}
+use Rattle.cpmrun.proofs.Writing.{writes_replay}
+use Rattle.edit_lines.proofs.Stepping.{at_once}
 use Rattle.cpmrun.proofs.command_line.replay_session.Goals as goal
 
 pub returns-in-Err-OutOfMemory-clause-fault : goal.returns-in-Err-OutOfMemory-clause-fault

@@ -1,4 +1,4 @@
-use Rattle.cpmrun.proofs.WrittenPieces.{writes_or_fails}
+use Rattle.edit_lines.proofs.WrittenPieces.{writes_or_fails}
 use Rattle.cpmrun.proofs.raw_run.tell_lines.Goals as goal
 
 pub returns : goal.returns

@@ -1,6 +1,6 @@
 use Rattle.changed_files.proofs.ChangedWalk.{changed_next}
 use Rattle.replay.specs.Report.{reported_run, session_of}
-use Rattle.cpmrun.proofs.WrittenPieces.{fewer_keys}
+use Rattle.edit_lines.proofs.WrittenPieces.{fewer_keys}
 use Rattle.cpmrun.proofs.raw_run.write_changed.Goals as goal
 
 pub loop-name-smaller : goal.loop-name-smaller

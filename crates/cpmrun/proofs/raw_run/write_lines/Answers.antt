@@ -1,4 +1,4 @@
-use Rattle.cpmrun.proofs.WrittenPieces.{writes_then, writes_part, part_more}
+use Rattle.edit_lines.proofs.WrittenPieces.{writes_then, writes_part, part_more}
 use Rattle.cpmrun.proofs.raw_run.write_lines.Goals as goal
 
 pub returns-in_err-write_piece : goal.returns-in_err-write_piece
@@ -6,4 +6,4 @@ returns-in_err-write_piece g c =
     writes_part _ _ _ _ _ c.from_residual.result c.from_residual.ensures.0 (part_more _ _ _ _ _ _ c.in_err-write_piece.ensures)
 
 pub returns : goal.returns
-returns g c = writes_then _ _ _ _ _ _ _ _ c.write_gone_files.result c.in_ok-write_piece.ensures c.write_gone_files.ensures
+returns g c = writes_then _ _ _ _ _ _ _ _ c.write_changed_files.result c.in_ok-write_piece.ensures c.write_changed_files.ensures

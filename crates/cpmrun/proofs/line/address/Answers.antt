@@ -1,6 +1,0 @@
-use Rattle.std.proofs.Common.{sym}
-use Rattle.cpmrun.proofs.Grammar.{not_sized}
-use Rattle.cpmrun.proofs.line.address.Goals as goal
-
-pub returns-in-Err-clause-none : goal.returns-in-Err-clause-none
-returns-in-Err-clause-none c = not_sized c.args.word.now _ (sym (rw c.in-Err.is at c.from_hex.ensures))

@@ -1,6 +1,0 @@
-use Rattle.std.specs.Prelude.{codes}
-use Rattle.cpmrun.proofs.Grammar.{no_file}
-use Rattle.cpmrun.proofs.line.set_file.Goals as goal
-
-pub returns-in-None-clause-none : goal.returns-in-None-clause-none
-returns-in-None-clause-none c = no_file _ _ (rw c.in-None.is at c.in_ok-name.ensures.none)

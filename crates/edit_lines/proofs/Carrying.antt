@@ -1,0 +1,110 @@
+-- Lines that are carried out one after the other.
+use Rattle.std.proofs.Common.{◌≡◌, ℕ, ◌+◌, ◌-◌, ◌≤◌, List, [], ◌∷◌, ◌++◌, length, take, drop, refl, sym, ap, subst, ◌∙◌, arith, append_assoc, length-append, take-append-drop, Option, Some, Err}
+use Rattle.std.proofs.lemmas.List.{append-nil}
+use Rattle.std.proofs.lemmas.List.Folds.{concat-append}
+use Rattle.std.proofs.Math.Seq.{take-append_seam}
+use Rattle.std.specs.List.{concat}
+use Rattle.std.specs.Io.KnownBytes.{Appends}
+use Rattle.std.proofs.KnownBytes.{Appends-trans}
+use Rattle.machine.specs.Views.{Session}
+use Rattle.edit_lines.specs.declared.line.Command.{Command}
+use Rattle.edit_lines.specs.declared.ending.ReplayFault.{ReplayFault}
+use Rattle.edit_lines.specs.declared.ending.ReplayFault.TheVariants.{Malformed, LineTooLong, Read, Write, OutOfMemory}
+use Rattle.edit_lines.specs.EditLine.{EditLine, MayWantMemory}
+use Rattle.edit_lines.specs.Pieces.{lines_of, past_lines}
+use Rattle.edit_lines.specs.Replay.{Carries, Replays, MalformedAt, none, more, reply, session_after}
+use Rattle.edit_lines.specs.Progress.{BreaksOff, Faults, CarriesOut}
+
+-- one more line is carried out
+pub Carries-snoc : {s t : Session} {ls rs : List (List ℕ)} (l : List ℕ) (c : Command) → Carries s ls rs t → length l ≤ 65536
+    → EditLine l c → Carries s (ls ++ l ∷ []) (rs ++ reply t c ∷ []) (session_after t c)
+Carries-snoc l c none short is = more c short is none
+Carries-snoc l c (more d short' is' rest) short is = more d short' is' (Carries-snoc l c rest short is)
+
+-- a reply for each line
+pub concat-snoc : (rs : List (List ℕ)) (r : List ℕ) → concat (rs ++ r ∷ []) ≡ concat rs ++ r
+concat-snoc rs r = concat-append rs (r ∷ []) ∙ ap (λ x. concat rs ++ x) (append-nil r)
+
+-- some of what all but the last reply hold, and all of it
+pub most_of : (rs : List (List ℕ)) → (rest : List ℕ) × (concat rs ≡ concat (take (length rs - 1) rs) ++ rest)
+most_of rs = let n = length rs - 1 in (
+  concat (drop n rs),
+  ap concat (sym (take-append-drop n rs)) ∙ concat-append (take n rs) (drop n rs),
+)
+
+take_most : (rs : List (List ℕ)) (r : List ℕ) → take (length (rs ++ r ∷ []) - 1) (rs ++ r ∷ []) ≡ rs
+take_most rs r =
+    let n : length (rs ++ r ∷ []) - 1 ≡ length rs = omega (arith, length-append rs (r ∷ [])) in
+    ap (λ k. take k (rs ++ r ∷ [])) n ∙ take-append_seam rs (r ∷ [])
+
+module _ (left : Option (List ℕ)) (first s t : Session) (held h₀ h₁ : Option (List ℕ)) (whole line : List ℕ) (done replies : List (List ℕ))
+    (carried : Carries first done replies s) (written : Appends held h₀ (concat replies)) (few : length done ≤ 1000000) where
+  -- no line more was carried out
+  pub stays_there : (others : List (List ℕ)) → lines_of whole ≡ done ++ others
+      → ((rest : List ℕ) → left ≡ Some rest → (others : List (List ℕ)) × (lines_of (whole ++ rest) ≡ done ++ others))
+      → length (past_lines (length done) whole) ≤ 131072 → BreaksOff left first held whole s h₀
+  stays_there others cut cuts near = record {
+    text = concat replies;
+    written = written;
+    done = done;
+    replies = replies;
+    read = (others, cut);
+    cut = cuts;
+    few = few;
+    carried = carried;
+    begins = ([], sym (append-nil (concat replies)));
+    contains = most_of replies;
+    near = near;
+  }
+
+  -- what carrying out the next line answered, where it failed
+  pub Faults-from : (U : Type 0) (n : ℕ) (f : ReplayFault) → n ≡ length done + 1 → length line ≤ 65536
+      → (others : List (List ℕ)) → lines_of whole ≡ done ++ line ∷ others
+      → ((rest : List ℕ) → left ≡ Some rest → (others : List (List ℕ)) × (lines_of (whole ++ rest) ≡ done ++ line ∷ others))
+      → length (past_lines (length done) whole) ≤ 131072 → length (past_lines (length done + 1) whole) ≤ 131072
+      → CarriesOut {U = U} n line s t h₀ h₁ (Err f) → Faults left first held whole t h₁ f
+  Faults-from U n (Malformed k) number short others cut cuts near near' h = rw (h.2, h.3) (record {
+    text = concat replies;
+    written = written;
+    replays = λ rest e. malformed rest (cuts rest e).0 (cuts rest e).1;
+    some = ([], malformed [] others (ap lines_of (append-nil whole) ∙ cut));
+    near = let e : k - 1 ≡ length done = omega (arith, h.0, number) in rw e near;
+  }) where
+    malformed : (rest : List ℕ) (after_it : List (List ℕ)) → lines_of (whole ++ rest) ≡ done ++ line ∷ after_it
+        → Replays first (lines_of (whole ++ rest)) (concat replies) s (MalformedAt k)
+    malformed rest after_it is = record {
+      done = done;
+      left = line ∷ after_it;
+      replies = replies;
+      cut = is;
+      few = few;
+      carried = carried;
+      written = refl;
+      ends = (h.0 ∙ number, short, rw h.0 h.1);
+    }
+  Faults-from U n (LineTooLong k) number short others cut cuts near near' h = absurd h
+  Faults-from U n Read number short others cut cuts near near' h = absurd h
+  Faults-from U n Write number short others cut cuts near near' h =
+      let c = h.0 in
+      let r = reply s c in
+      let m = h.4.0 in
+      record {
+        text = concat replies ++ take m r;
+        written = Appends-trans held h₀ h₁ (concat replies) (take m r) written h.4.1;
+        done = done ++ line ∷ [];
+        replies = replies ++ r ∷ [];
+        read = (others, cut ∙ sym (append_assoc done (line ∷ []) others));
+        cut = λ rest e. let more = cuts rest e in (more.0, more.1 ∙ sym (append_assoc done (line ∷ []) more.0));
+        few = omega (arith, h.2, number, length-append done (line ∷ []));
+        carried = rw h.3 (Carries-snoc line c carried short h.1);
+        begins = (drop m r, concat-snoc replies r ∙ ap (λ x. concat replies ++ x) (sym (take-append-drop m r)) ∙ sym (append_assoc (concat replies) (take m r) (drop m r)));
+        contains = (take m r, ap (λ x. concat x ++ take m r) (sym (take_most replies r)));
+        near = let e : length (done ++ line ∷ []) ≡ length done + 1 = omega (arith, length-append done (line ∷ [])) in rw e near';
+      }
+  Faults-from U n OutOfMemory number short others cut cuts near near' h = rw (h.2, h.3) (stays_there (line ∷ others) cut
+      (λ rest e. let more = cuts rest e in (line ∷ more.0, more.1)) near)
+
+-- want of memory is of a line that may want it
+pub wants : (U : Type 0) (n : ℕ) (line given : List ℕ) (s t : Session) (a b : Option (List ℕ)) (f : ReplayFault)
+    → given ≡ line → CarriesOut {U = U} n given s t a b (Err f) → f ≡ OutOfMemory → MayWantMemory line
+wants U n line given s t a b f same h e = subst MayWantMemory same (subst (λ x. CarriesOut {U = U} n given s t a b (Err x)) e h).1

@@ -1,0 +1,86 @@
+-- A text cut at a byte, as it grows.
+use Rattle.std.proofs.Common.{◌≡◌, ℕ, suc, List, [], ◌∷◌, ◌++◌, length, refl, ap, ◌∙◌, inl, inr, eqb}
+use Rattle.std.proofs.lemmas.Bool.{cases_Bool}
+use Rattle.edit_lines.specs.Pieces.{first_piece, other_pieces, pieces, without_empty_last, lines_of, past_lines}
+
+nil_ne_snoc : (ds : List (List ℕ)) (l : List ℕ) → [] ≡ ds ++ l ∷ [] → ⊥
+nil_ne_snoc [] l e = cc
+nil_ne_snoc (d ∷ ds) l e = cc
+
+-- the pieces of a longer text: the last piece goes on
+pub pieces-append : (cut : ℕ) (xs ys : List ℕ) (ds : List (List ℕ)) (l : List ℕ) → pieces cut xs ≡ ds ++ l ∷ []
+    → pieces cut (xs ++ ys) ≡ ds ++ (l ++ first_piece cut ys) ∷ other_pieces cut ys
+pieces-append cut [] ys [] l e = let n : [] ≡ l = cc in rw (← n) refl
+pieces-append cut [] ys (d ∷ ds) l e = absurd (nil_ne_snoc ds l cc)
+pieces-append cut (b ∷ xs) ys [] l e = elim (cases_Bool (eqb b cut)) [
+  | inl t ↦ let g = rw t at e in absurd (cc)
+  | inr f ↦ let g = rw f at e in
+      let others : other_pieces cut xs ≡ [] = cc in
+      let again = pieces-append cut xs ys [] (first_piece cut xs) (ap (λ ps. first_piece cut xs ∷ ps) others) in
+      let word : b ∷ first_piece cut xs ≡ l = cc in
+      rw (f, ← word) cc
+]
+pieces-append cut (b ∷ xs) ys (d ∷ ds) l e = elim (cases_Bool (eqb b cut)) [
+  | inl t ↦ let g = rw t at e in
+      let again = pieces-append cut xs ys ds l cc in
+      rw t cc
+  | inr f ↦ let g = rw f at e in
+      let others : other_pieces cut xs ≡ ds ++ l ∷ [] = cc in
+      let again = pieces-append cut xs ys (first_piece cut xs ∷ ds) l (ap (λ ps. first_piece cut xs ∷ ps) others) in
+      rw f cc
+]
+
+-- what stands past the ended lines is what stands after them
+pub past_lines-pieces : (xs ys : List ℕ) (ds : List (List ℕ)) (l : List ℕ) → pieces 10 xs ≡ ds ++ l ∷ []
+    → past_lines (length ds) (xs ++ ys) ≡ l ++ ys
+past_lines-pieces [] ys [] l e = let n : [] ≡ l = cc in rw (← n) refl
+past_lines-pieces [] ys (d ∷ ds) l e = absurd (nil_ne_snoc ds l cc)
+past_lines-pieces (b ∷ xs) ys [] l e = elim (cases_Bool (eqb b 10)) [
+  | inl t ↦ let g = rw t at e in absurd (cc)
+  | inr f ↦ let g = rw f at e in
+      let others : other_pieces 10 xs ≡ [] = cc in
+      let again : xs ++ ys ≡ first_piece 10 xs ++ ys = past_lines-pieces xs ys [] (first_piece 10 xs) (ap (λ ps. first_piece 10 xs ∷ ps) others) in
+      let word : b ∷ first_piece 10 xs ≡ l = cc in
+      rw (← word) (ap (λ s. b ∷ s) again)
+]
+past_lines-pieces (b ∷ xs) ys (d ∷ ds) l e = elim (cases_Bool (eqb b 10)) [
+  | inl t ↦ let g = rw t at e in rw t (past_lines-pieces xs ys ds l cc)
+  | inr f ↦ let g = rw f at e in
+      let others : other_pieces 10 xs ≡ ds ++ l ∷ [] = cc in
+      rw f (past_lines-pieces xs ys (first_piece 10 xs ∷ ds) l (ap (λ ps. first_piece 10 xs ∷ ps) others))
+]
+
+-- nothing stands past a last line that has no end
+pub past_lines-last : (xs : List ℕ) (ds : List (List ℕ)) (l : List ℕ) → pieces 10 xs ≡ ds ++ l ∷ []
+    → past_lines (suc (length ds)) xs ≡ []
+past_lines-last [] ds l e = refl
+past_lines-last (b ∷ xs) [] l e = elim (cases_Bool (eqb b 10)) [
+  | inl t ↦ let g = rw t at e in absurd (cc)
+  | inr f ↦ let g = rw f at e in
+      let others : other_pieces 10 xs ≡ [] = cc in
+      rw f (past_lines-last xs [] (first_piece 10 xs) (ap (λ ps. first_piece 10 xs ∷ ps) others))
+]
+past_lines-last (b ∷ xs) (d ∷ ds) l e = elim (cases_Bool (eqb b 10)) [
+  | inl t ↦ let g = rw t at e in rw t (past_lines-last xs ds l cc)
+  | inr f ↦ let g = rw f at e in
+      let others : other_pieces 10 xs ≡ ds ++ l ∷ [] = cc in
+      rw f (past_lines-last xs (first_piece 10 xs ∷ ds) l (ap (λ ps. first_piece 10 xs ∷ ps) others))
+]
+
+-- only the last member is looked at
+pub without_empty_last-append : (ds : List (List ℕ)) (q : List ℕ) (qs : List (List ℕ))
+    → without_empty_last (ds ++ q ∷ qs) ≡ ds ++ without_empty_last (q ∷ qs)
+without_empty_last-append [] q qs = refl
+without_empty_last-append (d ∷ []) q qs = refl
+without_empty_last-append (d ∷ e ∷ ds) q qs = ap (λ ps. d ∷ ps) (without_empty_last-append (e ∷ ds) q qs)
+
+-- the lines of a longer text
+pub lines_of-append : (xs ys : List ℕ) (ds : List (List ℕ)) (l : List ℕ) → pieces 10 xs ≡ ds ++ l ∷ []
+    → lines_of (xs ++ ys) ≡ ds ++ without_empty_last ((l ++ first_piece 10 ys) ∷ other_pieces 10 ys)
+lines_of-append xs ys ds l e =
+    ap without_empty_last (pieces-append 10 xs ys ds l e) ∙ without_empty_last-append ds _ _
+
+-- the lines of a text
+pub lines_of-pieces : (xs : List ℕ) (ds : List (List ℕ)) (l : List ℕ) → pieces 10 xs ≡ ds ++ l ∷ []
+    → lines_of xs ≡ ds ++ without_empty_last (l ∷ [])
+lines_of-pieces xs ds l e = ap without_empty_last e ∙ without_empty_last-append ds l []

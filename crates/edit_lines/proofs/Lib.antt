@@ -1,0 +1,10 @@
+pub mod Parts
+pub mod Cutting
+pub mod Carrying
+pub mod Stepping
+pub mod Answering
+pub mod Grammar
+pub mod Once
+pub mod SaidNames
+pub mod WrittenPieces
+pub mod Reporting

@@ -1,0 +1,58 @@
+-- The report as it is written in pieces.
+use Rattle.std.proofs.Common.{◌≡◌, ℕ, List, ◌++◌, take, Option, Result, Ok, Err, OnErr, OnOk, ◌+◌, ◌<◌, arith, codes, refl, sym, ap, subst, ◌∙◌}
+use Rattle.std.specs.Io.KnownBytes.{Appends}
+use Rattle.replay.specs.Edits.{AnswersEdit, edited, number_of}
+use Rattle.replay.specs.declared.edit.Edit.{Edit}
+use Rattle.replay.specs.declared.edit.EditError.{EditError}
+use Rattle.replay.specs.declared.edit.EditError.TheVariants.{PastEnd, ScriptTooLong, NoSuchFile, FileTooLong, TooManyFiles, OutsideProgram, LimitTooLarge, OutOfMemory}
+use Rattle.hostfiles.specs.Hosts.{Host}
+use Rattle.hostfiles.specs.Files.{Own}
+use Rattle.machine.specs.Views.{Session}
+use Rattle.replay.specs.Cold.{Cold}
+use Rattle.edit_lines.specs.declared.ending.ReplayFault.{ReplayFault}
+use Rattle.edit_lines.specs.declared.ending.ReplayFault.TheVariants.{Malformed, LineTooLong, Read, Write}
+use Rattle.edit_lines.specs.declared.ending.ReplayFault.TheVariants as fault
+use Rattle.edit_lines.specs.declared.line.Command.TheVariants as command
+use Rattle.edit_lines.specs.Progress.{Does}
+use Rattle.edit_lines.specs.Replay.{edit_after, edit_reply}
+use Rattle.edit_lines.specs.Writing.{Replies}
+use Rattle.edit_lines.specs.ReportText.{line, head_text}
+use Rattle.edit_lines.specs.ChangedLines.{changed_lines}
+use Rattle.edit_lines.specs.Reports.{report_text}
+
+pub report_is : (s : Session) (run : Cold) (head : List ℕ) (host : Host) (own : Own) → head ≡ head_text run → host ≡ s.files → own ≡ run.state.own.files
+    → ((head ++ changed_lines host own) ++ line (codes "end")) ≡ report_text s run
+unfolding report_text
+report_is s run head host own first files done =
+    ap (λ (h : List ℕ). (h ++ changed_lines host own) ++ line (codes "end")) first
+    ∙ ap (λ (h : Host). (head_text run ++ changed_lines h own) ++ line (codes "end")) files
+    ∙ ap (λ (o : Own). (head_text run ++ changed_lines s.files o) ++ line (codes "end")) done
+
+-- the refusal that was answered
+pub refused_by : (wanted : Result Session ℕ) (e : EditError) (after : Session) → (e ≡ OutOfMemory → ⊥) → AnswersEdit {U = Unit {0}} wanted (Err e) after → wanted ≡ Err (number_of e)
+refused_by wanted PastEnd after not a = a
+refused_by wanted ScriptTooLong after not a = a
+refused_by wanted NoSuchFile after not a = a
+refused_by wanted FileTooLong after not a = a
+refused_by wanted TooManyFiles after not a = a
+refused_by wanted OutsideProgram after not a = a
+refused_by wanted LimitTooLarge after not a = a
+refused_by wanted OutOfMemory after not a = absurd (not refl)
+
+-- an edit was carried out, and this reply to it written
+pub edit_does : (s t : Session) (e : Edit) (held holds : Option (List ℕ)) (before after : ℕ) (text : List ℕ) (r : Result (Unit {0}) ReplayFault) → t ≡ edit_after s (edited s e) → text ≡ edit_reply (edited s e)
+    → Replies held holds before after text r → Does (command.Edit e) s t held holds r
+edit_does s t e held holds before after text (Ok u) went is w = (went, subst (Appends held holds) is w.0)
+edit_does s t e held holds before after text (Err Write) went is w = (went, (w.1.0, subst (λ x. Appends held holds (take w.1.0 x)) is w.1.1))
+edit_does s t e held holds before after text (Err fault.OutOfMemory) went is w = let no = w.0 in absurd (cc)
+edit_does s t e held holds before after text (Err (Malformed k)) went is w = let no = w.0 in absurd (cc)
+edit_does s t e held holds before after text (Err (LineTooLong k)) went is w = let no = w.0 in absurd (cc)
+edit_does s t e held holds before after text (Err Read) went is w = let no = w.0 in absurd (cc)
+
+pub replies_fine : (held holds : Option (List ℕ)) (before after : ℕ) (text : List ℕ) (r : Result (Unit {0}) ReplayFault) → Replies held holds before after text r → OnOk r (after ≡ before)
+replies_fine held holds before after text (Ok u) w = w.1
+replies_fine held holds before after text (Err e) w = tt
+
+pub replies_failed : (held holds : Option (List ℕ)) (before after : ℕ) (text : List ℕ) (r : Result (Unit {0}) ReplayFault) → Replies held holds before after text r → r ≡ Err Write → before < after
+replies_failed held holds before after text (Ok u) w is = absurd (cc)
+replies_failed held holds before after text (Err e) w is = let more : after ≡ before + 1 = w.2 in omega arith

@@ -1,0 +1,219 @@
+-- What one more byte, and the end of the input, do to a replay.
+use Rattle.std.proofs.Common.{◌≡◌, ℕ, suc, ◌+◌, ◌-◌, ◌≤◌, ◌<◌, List, [], ◌∷◌, ◌++◌, length, refl, sym, ap, subst, ◌∙◌, arith, append_assoc, length-append, inl, inr, Option, Some, Err, false, eqb, eqb-true}
+use Rattle.std.proofs.lemmas.Bool.{cases_Bool}
+use Rattle.std.proofs.lemmas.List.{append-nil}
+use Rattle.std.specs.List.{concat}
+use Rattle.std.specs.Io.KnownBytes.{Appends, IsAtEnd}
+use Rattle.std.proofs.KnownBytes.{Appends-trans, Appends-nil}
+use Rattle.machine.specs.Views.{Session}
+use Rattle.edit_lines.specs.declared.line.Command.{Command}
+use Rattle.edit_lines.specs.declared.ending.ReplayFault.{ReplayFault}
+use Rattle.edit_lines.specs.EditLine.{EditLine}
+use Rattle.edit_lines.specs.Pieces.{first_piece, other_pieces, pieces, without_empty_last, lines_of, past_lines}
+use Rattle.edit_lines.specs.Replay.{none, Finished, TooLongAt, EndsAt, Replays, reply, session_after}
+use Rattle.edit_lines.specs.Progress.{StandsAt, EndsWith, BreaksOff, Faults, CarriesOut}
+use Rattle.edit_lines.proofs.Cutting.{pieces-append, past_lines-pieces, past_lines-last, lines_of-append, lines_of-pieces}
+use Rattle.edit_lines.proofs.Carrying.{Carries-snoc, concat-snoc, Faults-from, stays_there}
+
+not_cut : (b : ℕ) → (b ≡ 10 → ⊥) → eqb b 10 ≡ false
+not_cut b ne = elim (cases_Bool (eqb b 10)) [ inl t ↦ absurd (ne (eqb-true b 10 t)) | inr f ↦ f ]
+
+one_line : (l : List ℕ) → 0 < length l → without_empty_last (l ∷ []) ≡ l ∷ []
+one_line [] h = absurd (omega arith)
+one_line (b ∷ l) h = refl
+
+at_end : (left : Option (List ℕ)) (more : List ℕ) → IsAtEnd left → left ≡ Some more → more ≡ []
+at_end left more end e = rw e at end
+
+-- nothing was read, and nothing written
+pub at_start : (s : Session) (held : Option (List ℕ)) → StandsAt s held [] s held [] 0
+at_start s held = record {
+  done = [];
+  replies = [];
+  cut = refl;
+  carried = none;
+  written = Appends-nil held;
+  counted = refl;
+}
+
+-- nothing was read, and nothing will be
+pub at_once : (left : Option (List ℕ)) (s : Session) (held : Option (List ℕ)) → BreaksOff left s held [] s held
+at_once left s held = record {
+  text = [];
+  written = Appends-nil held;
+  done = [];
+  replies = [];
+  read = ([], refl);
+  cut = λ rest e. (lines_of rest, refl);
+  few = omega arith;
+  carried = none;
+  begins = ([], refl);
+  contains = ([], refl);
+  near = omega arith;
+}
+
+-- a line that is too long is at the front of what is left, however it goes on
+ends_long : (n : ℕ) (q : List ℕ) (qs : List (List ℕ)) → 65536 < length q → EndsAt n (without_empty_last (q ∷ qs)) (TooLongAt (n + 1))
+ends_long n [] qs h = absurd (omega arith)
+ends_long n (b ∷ q) [] h = (refl, h)
+ends_long n (b ∷ q) (p ∷ qs) h = (refl, h)
+
+module _ (first : Session) (held : Option (List ℕ)) (bytes : List ℕ) (now : Session) (holds : Option (List ℕ)) (line : List ℕ) (count : ℕ)
+    (r : StandsAt first held bytes now holds line count) (few : count ≤ 1000000) (short : length line ≤ 65536) where
+  enough : length r.done ≤ 1000000
+  enough = omega (arith, r.counted)
+
+  cut_beside : (b : ℕ) → (b ≡ 10 → ⊥) → pieces 10 (bytes ++ b ∷ []) ≡ r.done ++ (line ++ b ∷ []) ∷ []
+  cut_beside b ne = let f = not_cut b ne in let p = pieces-append 10 bytes (b ∷ []) r.done line r.cut in rw f at p
+
+  -- the line goes on
+  pub line_grows : (b : ℕ) → (b ≡ 10 → ⊥) → StandsAt first held (bytes ++ b ∷ []) now holds (line ++ b ∷ []) count
+  line_grows b ne = record {
+    done = r.done;
+    replies = r.replies;
+    cut = cut_beside b ne;
+    carried = r.carried;
+    written = r.written;
+    counted = r.counted;
+  }
+
+  -- the line ends
+  cut_here : pieces 10 (bytes ++ 10 ∷ []) ≡ (r.done ++ line ∷ []) ++ [] ∷ []
+  cut_here =
+      pieces-append 10 bytes (10 ∷ []) r.done line r.cut
+      ∙ ap (λ l. r.done ++ l ∷ [] ∷ []) (append-nil line)
+      ∙ sym (append_assoc r.done (line ∷ []) ([] ∷ []))
+
+  lines_here : (rest : List ℕ) → (others : List (List ℕ)) × (lines_of ((bytes ++ 10 ∷ []) ++ rest) ≡ r.done ++ line ∷ others)
+  lines_here rest = let others = without_empty_last (first_piece 10 rest ∷ other_pieces 10 rest) in (
+    others,
+    lines_of-append (bytes ++ 10 ∷ []) rest (r.done ++ line ∷ []) [] cut_here ∙ append_assoc r.done (line ∷ []) others,
+  )
+
+  -- its command was carried out
+  pub line_done : (t : Session) (h₁ : Option (List ℕ)) (c : Command) → EditLine line c → t ≡ session_after now c → Appends holds h₁ (reply now c)
+      → StandsAt first held (bytes ++ 10 ∷ []) t h₁ [] (count + 1)
+  line_done t h₁ c is e w = record {
+    done = r.done ++ line ∷ [];
+    replies = r.replies ++ reply now c ∷ [];
+    cut = cut_here;
+    carried = rw e (Carries-snoc line c r.carried short is);
+    written = rw (concat-snoc r.replies (reply now c)) (Appends-trans held holds h₁ (concat r.replies) (reply now c) r.written w);
+    counted = omega (arith, r.counted, length-append r.done (line ∷ []));
+  }
+
+  -- or it was not
+  pub line_fails : (U : Type 0) (left : Option (List ℕ)) (rest : List ℕ) → length rest ≤ 65535 → (t : Session) (h₁ : Option (List ℕ)) (f : ReplayFault)
+      → (given : List ℕ) → given ≡ line → CarriesOut {U = U} (count + 1) given now t holds h₁ (Err f) → Faults left first held ((bytes ++ 10 ∷ []) ++ rest) t h₁ f
+  line_fails U left rest few_more t h₁ f given same h =
+      let whole = (bytes ++ 10 ∷ []) ++ rest in
+      let here = lines_here rest in
+      let past : past_lines (length r.done) whole ≡ line ++ (10 ∷ [] ++ rest) =
+      ap (past_lines (length r.done)) (append_assoc bytes (10 ∷ []) rest) ∙ past_lines-pieces bytes (10 ∷ rest) r.done line r.cut in
+      let past' : past_lines (length (r.done ++ line ∷ [])) whole ≡ rest = past_lines-pieces (bytes ++ 10 ∷ []) rest (r.done ++ line ∷ []) [] cut_here in
+      let e : length (r.done ++ line ∷ []) ≡ length r.done + 1 = omega (arith, length-append r.done (line ∷ [])) in
+      Faults-from left first now t held holds h₁ whole line r.done r.replies r.carried r.written enough U (count + 1) f
+      (omega (arith, r.counted)) short here.0 here.1
+      (λ more e'. let again = lines_here (rest ++ more) in (again.0, ap lines_of (append_assoc (bytes ++ 10 ∷ []) rest more) ∙ again.1))
+      (rw past (omega (arith, length-append line (10 ∷ rest))))
+      (rw (← e, past') (omega arith))
+      (subst (λ x. CarriesOut {U = U} (count + 1) x now t holds h₁ (Err f)) same h)
+
+  -- the line is too long
+  pub line_too_long : (left : Option (List ℕ)) (b : ℕ) (rest : List ℕ) → (b ≡ 10 → ⊥) → length line ≡ 65536 → length rest ≤ 65535
+      → EndsWith left first held ((bytes ++ b ∷ []) ++ rest) now holds (count + 1) (TooLongAt (count + 1))
+  line_too_long left b rest ne full few_more = record {
+    text = concat r.replies;
+    written = r.written;
+    replays = λ more e. too_long more;
+    some = ([], too_long []);
+    near =
+        let past : past_lines (length r.done) ((bytes ++ b ∷ []) ++ rest) ≡ line ++ (b ∷ rest) =
+        ap (past_lines (length r.done)) (append_assoc bytes (b ∷ []) rest) ∙ past_lines-pieces bytes (b ∷ rest) r.done line r.cut in
+        let k : count + 1 - 1 ≡ length r.done = omega (arith, r.counted) in
+        rw (k, past) (omega (arith, length-append line (b ∷ rest)));
+  } where
+    too_long : (more : List ℕ) → Replays first (lines_of (((bytes ++ b ∷ []) ++ rest) ++ more)) (concat r.replies) now (TooLongAt (count + 1))
+    too_long more =
+        let q = (line ++ b ∷ []) ++ first_piece 10 (rest ++ more) in
+        let qs = other_pieces 10 (rest ++ more) in record {
+          done = r.done;
+          left = without_empty_last (q ∷ qs);
+          replies = r.replies;
+          cut = ap lines_of (append_assoc (bytes ++ b ∷ []) rest more)
+              ∙ lines_of-append (bytes ++ b ∷ []) (rest ++ more) r.done (line ++ b ∷ []) (cut_beside b ne);
+          few = enough;
+          carried = r.carried;
+          written = refl;
+          ends = rw r.counted (ends_long (length r.done) q qs
+              (omega (arith, length-append (line ++ b ∷ []) (first_piece 10 (rest ++ more)), length-append line (b ∷ []))));
+        }
+
+  -- the lines, where the line goes on with this byte and more
+  lines_on : (b : ℕ) (more : List ℕ) → (others : List (List ℕ)) × (lines_of ((bytes ++ b ∷ []) ++ more) ≡ r.done ++ others)
+  lines_on b more = (
+    without_empty_last ((line ++ first_piece 10 (b ∷ more)) ∷ other_pieces 10 (b ∷ more)),
+    ap lines_of (append_assoc bytes (b ∷ []) more) ∙ lines_of-append bytes (b ∷ more) r.done line r.cut,
+  )
+
+  -- no memory for one more byte
+  pub line_stays : (left : Option (List ℕ)) (b : ℕ) (rest : List ℕ) → length rest ≤ 65535
+      → BreaksOff left first held ((bytes ++ b ∷ []) ++ rest) now holds
+  line_stays left b rest few_more =
+      let past : past_lines (length r.done) ((bytes ++ b ∷ []) ++ rest) ≡ line ++ (b ∷ rest) =
+      ap (past_lines (length r.done)) (append_assoc bytes (b ∷ []) rest) ∙ past_lines-pieces bytes (b ∷ rest) r.done line r.cut in
+      stays_there left first now now held holds holds ((bytes ++ b ∷ []) ++ rest) line r.done r.replies r.carried r.written enough
+      (lines_on b rest).0 (lines_on b rest).1
+      (λ more e. let on = lines_on b (rest ++ more) in (on.0, ap lines_of (append_assoc (bytes ++ b ∷ []) rest more) ∙ on.1))
+      (rw past (omega (arith, length-append line (b ∷ rest))))
+
+  -- the input ends after a whole line
+  pub ends_whole : line ≡ [] → Replays first (lines_of bytes) (concat r.replies) now (Finished count)
+  ends_whole e = record {
+    done = r.done;
+    left = [];
+    replies = r.replies;
+    cut = rw e at (lines_of-pieces bytes r.done line r.cut);
+    few = enough;
+    carried = r.carried;
+    written = refl;
+    ends = (refl, r.counted);
+  }
+
+  -- the input ends in a line
+  lines_there : 0 < length line → lines_of bytes ≡ r.done ++ line ∷ []
+  lines_there some = lines_of-pieces bytes r.done line r.cut ∙ ap (λ ls. r.done ++ ls) (one_line line some)
+
+  -- whose command was carried out
+  pub ends_done : 0 < length line → (t : Session) (h₁ : Option (List ℕ)) (c : Command) → EditLine line c → t ≡ session_after now c
+      → Appends holds h₁ (reply now c) → count + 1 ≤ 1000000
+      → (text : List ℕ) × Appends held h₁ text × Replays first (lines_of bytes) text t (Finished (count + 1))
+  ends_done some t h₁ c is e w fits = (
+    concat r.replies ++ reply now c,
+    Appends-trans held holds h₁ (concat r.replies) (reply now c) r.written w,
+    record {
+      done = r.done ++ line ∷ [];
+      left = [];
+      replies = r.replies ++ reply now c ∷ [];
+      cut = lines_there some ∙ sym (append-nil (r.done ++ line ∷ []));
+      few = omega (arith, r.counted, length-append r.done (line ∷ []));
+      carried = rw e (Carries-snoc line c r.carried short is);
+      written = sym (concat-snoc r.replies (reply now c));
+      ends = (refl, omega (arith, r.counted, length-append r.done (line ∷ [])));
+    },
+  )
+
+  -- or was not
+  pub ends_failing : 0 < length line → (U : Type 0) (left : Option (List ℕ)) → IsAtEnd left → (t : Session) (h₁ : Option (List ℕ)) (f : ReplayFault)
+      → (given : List ℕ) → given ≡ line → CarriesOut {U = U} (count + 1) given now t holds h₁ (Err f) → Faults left first held bytes t h₁ f
+  ends_failing some U left end t h₁ f given same h =
+      let past : past_lines (length r.done) bytes ≡ line =
+      ap (past_lines (length r.done)) (sym (append-nil bytes)) ∙ past_lines-pieces bytes [] r.done line r.cut ∙ append-nil line in
+      let e : length r.done + 1 ≡ suc (length r.done) = omega arith in
+      Faults-from left first now t held holds h₁ bytes line r.done r.replies r.carried r.written enough U (count + 1) f
+      (omega (arith, r.counted)) short [] (lines_there some)
+      (λ more e'. let none_more : more ≡ [] = at_end left more end e' in
+      ([], rw (none_more, append-nil bytes) (lines_there some)))
+      (rw past (omega arith))
+      (rw (e, past_lines-last bytes r.done line r.cut) (omega arith))
+      (subst (λ x. CarriesOut {U = U} (count + 1) x now t holds h₁ (Err f)) same h)

@@ -1,0 +1,179 @@
+-- A text written in pieces.
+use Rattle.std.proofs.Common.{arith, map, zero-le, drop, take-append-drop, unwrap_or, ◌<◌, ◌/◌, ◌%◌, slice_index, Some, None, IsErr, [], ◌∷◌, take-suc, add-one, append-nil, append_assoc, codes, ◌≡◌, ℕ, ◌+◌, ◌≤◌, List, ◌++◌, length, take, Option, Result, Ok, Err, refl, sym, ap, ◌∙◌, subst, inl, inr, le_of_lt}
+use Rattle.std.proofs.lemmas.Bool.{cases_lt}
+use Rattle.std.proofs.lemmas.List.{take-append-le, take_all}
+use Rattle.std.proofs.Math.Seq.{take-append_seam, take-append-add}
+use Rattle.std.specs.Io.KnownBytes.{Appends}
+use Rattle.std.proofs.KnownBytes.{Appends-trans}
+use Rattle.std.specs.List.{concat, slice_get}
+use Rattle.std.specs.Option.{option_map, option_and_then}
+use Rattle.std.proofs.lemmas.Option.{get_or_from_slice_get, slice_get_past, slice_get-get_or}
+use Rattle.hostfiles.specs.Files.{Own}
+use Rattle.changed_files.specs.Changed.{told, changed_names, changed_keys}
+use Rattle.changed_files.proofs.ChangedWalk.{keys_above, keys_above_none}
+use Rattle.edit_lines.specs.ReportText.{line}
+use Rattle.hex.specs.Hex.{encode_with, encode_lower, lower_digits}
+use Rattle.filenames.specs.Names.{Key, printed, type_text}
+use Rattle.hostfiles.specs.Hosts.{Record, Host}
+use Rattle.edit_lines.specs.ChangedLines.{records_text, file_text, changed_line}
+use Rattle.edit_lines.specs.Writing.{WritesOrFails}
+use Rattle.edit_lines.specs.Writing.{Writes}
+
+-- some first part of a text is one of a longer text
+first_part : (n : ℕ) (x y : List ℕ) → (m : ℕ) × (take m (x ++ y) ≡ take n x)
+first_part n x y = elim (cases_lt n (length x)) [
+  | inl below ↦ (n, take-append-le n x y (le_of_lt below))
+  | inr past ↦ (length x, take-append_seam x y ∙ sym (take_all n x past))
+]
+
+-- all of a text was taken; or some first part of it, with one failure more
+abbrev pub All : Option (List ℕ) → Option (List ℕ) → ℕ → ℕ → List ℕ → Type 0
+All a b before after x = Appends a b x × (after ≡ before)
+
+abbrev pub Part : Option (List ℕ) → Option (List ℕ) → ℕ → ℕ → List ℕ → Type 0
+Part a b before after x = ((n : ℕ) × Appends a b (take n x)) × (after ≡ before + 1)
+
+pub all_then : (a b c : Option (List ℕ)) (before middle after : ℕ) (x y : List ℕ) → All a b before middle x → All b c middle after y → All a c before after (x ++ y)
+all_then a b c before middle after x y p q = (Appends-trans a b c x y p.0 q.0, q.1 ∙ p.1)
+
+pub part_then : (a b c : Option (List ℕ)) (before middle after : ℕ) (x y : List ℕ) → All a b before middle x → Part b c middle after y → Part a c before after (x ++ y)
+part_then a b c before middle after x y p q =
+    let n = q.0.0 in
+    ((length x + n, subst (Appends a c) (sym (take-append-add x y n)) (Appends-trans a b c x (take n y) p.0 q.0.1)), q.1 ∙ ap (λ k. k + 1) p.1)
+
+pub part_more : (a b : Option (List ℕ)) (before after : ℕ) (x y : List ℕ) → Part a b before after x → Part a b before after (x ++ y)
+part_more a b before after x y p = let m = first_part p.0.0 x y in ((m.0, subst (Appends a b) (sym m.1) p.0.1), p.1)
+
+-- a failure at a part of the text
+pub writes_part : {U E : Type 0} (a b : Option (List ℕ)) (before after : ℕ) (x : List ℕ) (r : Result U E) → IsErr r → Part a b before after x → Writes a b before after x r
+writes_part a b before after x (Ok u) h p = absurd (cc)
+writes_part a b before after x (Err e) h p = p
+
+-- one piece was taken, and then another or a part of it
+pub writes_then : {U E : Type 0} (a b c : Option (List ℕ)) (before middle after : ℕ) (x y : List ℕ) (r : Result U E)
+    → All a b before middle x → Writes b c middle after y r → Writes a c before after (x ++ y) r
+writes_then a b c before middle after x y (Ok u) p q = all_then a b c before middle after x y p q
+writes_then a b c before middle after x y (Err e) p q = part_then a b c before middle after x y p q
+
+-- the same text in other words
+pub writes_same : {U E : Type 0} (a b : Option (List ℕ)) (before after : ℕ) (x y : List ℕ) (r : Result U E)
+    → x ≡ y → Writes a b before after x r → Writes a b before after y r
+writes_same a b before after x y r e w = subst (λ t. Writes a b before after t r) e w
+
+-- a failure that is passed over
+pub writes_or_fails : {U E : Type 0} (a b : Option (List ℕ)) (before after : ℕ) (x : List ℕ) (r : Result U E) → Writes a b before after x r → WritesOrFails a b before after x
+writes_or_fails a b before after x (Ok u) w = inl w.0
+writes_or_fails a b before after x (Err e) w = let more = w.1 in inr (omega (arith, more), w.0)
+
+-- ---- the digits of records
+
+encode-append : (xs ys : List ℕ) → encode_lower (xs ++ ys) ≡ encode_lower xs ++ encode_lower ys
+unfolding encode_with
+encode-append [] ys = refl
+encode-append (x ∷ xs) ys = ap (λ t. slice_index lower_digits (x / 16) ∷ slice_index lower_digits (x % 16) ∷ t) (encode-append xs ys)
+
+pub no_digits : (rs : List Record) → encode_lower (concat (take 0 rs)) ≡ []
+unfolding encode_with
+no_digits rs = refl
+
+concat-push : (rs : List Record) (r : Record) → concat (rs ++ r ∷ []) ≡ concat rs ++ r
+concat-push [] r = append-nil r
+concat-push (q ∷ rs) r = ap (λ t. q ++ t) (concat-push rs r) ∙ sym (append_assoc q (concat rs) r)
+
+within : (rs : List Record) (i : ℕ) (r : Record) → slice_get rs i ≡ Some r → i < length rs
+within rs i r h = elim (cases_lt i (length rs)) [
+  | inl below ↦ below
+  | inr past ↦ absurd (let none : slice_get rs i ≡ None = slice_get_past rs i past in cc)
+]
+
+-- one record more
+pub more_digits : (rs : List Record) (i : ℕ) (r : Record) → slice_get rs i ≡ Some r → encode_lower (concat (take i rs)) ++ encode_lower r ≡ encode_lower (concat (take (i + 1) rs))
+more_digits rs i r h =
+    let below : i < length rs = within rs i r h in
+    let one : take (i + 1) rs ≡ take i rs ++ r ∷ [] = rw add-one (take-suc rs i r below) ∙ ap (λ q. take i rs ++ q ∷ []) (get_or_from_slice_get rs i r r h) in
+    sym (ap (λ t. encode_lower (concat t)) one ∙ ap encode_lower (concat-push (take i rs) r) ∙ encode-append (concat (take i rs)) r)
+
+-- the digits of all records, of which there are some
+pub all_digits : (rs : List Record) (i : ℕ) → length rs ≤ i → (length rs ≡ 0 → ⊥) → encode_lower (concat (take i rs)) ≡ records_text rs
+all_digits [] i h some = absurd (some refl)
+all_digits (r ∷ rs) i h some = ap (λ t. encode_lower (concat t)) (take_all i (r ∷ rs) h)
+
+concat-append : (xs ys : List Record) → concat (xs ++ ys) ≡ concat xs ++ concat ys
+concat-append [] ys = refl
+concat-append (x ∷ xs) ys = ap (λ t. x ++ t) (concat-append xs ys) ∙ sym (append_assoc x (concat xs) (concat ys))
+
+-- the digits of all records are those of the first ones and of the others
+pub split_digits : (rs : List Record) (n : ℕ) → (length rs ≡ 0 → ⊥) → encode_lower (concat (take n rs)) ++ encode_lower (concat (drop n rs)) ≡ records_text rs
+split_digits rs n some =
+    sym (encode-append (concat (take n rs)) (concat (drop n rs)))
+    ∙ ap encode_lower (sym (concat-append (take n rs) (drop n rs)) ∙ ap concat (take-append-drop n rs))
+    ∙ whole rs some where
+      whole : (rs : List Record) → (length rs ≡ 0 → ⊥) → encode_lower (concat rs) ≡ records_text rs
+      whole [] some = absurd (some refl)
+      whole (r ∷ rs) some = refl
+
+pub no_records : (rs : List Record) → length rs ≡ 0 → codes "-" ≡ records_text rs
+no_records [] h = refl
+no_records (r ∷ rs) h = cc
+
+-- ---- the type of a name
+
+pub some_type : (text : List ℕ) → (length text ≡ 0 → ⊥) → 46 ∷ [] ++ text ≡ type_text text
+some_type [] h = absurd (h refl)
+some_type (b ∷ bs) h = refl
+
+pub no_type : (text : List ℕ) → length text ≡ 0 → [] ≡ type_text text
+no_type [] h = refl
+no_type (b ∷ bs) h = cc
+
+-- ---- a file as it is told
+
+record_of : (t : Option (List Record)) (k : ℕ) → option_and_then (λ f. slice_get f k) t ≡ slice_get (unwrap_or t []) k
+record_of None k = sym (slice_get_past [] k zero-le)
+record_of (Some f) k = refl
+
+pub record_here : (t : Option (List Record)) (k : ℕ) (r : Record) → Some r ≡ option_and_then (λ f. slice_get f k) t → slice_get (unwrap_or t []) k ≡ Some r
+record_here t k r h = sym (h ∙ record_of t k)
+
+pub no_record : (t : Option (List Record)) (k : ℕ) → k < length (unwrap_or t []) → None ≡ option_and_then (λ f. slice_get f k) t → ⊥
+no_record t k h none = let some = slice_get-get_or (unwrap_or t []) k [] h in let same = record_of t k in cc
+
+pub gone : (t : Option (List Record)) → None ≡ option_map length t → t ≡ None
+gone None h = refl
+gone (Some f) h = cc
+
+pub there : (t : Option (List Record)) (n : ℕ) → Some n ≡ option_map length t → t ≡ Some (unwrap_or t [])
+there None n h = cc
+there (Some f) n h = refl
+
+pub gone_line : (host : Host) (own : Own) (q key : Key) → q ≡ key → told host own q ≡ None → (codes "gone " ++ printed key) ++ 10 ∷ [] ≡ changed_line host own key
+gone_line host own q key same none = sym (ap (λ t. line (file_text key t)) (ap (told host own) (sym same) ∙ none))
+
+pub file_line : (host : Host) (own : Own) (q key : Key) → q ≡ key → told host own q ≡ Some (unwrap_or (told host own q) [])
+    → (((codes "file " ++ printed key) ++ codes " ") ++ records_text (unwrap_or (told host own q) [])) ++ 10 ∷ [] ≡ changed_line host own key
+file_line host own q key same some = sym (ap (λ t. line (file_text key t)) (ap (told host own) (sym same) ∙ some))
+
+-- ---- a text of all changed files, of which each has a part
+
+abbrev pub parts_above : (Key → List ℕ) → Host → Own → Option Key → List ℕ
+parts_above part host own after = concat (map part (keys_above (changed_names host own) after))
+
+abbrev pub all_parts : (Key → List ℕ) → Host → Own → List ℕ
+all_parts part host own = concat (map part (changed_keys host own))
+
+pub parts_begin : (part : Key → List ℕ) (host : Host) (own : Own) → [] ++ parts_above part host own None ≡ all_parts part host own
+parts_begin part host own = ap (λ ks. concat (map part ks)) (keys_above_none (changed_names host own))
+
+pub parts_next : (part : Key → List ℕ) (host : Host) (own : Own) (after : Option Key) (k : Key) (text : List ℕ)
+    → keys_above (changed_names host own) after ≡ k ∷ keys_above (changed_names host own) (Some k)
+    → text ++ parts_above part host own after ≡ all_parts part host own → (text ++ part k) ++ parts_above part host own (Some k) ≡ all_parts part host own
+parts_next part host own after k text split left =
+    append_assoc text (part k) (parts_above part host own (Some k)) ∙ ap (λ ks. text ++ concat (map part ks)) (sym split) ∙ left
+
+pub parts_end : (part : Key → List ℕ) (host : Host) (own : Own) (after : Option Key) (text : List ℕ) → keys_above (changed_names host own) after ≡ []
+    → text ++ parts_above part host own after ≡ all_parts part host own → text ≡ all_parts part host own
+parts_end part host own after text none left = sym (append-nil text) ∙ ap (λ ks. text ++ concat (map part ks)) (sym none) ∙ left
+
+pub fewer_keys : (host : Host) (own : Own) (after : Option Key) (k : Key) → keys_above (changed_names host own) after ≡ k ∷ keys_above (changed_names host own) (Some k)
+    → length (keys_above (changed_names host own) (Some k)) < length (keys_above (changed_names host own) after)
+fewer_keys host own after k split = let n = ap length split in omega (arith, n)

@@ -1,0 +1,19 @@
+use Rattle.std.proofs.Common.{◌≡◌, ◌++◌, ℕ, List, length, map}
+use Rattle.std.specs.List.{concat}
+use Rattle.std.specs.Io.KnownBytes.{Appends}
+use Rattle.changed_files.specs.Changed.{changed_names}
+use Rattle.changed_files.proofs.ChangedWalk.{keys_above}
+use Rattle.edit_lines.specs.ChangedLines.{line_of_file, lines_of_files}
+use Rattle.edit_lines.proofs.changed_lines.write_changed_files.Given as goal
+
+-- some first lines were written, and those of the names above the last one are left
+abbrev pub invariant-loop-name : goal.invariant-loop-name
+invariant-loop-name g l = record {
+  text : List ℕ;
+  written : Appends (g.W.Writer.holds l.initial.writer) (g.W.Writer.holds l.writer) text;
+  same : g.W.Writer.failures l.writer ≡ g.W.Writer.failures l.initial.writer;
+  left : text ++ concat (map (line_of_file l.asked l.host l.journal.entries) (keys_above (changed_names l.host l.journal.entries) l.after)) ≡ lines_of_files l.asked l.host l.journal.entries;
+}
+
+abbrev pub decreases-loop-name : goal.decreases-loop-name
+decreases-loop-name g l = length (keys_above (changed_names l.host l.journal.entries) l.after)

@@ -1,0 +1,13 @@
+use Rattle.std.specs.Prelude.{codes}
+use Rattle.std.proofs.Common.{inl, inr, refl}
+use Rattle.edit_lines.proofs.Grammar.{no_address, no_poke_bytes, names_bytes}
+use Rattle.edit_lines.proofs.line.poke.Goals as goal
+
+pub returns-in_default-clause-none : goal.returns-in_default-clause-none
+returns-in_default-clause-none c = no_address _ _ (rw c.in_default.is at c.address.ensures.none)
+
+pub returns-in_err-bytes-clause-memory : goal.returns-in_err-bytes-clause-memory
+returns-in_err-bytes-clause-memory c = names_bytes (codes "poke") _ _ (inr (inr (inl (refl, (_, c.in-Some.ensures.found))))) c.in_err-bytes.ensures.memory c.from_residual.result
+
+pub returns-in-None-clause-none : goal.returns-in-None-clause-none
+returns-in-None-clause-none c = no_poke_bytes _ _ (rw c.in-None.is at c.in_ok-bytes.ensures.none)

@@ -1,0 +1,52 @@
+use Rattle.std.proofs.Common.{◌++◌, [], take, arith, rules, refl, ◌∙◌, subst}
+use Rattle.std.proofs.lemmas.Result.{err_from_is_err_and}
+use Rattle.std.proofs.lemmas.List.{append-nil}
+use Rattle.std.proofs.KnownBytes.{Consumes-nil, Consumes-trans}
+use Rattle.edit_lines.specs.Progress.{Faults}
+use Rattle.edit_lines.proofs.Stepping.{at_start}
+use Rattle.edit_lines.proofs.Answering.{no_more_bytes, answers_ok, answers_err}
+use Rattle.edit_lines.proofs.stream.replay.Goals as goal
+
+pub loop-count-init : goal.loop-count-init
+loop-count-init g c =
+    (([], Consumes-nil _, rw c.new.ensures.items (at_start _ _)), refl, refl, omega (arith, c.requires.meter))
+
+pub returns-then-count-eq0-clause-ok : goal.returns-then-count-eq0-clause-ok
+returns-then-count-eq0-clause-ok g c =
+    let i = c.loop-count.invariant.0 in
+    let b = c.in-Ok.ensures.bytes in
+    answers_ok _ _ _ _ _ _ i.0 (no_more_bytes _ _ _ i.0 _ _ c.if-count-eq0.true i.1 b.0) (b.1 c.if-count-eq0.true (search rules))
+    c.finish.result (c.finish.ensures.ends _ _ i.0 i.2)
+
+pub returns-then-count-eq0-clause-fault : goal.returns-then-count-eq0-clause-fault
+returns-then-count-eq0-clause-fault g c =
+    let i = c.loop-count.invariant.0 in
+    let b = c.in-Ok.ensures.bytes in
+    answers_err _ _ _ _ _ _ i.0 (no_more_bytes _ _ _ i.0 _ _ c.if-count-eq0.true i.1 b.0) (b.1 c.if-count-eq0.true (search rules))
+    c.finish.result (c.finish.ensures.ends _ _ i.0 i.2)
+
+pub loop-count-preserved : goal.loop-count-preserved
+loop-count-preserved g c =
+    let i = c.loop-count.invariant.0 in (
+      (
+        i.0 ++ take c.in-Ok.count c.read.new.piece,
+        Consumes-trans _ _ _ i.0 _ i.1 c.in-Ok.ensures.bytes.0,
+        c.in_ok-take_piece.ensures.goes _ _ i.0 i.2,
+      ),
+      c.in-Ok.ensures.ok ∙ c.loop-count.invariant.1,
+      c.in_ok-take_piece.ensures.fine ∙ c.loop-count.invariant.2,
+      c.in_ok-take_piece.ensures.meter,
+    )
+
+pub returns-in_err-take_piece-clause-fault : goal.returns-in_err-take_piece-clause-fault
+returns-in_err-take_piece-clause-fault g c =
+    let i = c.loop-count.invariant.0 in
+    let bytes = i.0 ++ take c.in-Ok.count c.read.new.piece in
+    let e = err_from_is_err_and c.from_residual.result c.from_residual.ensures.1 in
+    rw (e.1, e.2) (
+      bytes,
+      Consumes-trans _ _ _ i.0 _ i.1 c.in-Ok.ensures.bytes.0,
+      subst (λ x. Faults (g.R.Reader.left c.read.new.self) c.args.runner.now.session (g.W.Writer.holds c.args.writer.now) x
+          c.take_piece.new.runner.session (g.W.Writer.holds c.take_piece.new.writer) c.in_err-take_piece.field-0.0)
+          (append-nil bytes) (c.in_err-take_piece.ensures.goes _ _ i.0 i.2 _ (omega arith)),
+    )

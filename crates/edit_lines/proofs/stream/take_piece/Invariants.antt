@@ -1,0 +1,14 @@
+use Rattle.std.proofs.Common.{◌≡◌, ℕ, ◌+◌, ◌*◌, ◌≤◌, List, ◌++◌, Option, take, vec_len}
+use Rattle.machine.specs.Views.{Session}
+use Rattle.machine.specs.declared.session.TheConstants.{STEP_LIMIT}
+use Rattle.edit_lines.specs.Progress.{StandsAt}
+use Rattle.edit_lines.proofs.stream.take_piece.Given as goal
+
+abbrev pub invariant-loop-byte : goal.invariant-loop-byte
+invariant-loop-byte g l =
+    ((first : Session) (held : Option (List ℕ)) (bytes : List ℕ)
+    → StandsAt first held bytes l.initial.runner.session (g.W.Writer.holds l.initial.writer) l.initial.place.line.items l.initial.place.lines
+    → StandsAt first held (bytes ++ take l.byte-index l.piece) l.runner.session (g.W.Writer.holds l.writer) l.place.line.items l.place.lines)
+    × (g.W.Writer.failures l.writer ≡ g.W.Writer.failures l.initial.writer)
+    × (l.meter ≤ STEP_LIMIT * l.place.lines)
+    × (65537 * l.initial.place.lines + vec_len l.initial.place.line + l.byte-index ≤ 65537 * l.place.lines + vec_len l.place.line)

@@ -1,0 +1,48 @@
+-- The lines that tell the changed files: of a report, and those that tell the ones that are gone alone.
+use Rattle.std.specs.Prelude.{ℕ, List, [], ◌∷◌, ◌++◌, map, Option, Some, None, codes}
+use Rattle.std.specs.List.{concat}
+use Rattle.hex.specs.Hex.{encode_lower}
+use Rattle.filenames.specs.Names.{Key, printed}
+use Rattle.hostfiles.specs.Hosts.{Record, Host}
+use Rattle.hostfiles.specs.Files.{Own}
+use Rattle.changed_files.specs.Changed.{told, changed_keys}
+use Rattle.edit_lines.specs.ReportText.{line}
+use Rattle.edit_lines.specs.declared.changed_lines.Asked.{Asked}
+use Rattle.edit_lines.specs.declared.changed_lines.Asked.TheVariants.{All, GoneAlone}
+
+-- `-` for no record, else two digits in lower case for each byte
+abbrev pub records_text : List Record → List ℕ
+records_text [] = codes "-"
+records_text (r ∷ rs) = encode_lower (concat (r ∷ rs))
+
+-- a changed file as it is told: all of its records, or that it is gone
+abbrev pub file_text : Key → Option (List Record) → List ℕ
+file_text key None = codes "gone " ++ printed key
+file_text key (Some records) = codes "file " ++ printed key ++ codes " " ++ records_text records
+
+-- its line
+abbrev pub changed_line : Host → Own → Key → List ℕ
+changed_line host own key = line (file_text key (told host own key))
+
+-- the line of a changed file that is gone; nothing for one that is there
+abbrev pub gone_text : Key → Option (List Record) → List ℕ
+gone_text key None = line (codes "gone " ++ printed key)
+gone_text key (Some records) = []
+
+abbrev pub gone_line : Host → Own → Key → List ℕ
+gone_line host own key = gone_text key (told host own key)
+
+-- the line of a changed file, where it is asked for
+abbrev pub line_of_file : Asked → Host → Own → Key → List ℕ
+line_of_file All = changed_line
+line_of_file GoneAlone = gone_line
+
+-- the lines of the changed files that are asked for, in the order of their names
+abbrev pub lines_of_files : Asked → Host → Own → List ℕ
+lines_of_files asked host own = concat (map (line_of_file asked host own) (changed_keys host own))
+
+abbrev pub changed_lines : Host → Own → List ℕ
+changed_lines = lines_of_files All
+
+abbrev pub gone_lines : Host → Own → List ℕ
+gone_lines = lines_of_files GoneAlone

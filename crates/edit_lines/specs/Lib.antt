@@ -1,0 +1,9 @@
+pub mod Pieces
+pub mod EditLine
+pub mod ReportText
+pub mod Reports
+pub mod Replay
+pub mod Progress
+pub mod FileLines
+pub mod Writing
+pub mod ChangedLines

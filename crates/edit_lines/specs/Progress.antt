@@ -1,0 +1,94 @@
+-- Where a replay stands, and what holds after each fault.
+use Rattle.std.specs.Prelude.{◌≡◌, ℕ, ◌-◌, ◌≤◌, List, [], ◌∷◌, ◌++◌, length, take, Option, Some, Result, Ok, Err}
+use Rattle.std.specs.List.{concat}
+use Rattle.std.specs.Io.KnownBytes.{Appends, IsAtEnd}
+use Rattle.machine.specs.Views.{Session}
+use Rattle.edit_lines.specs.declared.line.Command.{Command}
+use Rattle.edit_lines.specs.declared.ending.Ending.{Ending}
+use Rattle.edit_lines.specs.declared.ending.ReplayFault.{ReplayFault}
+use Rattle.edit_lines.specs.declared.ending.ReplayFault.TheVariants.{Malformed, LineTooLong, Read, Write, OutOfMemory}
+use Rattle.edit_lines.specs.EditLine.{EditLine, WantsMemory, MayWantMemory}
+use Rattle.edit_lines.specs.Pieces.{pieces, lines_of, past_lines}
+use Rattle.edit_lines.specs.Replay.{Carries, End, Finished, MalformedAt, TooLongAt, IsMalformed, Replays, reply, session_after}
+
+-- the bytes read so far are whole lines, all carried out, and the beginning of one more
+pub record StandsAt (first : Session) (held : Option (List ℕ)) (bytes : List ℕ) (now : Session) (holds : Option (List ℕ)) (line : List ℕ) (count : ℕ) : Type 0 where
+  pub done : List (List ℕ)
+  pub replies : List (List ℕ)
+  pub cut : pieces 10 bytes ≡ done ++ line ∷ []
+  pub carried : Carries first done replies now
+  pub written : Appends held holds (concat replies)
+  pub counted : count ≡ length done
+
+-- the replay of these bytes and those that are left ends so, that of some text which begins with them does where the reader
+-- does not tell what is left, and little more than k - 1 lines was read
+pub record EndsWith (left : Option (List ℕ)) (first : Session) (held : Option (List ℕ)) (bytes : List ℕ) (now : Session) (holds : Option (List ℕ)) (k : ℕ) (end : End) : Type 0 where
+  pub text : List ℕ
+  pub written : Appends held holds text
+  pub replays : (rest : List ℕ) → left ≡ Some rest → Replays first (lines_of (bytes ++ rest)) text now end
+  pub some : (rest : List ℕ) × Replays first (lines_of (bytes ++ rest)) text now end
+  pub near : length (past_lines (k - 1) bytes) ≤ 131072
+
+-- some first lines were read and carried out, and all their replies but the last were written whole, that one in part; they
+-- are the first lines of the bytes that were read, and of these and those that are left where the reader tells that
+pub record BreaksOff (left : Option (List ℕ)) (first : Session) (held : Option (List ℕ)) (bytes : List ℕ) (now : Session) (holds : Option (List ℕ)) : Type 0 where
+  pub text : List ℕ
+  pub written : Appends held holds text
+  pub done : List (List ℕ)
+  pub replies : List (List ℕ)
+  pub read : (others : List (List ℕ)) × (lines_of bytes ≡ done ++ others)
+  pub cut : (rest : List ℕ) → left ≡ Some rest → (others : List (List ℕ)) × (lines_of (bytes ++ rest) ≡ done ++ others)
+  pub few : length done ≤ 1000000
+  pub carried : Carries first done replies now
+  pub begins : (rest : List ℕ) × (concat replies ≡ text ++ rest)
+  pub contains : (rest : List ℕ) × (text ≡ concat (take (length replies - 1) replies) ++ rest)
+  pub near : length (past_lines (length done) bytes) ≤ 131072
+
+-- the lines whose 0AH was read were carried out, and their replies written
+pub record ReadsNoMore (first : Session) (held : Option (List ℕ)) (bytes : List ℕ) (now : Session) (holds : Option (List ℕ)) : Type 0 where
+  pub text : List ℕ
+  pub written : Appends held holds text
+  pub ended : List (List ℕ)
+  pub rest : List ℕ
+  pub cut : pieces 10 bytes ≡ ended ++ rest ∷ []
+  pub replays : Replays first ended text now (Finished (length ended))
+  pub near : length rest ≤ 131072
+
+-- what holds after a fault, where these bytes were read, and these are left if the reader tells
+abbrev pub Faults : Option (List ℕ) → Session → Option (List ℕ) → List ℕ → Session → Option (List ℕ) → ReplayFault → Type 0
+Faults left first held bytes now holds (Malformed k) = EndsWith left first held bytes now holds k (MalformedAt k)
+Faults left first held bytes now holds (LineTooLong k) = EndsWith left first held bytes now holds k (TooLongAt k)
+Faults left first held bytes now holds Read = ReadsNoMore first held bytes now holds
+Faults left first held bytes now holds Write = BreaksOff left first held bytes now holds
+Faults left first held bytes now holds OutOfMemory = BreaksOff left first held bytes now holds
+
+-- what carrying out a command answers: its reply is written, whole or in part, or memory was wanted and nothing was done
+abbrev pub Does : {U : Type 0} → Command → Session → Session → Option (List ℕ) → Option (List ℕ) → Result U ReplayFault → Type 0
+Does c s t held holds (Ok _) = (t ≡ session_after s c) × Appends held holds (reply s c)
+Does c s t held holds (Err Write) = (t ≡ session_after s c) × ((m : ℕ) × Appends held holds (take m (reply s c)))
+Does c s t held holds (Err OutOfMemory) = WantsMemory c × (t ≡ s) × (holds ≡ held)
+Does c s t held holds (Err (Malformed k)) = ⊥
+Does c s t held holds (Err (LineTooLong k)) = ⊥
+Does c s t held holds (Err Read) = ⊥
+
+-- what carrying out line number n answers
+abbrev pub CarriesOut : {U : Type 0} → ℕ → List ℕ → Session → Session → Option (List ℕ) → Option (List ℕ) → Result U ReplayFault → Type 0
+CarriesOut n line s t held holds (Ok u) =
+    (c : Command) × EditLine line c × (n ≤ 1000000) × (t ≡ session_after s c) × Appends held holds (reply s c)
+CarriesOut n line s t held holds (Err Write) =
+    (c : Command) × EditLine line c × (n ≤ 1000000) × (t ≡ session_after s c) × ((m : ℕ) × Appends held holds (take m (reply s c)))
+CarriesOut n line s t held holds (Err OutOfMemory) = (n ≤ 1000000) × MayWantMemory line × (t ≡ s) × (holds ≡ held)
+CarriesOut n line s t held holds (Err (Malformed k)) = (k ≡ n) × IsMalformed n line × (t ≡ s) × (holds ≡ held)
+CarriesOut n line s t held holds (Err (LineTooLong k)) = ⊥
+CarriesOut n line s t held holds (Err Read) = ⊥
+
+-- what a step over some bytes answers, where the rest was read too
+abbrev pub Goes : {U : Type 0} → Session → Option (List ℕ) → List ℕ → List ℕ → Session → Option (List ℕ) → List ℕ → ℕ → Result U ReplayFault → Type 0
+Goes first held bytes rest now holds line count (Ok _) = StandsAt first held bytes now holds line count
+Goes first held bytes rest now holds line count (Err f) = (left : Option (List ℕ)) → length rest ≤ 65535 → Faults left first held (bytes ++ rest) now holds f
+
+-- what the end of the input answers
+abbrev pub Finishes : Session → Option (List ℕ) → List ℕ → Session → Option (List ℕ) → Result Ending ReplayFault → Type 0
+Finishes first held bytes now holds (Ok e) =
+    (text : List ℕ) × Appends held holds text × Replays first (lines_of bytes) text now (Finished e.lines)
+Finishes first held bytes now holds (Err f) = (left : Option (List ℕ)) → IsAtEnd left → Faults left first held bytes now holds f

@@ -1,0 +1,69 @@
+-- What a replay of an edit text does: a reply to each line in turn, up to the first line that is too long or malformed.
+-- A line has 65,536 bytes at most, and a text 1,000,000 lines.
+use Rattle.std.specs.Prelude.{◌≡◌, ℕ, ◌+◌, ◌<◌, ◌≤◌, ◌⊎◌, List, [], ◌∷◌, ◌++◌, length, codes, Result, Ok, Err}
+use Rattle.std.specs.Fmt.{decimal}
+use Rattle.std.specs.List.{concat}
+use Rattle.machine.specs.Views.{Session}
+use Rattle.replay.specs.Cold.{cold}
+use Rattle.replay.specs.Edits.{edited}
+use Rattle.edit_lines.specs.declared.line.Command.{Command}
+use Rattle.edit_lines.specs.declared.line.Command.TheVariants.{Edit, Run, DropOldest}
+use Rattle.edit_lines.specs.EditLine.{EditLine}
+use Rattle.edit_lines.specs.ReportText.{line}
+use Rattle.edit_lines.specs.Reports.{report_text}
+
+-- the reply to an edit, by what it makes of the session
+abbrev pub edit_reply : Result Session ℕ → List ℕ
+edit_reply (Ok s) = line (codes "ok")
+edit_reply (Err n) = line (codes "refused " ++ decimal n)
+
+-- the session after an edit
+abbrev pub edit_after : Session → Result Session ℕ → Session
+edit_after s (Ok t) = t
+edit_after s (Err n) = s
+
+-- the reply to a command, and the session after it
+abbrev pub reply : Session → Command → List ℕ
+reply s (Edit e) = edit_reply (edited s e)
+reply s Run = report_text s (cold s)
+reply s (DropOldest n) = line (codes "ok")
+
+abbrev pub session_after : Session → Command → Session
+session_after s (Edit e) = edit_after s (edited s e)
+session_after s Run = s
+session_after s (DropOldest n) = s
+
+-- the lines are carried out in turn, each with its reply, from the first session to the last
+pub data Carries : Session → List (List ℕ) → List (List ℕ) → Session → Type 0 where
+  none : {s : Session} → Carries s [] [] s
+  more : {s t : Session} {l : List ℕ} {ls rs : List (List ℕ)} (c : Command) → length l ≤ 65536 → EditLine l c
+      → Carries (session_after s c) ls rs t → Carries s (l ∷ ls) (reply s c ∷ rs) t
+
+-- how a replay ends: after so many lines, or at a line
+pub data End : Type 0 where
+  Finished : ℕ → End
+  MalformedAt : ℕ → End
+  TooLongAt : ℕ → End
+
+-- line number n has no command
+abbrev pub IsMalformed : ℕ → List ℕ → Type 0
+IsMalformed n l = (1000000 < n) ⊎ ((c : Command) → EditLine l c → ⊥)
+
+-- what ends a replay after n lines, where these are left
+abbrev pub EndsAt : ℕ → List (List ℕ) → End → Type 0
+EndsAt n left (Finished k) = (left ≡ []) × (k ≡ n)
+EndsAt n [] (MalformedAt k) = ⊥
+EndsAt n (l ∷ ls) (MalformedAt k) = (k ≡ n + 1) × (length l ≤ 65536) × IsMalformed k l
+EndsAt n [] (TooLongAt k) = ⊥
+EndsAt n (l ∷ ls) (TooLongAt k) = (k ≡ n + 1) × (65536 < length l)
+
+-- the replay of these lines writes the text, leaves the last session and ends so
+pub record Replays (first : Session) (lines : List (List ℕ)) (text : List ℕ) (last : Session) (end : End) : Type 0 where
+  pub done : List (List ℕ)
+  pub left : List (List ℕ)
+  pub replies : List (List ℕ)
+  pub cut : lines ≡ done ++ left
+  pub few : length done ≤ 1000000
+  pub carried : Carries first done replies last
+  pub written : text ≡ concat replies
+  pub ends : EndsAt (length done) left end

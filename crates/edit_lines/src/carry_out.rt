@@ -1,0 +1,135 @@
+ghost use Rattle.std.specs.Prelude.{◌≡◌, ◌+◌, ◌^◌, ◌<◌, ◌≤◌, OnOk};
+ghost use Rattle.replay.specs.Cold.{cold};
+ghost use Rattle.replay.specs.RunnerView.{DropsOldest, rerun_start};
+ghost use Rattle.replay.specs.Report.{reported_run, session_of};
+ghost use Rattle.edit_lines.specs.Progress.{CarriesOut, Does};
+ghost use Rattle.edit_lines.specs.ReportText.{head_text};
+ghost use Rattle.edit_lines.specs.Reports.{report_text};
+ghost use Rattle.edit_lines.specs.Writing.{Replies, Writes};
+
+use crate::changed_lines::{Asked, write_changed_files, write_piece};
+use crate::ending::ReplayFault;
+use crate::ends::{Failed, Writer, write_all};
+use crate::line::{Command, parse_line};
+use crate::reply::{head_of, refused};
+use machine::{Meter, STEP_LIMIT};
+use replay::{Edit, EditError, Report, Runner};
+use std::alloc::Global;
+
+/// Writes a reply, or some first part of it where the writer fails.
+fn write_reply<W: Writer>(writer: &mut W, text: &[u8]) -> Result<(), ReplayFault>
+    requires { W.failures writer.old < 2 ^ 63 }
+    ensures { Replies (W.holds writer.old) (W.holds writer.new) (W.failures writer.old) (W.failures writer.new) text.now result }
+{
+    match write_all(writer, text) {
+        Ok(()) => Ok(()),
+        Err(Failed) => Err(ReplayFault::Write),
+    }
+}
+
+/// Carries out an edit and writes its reply.
+fn carry_out_edit<W: Writer>(
+    runner: &mut Runner,
+    edit: Edit,
+    writer: &mut W,
+) -> Result<(), ReplayFault>
+    requires { W.failures writer.old < 2 ^ 63 }
+    ensures does { Does (Command.Edit edit) runner.old.session runner.new.session (W.holds writer.old) (W.holds writer.new) result }
+    ensures fine { OnOk result (W.failures writer.new ≡ W.failures writer.old) }
+    ensures failed { result ≡ Err ReplayFault.Write → W.failures writer.old < W.failures writer.new }
+{
+    match runner.edit(edit) {
+        Ok(()) => write_reply(writer, b"ok\n"),
+        Err(refusal) if refusal == EditError::OutOfMemory => Err(ReplayFault::OutOfMemory),
+        Err(refusal) => write_reply(writer, &refused(refusal.number())),
+    }
+}
+
+/// Drops some of the oldest checkpoints and writes the reply.
+fn drop_oldest<W: Writer>(
+    runner: &mut Runner,
+    count: u64,
+    writer: &mut W,
+) -> Result<(), ReplayFault>
+    requires { W.failures writer.old < 2 ^ 63 }
+    ensures does { Does (Command.DropOldest count) runner.old.session runner.new.session (W.holds writer.old) (W.holds writer.new) result }
+    ensures dropped { DropsOldest count runner.old runner.new }
+    ensures fine { OnOk result (W.failures writer.new ≡ W.failures writer.old) }
+    ensures failed { result ≡ Err ReplayFault.Write → W.failures writer.old < W.failures writer.new }
+{
+    runner.drop_oldest(count);
+    match write_all(writer, b"ok\n".as_slice()) {
+        Ok(()) => Ok(()),
+        Err(Failed) => Err(ReplayFault::Write),
+    }
+}
+
+/// Writes a report whose first lines are these: then the lines of the changed files, and `end`. They are written in pieces, and
+/// no memory is taken.
+fn write_report<W: Writer>(report: &Report<'_>, head: &str, writer: &mut W) -> Result<(), Failed>
+    requires writer { W.failures writer.old < 2 ^ 63 }
+    requires head { head.now ≡ head_text (reported_run report.now) }
+    ensures { Writes (W.holds writer.old) (W.holds writer.new) (W.failures writer.old) (W.failures writer.new) (report_text (session_of report.now) (reported_run report.now)) result }
+{
+    write_piece(writer, head.as_bytes())?;
+    write_changed_files(writer, Asked::All, report.files(), report.journal())?;
+    write_piece(writer, b"end\n")
+}
+
+/// Runs the session, from where the runner begins a rerun, and writes its report.
+fn run<W: Writer>(
+    alloc: Global,
+    runner: &mut Runner,
+    meter: &mut Meter,
+    writer: &mut W,
+) -> Result<(), ReplayFault>
+    requires writer { W.failures writer.old < 2 ^ 63 }
+    requires meter { meter.old ≤ 2 ^ 63 }
+    ensures does { Does Command.Run runner.old.session runner.new.session (W.holds writer.old) (W.holds writer.new) result }
+    ensures from { OnOk result (meter.new + rerun_start runner.old ≡ meter.old + (cold runner.old.session).steps) }
+    ensures fine { OnOk result (W.failures writer.new ≡ W.failures writer.old) }
+    ensures failed { result ≡ Err ReplayFault.Write → W.failures writer.old < W.failures writer.new }
+    ensures meter { meter.new ≤ meter.old + STEP_LIMIT }
+{
+    let Ok(report) = runner.rerun(meter) else {
+        return Err(ReplayFault::OutOfMemory);
+    };
+    let Ok(head) = head_of(alloc, &report) else {
+        return Err(ReplayFault::OutOfMemory);
+    };
+    match write_report(&report, head.as_str(), writer) {
+        Ok(()) => Ok(()),
+        Err(Failed) => Err(ReplayFault::Write),
+    }
+}
+
+/// Carries out a line by its number.
+pub fn carry_out<W: Writer>(
+    alloc: Global,
+    line: &[u8],
+    number: u64,
+    runner: &mut Runner,
+    meter: &mut Meter,
+    writer: &mut W,
+) -> Result<(), ReplayFault>
+    requires writer { W.failures writer.old < 2 ^ 63 }
+    requires meter { meter.old ≤ 2 ^ 63 }
+    ensures carries { CarriesOut number line.now runner.old.session runner.new.session (W.holds writer.old) (W.holds writer.new) result }
+    ensures fine { OnOk result (W.failures writer.new ≡ W.failures writer.old) }
+    ensures failed { result ≡ Err ReplayFault.Write → W.failures writer.old < W.failures writer.new }
+    ensures reads { result ≡ Err ReplayFault.Read → ⊥ }
+    ensures meter { meter.new ≤ meter.old + STEP_LIMIT }
+{
+    if number > 1_000_000 {
+        return Err(ReplayFault::Malformed(number));
+    }
+    let Ok(parsed) = parse_line(alloc, line) else {
+        return Err(ReplayFault::OutOfMemory);
+    };
+    match parsed {
+        None => Err(ReplayFault::Malformed(number)),
+        Some(Command::Edit(edit)) => carry_out_edit(runner, edit, writer),
+        Some(Command::Run) => run(alloc, runner, meter, writer),
+        Some(Command::DropOldest(count)) => drop_oldest(runner, count, writer),
+    }
+}

@@ -1,0 +1,193 @@
+// The lines that tell the changed files. They are written in pieces, and no memory is taken.
+
+ghost use Rattle.std.specs.Prelude.{◌≡◌, ◌^◌, ◌<◌, ◌++◌, [], length, unwrap_or};
+ghost use Rattle.std.specs.List.{before_first};
+ghost use Rattle.hex.specs.Hex.{encode_lower};
+ghost use Rattle.filenames.specs.Names.{drive_text, is_blank, printed, type_text};
+ghost use Rattle.changed_files.specs.Changed.{told};
+ghost use Rattle.edit_lines.specs.ChangedLines.{records_text, changed_line, gone_line, line_of_file, lines_of_files};
+ghost use Rattle.edit_lines.specs.Writing.{Writes};
+
+use crate::ends::{Failed, Writer, write_all};
+use changed_files::{next_changed, told_count, told_record};
+use filenames::first;
+use hostfiles::{HostFiles, Journal, Key, Name, Record};
+
+/// Which changed files are told.
+#[derive(Clone, Copy, Debug, PartialEq, Eq)]
+pub enum Asked {
+    /// All of them.
+    All,
+    /// Those that are gone.
+    GoneAlone,
+}
+
+/// Writes the lines of the changed files that are asked for, in the order of their names, each with its 0AH: `file NAME HEX` with all
+/// records of a file that is there, `gone NAME` for one that is gone. Where the writer fails, some first part of them is written.
+pub fn write_changed_files<W: Writer>(
+    writer: &mut W,
+    asked: Asked,
+    host: &HostFiles,
+    journal: &Journal,
+) -> Result<(), Failed>
+    requires { W.failures writer.old < 2 ^ 63 }
+    ensures { Writes (W.holds writer.old) (W.holds writer.new) (W.failures writer.old) (W.failures writer.new) (lines_of_files asked host.now journal.now.entries) result }
+{
+    let mut after: Option<Name> = None;
+    while let Some(name) = next_changed(host, journal, after.as_ref()) {
+        write_asked(writer, asked, host, journal, &name)?;
+        after = Some(name);
+    }
+    Ok(())
+}
+
+// Writes the line of a changed file, where it is asked for.
+fn write_asked<W: Writer>(
+    writer: &mut W,
+    asked: Asked,
+    host: &HostFiles,
+    journal: &Journal,
+    name: &Name,
+) -> Result<(), Failed>
+    requires { W.failures writer.old < 2 ^ 63 }
+    ensures { Writes (W.holds writer.old) (W.holds writer.new) (W.failures writer.old) (W.failures writer.new) (line_of_file asked host.now journal.now.entries name.now) result }
+{
+    match asked {
+        Asked::All => write_changed(writer, host, journal, name),
+        Asked::GoneAlone => write_gone(writer, host, journal, name),
+    }
+}
+
+// Writes the line of a file that is gone, and nothing for one that is there.
+fn write_gone<W: Writer>(
+    writer: &mut W,
+    host: &HostFiles,
+    journal: &Journal,
+    name: &Name,
+) -> Result<(), Failed>
+    requires { W.failures writer.old < 2 ^ 63 }
+    ensures { Writes (W.holds writer.old) (W.holds writer.new) (W.failures writer.old) (W.failures writer.new) (gone_line host.now journal.now.entries name.now) result }
+{
+    if told_count(host, journal, &name.key()).is_some() {
+        return Ok(());
+    }
+    write_changed(writer, host, journal, name)
+}
+
+// Writes the line of a changed file.
+fn write_changed<W: Writer>(
+    writer: &mut W,
+    host: &HostFiles,
+    journal: &Journal,
+    name: &Name,
+) -> Result<(), Failed>
+    requires { W.failures writer.old < 2 ^ 63 }
+    ensures { Writes (W.holds writer.old) (W.holds writer.new) (W.failures writer.old) (W.failures writer.new) (changed_line host.now journal.now.entries name.now) result }
+{
+    let key = name.key();
+    let Some(count) = told_count(host, journal, &key) else {
+        write_head(writer, b"gone ", name)?;
+        return write_piece(writer, b"\n");
+    };
+    write_head(writer, b"file ", name)?;
+    write_piece(writer, b" ")?;
+    write_records(writer, host, journal, &key, count)?;
+    write_piece(writer, b"\n")
+}
+
+// Writes a word with its blank, and a name.
+fn write_head<W: Writer>(writer: &mut W, word: &[u8], name: &Name) -> Result<(), Failed>
+    requires { W.failures writer.old < 2 ^ 63 }
+    ensures { Writes (W.holds writer.old) (W.holds writer.new) (W.failures writer.old) (W.failures writer.new) (word.now ++ printed name.now) result }
+{
+    write_piece(writer, word)?;
+    write_name(writer, name)
+}
+
+// Writes a name as it is printed.
+fn write_name<W: Writer>(writer: &mut W, name: &Name) -> Result<(), Failed>
+    requires { W.failures writer.old < 2 ^ 63 }
+    ensures { Writes (W.holds writer.old) (W.holds writer.new) (W.failures writer.old) (W.failures writer.new) (printed name.now) result }
+{
+    let key = name.key();
+    write_letter(writer, key[0])?;
+    write_field(writer, &key[1..9])?;
+    write_type(writer, &key[9..12])
+}
+
+// Writes the letter of a drive and `:`; nothing for drive A.
+fn write_letter<W: Writer>(writer: &mut W, drive: u8) -> Result<(), Failed>
+    requires room { W.failures writer.old < 2 ^ 63 }
+    requires drive { drive < 4 }
+    ensures { Writes (W.holds writer.old) (W.holds writer.new) (W.failures writer.old) (W.failures writer.new) (drive_text drive) result }
+{
+    if drive == 0 {
+        return Ok(());
+    }
+    write_piece(writer, &[b'A' + drive, b':'])
+}
+
+// Writes the bytes of a field before its blanks.
+fn write_field<W: Writer>(writer: &mut W, field: &[u8]) -> Result<(), Failed>
+    requires { W.failures writer.old < 2 ^ 63 }
+    ensures { Writes (W.holds writer.old) (W.holds writer.new) (W.failures writer.old) (W.failures writer.new) (before_first is_blank field.now) result }
+{
+    let end = first(field, b' ');
+    write_piece(writer, &field[..end])
+}
+
+// Writes `.` and the bytes of a type's field before its blanks; nothing where there is none.
+fn write_type<W: Writer>(writer: &mut W, field: &[u8]) -> Result<(), Failed>
+    requires { W.failures writer.old < 2 ^ 63 }
+    ensures { Writes (W.holds writer.old) (W.holds writer.new) (W.failures writer.old) (W.failures writer.new) (type_text (before_first is_blank field.now)) result }
+{
+    if first(field, b' ') == 0 {
+        return Ok(());
+    }
+    write_piece(writer, b".")?;
+    write_field(writer, field)
+}
+
+// Writes all records of a file as it is told: `-` where it has none.
+fn write_records<W: Writer>(
+    writer: &mut W,
+    host: &HostFiles,
+    journal: &Journal,
+    key: &Key,
+    count: u32,
+) -> Result<(), Failed>
+    requires room { W.failures writer.old < 2 ^ 63 }
+    requires count { count ≡ length (unwrap_or (told host.now journal.now.entries key.now) []) }
+    ensures { Writes (W.holds writer.old) (W.holds writer.new) (W.failures writer.old) (W.failures writer.new) (records_text (unwrap_or (told host.now journal.now.entries key.now) [])) result }
+{
+    if count == 0 {
+        return write_piece(writer, b"-");
+    }
+    for place in 0..count {
+        let Some(record) = told_record(host, journal, key, place) else {
+            unreachable!();
+        };
+        write_record(writer, &record)?;
+    }
+    Ok(())
+}
+
+// Writes two digits for each byte of a record.
+fn write_record<W: Writer>(writer: &mut W, bytes: &Record) -> Result<(), Failed>
+    requires { W.failures writer.old < 2 ^ 63 }
+    ensures { Writes (W.holds writer.old) (W.holds writer.new) (W.failures writer.old) (W.failures writer.new) (encode_lower bytes.now) result }
+{
+    let mut digits = [0; 256];
+    if hex::encode_to_slice(bytes.as_slice(), &mut digits).is_err() {
+        unreachable!();
+    }
+    write_piece(writer, &digits)
+}
+
+/// Writes a piece of a text, or some first part of it where the writer fails.
+pub fn write_piece<W: Writer>(writer: &mut W, text: &[u8]) -> Result<(), Failed>
+    requires { W.failures writer.old < 2 ^ 63 }
+    ensures { Writes (W.holds writer.old) (W.holds writer.new) (W.failures writer.old) (W.failures writer.new) text.now result }
+{
+    write_all(writer, text)
+}

@@ -1,0 +1,45 @@
+// The lines of an edit text that change the host files.
+
+ghost use Rattle.std.specs.Prelude.{◌≡◌, ◌%◌, ◌<◌, ℕ, List, length, IfOk, IfSome, IfNone, OnErr};
+ghost use Rattle.edit_lines.specs.EditLine.{IsName};
+ghost use Rattle.edit_lines.specs.FileLines.{IsFile, NamesFile};
+
+use crate::line::hex_bytes;
+use hostfiles::Name;
+use machine::Bytes;
+use std::alloc::{AllocError, Global};
+use std::str;
+
+/// The name that a word says, in either case: 1 to 8 bytes, and behind a `.` up to 3 of a type, with a letter A to D and `:`
+/// before it or on drive A.
+pub fn name(word: &[u8]) -> Option<Name>
+    ensures found { IfSome result (IsName word.now) }
+    ensures none { IfNone result ((key : List ℕ) → IsName word.now key → ⊥) }
+{
+    let Ok(text) = str::from_utf8(word) else {
+        return None;
+    };
+    match Name::parse(text) {
+        Ok(name) => Some(name),
+        Err(_) => None,
+    }
+}
+
+/// The file of the two words behind `file`: its name, and its bytes. An error is want of memory for the bytes.
+pub fn file(
+    alloc: Global,
+    name_word: &[u8],
+    hex_word: &[u8],
+) -> Result<Option<(Name, Bytes)>, AllocError>
+    ensures found { IfOk result (λ r. IfSome r (λ f. IsFile name_word.now hex_word.now f.0 f.1)) }
+    ensures none { IfOk result (λ r. IfNone r ((key bytes : List ℕ) → IsFile name_word.now hex_word.now key bytes → ⊥)) }
+    ensures memory { OnErr result (NamesFile name_word.now hex_word.now) }
+{
+    let Some(name) = name(name_word) else {
+        return Ok(None);
+    };
+    match hex_bytes(alloc, hex_word)? {
+        Some(bytes) => Ok(Some((name, Bytes::new(bytes)))),
+        None => Ok(None),
+    }
+}

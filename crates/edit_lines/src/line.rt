@@ -1,0 +1,247 @@
+ghost use Rattle.std.specs.Prelude.{◌≡◌, ℕ, ◌%◌, ◌<◌, ◌∷◌, [], List, length, IfOk, OnErr, IfSome, IfNone, MatchOption, codes};
+ghost use Rattle.edit_lines.specs.EditLine.{AreSplit, EditLine, IsAddress, IsHexText, IsNumber, IsPaired, IsPlaced, NamesBytes, NamesBytesAt};
+ghost use Rattle.edit_lines.specs.Pieces.{first_piece, other_pieces, pieces, words_of};
+ghost use Rattle.edit_lines.specs.declared.line.Command.{Command};
+
+use crate::file_lines::{file, name};
+use hex::{FromHex, FromHexError};
+use machine::Bytes;
+use replay::Edit;
+use std::alloc::{AllocError, Global};
+
+/// What a line of an edit text asks for.
+#[derive(Drop)]
+pub enum Command {
+    /// `insert AT HEX`, `replace AT HEX`, `remove AT COUNT`, `poke ADDR HEX`, `file NAME HEX`, `gone NAME` or `limit N`: the session
+    /// is changed.
+    Edit(Edit),
+    /// `run`: the session is run, and its report is written.
+    Run,
+    /// `drop N`: so many of the oldest checkpoints are dropped. No later answer depends on it.
+    DropOldest(u64),
+}
+
+/// The words of a line, where they are three at most.
+#[derive(Clone, Copy)]
+enum Words<'a> {
+    /// One word.
+    One(&'a [u8]),
+    /// Two words.
+    Two(&'a [u8], &'a [u8]),
+    /// Three words.
+    Three(&'a [u8], &'a [u8], &'a [u8]),
+    /// Four words or more.
+    More,
+}
+
+/// The first word of a line, and what stands after its blank.
+fn split_word(line: &[u8]) -> (&[u8], Option<&[u8]>)
+    ensures word { result.0.now ≡ first_piece 32 line.now }
+    ensures rest { MatchOption result.1 (other_pieces 32 line.now ≡ []) (λ r. other_pieces 32 line.now ≡ pieces 32 r.now) }
+{
+    for i in 0..line.len() {
+        if line[i] == b' ' {
+            return (&line[..i], Some(&line[i + 1..]));
+        }
+    }
+    (line, None)
+}
+
+/// A line split into its words.
+fn split(line: &[u8]) -> Words<'_>
+    ensures { AreSplit (words_of line.now) result }
+{
+    let (first, rest) = split_word(line);
+    let Some(rest) = rest else {
+        return Words::One(first);
+    };
+    let (second, rest) = split_word(rest);
+    let Some(rest) = rest else {
+        return Words::Two(first, second);
+    };
+    let (third, rest) = split_word(rest);
+    if rest.is_some() {
+        return Words::More;
+    }
+    Words::Three(first, second, third)
+}
+
+/// The number of one to ten decimal digits.
+fn number(word: &[u8]) -> Option<u64>
+    ensures found { IfSome result (IsNumber word.now) }
+    ensures none { IfNone result ((n : ℕ) → IsNumber word.now n → ⊥) }
+{
+    if word.is_empty() || word.len() > 10 {
+        return None;
+    }
+    let mut n = 0u64;
+    for i in 0..word.len() {
+        let digit = word[i];
+        if !(b'0' <= digit && digit <= b'9') {
+            return None;
+        }
+        n = n * 10 + u64::from(digit - b'0');
+    }
+    Some(n)
+}
+
+/// The bytes of `-`, or of two hexadecimal digits for each.
+pub(crate) fn hex_bytes(alloc: Global, word: &[u8]) -> Result<Option<Vec<u8>>, AllocError>
+    ensures found { IfOk result (λ r. IfSome r (λ v. IsHexText word.now v.items)) }
+    ensures none { IfOk result (λ r. IfNone r ((bytes : List ℕ) → IsHexText word.now bytes → ⊥)) }
+    ensures memory { OnErr result ((0 < length word.now) × (length word.now % 2 ≡ 0)) }
+{
+    if word == b"-".as_slice() {
+        return Ok(Some(Vec::new(alloc)));
+    }
+    if word.is_empty() {
+        return Ok(None);
+    }
+    match hex::decode(alloc, word) {
+        Ok(bytes) => Ok(Some(bytes)),
+        Err(FromHexError::OutOfMemory) => Err(AllocError),
+        Err(_) => Ok(None),
+    }
+}
+
+/// The address of four hexadecimal digits.
+fn address(word: &[u8]) -> Option<u16>
+    ensures found { IfSome result (IsAddress word.now) }
+    ensures none { IfNone result ((a : ℕ) → IsAddress word.now a → ⊥) }
+{
+    match <[u8; 2] as FromHex>::from_hex(word) {
+        Ok(bytes) => Some(u16::from(bytes[0]) * 256 + u16::from(bytes[1])),
+        Err(_) => None,
+    }
+}
+
+/// The command of two words, the second of them a number or a name.
+fn paired(verb: &[u8], word: &[u8]) -> Option<Command>
+    ensures found { IfSome result (IsPaired verb.now word.now) }
+    ensures none { IfNone result ((c : Command) → IsPaired verb.now word.now c → ⊥) }
+{
+    if verb == b"gone".as_slice() {
+        let name = name(word)?;
+        return Some(Command::Edit(Edit::RemoveFile(name)));
+    }
+    let is_limit = verb == b"limit".as_slice();
+    if !is_limit && verb != b"drop".as_slice() {
+        return None;
+    }
+    match number(word) {
+        Some(n) if is_limit => Some(Command::Edit(Edit::SetLimit(n))),
+        Some(n) => Some(Command::DropOldest(n)),
+        None => None,
+    }
+}
+
+/// The poke of two words, an address and the bytes.
+fn poke(alloc: Global, at: &[u8], bytes: &[u8]) -> Result<Option<Command>, AllocError>
+    ensures found { IfOk result (λ r. IfSome r (IsPlaced (codes "poke") at.now bytes.now)) }
+    ensures none { IfOk result (λ r. IfNone r ((c : Command) → IsPlaced (codes "poke") at.now bytes.now c → ⊥)) }
+    ensures memory { OnErr result (NamesBytesAt (codes "poke") at.now bytes.now) }
+{
+    let Some(at) = address(at) else {
+        return Ok(None);
+    };
+    match hex_bytes(alloc, bytes)? {
+        Some(bytes) => Ok(Some(Command::Edit(Edit::Poke(at, Bytes::new(bytes))))),
+        None => Ok(None),
+    }
+}
+
+/// The insertion of two words, a place and the bytes.
+fn insert(alloc: Global, at: &[u8], bytes: &[u8]) -> Result<Option<Command>, AllocError>
+    ensures found { IfOk result (λ r. IfSome r (IsPlaced (codes "insert") at.now bytes.now)) }
+    ensures none { IfOk result (λ r. IfNone r ((c : Command) → IsPlaced (codes "insert") at.now bytes.now c → ⊥)) }
+    ensures memory { OnErr result (NamesBytesAt (codes "insert") at.now bytes.now) }
+{
+    let Some(at) = number(at) else {
+        return Ok(None);
+    };
+    match hex_bytes(alloc, bytes)? {
+        Some(bytes) => Ok(Some(Command::Edit(Edit::Insert(at, Bytes::new(bytes))))),
+        None => Ok(None),
+    }
+}
+
+/// The replacement of two words, a place and the bytes.
+fn replace(alloc: Global, at: &[u8], bytes: &[u8]) -> Result<Option<Command>, AllocError>
+    ensures found { IfOk result (λ r. IfSome r (IsPlaced (codes "replace") at.now bytes.now)) }
+    ensures none { IfOk result (λ r. IfNone r ((c : Command) → IsPlaced (codes "replace") at.now bytes.now c → ⊥)) }
+    ensures memory { OnErr result (NamesBytesAt (codes "replace") at.now bytes.now) }
+{
+    let Some(at) = number(at) else {
+        return Ok(None);
+    };
+    match hex_bytes(alloc, bytes)? {
+        Some(bytes) => Ok(Some(Command::Edit(Edit::Replace(at, Bytes::new(bytes))))),
+        None => Ok(None),
+    }
+}
+
+/// The removal of two words, a place and a count.
+fn remove(at: &[u8], count: &[u8]) -> Option<Command>
+    ensures found { IfSome result (IsPlaced (codes "remove") at.now count.now) }
+    ensures none { IfNone result ((c : Command) → IsPlaced (codes "remove") at.now count.now c → ⊥) }
+{
+    let at = number(at)?;
+    let count = number(count)?;
+    Some(Command::Edit(Edit::Remove(at, count)))
+}
+
+/// The file of two words, its name and its bytes.
+fn set_file(alloc: Global, name: &[u8], bytes: &[u8]) -> Result<Option<Command>, AllocError>
+    ensures found { IfOk result (λ r. IfSome r (IsPlaced (codes "file") name.now bytes.now)) }
+    ensures none { IfOk result (λ r. IfNone r ((c : Command) → IsPlaced (codes "file") name.now bytes.now c → ⊥)) }
+    ensures memory { OnErr result (NamesBytesAt (codes "file") name.now bytes.now) }
+{
+    match file(alloc, name, bytes)? {
+        Some((name, bytes)) => Ok(Some(Command::Edit(Edit::SetFile(name, bytes)))),
+        None => Ok(None),
+    }
+}
+
+/// The command of three words.
+fn placed(alloc: Global, verb: &[u8], at: &[u8], last: &[u8]) -> Result<Option<Command>, AllocError>
+    ensures found { IfOk result (λ r. IfSome r (IsPlaced verb.now at.now last.now)) }
+    ensures none { IfOk result (λ r. IfNone r ((c : Command) → IsPlaced verb.now at.now last.now c → ⊥)) }
+    ensures memory { OnErr result (NamesBytesAt verb.now at.now last.now) }
+{
+    if verb == b"insert".as_slice() {
+        return insert(alloc, at, last);
+    }
+    if verb == b"replace".as_slice() {
+        return replace(alloc, at, last);
+    }
+    if verb == b"remove".as_slice() {
+        return Ok(remove(at, last));
+    }
+    if verb == b"poke".as_slice() {
+        return poke(alloc, at, last);
+    }
+    if verb == b"file".as_slice() {
+        return set_file(alloc, at, last);
+    }
+    Ok(None)
+}
+
+/// The command of a line without its 0AH, or none where it has none. An error is want of memory for
+/// the bytes that the line names, and of a line that names some.
+pub fn parse_line(alloc: Global, line: &[u8]) -> Result<Option<Command>, AllocError>
+    ensures found { IfOk result (λ r. IfSome r (EditLine line.now)) }
+    ensures none { IfOk result (λ r. IfNone r ((c : Command) → EditLine line.now c → ⊥)) }
+    ensures memory { OnErr result (NamesBytes line.now) }
+{
+    match split(line) {
+        Words::One(verb) if verb == b"run".as_slice() => Ok(Some(Command::Run)),
+        Words::Two(verb, word) => Ok(paired(verb, word)),
+        Words::Three(verb, at, last) => placed(alloc, verb, at, last),
+        _ => Ok(None),
+    }
+}
+
+/// A law: a line has one command at most.
+pub fn one_command()
+    ensures { (line : List ℕ) (c d : Command) → EditLine line c → EditLine line d → c ≡ d }
+{}

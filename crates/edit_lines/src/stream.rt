@@ -1,0 +1,172 @@
+ghost use Rattle.std.specs.Prelude.{◌≡◌, ℕ, ◌+◌, ◌*◌, ◌^◌, ◌<◌, ◌≤◌, ◌⊎◌, List, Option, ◌∷◌, ◌++◌, [], length, IfOk, OnOk, IfErr, vec_len};
+ghost use Rattle.std.specs.Io.KnownBytes.{Appends, Consumes, IsAtEnd};
+ghost use Rattle.machine.specs.Views.{Session};
+ghost use Rattle.edit_lines.specs.EditLine.{MayWantMemory};
+ghost use Rattle.edit_lines.specs.Pieces.{lines_of};
+ghost use Rattle.edit_lines.specs.Replay.{End, Finished, Replays};
+ghost use Rattle.edit_lines.specs.Progress.{Faults, Finishes, Goes, StandsAt};
+
+use crate::carry_out::carry_out;
+use crate::ending::{Ending, ReplayFault};
+use crate::ends::{Reader, Writer};
+use machine::{Meter, STEP_LIMIT};
+use replay::Runner;
+use std::alloc::Global;
+
+/// The beginning of a line that was read, and how many lines were carried out.
+#[derive(Drop)]
+struct Place {
+    line: Vec<u8>,
+    lines: u64,
+    ghost short: { vec_len line ≤ 65536 },
+    ghost few: { lines ≤ 1000000 },
+}
+
+/// Takes one byte of the text.
+fn take_byte<W: Writer>(
+    alloc: Global,
+    place: &mut Place,
+    runner: &mut Runner,
+    meter: &mut Meter,
+    writer: &mut W,
+    byte: u8,
+) -> Result<(), ReplayFault>
+    requires writer { W.failures writer.old < 2 ^ 63 }
+    requires meter { meter.old ≤ STEP_LIMIT * place.old.lines }
+    ensures goes { (first : Session) (held : Option (List ℕ)) (bytes rest : List ℕ)
+        → StandsAt first held bytes runner.old.session (W.holds writer.old) place.old.line.items place.old.lines
+        → Goes first held (bytes ++ byte ∷ []) rest runner.new.session (W.holds writer.new) place.new.line.items place.new.lines result }
+    ensures fine { OnOk result (W.failures writer.new ≡ W.failures writer.old) }
+    ensures failed { result ≡ Err ReplayFault.Write → W.failures writer.old < W.failures writer.new }
+    ensures reads { result ≡ Err ReplayFault.Read → ⊥ }
+    ensures meter { OnOk result (meter.new ≤ STEP_LIMIT * place.new.lines) }
+    ensures on { OnOk result (65537 * place.old.lines + vec_len place.old.line < 65537 * place.new.lines + vec_len place.new.line) }
+    ensures memory { result ≡ Err ReplayFault.OutOfMemory → ((byte ≡ 10 → ⊥) × (vec_len place.old.line < 65536)) ⊎ ((byte ≡ 10) × MayWantMemory place.old.line.items) }
+{
+    if byte != b'\n' {
+        if place.line.len() == 65_536 {
+            return Err(ReplayFault::LineTooLong(place.lines + 1));
+        }
+        if place.line.push(byte).is_err() {
+            return Err(ReplayFault::OutOfMemory);
+        }
+        return Ok(());
+    }
+    carry_out(
+        alloc,
+        place.line.as_slice(),
+        place.lines + 1,
+        runner,
+        meter,
+        writer,
+    )?;
+    place.lines += 1;
+    place.line.clear();
+    Ok(())
+}
+
+/// Takes a piece of the text.
+fn take_piece<W: Writer>(
+    alloc: Global,
+    place: &mut Place,
+    runner: &mut Runner,
+    meter: &mut Meter,
+    writer: &mut W,
+    piece: &[u8],
+) -> Result<(), ReplayFault>
+    requires writer { W.failures writer.old < 2 ^ 63 }
+    requires meter { meter.old ≤ STEP_LIMIT * place.old.lines }
+    requires small { length piece.now ≤ 65535 }
+    ensures goes { (first : Session) (held : Option (List ℕ)) (bytes : List ℕ)
+        → StandsAt first held bytes runner.old.session (W.holds writer.old) place.old.line.items place.old.lines
+        → Goes first held (bytes ++ piece.now) [] runner.new.session (W.holds writer.new) place.new.line.items place.new.lines result }
+    ensures fine { OnOk result (W.failures writer.new ≡ W.failures writer.old) }
+    ensures failed { result ≡ Err ReplayFault.Write → W.failures writer.old < W.failures writer.new }
+    ensures reads { result ≡ Err ReplayFault.Read → ⊥ }
+    ensures meter { OnOk result (meter.new ≤ STEP_LIMIT * place.new.lines) }
+    ensures on { OnOk result (65537 * place.old.lines + vec_len place.old.line + length piece.now ≤ 65537 * place.new.lines + vec_len place.new.line) }
+{
+    for byte in piece {
+        take_byte(alloc, place, runner, meter, writer, *byte)?;
+    }
+    Ok(())
+}
+
+/// Carries out a last line that has no end.
+fn finish<W: Writer>(
+    alloc: Global,
+    place: Place,
+    runner: &mut Runner,
+    meter: &mut Meter,
+    writer: &mut W,
+) -> Result<Ending, ReplayFault>
+    requires writer { W.failures writer.old < 2 ^ 63 }
+    requires meter { meter.old ≤ STEP_LIMIT * place.lines }
+    ensures ends { (first : Session) (held : Option (List ℕ)) (bytes : List ℕ)
+        → StandsAt first held bytes runner.old.session (W.holds writer.old) place.line.items place.lines
+        → Finishes first held bytes runner.new.session (W.holds writer.new) result }
+    ensures memory { result ≡ Err ReplayFault.OutOfMemory → MayWantMemory place.line.items }
+    ensures failed { result ≡ Err ReplayFault.Write → W.failures writer.old < W.failures writer.new }
+    ensures reads { result ≡ Err ReplayFault.Read → ⊥ }
+{
+    if place.line.is_empty() {
+        return Ok(Ending { lines: place.lines });
+    }
+    carry_out(
+        alloc,
+        place.line.as_slice(),
+        place.lines + 1,
+        runner,
+        meter,
+        writer,
+    )?;
+    Ok(Ending {
+        lines: place.lines + 1,
+    })
+}
+
+/// Replays the edit lines of the reader, and writes each reply as it comes. The meter is new. At the
+/// end or at a fault the runner has the session after the lines that were carried out, and the reader
+/// has given at most 131,072 bytes past them.
+pub fn replay<R: Reader, W: Writer>(
+    alloc: Global,
+    runner: &mut Runner,
+    meter: &mut Meter,
+    reader: &mut R,
+    writer: &mut W,
+) -> Result<Ending, ReplayFault>
+    requires meter { meter.old ≡ 0 }
+    requires reader { R.failures reader.old < 2 ^ 63 }
+    requires writer { W.failures writer.old < 2 ^ 63 }
+    ensures ok { IfOk result (λ e. (bytes : List ℕ) × (text : List ℕ)
+        × Consumes (R.left reader.old) (R.left reader.new) bytes × IsAtEnd (R.left reader.new)
+        × Appends (W.holds writer.old) (W.holds writer.new) text
+        × Replays runner.old.session (lines_of bytes) text runner.new.session (Finished e.lines)) }
+    ensures fault { IfErr result (λ f. (bytes : List ℕ) × Consumes (R.left reader.old) (R.left reader.new) bytes
+        × Faults (R.left reader.new) runner.old.session (W.holds writer.old) bytes runner.new.session (W.holds writer.new) f) }
+    ensures read { result ≡ Err ReplayFault.Read → R.failures reader.old < R.failures reader.new }
+    ensures write { result ≡ Err ReplayFault.Write → W.failures writer.old < W.failures writer.new }
+{
+    let mut place = Place {
+        line: Vec::new(alloc),
+        lines: 0,
+    };
+    let mut piece = [0u8; 4096];
+    loop {
+        let Ok(count) = reader.read(&mut piece) else {
+            return Err(ReplayFault::Read);
+        };
+        if count == 0 {
+            return finish(alloc, place, runner, meter, writer);
+        }
+        take_piece(alloc, &mut place, runner, meter, writer, &piece[..count])?;
+    }
+}
+
+/// A law: a replay is a function of its first session and its lines. They have one text, one last
+/// session and one end.
+pub fn one_replay()
+    ensures { (first : Session) (lines : List (List ℕ)) (text other_text : List ℕ) (last other_last : Session) (end other_end : End)
+        → Replays first lines text last end → Replays first lines other_text other_last other_end
+        → (text ≡ other_text) × (last ≡ other_last) × (end ≡ other_end) }
+{}
