@@ -13,6 +13,7 @@ use crate::fault::{Fault, unwritten};
 use filenames::Name;
 use hostfiles::{Changes, HostFiles};
 use std::alloc::{AllocError, Global};
+use std::fs::OpenOptions;
 use std::io::{BufWriter, Write};
 use std::rt::Files;
 use std::{fs, io};
@@ -39,7 +40,8 @@ pub fn write_records<W: Write>(
     Ok(())
 }
 
-// Writes a file under one path and renames it to another.
+// Writes a file under one path and renames it to another. What stands under the first path, as a file that was left there or a link,
+// is removed and not written into.
 fn write_and_rename<R: Files + AllocGlobal>(
     rt: &R,
     host: &HostFiles,
@@ -48,7 +50,12 @@ fn write_and_rename<R: Files + AllocGlobal>(
     temporary: &str,
     path: &str,
 ) -> io::Result<()> {
-    let mut writer = BufWriter::new(rt.alloc(), fs::create(rt, temporary)?)?;
+    let _ = fs::remove_file(rt, temporary);
+    let file = OpenOptions::new()
+        .write(true)
+        .create_new(true)
+        .open(rt, temporary)?;
+    let mut writer = BufWriter::new(rt.alloc(), file)?;
     write_records(host, changes, name, &mut writer)?;
     writer.flush()?;
     fs::rename(rt, temporary, path)

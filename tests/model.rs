@@ -1,0 +1,288 @@
+// A plain model of a session: edits change it, and a run begins at its loaded state each time, with the whole memory as one array
+// and all files as one map.
+
+mod calls;
+mod files;
+mod processor;
+
+use calls::Desk;
+pub use files::{matches, name_in_folder, printed, File, Files, Key, RECORD};
+use processor::{Did, Processor, A, B, C, D, E, H, L};
+use std::fmt;
+
+const MOST_SCRIPT_BYTES: usize = 1_048_576;
+const MOST_HOST_FILES: usize = 512;
+const MOST_STEPS: u64 = 4_000_000_000;
+pub const PROGRAM_START: usize = 0x100;
+const SYSTEM_AREA: u16 = 0xfe00;
+const ENTRY_FOR_CALLS: u16 = 0xfe06;
+const WARM_START: u16 = 0xff03;
+const LOADED_STACK: u16 = 0xfdfe;
+
+#[derive(Clone)]
+pub enum Edit {
+    Insert(usize, Vec<u8>),
+    Replace(usize, Vec<u8>),
+    Remove(usize, usize),
+    SetFile(Key, Vec<u8>),
+    RemoveFile(Key),
+    Poke(u16, Vec<u8>),
+    SetLimit(u64),
+}
+
+// A session; each host file stands as the run finds it.
+#[derive(Clone)]
+pub struct Session {
+    pub program: Vec<u8>,
+    pub tail: Vec<u8>,
+    pub hosts: Files,
+    pub script: Vec<u8>,
+    pub limit: u64,
+}
+
+impl Session {
+    // Carries an edit out, or gives the number of its refusal.
+    pub fn edit(&mut self, edit: &Edit) -> Result<(), u8> {
+        let length = self.script.len();
+        match edit {
+            Edit::Insert(at, _) if *at > length => return Err(1),
+            Edit::Insert(_, bytes) if length + bytes.len() > MOST_SCRIPT_BYTES => return Err(2),
+            Edit::Insert(at, bytes) => {
+                self.script.splice(*at..*at, bytes.iter().copied());
+            }
+            Edit::Replace(at, bytes) if at + bytes.len() > length => return Err(1),
+            Edit::Replace(at, bytes) => self.script[*at..at + bytes.len()].copy_from_slice(bytes),
+            Edit::Remove(at, count) if at + count > length => return Err(1),
+            Edit::Remove(at, count) => {
+                self.script.drain(*at..at + count);
+            }
+            Edit::SetFile(key, _) if !self.hosts.contains_key(key) && self.hosts.len() == MOST_HOST_FILES => return Err(5),
+            Edit::SetFile(key, bytes) => {
+                self.hosts.insert(*key, File::of_host(bytes));
+            }
+            Edit::RemoveFile(key) => {
+                self.hosts.remove(key).ok_or(3)?;
+            }
+            Edit::Poke(address, bytes) => {
+                let place = (*address as usize).checked_sub(PROGRAM_START).ok_or(6)?;
+                self.program.get_mut(place..place + bytes.len()).ok_or(6)?.copy_from_slice(bytes);
+            }
+            Edit::SetLimit(limit) if *limit > MOST_STEPS => return Err(7),
+            Edit::SetLimit(limit) => self.limit = *limit,
+        }
+        Ok(())
+    }
+}
+
+#[derive(Clone, PartialEq)]
+pub enum Cause {
+    WarmBoot,
+    Halt,
+    Limit,
+    Undefined(u8),
+    SystemArea(u16),
+    ConsoleExhausted,
+    NoDollar,
+    Unsupported(u8),
+    BadDrive(u8),
+}
+
+impl fmt::Display for Cause {
+    fn fmt(&self, out: &mut fmt::Formatter) -> fmt::Result {
+        match self {
+            Cause::WarmBoot => write!(out, "WarmBoot"),
+            Cause::Halt => write!(out, "Halt"),
+            Cause::Limit => write!(out, "Limit"),
+            Cause::Undefined(byte) => write!(out, "Undefined {byte:02X}"),
+            Cause::SystemArea(address) => write!(out, "SystemArea {address:04X}"),
+            Cause::ConsoleExhausted => write!(out, "ConsoleExhausted"),
+            Cause::NoDollar => write!(out, "NoDollar"),
+            Cause::Unsupported(number) => write!(out, "Unsupported {number}"),
+            Cause::BadDrive(number) => write!(out, "BadDrive {number}"),
+        }
+    }
+}
+
+impl Cause {
+    // The status of a program whose one run stops so.
+    pub fn status(&self) -> i32 {
+        match self {
+            Cause::WarmBoot => 0,
+            Cause::Limit => 3,
+            Cause::Halt => 4,
+            Cause::Undefined(_) => 5,
+            Cause::SystemArea(_) => 6,
+            Cause::ConsoleExhausted => 7,
+            Cause::NoDollar => 8,
+            Cause::Unsupported(_) => 9,
+            Cause::BadDrive(_) => 10,
+        }
+    }
+}
+
+pub struct State {
+    processor: Processor,
+    files: Files,
+    desk: Desk,
+    keys: Vec<Key>,
+}
+
+// The drive byte and the name of one word of the command tail, as they stand in page zero.
+fn tail_name(word: &[u8]) -> [u8; 12] {
+    let mut name = [b' '; 12];
+    let has_drive = word.len() >= 2 && word[1] == b':' && word[0].is_ascii_uppercase();
+    name[0] = if has_drive { word[0] - b'A' + 1 } else { 0 };
+    let rest = if has_drive { &word[2..] } else { word };
+    let mut parts = rest.split(|byte| *byte == b'.');
+    for field in [1..9, 9..12] {
+        let part = parts.next().unwrap_or(&[]);
+        for place in 0..field.len() {
+            match part.get(place) {
+                Some(b'*') => {
+                    name[field.start + place..field.end].fill(b'?');
+                    break;
+                }
+                Some(byte) => name[field.start + place] = *byte,
+                None => break,
+            }
+        }
+    }
+    name
+}
+
+fn page_zero(tail: &[u8]) -> [u8; 256] {
+    let tail = tail.to_ascii_uppercase();
+    let mut page = [0; 256];
+    page[..3].copy_from_slice(&[0xc3, WARM_START as u8, (WARM_START >> 8) as u8]);
+    page[5..8].copy_from_slice(&[0xc3, ENTRY_FOR_CALLS as u8, (ENTRY_FOR_CALLS >> 8) as u8]);
+    let mut words = tail.split(|byte| *byte == b' ').filter(|word| !word.is_empty());
+    for start in [0x5c, 0x6c] {
+        page[start..start + 12].copy_from_slice(&tail_name(words.next().unwrap_or(&[])));
+    }
+    if !tail.is_empty() {
+        page[0x80] = tail.len() as u8 + 1;
+        page[0x81] = b' ';
+        page[0x82..0x82 + tail.len()].copy_from_slice(&tail);
+    }
+    page
+}
+
+// The registers before a step.
+#[derive(Clone, Copy, PartialEq)]
+pub struct Moment {
+    pub registers: [u8; 8],
+    pub flags: u8,
+    pub stack: u16,
+    pub next: u16,
+}
+
+// How a run ended, with what it carried out: the opcodes, the calls, and the registers before each step; with the keys that calls of
+// files were given, and how many bytes of the script were taken.
+pub struct Run {
+    pub cause: Cause,
+    pub report: String,
+    pub text: Vec<u8>,
+    pub changed: Vec<(Key, Option<Vec<u8>>)>,
+    pub opcodes: Vec<u8>,
+    pub calls: Vec<u8>,
+    pub trace: Vec<Moment>,
+    pub keys: Vec<Key>,
+    pub taken: usize,
+}
+
+impl State {
+    fn load(session: &Session) -> State {
+        let mut memory = Box::new([0; 65536]);
+        memory[..PROGRAM_START].copy_from_slice(&page_zero(&session.tail));
+        memory[PROGRAM_START..PROGRAM_START + session.program.len()].copy_from_slice(&session.program);
+        let processor =
+            Processor { registers: [0; 8], stack: LOADED_STACK, next: PROGRAM_START as u16, flags: Default::default(), memory };
+        State { processor, files: session.hosts.clone(), desk: Desk::new(), keys: Vec::new() }
+    }
+
+    fn moment(&self) -> Moment {
+        let Processor { registers, flags, stack, next, .. } = self.processor;
+        Moment { registers, flags: flags.byte(), stack, next }
+    }
+
+    // One step below the limit, or a stop.
+    fn step(&mut self, session: &Session) -> Result<(), Cause> {
+        match self.processor.next {
+            WARM_START => return Err(Cause::WarmBoot),
+            ENTRY_FOR_CALLS => return self.call(&session.script),
+            SYSTEM_AREA.. => return Err(Cause::SystemArea(self.processor.next)),
+            _ => {}
+        }
+        match self.processor.step() {
+            Did::Went => Ok(()),
+            Did::Halted => Err(Cause::Halt),
+            Did::Undefined => Err(Cause::Undefined(self.processor.byte(self.processor.next))),
+        }
+    }
+
+    fn registers_line(&self) -> String {
+        let letters = ["B", "C", "D", "E", "H", "L"];
+        let bytes: String = [B, C, D, E, H, L]
+            .iter()
+            .map(|code| format!("{}={:02X} ", letters[*code], self.processor.registers[*code]))
+            .collect();
+        let processor = &self.processor;
+        let (a, flags) = (processor.registers[A], processor.flags.byte());
+        format!("regs A={a:02X} F={flags:02X} {bytes}SP={:04X} PC={:04X}\n", processor.stack, processor.next)
+    }
+
+    // The files that are told otherwise than the host files of their names, in order; those without bytes are gone.
+    fn changed(&self, session: &Session) -> Vec<(Key, Option<Vec<u8>>)> {
+        let mut keys: Vec<&Key> = self.files.keys().chain(session.hosts.keys()).collect();
+        keys.sort();
+        keys.dedup();
+        let told = |files: &Files, key: &Key| files.get(key).map(File::bytes);
+        let changed = keys.into_iter().filter(|key| told(&self.files, key) != told(&session.hosts, key));
+        changed.map(|key| (*key, told(&self.files, key))).collect()
+    }
+}
+
+fn changed_line((key, bytes): &(Key, Option<Vec<u8>>)) -> String {
+    match bytes {
+        None => format!("gone {}\n", printed(key)),
+        Some(bytes) => format!("file {} {}\n", printed(key), digits(bytes)),
+    }
+}
+
+// Bytes as the texts of edits and reports have them, before they are perhaps raised.
+pub fn digits(bytes: &[u8]) -> String {
+    if bytes.is_empty() {
+        return "-".to_string();
+    }
+    let digit = |half: u8| char::from_digit(half as u32, 16).expect("half a byte is a digit");
+    bytes.iter().flat_map(|byte| [digit(byte >> 4), digit(byte & 15)]).collect()
+}
+
+// The run of a session from its loaded state, with its report.
+pub fn run(session: &Session) -> Run {
+    let mut state = State::load(session);
+    let (mut opcodes, mut calls, mut trace) = (Vec::new(), Vec::new(), Vec::new());
+    let cause = loop {
+        if trace.len() as u64 == session.limit {
+            break Cause::Limit;
+        }
+        let moment = state.moment();
+        let opcode = state.processor.byte(moment.next);
+        if moment.next == ENTRY_FOR_CALLS {
+            calls.push(moment.registers[C]);
+        }
+        if let Err(cause) = state.step(session) {
+            break cause;
+        }
+        if moment.next < SYSTEM_AREA {
+            opcodes.push(opcode);
+        }
+        trace.push(moment);
+    };
+    let changed = state.changed(session);
+    let (steps, registers, text) = (trace.len(), state.registers_line(), digits(&state.desk.text));
+    let lines: String = changed.iter().map(changed_line).collect();
+    let report = format!("stop {cause}\nsteps {steps}\n{registers}text {text}\n{lines}end\n");
+    let State { desk, keys, .. } = state;
+    Run { cause, report, text: desk.text, changed, opcodes, calls, trace, keys, taken: desk.cursor }
+}
