@@ -110,27 +110,77 @@ fn files(rt: &impl Abort, report: &Report<'_>, act: Act<'_>) -> Result<(), Fail>
     Ok(())
 }
 
+// How a run ends whose act tells that.
+fn ends(rt: &impl Abort, report: &Report<'_>, added: u64, act: Act<'_>) {
+    let (wanted, cause, steps) = match act {
+        Act::Run(wanted, steps, a) => {
+            assert_eq!(rt; report.regs().a, a, "{act:?}");
+            (wanted, Cause::WarmBoot, steps)
+        }
+        Act::Stops(cause, steps) => (added, cause, steps),
+        _ => (0, report.cause(), report.steps()),
+    };
+    assert_eq!(rt; added, wanted, "{act:?}");
+    assert_eq!(rt; (report.cause(), report.steps()), (cause, steps), "{act:?}");
+}
+
 fn run(rt: &impl Abort, runner: &mut Runner, act: Act<'_>) -> Result<(), Fail> {
     let mut meter = Meter::new();
     let report = runner.rerun(&mut meter)?;
-    match act {
-        Act::Run(added, steps, a) => {
-            assert_eq!(rt;
-                (report.cause(), report.steps()),
-                (Cause::WarmBoot, steps),
-                "{act:?}"
-            );
-            assert_eq!(rt; (meter.count(), report.regs().a), (added, a), "{act:?}");
+    ends(rt, &report, meter.count(), act);
+    files(rt, &report, act)
+}
+
+fn hosts_of(alloc: Global, hosts: &[Host<'_>]) -> Result<HostFiles, Fail> {
+    let mut host = HostFiles::new(alloc);
+    for (name, bytes) in hosts {
+        host.set(Name::parse(name)?, bytes)?;
+    }
+    Ok(host)
+}
+
+fn session_of(
+    alloc: Global,
+    program: &[u8],
+    tail: &[u8],
+    hosts: &[Host<'_>],
+) -> Result<Session, Fail> {
+    let hosts = hosts_of(alloc, hosts)?;
+    let program = program.to_vec(alloc)?;
+    let tail = tail.to_vec(alloc)?;
+    Ok(Session::new(program, tail, hosts, Vec::new(alloc), 1_000_000)?)
+}
+
+// A checkpoint is due each four steps.
+fn runner_of(alloc: Global, session: Session) -> Result<Runner, Fail> {
+    let options = Options {
+        spacing: 4,
+        slots: 64,
+    };
+    Ok(Runner::new(alloc, session, options)?)
+}
+
+fn carry_out(
+    rt: &impl Abort,
+    alloc: Global,
+    runner: &mut Runner,
+    act: Act<'_>,
+) -> Result<(), Fail> {
+    match edit_of(alloc, act)? {
+        Some((edit, wanted)) => {
+            assert_eq!(rt; number_of(runner.edit(edit)), wanted, "{act:?}");
         }
-        Act::Stops(cause, steps) => {
-            assert_eq!(rt; (report.cause(), report.steps()), (cause, steps), "{act:?}");
-        }
-        _ => {
-            assert_eq!(rt; meter.count(), 0, "{act:?}");
-            files(rt, &report, act)?;
-        }
+        None => run(rt, runner, act)?,
     }
     Ok(())
+}
+
+// Exactly these checkpoints stand.
+fn stand(rt: &impl Abort, runner: &Runner, kept: &[u64], after: Act<'_>) {
+    for i in 0..kept.len() {
+        assert_eq!(rt; runner.kept(i), Some(kept[i]), "after {after:?}");
+    }
+    assert_eq!(rt; runner.kept(kept.len()), None, "after {after:?}");
 }
 
 /// Each row is what is done, and which checkpoints stand then, of which one is due each four steps.
@@ -142,33 +192,11 @@ pub fn acts(
     hosts: &[Host<'_>],
     rows: &[(Act<'_>, &[u64])],
 ) -> Result<(), Fail> {
-    let mut host = HostFiles::new(alloc);
-    for (name, bytes) in hosts {
-        host.set(Name::parse(name)?, bytes)?;
-    }
-    let session = Session::new(
-        program.to_vec(alloc)?,
-        tail.to_vec(alloc)?,
-        host,
-        Vec::new(alloc),
-        1_000_000,
-    )?;
-    let options = Options {
-        spacing: 4,
-        slots: 64,
-    };
-    let mut runner = Runner::new(alloc, session, options)?;
-    for (done, kept) in rows {
-        match edit_of(alloc, *done)? {
-            Some((edit, wanted)) => {
-                assert_eq!(rt; number_of(runner.edit(edit)), wanted, "{done:?}");
-            }
-            None => run(rt, &mut runner, *done)?,
-        }
-        for i in 0..kept.len() {
-            assert_eq!(rt; runner.kept(i), Some(kept[i]), "after {done:?}");
-        }
-        assert_eq!(rt; runner.kept(kept.len()), None, "after {done:?}");
+    let session = session_of(alloc, program, tail, hosts)?;
+    let mut runner = runner_of(alloc, session)?;
+    for (act, kept) in rows {
+        carry_out(rt, alloc, &mut runner, *act)?;
+        stand(rt, &runner, kept, *act);
     }
     Ok(())
 }

@@ -1,0 +1,208 @@
+// Every number of a call, each with four words in DE at which its control block, its buffer or its string lies over page zero, over
+// the program or across the end of memory. There is no host file, no tail and no script.
+
+ghost use Rattle.std.specs.Prelude.{◌≤◌};
+
+use crate::ends::{Ended, Given, LOADED, alone, run, runner_of};
+use machine::{Cause, Regs};
+use replay::{Edit, Runner};
+use std::alloc::Global;
+use std::process::Abort;
+use std::test::Fail;
+
+/// The words in DE: the first cell, the one before the program, and two from which a control block goes on at 0000H.
+const WORDS: [u16; 4] = [0x0000, 0x00ff, 0xffe0, 0xffff];
+
+/// So many steps a run may take: more than a round through page zero.
+const LIMIT: u64 = 1_000;
+
+/// The byte at 0000H, the first of a jump.
+const JUMP: u8 = 0xc3;
+
+fn low(word: u16) -> u8 {
+    (word % 256) as u8
+}
+
+// Whether a call reads a control block.
+fn has_block(number: u8) -> bool {
+    matches!(number, 15..=17 | 19..=23 | 33..=36 | 40)
+}
+
+// Why a call stops, if it does: no byte is typed, no `$` is in memory, and the drive byte is that of the cell at DE, which is a
+// jump at 0000H and 0 at the others. The capacity of a line is that cell too.
+fn stop_of(number: u8, word: u16) -> Option<Cause> {
+    match number {
+        0 => Some(Cause::WarmBoot),
+        1 => Some(Cause::ConsoleExhausted),
+        10 if word == 0 => Some(Cause::ConsoleExhausted),
+        9 => Some(Cause::NoDollar),
+        14 if low(word) > 3 => Some(Cause::BadDrive(low(word))),
+        _ if has_block(number) && word == 0 => Some(Cause::BadDrive(JUMP)),
+        2 | 6..=8 | 10..=26 | 33..=36 | 40 => None,
+        _ => Some(Cause::Unsupported(number)),
+    }
+}
+
+// What a call gives in A and L: no file is there, and no name is one that can be said. The I/O byte is 0.
+fn value_of(number: u8) -> u8 {
+    match number {
+        12 => 0x22,
+        15..=23 | 33..=35 | 40 => 0xff,
+        24 => 0x0f,
+        _ => 0,
+    }
+}
+
+// How many bytes a call prints: call 2 its byte, and call 6 too where that is not 0FFH.
+fn count_printed(number: u8, word: u16) -> usize
+    ensures { result ≤ 1 }
+{
+    if number == 2 || number == 6 && low(word) != 0xff {
+        1
+    } else {
+        0
+    }
+}
+
+// The registers at a call.
+fn at_call(number: u8, word: u16) -> Regs {
+    Regs {
+        c: number,
+        d: (word / 256) as u8,
+        e: low(word),
+        sp: 0xfdfc,
+        pc: 0xfe06,
+        ..LOADED
+    }
+}
+
+// The registers where a run comes to the warm start after a call.
+fn back(number: u8, word: u16) -> Regs {
+    let value = value_of(number);
+    Regs {
+        a: value,
+        l: value,
+        sp: 0xfe00,
+        pc: 0xff03,
+        ..at_call(number, word)
+    }
+}
+
+// A count of 0 at 0000H leaves INX B and RST 7 there, and then NOPs up to the first blank.
+fn astray() -> (Cause, u64, Regs) {
+    let regs = Regs {
+        c: 0x0b,
+        sp: 0xfdfe,
+        pc: 0x005d,
+        ..back(10, 0xffff)
+    };
+    (Cause::Undefined(0x20), 46, regs)
+}
+
+// The size 0 makes the jump at 0000H one to itself.
+fn on_the_spot() -> (Cause, u64, Regs) {
+    let regs = Regs {
+        pc: 0,
+        ..back(35, 0xffe0)
+    };
+    (Cause::Limit, LIMIT, regs)
+}
+
+// The place 00C3H makes it one to 61 NOPs before the program: 14 rounds of 68 steps, and 48 steps more.
+fn in_rounds() -> (Cause, u64, Regs) {
+    let regs = Regs {
+        sp: 0xfe1c,
+        pc: 0x00ec,
+        ..back(36, 0xffe0)
+    };
+    (Cause::Limit, LIMIT, regs)
+}
+
+// How a run ends that makes a call and returns.
+fn end_of(number: u8, word: u16) -> (Cause, u64, Regs) {
+    if let Some(cause) = stop_of(number, word) {
+        return (cause, 4, at_call(number, word));
+    }
+    if number == 10 && word == 0xffff {
+        return astray();
+    }
+    if number == 35 && word == 0xffe0 {
+        return on_the_spot();
+    }
+    if number == 36 && word == 0xffe0 {
+        return in_rounds();
+    }
+    (Cause::WarmBoot, 7, back(number, word))
+}
+
+// A runner of a program that makes a call and returns, up to its call.
+fn runner_at(alloc: Global, number: u8, word: u16) -> Result<Runner, Fail> {
+    let high = (word / 256) as u8;
+    let program = [0x0e, number, 0x11, low(word), high, 0xcd, 0x05, 0x00, 0xc9];
+    let given = Given {
+        limit: 4,
+        ..alone(&program)
+    };
+    runner_of(alloc, given)
+}
+
+// The run is broken off at the call.
+fn breaks_off(rt: &impl Abort, runner: &mut Runner, regs: Regs) -> Result<(), Fail> {
+    let wanted = Ended {
+        cause: Cause::Limit,
+        steps: 4,
+        regs,
+        text: b"",
+    };
+    assert_eq!(rt; run(rt, runner, wanted)?, 4);
+    Ok(())
+}
+
+// The run ends as it should, and begins after so many steps.
+fn goes_on(
+    rt: &impl Abort,
+    runner: &mut Runner,
+    number: u8,
+    word: u16,
+    from: u64,
+) -> Result<u64, Fail> {
+    let (cause, steps, regs) = end_of(number, word);
+    let printed = [low(word)];
+    let wanted = Ended {
+        cause,
+        steps,
+        regs,
+        text: &printed[..count_printed(number, word)],
+    };
+    let added = run(rt, runner, wanted)?;
+    assert_eq!(rt;
+        added.wrapping_add(from),
+        steps,
+        "call {number} with {word}"
+    );
+    Ok(steps)
+}
+
+// A run is broken off at its call, and goes on from the checkpoint there. Then it is run again from its end.
+fn run_in_parts(rt: &impl Abort, runner: &mut Runner, number: u8, word: u16) -> Result<(), Fail> {
+    breaks_off(rt, runner, at_call(number, word))?;
+    assert!(rt; runner.edit(Edit::SetLimit(LIMIT)).is_ok());
+    let steps = goes_on(rt, runner, number, word, 4)?;
+    goes_on(rt, runner, number, word, steps)?;
+    Ok(())
+}
+
+fn calls(rt: &impl Abort, alloc: Global, number: u8, word: u16) -> Result<(), Fail> {
+    let mut runner = runner_at(alloc, number, word)?;
+    run_in_parts(rt, &mut runner, number, word)
+}
+
+#[test]
+fn each_number_of_a_call_has_its_end(rt: HostRuntime) -> Result<(), Fail> {
+    for number in 0..=255 {
+        for word in WORDS {
+            calls(&rt, rt.alloc(), number, word)?;
+        }
+    }
+    Ok(())
+}

@@ -1,0 +1,102 @@
+// Programs that are put together of parts, where page zero is written over and each call goes to the system's entry itself.
+
+use crate::ends::{Ended, Given, LOADED, Left, alone, ends};
+use machine::{Cause, Regs};
+use std::alloc::{AllocError, Global};
+use std::process::Abort;
+use std::test::Fail;
+
+/// A part of a program.
+#[derive(Clone, Copy, Debug)]
+pub enum Part<'a> {
+    /// Bytes are put into the cells from an address on: `MVI A` and `STA` for each.
+    Put(u16, &'a [u8]),
+    /// A call with a word in DE: `MVI C`, `LXI D`, `CALL` and the call itself.
+    Call(u8, u16),
+}
+
+/// Parts of a program, its host files and its script; and the byte in A and L that the last call gives, what is printed, and what
+/// is left.
+#[derive(Clone, Copy, Debug)]
+pub struct Row<'a> {
+    pub parts: &'a [Part<'a>],
+    pub hosts: &'a [(&'a str, &'a [u8])],
+    pub script: &'a [u8],
+    pub value: u8,
+    pub text: &'a [u8],
+    pub left: &'a [Left<'a>],
+}
+
+fn low(word: u16) -> u8 {
+    (word % 256) as u8
+}
+
+fn high(word: u16) -> u8 {
+    (word / 256) as u8
+}
+
+fn write_part(program: &mut Vec<u8>, part: Part<'_>) -> Result<(), AllocError> {
+    match part {
+        Part::Put(from, bytes) => {
+            let mut at = from;
+            for byte in bytes {
+                program.extend_from_slice(&[0x3e, *byte, 0x32, low(at), high(at)])?;
+                at = at.wrapping_add(1);
+            }
+        }
+        Part::Call(number, word) => {
+            program.extend_from_slice(&[0x0e, number, 0x11, low(word), high(word)])?;
+            program.extend_from_slice(&[0xcd, 0x06, 0xfe])?;
+        }
+    }
+    Ok(())
+}
+
+// How many steps a part takes.
+fn steps_of(part: Part<'_>) -> u64 {
+    match part {
+        Part::Put(_, bytes) => (bytes.len() as u64).wrapping_mul(2),
+        Part::Call(_, _) => 4,
+    }
+}
+
+// The registers after a part, where PC is not yet what it is at the end.
+fn after(regs: Regs, part: Part<'_>, value: u8) -> Regs {
+    match part {
+        Part::Put(_, _) => regs,
+        Part::Call(number, word) => Regs {
+            a: value,
+            c: number,
+            d: high(word),
+            e: low(word),
+            l: value,
+            ..regs
+        },
+    }
+}
+
+/// Runs a program of parts and a HLT at its end, and compares how it ends.
+pub fn halts(rt: &impl Abort, alloc: Global, row: Row<'_>) -> Result<(), Fail> {
+    let mut program = Vec::new(alloc);
+    let mut regs = LOADED;
+    let mut steps = 0u64;
+    for part in row.parts {
+        write_part(&mut program, *part)?;
+        regs = after(regs, *part, row.value);
+        steps = steps.wrapping_add(steps_of(*part));
+    }
+    regs.pc = ((program.len() % 0x8000) as u16).wrapping_add(0x0100);
+    program.push(0x76)?;
+    let given = Given {
+        hosts: row.hosts,
+        script: row.script,
+        ..alone(program.as_slice())
+    };
+    let wanted = Ended {
+        cause: Cause::Halt,
+        steps,
+        regs,
+        text: row.text,
+    };
+    ends(rt, alloc, given, wanted, row.left)
+}

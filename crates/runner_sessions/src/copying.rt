@@ -1,0 +1,126 @@
+// A program that reads the longest file to its end, and is run again after its last byte was changed.
+
+use crate::playing::{name_of, runner_of};
+use crate::trouble::Trouble;
+use machine::{Bytes, Cause, HostFiles, Meter, Session};
+use replay::{Edit, Runner};
+use std::alloc::{AllocError, Global};
+use std::time::{CpuClock, Duration};
+
+// Opens the file of the tail and reads records until call 20 gives another value than 0.
+const READS: &[u8] = b"\x0e\x0f\x11\x5c\x00\xcd\x05\x00\x0e\x14\xcd\x05\x00\xb7\xca\x0a\x01\xc9";
+
+/// The most bytes of a file, which are 65,536 records.
+const LENGTH: usize = 8_388_608;
+
+/// The steps of the whole run: 6 up to the first CALL 5 of the loop, 5 for each record and for the end, RET, and the jump at 0000H.
+const STEPS: u64 = 6 + 5 * 65_537 + 2;
+
+/// The last step of a checkpoint before the last record is read, and after which steps the others stand.
+const SPACING: u64 = 10_000;
+
+const LAST_USABLE: u64 = 320_000;
+
+// The longest file, whose last byte is this and all others are letters x.
+fn contents(alloc: Global, last: u8) -> Result<Vec<u8>, AllocError> {
+    let mut bytes = vec![in alloc; b'x'; LENGTH - 1]?;
+    bytes.push(last)?;
+    Ok(bytes)
+}
+
+fn begin(alloc: Global) -> Result<Runner, Trouble> {
+    let mut hosts = HostFiles::new(alloc);
+    let name = name_of("BIG")?;
+    let bytes = contents(alloc, b'y')?;
+    if hosts.set(name, bytes.as_slice()).is_err() {
+        return Err(Trouble::OutOfMemory);
+    }
+    let program = READS.to_vec(alloc)?;
+    let tail = b"big".to_vec(alloc)?;
+    match Session::new(program, tail, hosts, Vec::new(alloc), 1_000_000) {
+        Ok(session) => runner_of(alloc, session, SPACING),
+        Err(_) => Err(Trouble::Refused),
+    }
+}
+
+// Runs the session. So many steps are carried out, and this is the last byte of the buffer.
+fn run(runner: &mut Runner, added: u64, last: u8) -> Result<(), Trouble> {
+    let mut meter = Meter::new();
+    let report = runner.rerun(&mut meter)?;
+    if report.cause() != Cause::WarmBoot || report.steps() != STEPS {
+        return Err(Trouble::OtherCause);
+    }
+    if report.regs().a != 1 || report.cell(0x00ff) != last {
+        return Err(Trouble::OtherLeft);
+    }
+    if meter.count() != added {
+        return Err(Trouble::OtherCount);
+    }
+    Ok(())
+}
+
+// Prints what was done, of how many steps, and how long it took since a time.
+fn tell(
+    rt: &(impl Print + CpuClock),
+    since: Duration,
+    what: &str,
+    steps: u64,
+) -> Result<(), Trouble> {
+    let now = rt.thread_cpu_time()?;
+    let taken = now.saturating_sub(since).as_micros();
+    println!(rt; "{what}: {steps} steps, {taken} microseconds")?;
+    Ok(())
+}
+
+fn timed_begin(rt: &(impl Print + CpuClock), alloc: Global) -> Result<Runner, Trouble> {
+    let start = rt.thread_cpu_time()?;
+    let runner = begin(alloc)?;
+    tell(rt, start, "session", 0)?;
+    Ok(runner)
+}
+
+fn timed_run(
+    rt: &(impl Print + CpuClock),
+    runner: &mut Runner,
+    what: &str,
+    added: u64,
+    last: u8,
+) -> Result<(), Trouble> {
+    let start = rt.thread_cpu_time()?;
+    run(runner, added, last)?;
+    tell(rt, start, what, added)
+}
+
+// The edit that changes the last byte of the file.
+fn change(alloc: Global) -> Result<Edit, Trouble> {
+    let bytes = contents(alloc, b'z')?;
+    Ok(Edit::SetFile(name_of("BIG")?, Bytes::new(bytes)))
+}
+
+fn timed_edit(
+    rt: &(impl Print + CpuClock),
+    runner: &mut Runner,
+    edit: Edit,
+) -> Result<(), Trouble> {
+    let start = rt.thread_cpu_time()?;
+    if runner.edit(edit).is_err() {
+        return Err(Trouble::OutOfMemory);
+    }
+    tell(rt, start, "edit", 0)
+}
+
+fn timed_reruns(
+    rt: &(impl Print + CpuClock),
+    alloc: Global,
+    runner: &mut Runner,
+) -> Result<(), Trouble> {
+    timed_run(rt, runner, "first run", STEPS, b'y')?;
+    timed_edit(rt, runner, change(alloc)?)?;
+    timed_run(rt, runner, "second run", STEPS - LAST_USABLE, b'z')
+}
+
+/// Makes the session, runs it, changes the last byte of the file, and runs it again. Each is timed.
+pub fn copy(rt: &(impl Print + CpuClock), alloc: Global) -> Result<(), Trouble> {
+    let mut runner = timed_begin(rt, alloc)?;
+    timed_reruns(rt, alloc, &mut runner)
+}
