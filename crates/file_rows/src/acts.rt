@@ -1,9 +1,10 @@
 // Calls of a table with what they answer.
 
-use crate::fixtures::{are_asked, filled};
+use crate::fixtures::{are_asked, filled, hosts};
 use cpmfiles::{Ask, Changes, HostFiles, Key, Table};
-use std::alloc::AllocError;
+use std::alloc::{AllocError, Global};
 use std::process::Abort;
+use std::test::Fail;
 
 /// A call of a table, and its answer. A record is told by the one byte of which it is made.
 #[derive(Clone, Copy, Debug)]
@@ -87,6 +88,56 @@ pub fn all(
     let mut table = Table::new(host, changes);
     for act in rows {
         carry_out(rt, &mut table, *act)?;
+    }
+    Ok(())
+}
+
+/// Carries out each call over these host files, and compares all questions that were asked up to then.
+pub fn acts_over(
+    rt: &impl Abort,
+    alloc: Global,
+    files: &[(&str, usize)],
+    rows: &[(Act, &[Ask])],
+) -> Result<(), Fail> {
+    let host = hosts(alloc, files)?;
+    let mut changes = Changes::new(alloc);
+    acts(rt, &host, &mut changes, rows)?;
+    Ok(())
+}
+
+/// Carries out each call over these host files.
+pub fn all_over(
+    rt: &impl Abort,
+    alloc: Global,
+    files: &[(&str, usize)],
+    rows: &[Act],
+) -> Result<(), Fail> {
+    let host = hosts(alloc, files)?;
+    let mut changes = Changes::new(alloc);
+    all(rt, &host, &mut changes, rows)?;
+    Ok(())
+}
+
+fn act_alone(
+    rt: &impl Abort,
+    alloc: Global,
+    host: &HostFiles,
+    row: (Act, &[Ask]),
+) -> Result<(), AllocError> {
+    let mut changes = Changes::new(alloc);
+    acts(rt, host, &mut changes, &[row])
+}
+
+/// Carries out each call over these host files, where none was made before, and compares the questions that it asks.
+pub fn each_over(
+    rt: &impl Abort,
+    alloc: Global,
+    files: &[(&str, usize)],
+    rows: &[(Act, &[Ask])],
+) -> Result<(), Fail> {
+    let host = hosts(alloc, files)?;
+    for row in rows {
+        act_alone(rt, alloc, &host, *row)?;
     }
     Ok(())
 }

@@ -1,10 +1,13 @@
 // Deletions by patterns.
 
 use crate::acts::Act::{Delete, Has, Make, Records, Write};
-use crate::acts::{Act, acts, all};
+use crate::acts::{Act, acts};
+use crate::entries::after;
 use crate::fixtures::{ANN, BEN, CAT, hosts};
-use crate::searches::{ALL, search};
-use cpmfiles::{Ask, Changes, Key};
+use crate::searches::{ALL, Found, Search, searches};
+use cpmfiles::{Ask, Changes, HostFiles, Key};
+use std::alloc::AllocError;
+use std::process::Abort;
 use std::test::Fail;
 
 const OTHER: Key = *b"\x01ANN        ";
@@ -12,8 +15,6 @@ const OTHER: Key = *b"\x01ANN        ";
 // The directory alone is asked, and each file that matches is told, whether the host or the program made it.
 #[test]
 fn all_files_that_match_are_deleted(rt: HostRuntime) -> Result<(), Fail> {
-    let host = hosts(rt.alloc(), &[("ann", 1), ("ben", 1), ("b:ann", 1)])?;
-    let mut changes = Changes::new(rt.alloc());
     const MADE: &[Ask] = &[Ask::Has(CAT)];
     const ASKS: &[Ask] = &[Ask::Has(CAT), Ask::Directory(0)];
     const ROWS: &[(Act, &[Ask])] = &[
@@ -25,16 +26,27 @@ fn all_files_that_match_are_deleted(rt: HostRuntime) -> Result<(), Fail> {
         (Has(ANN, false), ASKS),
         (Has(BEN, false), ASKS),
     ];
-    acts(&rt, &host, &mut changes, ROWS)?;
-    search(&rt, &host, &mut changes, &ALL, b'?', &[])?;
-    search(&rt, &host, &mut changes, &OTHER, b'?', &[(OTHER, 0, 1)])?;
+    const LEFT: &[Search<'_>] = &[(ALL, b'?', &[]), (OTHER, b'?', &[(OTHER, 0, 1)])];
+    let host = hosts(rt.alloc(), &[("ann", 1), ("ben", 1), ("b:ann", 1)])?;
+    let mut changes = Changes::new(rt.alloc());
+    leave(&rt, &host, &mut changes, ROWS, LEFT)?;
     Ok(())
+}
+
+// Calls with the questions asked up to then, and what is found after them.
+fn leave(
+    rt: &impl Abort,
+    host: &HostFiles,
+    changes: &mut Changes,
+    rows: &[(Act, &[Ask])],
+    left: &[Search<'_>],
+) -> Result<(), AllocError> {
+    acts(rt, host, changes, rows)?;
+    searches(rt, host, changes, left)
 }
 
 #[test]
 fn a_deletion_keeps_what_does_not_match(rt: HostRuntime) -> Result<(), Fail> {
-    let host = hosts(rt.alloc(), &[("ann", 1), ("ben", 1), ("cat", 1)])?;
-    let mut changes = Changes::new(rt.alloc());
     const CALLS: &[Act] = &[
         Write(BEN, 4, b'a', true),
         Delete(*b"\0A??        ", 1),
@@ -44,16 +56,9 @@ fn a_deletion_keeps_what_does_not_match(rt: HostRuntime) -> Result<(), Fail> {
         Delete(*b"\0C?T        ", 1),
         Make(ANN, true),
     ];
-    all(&rt, &host, &mut changes, CALLS)?;
-    search(
-        &rt,
-        &host,
-        &mut changes,
-        &ALL,
-        0,
-        &[(ANN, 0, 0), (BEN, 0, 5)],
-    )?;
-    Ok(())
+    const LEFT: &[Found] = &[(ANN, 0, 0), (BEN, 0, 5)];
+    let host = hosts(rt.alloc(), &[("ann", 1), ("ben", 1), ("cat", 1)])?;
+    after(&rt, rt.alloc(), &host, CALLS, 0, LEFT)
 }
 
 #[test]

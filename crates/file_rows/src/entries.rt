@@ -3,9 +3,9 @@
 use crate::acts::Act::{Delete, Fill, Make, Rename, Write};
 use crate::acts::{Act, all};
 use crate::fixtures::{ANN, BEN, CAT, hosts};
-use crate::searches::{ALL, Found, entry, found, search};
+use crate::searches::{ALL, Found, Search, entry, found, search, searches};
 use cpmfiles::{Changes, HostFiles, Key, Table};
-use std::alloc::Global;
+use std::alloc::{AllocError, Global};
 use std::process::Abort;
 use std::test::Fail;
 
@@ -36,14 +36,12 @@ fn each_extent_with_a_record_has_an_entry(rt: HostRuntime) -> Result<(), Fail> {
         (*b"\0D          ", 0, 128),
         (*b"\0D          ", 1, 1),
     ];
-    search(&rt, &host, &mut changes, &ALL, ANY_EXTENT, WANTED)?;
-    search(
+    const SECOND: &[Found] = &[(*b"\0D          ", 1, 1)];
+    searches(
         &rt,
         &host,
         &mut changes,
-        &ALL,
-        1,
-        &[(*b"\0D          ", 1, 1)],
+        &[(ALL, ANY_EXTENT, WANTED), (ALL, 1, SECOND)],
     )?;
     Ok(())
 }
@@ -80,17 +78,29 @@ fn an_extent_byte_finds_one_extent(rt: HostRuntime) -> Result<(), Fail> {
     Ok(())
 }
 
-// Searches the directory after some calls.
-fn after(
+// Some calls, and then a search for all entries.
+fn calls_and_search(
+    rt: &impl Abort,
+    host: &HostFiles,
+    changes: &mut Changes,
+    calls: &[Act],
+    row: Search<'_>,
+) -> Result<(), AllocError> {
+    all(rt, host, changes, calls)?;
+    searches(rt, host, changes, &[row])
+}
+
+/// Searches the directory of drive A after some calls.
+pub fn after(
     rt: &impl Abort,
     alloc: Global,
     host: &HostFiles,
     calls: &[Act],
+    ex: u8,
     wanted: &[Found],
 ) -> Result<(), Fail> {
     let mut changes = Changes::new(alloc);
-    all(rt, host, &mut changes, calls)?;
-    search(rt, host, &mut changes, &ALL, ANY_EXTENT, wanted)?;
+    calls_and_search(rt, host, &mut changes, calls, (ALL, ex, wanted))?;
     Ok(())
 }
 
@@ -98,7 +108,7 @@ fn after(
 fn cases(rt: &impl Abort, alloc: Global, rows: &[(&[Act], &[Found])]) -> Result<(), Fail> {
     let host = hosts(alloc, &[("ann", 200)])?;
     for (calls, wanted) in rows {
-        after(rt, alloc, &host, calls, wanted)?;
+        after(rt, alloc, &host, calls, ANY_EXTENT, wanted)?;
     }
     Ok(())
 }

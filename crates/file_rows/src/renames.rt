@@ -1,10 +1,10 @@
 // Files under other keys, and which questions of host files they ask.
 
 use crate::acts::Act::{Delete, Has, Make, Read, Records, Rename, Write};
-use crate::acts::{Act, acts, all};
-use crate::fixtures::{ANN, BEN, CAT, hosts};
+use crate::acts::{Act, acts_over, all_over, each_over};
+use crate::fixtures::{ANN, BEN, CAT};
 use cpmfiles::Ask::{Length, Rec};
-use cpmfiles::{Ask, Changes, Key};
+use cpmfiles::{Ask, Key};
 use std::test::Fail;
 
 // Whether both are there; then the length of the one, and records of it.
@@ -25,8 +25,6 @@ const READ_2: &[Ask] = &[
 // It keeps standing on its own host file, whose length and records are asked for by the first key.
 #[test]
 fn a_file_is_renamed_away_and_back(rt: HostRuntime) -> Result<(), Fail> {
-    let host = hosts(rt.alloc(), &[("ann", 384)])?;
-    let mut changes = Changes::new(rt.alloc());
     const ROWS: &[(Act, &[Ask])] = &[
         (Rename(ANN, BEN, true), BOTH),
         (Has(ANN, false), BOTH),
@@ -39,14 +37,11 @@ fn a_file_is_renamed_away_and_back(rt: HostRuntime) -> Result<(), Fail> {
         (Read(ANN, 1, Some(b'x')), READ_1),
         (Read(ANN, 2, Some(b'x')), READ_2),
     ];
-    acts(&rt, &host, &mut changes, ROWS)?;
-    Ok(())
+    acts_over(&rt, rt.alloc(), &[("ann", 384)], ROWS)
 }
 
 #[test]
 fn a_file_is_renamed_onto_a_deleted_key(rt: HostRuntime) -> Result<(), Fail> {
-    let host = hosts(rt.alloc(), &[("ann", 384), ("ben", 1)])?;
-    let mut changes = Changes::new(rt.alloc());
     const ROWS: &[(Act, &[Ask])] = &[
         (Delete(BEN, 1), &[Ask::Has(BEN)]),
         (Rename(ANN, BEN, true), BOTH),
@@ -57,15 +52,12 @@ fn a_file_is_renamed_onto_a_deleted_key(rt: HostRuntime) -> Result<(), Fail> {
         (Records(ANN, Some(0)), READ_1),
         (Read(BEN, 2, Some(b'x')), READ_2),
     ];
-    acts(&rt, &host, &mut changes, ROWS)?;
-    Ok(())
+    acts_over(&rt, rt.alloc(), &[("ann", 384), ("ben", 1)], ROWS)
 }
 
 // What was written goes with the file, and so does how it has grown.
 #[test]
 fn a_written_file_is_renamed(rt: HostRuntime) -> Result<(), Fail> {
-    let host = hosts(rt.alloc(), &[("ann", 384)])?;
-    let mut changes = Changes::new(rt.alloc());
     const ROWS: &[(Act, &[Ask])] = &[
         (Write(ANN, 4, b'a', true), &[Ask::Has(ANN), Length(ANN)]),
         (Rename(ANN, BEN, true), LONG),
@@ -77,14 +69,11 @@ fn a_written_file_is_renamed(rt: HostRuntime) -> Result<(), Fail> {
         (Read(BEN, 1, Some(b'x')), READ_1),
         (Records(ANN, None), READ_1),
     ];
-    acts(&rt, &host, &mut changes, ROWS)?;
-    Ok(())
+    acts_over(&rt, rt.alloc(), &[("ann", 384)], ROWS)
 }
 
 #[test]
 fn a_made_file_is_renamed(rt: HostRuntime) -> Result<(), Fail> {
-    let host = hosts(rt.alloc(), &[])?;
-    let mut changes = Changes::new(rt.alloc());
     const ROWS: &[(Act, &[Ask])] = &[
         (Make(ANN, true), &[Ask::Has(ANN)]),
         (Write(ANN, 1, b'a', true), &[Ask::Has(ANN)]),
@@ -95,26 +84,21 @@ fn a_made_file_is_renamed(rt: HostRuntime) -> Result<(), Fail> {
         (Make(ANN, true), BOTH),
         (Records(ANN, Some(0)), BOTH),
     ];
-    acts(&rt, &host, &mut changes, ROWS)?;
-    Ok(())
+    acts_over(&rt, rt.alloc(), &[], ROWS)
 }
 
 // Both keys are asked for, whatever the first answers.
 #[test]
 fn a_rename_wants_the_old_key_and_not_the_new(rt: HostRuntime) -> Result<(), Fail> {
-    let host = hosts(rt.alloc(), &[("ann", 1), ("ben", 1)])?;
-    let absent = &[Ask::Has(BEN), Ask::Has(CAT)];
-    for (act, asks) in [
+    const ABSENT: &[Ask] = &[Ask::Has(BEN), Ask::Has(CAT)];
+    const ROWS: &[(Act, &[Ask])] = &[
         (Rename(ANN, BEN, false), BOTH),
         (Rename(ANN, ANN, false), &[Ask::Has(ANN)]),
-        (Rename(CAT, BEN, false), absent),
+        (Rename(CAT, BEN, false), ABSENT),
         (Rename(CAT, CAT, false), &[Ask::Has(CAT)]),
-        (Rename(BEN, CAT, true), absent),
-    ] {
-        let mut changes = Changes::new(rt.alloc());
-        acts(&rt, &host, &mut changes, &[(act, asks)])?;
-    }
-    Ok(())
+        (Rename(BEN, CAT, true), ABSENT),
+    ];
+    each_over(&rt, rt.alloc(), &[("ann", 1), ("ben", 1)], ROWS)
 }
 
 // No question is asked where a key has a `?`, or the new one is no name's.
@@ -122,31 +106,18 @@ fn a_rename_wants_the_old_key_and_not_the_new(rt: HostRuntime) -> Result<(), Fai
 fn keys_that_no_rename_takes(rt: HostRuntime) -> Result<(), Fail> {
     const ANY: Key = *b"\0AN?        ";
     const SMALL: Key = *b"\0ben        ";
-    let host = hosts(rt.alloc(), &[("ann", 1)])?;
-    for act in [
-        Rename(ANY, BEN, false),
-        Rename(ANN, ANY, false),
-        Rename(ANN, SMALL, false),
-    ] {
-        let mut changes = Changes::new(rt.alloc());
-        acts(&rt, &host, &mut changes, &[(act, &[])])?;
-    }
-    let mut changes = Changes::new(rt.alloc());
-    let asks = &[Ask::Has(ANN), Ask::Has(SMALL)];
-    acts(
-        &rt,
-        &host,
-        &mut changes,
-        &[(Rename(SMALL, ANN, false), asks)],
-    )?;
-    Ok(())
+    const ROWS: &[(Act, &[Ask])] = &[
+        (Rename(ANY, BEN, false), &[]),
+        (Rename(ANN, ANY, false), &[]),
+        (Rename(ANN, SMALL, false), &[]),
+        (Rename(SMALL, ANN, false), &[Ask::Has(ANN), Ask::Has(SMALL)]),
+    ];
+    each_over(&rt, rt.alloc(), &[("ann", 1)], ROWS)
 }
 
 // Each onto the key that the one before left.
 #[test]
 fn two_files_change_keys(rt: HostRuntime) -> Result<(), Fail> {
-    let host = hosts(rt.alloc(), &[("ann", 128), ("ben", 256)])?;
-    let mut changes = Changes::new(rt.alloc());
     const CALLS: &[Act] = &[
         Rename(ANN, CAT, true),
         Rename(BEN, ANN, true),
@@ -159,6 +130,5 @@ fn two_files_change_keys(rt: HostRuntime) -> Result<(), Fail> {
         Records(ANN, Some(3)),
         Records(BEN, None),
     ];
-    all(&rt, &host, &mut changes, CALLS)?;
-    Ok(())
+    all_over(&rt, rt.alloc(), &[("ann", 128), ("ben", 256)], CALLS)
 }

@@ -4,7 +4,7 @@ use crate::acts::Act::{Delete, Make, Rename, Write};
 use crate::acts::{Act, all};
 use crate::fixtures::{ANN, BEN, CAT, are_asked, hosts};
 use cpmfiles::Ask::Directory;
-use cpmfiles::{Changes, HostFiles, Key, Table};
+use cpmfiles::{Ask, Changes, HostFiles, Key, Table};
 use std::alloc::{AllocError, Global};
 use std::process::Abort;
 use std::test::Fail;
@@ -61,6 +61,22 @@ pub fn search(
     Ok(())
 }
 
+/// A pattern with its extent byte, and what it finds.
+pub type Search<'a> = (Key, u8, &'a [Found]);
+
+/// Compares what each pattern finds.
+pub fn searches(
+    rt: &impl Abort,
+    host: &HostFiles,
+    changes: &mut Changes,
+    rows: &[Search<'_>],
+) -> Result<(), AllocError> {
+    for (pattern, ex, wanted) in rows {
+        search(rt, host, changes, pattern, *ex, wanted)?;
+    }
+    Ok(())
+}
+
 // The bytes of an entry.
 fn bytes_of(found: &Found) -> [u8; 32] {
     entry(&found.0, found.1, found.2)
@@ -76,14 +92,20 @@ fn goes_on(
 ) -> Result<(), Fail> {
     let host = hosts(alloc, &[("ann", 1), ("ben", 1)])?;
     let mut changes = Changes::new(alloc);
-    all(rt, &host, &mut changes, &[call])?;
-    let mut table = Table::new(&host, &mut changes);
-    let next = table.next_entry(&ALL, b'?', Some(bytes_of(last)))?;
-    match wanted {
-        Some(found) => assert_eq!(rt; next, Some(bytes_of(found)), "{call:?}"),
-        None => assert_eq!(rt; next, None, "{call:?}"),
-    }
+    let next = next_after(rt, &host, &mut changes, last, call)?;
+    assert_eq!(rt; next, wanted.map(bytes_of), "{call:?}");
     Ok(())
+}
+
+fn next_after(
+    rt: &impl Abort,
+    host: &HostFiles,
+    changes: &mut Changes,
+    last: &Found,
+    call: Act,
+) -> Result<Option<[u8; 32]>, AllocError> {
+    all(rt, host, changes, &[call])?;
+    Table::new(host, changes).next_entry(&ALL, b'?', Some(bytes_of(last)))
 }
 
 // It takes the files as they are now: those that were made, made longer, renamed and deleted since.
@@ -108,12 +130,27 @@ fn a_search_goes_on_from_the_entry_given(rt: HostRuntime) -> Result<(), Fail> {
 
 #[test]
 fn a_search_asks_the_directory_of_its_drive(rt: HostRuntime) -> Result<(), Fail> {
+    const SEARCHES: &[(Search<'_>, &[Ask])] = &[
+        ((ANN, 0, &[ANN_0]), &[Directory(0)]),
+        ((ALL, b'?', &[ANN_0]), &[Directory(0)]),
+        ((*b"\x03???????????", 0, &[]), &[Directory(0), Directory(3)]),
+    ];
     let host = hosts(rt.alloc(), &[("ann", 1), ("b:ann", 1)])?;
     let mut changes = Changes::new(rt.alloc());
-    search(&rt, &host, &mut changes, &ANN, 0, &[(ANN, 0, 1)])?;
-    assert!(rt; are_asked(&changes, &[Directory(0)])?);
-    search(&rt, &host, &mut changes, &ALL, b'?', &[(ANN, 0, 1)])?;
-    search(&rt, &host, &mut changes, &*b"\x03???????????", 0, &[])?;
-    assert!(rt; are_asked(&changes, &[Directory(0), Directory(3)])?);
+    asked(&rt, &host, &mut changes, SEARCHES)?;
+    Ok(())
+}
+
+// Searches, and after each all questions that were asked up to then.
+fn asked(
+    rt: &impl Abort,
+    host: &HostFiles,
+    changes: &mut Changes,
+    rows: &[(Search<'_>, &[Ask])],
+) -> Result<(), AllocError> {
+    for (row, asks) in rows {
+        searches(rt, host, changes, &[*row])?;
+        assert!(rt; are_asked(changes, asks)?);
+    }
     Ok(())
 }

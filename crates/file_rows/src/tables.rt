@@ -1,10 +1,10 @@
 // What a program makes, writes and reads, and which questions of host files these ask.
 
 use crate::acts::Act::{Delete, Extent, Fill, Has, Make, Read, Records, Write};
-use crate::acts::{Act, acts, all};
-use crate::fixtures::{ANN, BEN, hosts};
+use crate::acts::{Act, acts_over, all_over, each_over};
+use crate::fixtures::{ANN, BEN};
 use cpmfiles::Ask::{Length, Rec};
-use cpmfiles::{Ask, Changes, Key};
+use cpmfiles::{Ask, Key};
 use std::test::Fail;
 
 // The questions of one file each: whether it is there; its length too; and records of it.
@@ -26,8 +26,6 @@ const READ_ALL: &[Ask] = &[
 
 #[test]
 fn a_made_file_answers_for_itself(rt: HostRuntime) -> Result<(), Fail> {
-    let host = hosts(rt.alloc(), &[])?;
-    let mut changes = Changes::new(rt.alloc());
     const ROWS: &[(Act, &[Ask])] = &[
         (Make(ANN, true), THERE),
         (Make(ANN, false), THERE),
@@ -39,14 +37,11 @@ fn a_made_file_answers_for_itself(rt: HostRuntime) -> Result<(), Fail> {
         (Read(ANN, 0, Some(b'a')), THERE),
         (Records(ANN, Some(1)), THERE),
     ];
-    acts(&rt, &host, &mut changes, ROWS)?;
-    Ok(())
+    acts_over(&rt, rt.alloc(), &[], ROWS)
 }
 
 #[test]
 fn a_write_past_the_end_leaves_holes(rt: HostRuntime) -> Result<(), Fail> {
-    let host = hosts(rt.alloc(), &[])?;
-    let mut changes = Changes::new(rt.alloc());
     const ROWS: &[(Act, &[Ask])] = &[
         (Make(ANN, true), THERE),
         (Write(ANN, 2, b'a', true), THERE),
@@ -58,14 +53,11 @@ fn a_write_past_the_end_leaves_holes(rt: HostRuntime) -> Result<(), Fail> {
         (Extent(ANN, 0, Some(3)), THERE),
         (Extent(ANN, 1, Some(0)), THERE),
     ];
-    acts(&rt, &host, &mut changes, ROWS)?;
-    Ok(())
+    acts_over(&rt, rt.alloc(), &[], ROWS)
 }
 
 #[test]
 fn a_gap_is_filled_and_older_holes_stay(rt: HostRuntime) -> Result<(), Fail> {
-    let host = hosts(rt.alloc(), &[])?;
-    let mut changes = Changes::new(rt.alloc());
     const ROWS: &[(Act, &[Ask])] = &[
         (Make(ANN, true), THERE),
         (Write(ANN, 2, b'a', true), THERE),
@@ -79,14 +71,11 @@ fn a_gap_is_filled_and_older_holes_stay(rt: HostRuntime) -> Result<(), Fail> {
         (Read(ANN, 1, None), THERE),
         (Records(ANN, Some(6)), THERE),
     ];
-    acts(&rt, &host, &mut changes, ROWS)?;
-    Ok(())
+    acts_over(&rt, rt.alloc(), &[], ROWS)
 }
 
 #[test]
 fn a_deleted_file_is_gone_until_it_is_made(rt: HostRuntime) -> Result<(), Fail> {
-    let host = hosts(rt.alloc(), &[("ann", 300)])?;
-    let mut changes = Changes::new(rt.alloc());
     const ROWS: &[(Act, &[Ask])] = &[
         (Delete(ANN, 1), THERE),
         (Delete(ANN, 0), THERE),
@@ -102,14 +91,11 @@ fn a_deleted_file_is_gone_until_it_is_made(rt: HostRuntime) -> Result<(), Fail> 
         (Read(ANN, 0, None), THERE),
         (Read(ANN, 1, Some(b'a')), THERE),
     ];
-    acts(&rt, &host, &mut changes, ROWS)?;
-    Ok(())
+    acts_over(&rt, rt.alloc(), &[("ann", 300)], ROWS)
 }
 
 #[test]
 fn a_made_file_is_deleted_and_made_again(rt: HostRuntime) -> Result<(), Fail> {
-    let host = hosts(rt.alloc(), &[])?;
-    let mut changes = Changes::new(rt.alloc());
     const ROWS: &[(Act, &[Ask])] = &[
         (Make(ANN, true), THERE),
         (Write(ANN, 2, b'a', true), THERE),
@@ -121,15 +107,12 @@ fn a_made_file_is_deleted_and_made_again(rt: HostRuntime) -> Result<(), Fail> {
         (Read(ANN, 2, None), THERE),
         (Read(ANN, 3, Some(b'b')), THERE),
     ];
-    acts(&rt, &host, &mut changes, ROWS)?;
-    Ok(())
+    acts_over(&rt, rt.alloc(), &[], ROWS)
 }
 
 // What was read of a host file is asked once; what was written answers for itself.
 #[test]
 fn a_host_file_is_asked_for_what_was_not_written(rt: HostRuntime) -> Result<(), Fail> {
-    let host = hosts(rt.alloc(), &[("ann", 384)])?;
-    let mut changes = Changes::new(rt.alloc());
     const ROWS: &[(Act, &[Ask])] = &[
         (Has(ANN, true), THERE),
         (Make(ANN, false), THERE),
@@ -142,15 +125,12 @@ fn a_host_file_is_asked_for_what_was_not_written(rt: HostRuntime) -> Result<(), 
         (Read(ANN, 2, Some(b'a')), READ_1),
         (Read(ANN, 0, Some(b'x')), READ_0),
     ];
-    acts(&rt, &host, &mut changes, ROWS)?;
-    Ok(())
+    acts_over(&rt, rt.alloc(), &[("ann", 384)], ROWS)
 }
 
 // Its records are asked for where a write made it longer, too; its length no more, and no hole.
 #[test]
 fn a_longer_file_still_stands_on_its_host_file(rt: HostRuntime) -> Result<(), Fail> {
-    let host = hosts(rt.alloc(), &[("ann", 384)])?;
-    let mut changes = Changes::new(rt.alloc());
     const ROWS: &[(Act, &[Ask])] = &[
         (Write(ANN, 5, b'a', true), LONG),
         (Records(ANN, Some(6)), LONG),
@@ -164,50 +144,40 @@ fn a_longer_file_still_stands_on_its_host_file(rt: HostRuntime) -> Result<(), Fa
         (Read(ANN, 4, None), READ_0),
         (Read(ANN, 2, Some(b'x')), READ_ALL),
     ];
-    acts(&rt, &host, &mut changes, ROWS)?;
-    Ok(())
+    acts_over(&rt, rt.alloc(), &[("ann", 384)], ROWS)
 }
 
 // A file that is not there is asked for its presence alone, by each call.
 #[test]
 fn an_absent_file_has_no_length(rt: HostRuntime) -> Result<(), Fail> {
-    let host = hosts(rt.alloc(), &[("ben", 1)])?;
-    for act in [
-        Has(ANN, false),
-        Records(ANN, None),
-        Extent(ANN, 0, None),
-        Read(ANN, 0, None),
-        Write(ANN, 0, b'a', false),
-        Fill(ANN, 0, b'a', false),
-        Delete(ANN, 0),
-    ] {
-        let mut changes = Changes::new(rt.alloc());
-        acts(&rt, &host, &mut changes, &[(act, THERE)])?;
-    }
-    Ok(())
+    const ROWS: &[(Act, &[Ask])] = &[
+        (Has(ANN, false), THERE),
+        (Records(ANN, None), THERE),
+        (Extent(ANN, 0, None), THERE),
+        (Read(ANN, 0, None), THERE),
+        (Write(ANN, 0, b'a', false), THERE),
+        (Fill(ANN, 0, b'a', false), THERE),
+        (Delete(ANN, 0), THERE),
+    ];
+    each_over(&rt, rt.alloc(), &[("ben", 1)], ROWS)
 }
 
 // Each byte may stand in a key that is asked for; only a key that can be said is made.
 #[test]
 fn keys_that_no_name_has_are_asked_but_not_made(rt: HostRuntime) -> Result<(), Fail> {
     const SMALL: Key = *b"\0ann        ";
-    let host = hosts(rt.alloc(), &[("ann", 1)])?;
-    let mut changes = Changes::new(rt.alloc());
     const ROWS: &[(Act, &[Ask])] = &[
         (Make(SMALL, false), &[]),
         (Make(*b"\x04ANN        ", false), &[]),
         (Has(SMALL, false), &[Ask::Has(SMALL)]),
         (Delete(SMALL, 0), &[Ask::Has(SMALL)]),
     ];
-    acts(&rt, &host, &mut changes, ROWS)?;
-    Ok(())
+    acts_over(&rt, rt.alloc(), &[("ann", 1)], ROWS)
 }
 
 #[test]
 fn drives_keep_their_files_apart(rt: HostRuntime) -> Result<(), Fail> {
     const OTHER: Key = *b"\x01ANN        ";
-    let host = hosts(rt.alloc(), &[("ann", 1), ("b:ben", 1)])?;
-    let mut changes = Changes::new(rt.alloc());
     const CALLS: &[Act] = &[
         Has(OTHER, false),
         Has(BEN, false),
@@ -217,14 +187,11 @@ fn drives_keep_their_files_apart(rt: HostRuntime) -> Result<(), Fail> {
         Delete(ANN, 1),
         Records(OTHER, Some(4)),
     ];
-    all(&rt, &host, &mut changes, CALLS)?;
-    Ok(())
+    all_over(&rt, rt.alloc(), &[("ann", 1), ("b:ben", 1)], CALLS)
 }
 
 #[test]
 fn the_last_place_can_be_written(rt: HostRuntime) -> Result<(), Fail> {
-    let host = hosts(rt.alloc(), &[("ann", 1)])?;
-    let mut changes = Changes::new(rt.alloc());
     const CALLS: &[Act] = &[
         Write(ANN, 65_535, b'a', true),
         Records(ANN, Some(65_536)),
@@ -236,6 +203,5 @@ fn the_last_place_can_be_written(rt: HostRuntime) -> Result<(), Fail> {
         Extent(ANN, 510, Some(0)),
         Extent(ANN, 0, Some(1)),
     ];
-    all(&rt, &host, &mut changes, CALLS)?;
-    Ok(())
+    all_over(&rt, rt.alloc(), &[("ann", 1)], CALLS)
 }
