@@ -5,6 +5,7 @@ ghost use Rattle.std.specs.Ordering.{nat_cmp};
 ghost use Rattle.std.specs.Cmp.Lexicographic.{slice_cmp};
 ghost use Rattle.keymaps.specs.Order.{is_above};
 ghost use Rattle.hostfiles.specs.Files.{has};
+ghost use Rattle.hostfiles.specs.Looks.{no_looks};
 ghost use Rattle.changed_files.specs.Changed.{is_changed_name, told};
 ghost use Rattle.replay.specs.Fits.{kept_length};
 
@@ -121,6 +122,7 @@ impl Report<'_> {
     /// is refused.
     pub fn changes(&self, alloc: Global) -> Result<Changes, AllocError>
         ensures files { IfOk result (λ c. c.journal.entries ≡ (reported_run self.now).state.own.files) }
+        ensures looks { IfOk result (λ c. c.looks ≡ no_looks) }
     {
         match &self.last_run.end {
             Some(kept) => kept.changes(alloc),
