@@ -12,7 +12,7 @@ use Rattle.cpmrun.specs.declared.fault.Fault.TheVariants.{Use, NotText, CannotRe
 use Rattle.cpmrun.specs.Requests.{AreWords, Misread}
 use Rattle.cpmrun.specs.Loading.{IsOf, Unloaded}
 use Rattle.edit_lines.specs.Pieces.{lines_of}
-use Rattle.cpmrun.specs.Program.{Complains}
+use Rattle.cpmrun.specs.Complaints.{Complains}
 use Rattle.edit_lines.specs.Progress.{Faults}
 use Rattle.cpmrun.specs.RawRun.{BreaksRun, RunsOnce}
 use Rattle.edit_lines.specs.Replay.{Finished, Replays}

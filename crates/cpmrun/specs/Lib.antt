@@ -1,4 +1,4 @@
-pub mod Program
+pub mod Complaints
 pub mod Requests
 pub mod Loading
 pub mod RawRun

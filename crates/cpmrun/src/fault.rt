@@ -1,5 +1,5 @@
 ghost use Rattle.std.specs.Prelude.{◌≡◌, ◌^◌, ◌<◌, IfOk, IfSome, IfNone, string_bytes};
-ghost use Rattle.cpmrun.specs.Program.{Complains};
+ghost use Rattle.cpmrun.specs.Complaints.{Complains};
 ghost use Rattle.edit_lines.specs.Writing.{WritesOrFails};
 
 use edit_lines::{Writer, write_all};
@@ -38,7 +38,7 @@ For more information, try '--help'.
 ";
 
 impl Fault<'_> {
-    ghost use Rattle.cpmrun.specs.Program.{NamesAValue, message_of, status_of};
+    ghost use Rattle.cpmrun.specs.Complaints.{NamesAValue, message_of, status_of};
 
     /// The exit status: 1 for a fault of use, of a device, of the host files or of the session, 2 for a
     /// line, 12 for want of memory.

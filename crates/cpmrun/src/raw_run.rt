@@ -59,6 +59,26 @@ fn write_file<'a, R: Files + AllocGlobal>(
     }
 }
 
+/// Writes each changed file of the run that is there at its stop, where these are the run's changes.
+fn write_each<'a, R: Files + AllocGlobal>(
+    rt: &R,
+    folders: &[Option<&'a str>; 4],
+    report: &Report<'_>,
+    changes: &Changes,
+) -> Result<(), Fault<'a>>
+    requires { changes.now.journal.entries ≡ (reported_run report.now).state.own.files }
+    ensures { IfErr result (Unwritten folders.now) }
+{
+    let mut after: Option<Name> = None;
+    while let Some(name) = report.next_changed(after.as_ref()) {
+        if report.has(&name) {
+            write_file(rt, folders, report.files(), changes, &name)?;
+        }
+        after = Some(name);
+    }
+    Ok(())
+}
+
 /// Writes the changed files of the run that are there at its stop into the folders of their drives, where these have any, in the
 /// order of their names.
 fn write_changed<'a, R: Files + AllocGlobal>(
@@ -71,14 +91,7 @@ fn write_changed<'a, R: Files + AllocGlobal>(
     let Ok(changes) = report.changes(rt.alloc()) else {
         return Err(Fault::OutOfMemory);
     };
-    let mut after: Option<Name> = None;
-    while let Some(name) = report.next_changed(after.as_ref()) {
-        if report.has(&name) {
-            write_file(rt, folders, report.files(), &changes, &name)?;
-        }
-        after = Some(name);
-    }
-    Ok(())
+    write_each(rt, folders, report, &changes)
 }
 
 /// Writes a line, and then the lines of the changed files that are gone. Where the writer fails, some first part of this is written.
@@ -125,6 +138,51 @@ fn tell_stop<'a, E: Writer>(
     }
 }
 
+/// Tells a run: what it printed, its changed files, and its stop. It gives the exit status for the stop.
+fn tell_run<'a, R: Files + AllocGlobal, O: Writer, E: Writer>(
+    rt: &R,
+    folders: &[Option<&'a str>; 4],
+    report: &Report<'_>,
+    out: &mut O,
+    err: &mut E,
+) -> Result<u8, Fault<'a>>
+    requires cold { reported_run report.now ≡ cold (session_of report.now) }
+    requires out { O.failures out.old < 2 ^ 63 }
+    requires err { E.failures err.old < 2 ^ 63 }
+    ensures done { IfOk result (λ status. RunsOnce (session_of report.now) status (O.holds out.old) (O.holds out.new) (E.holds err.old) (E.holds err.new) (E.failures err.old) (E.failures err.new)) }
+    ensures fault { IfErr result (BreaksRun folders.now (session_of report.now) (O.holds out.old) (O.holds out.new) (O.failures out.old) (O.failures out.new)) }
+    ensures untold { OnErr result (err.new ≡ err.old) }
+{
+    let Ok(()) = write_all(out, report.text()) else {
+        return Err(Fault::CannotWrite);
+    };
+    write_changed(rt, folders, report)?;
+    tell_stop(rt.alloc(), report, err)?;
+    Ok(stop_status(report.cause()))
+}
+
+/// Runs the session of a runner, and tells the run.
+fn run_and_tell<'a, R: Files + AllocGlobal, O: Writer, E: Writer>(
+    rt: &R,
+    folders: &[Option<&'a str>; 4],
+    runner: &mut Runner,
+    meter: &mut Meter,
+    out: &mut O,
+    err: &mut E,
+) -> Result<u8, Fault<'a>>
+    requires meter { meter.old ≤ 2 ^ 63 }
+    requires out { O.failures out.old < 2 ^ 63 }
+    requires err { E.failures err.old < 2 ^ 63 }
+    ensures done { IfOk result (λ status. RunsOnce runner.old.session status (O.holds out.old) (O.holds out.new) (E.holds err.old) (E.holds err.new) (E.failures err.old) (E.failures err.new)) }
+    ensures fault { IfErr result (BreaksRun folders.now runner.old.session (O.holds out.old) (O.holds out.new) (O.failures out.old) (O.failures out.new)) }
+    ensures untold { OnErr result (err.new ≡ err.old) }
+{
+    let Ok(report) = runner.rerun(meter) else {
+        return Err(Fault::OutOfMemory);
+    };
+    tell_run(rt, folders, &report, out, err)
+}
+
 /// Options for a run that is not run again: one checkpoint at most, in a run of up to 1,000,000,000 steps.
 fn options() -> Options
     ensures { result ≡ record { spacing = 1000000000; slots = 1 } }
@@ -154,19 +212,10 @@ pub fn run_once<'a, R: Files + AllocGlobal, O: Writer, E: Writer>(
     ensures fault { IfErr result (BreaksRun folders.now session (O.holds out.old) (O.holds out.new) (O.failures out.old) (O.failures out.new)) }
     ensures untold { OnErr result (err.new ≡ err.old) }
 {
-    let alloc = rt.alloc();
-    let mut runner = match Runner::new(alloc, session, options()) {
+    let mut runner = match Runner::new(rt.alloc(), session, options()) {
         Ok(runner) => runner,
         Err(OptionsError::OutOfMemory) => return Err(Fault::OutOfMemory),
         Err(_) => unreachable!(),
     };
-    let Ok(report) = runner.rerun(meter) else {
-        return Err(Fault::OutOfMemory);
-    };
-    let Ok(()) = write_all(out, report.text()) else {
-        return Err(Fault::CannotWrite);
-    };
-    write_changed(rt, folders, &report)?;
-    tell_stop(alloc, &report, err)?;
-    Ok(stop_status(report.cause()))
+    run_and_tell(rt, folders, &mut runner, meter, out, err)
 }

@@ -2,7 +2,7 @@
 
 use crate::fixtures::{are_asked, filled, hosts};
 use cpmfiles::{Ask, Changes, HostFiles, Key, Table};
-use std::alloc::{AllocError, Global};
+use std::alloc::Global;
 use std::process::Abort;
 use std::test::Fail;
 
@@ -30,37 +30,46 @@ fn reads(
     key: &Key,
     place: u32,
     wanted: Option<u8>,
-) -> Result<(), AllocError> {
+) -> Result<(), Fail> {
     let mut found = filled(0xee);
     assert_eq!(rt; table.read(key, place, &mut found)?, wanted.is_some());
     assert_eq!(rt; found, filled(wanted.unwrap_or(0xee)));
     Ok(())
 }
 
-fn carry_out(rt: &impl Abort, table: &mut Table<'_>, act: Act) -> Result<(), AllocError> {
+fn carry_out(rt: &impl Abort, table: &mut Table<'_>, act: Act) -> Result<(), Fail> {
     match act {
-        Has(key, there) => assert_eq!(rt; table.has(&key)?, there),
-        Records(key, count) => assert_eq!(rt; table.records(&key)?, count),
-        Extent(key, e, count) => assert_eq!(rt; table.extent(&key, e)?, count),
-        Read(key, place, byte) => reads(rt, table, &key, place, byte)?,
-        _ => change(rt, table, act)?,
+        Has(_, _) | Records(_, _) | Extent(_, _, _) => ask(rt, table, act),
+        Read(key, place, byte) => reads(rt, table, &key, place, byte),
+        _ => change(rt, table, act),
     }
+}
+
+fn ask(rt: &impl Abort, table: &mut Table<'_>, act: Act) -> Result<(), Fail> {
+    let is_as_wanted = match act {
+        Has(key, there) => table.has(&key)? == there,
+        Records(key, count) => table.records(&key)? == count,
+        Extent(key, e, count) => table.extent(&key, e)? == count,
+        _ => false,
+    };
+    assert!(rt; is_as_wanted, "{act:?}");
     Ok(())
 }
 
-fn change(rt: &impl Abort, table: &mut Table<'_>, act: Act) -> Result<(), AllocError> {
-    match act {
+fn change(rt: &impl Abort, table: &mut Table<'_>, act: Act) -> Result<(), Fail> {
+    let is_as_wanted = match act {
         Write(key, place, byte, done) if place < 65_536 => {
-            assert_eq!(rt; table.write(&key, place, &filled(byte))?, done);
+            table.write(&key, place, &filled(byte))? == done
         }
         Fill(key, place, byte, done) if place < 65_536 => {
-            assert_eq!(rt; table.write_filled(&key, place, &filled(byte))?, done);
+            table.write_filled(&key, place, &filled(byte))? == done
         }
-        Make(key, done) => assert_eq!(rt; table.make(&key)?, done),
-        Delete(key, count) => assert_eq!(rt; table.delete(&key)?, count),
-        Rename(old, new, done) => assert_eq!(rt; table.rename(&old, &new)?, done),
-        _ => panic!(rt; "{act:?}"),
-    }
+        Make(key, done) => table.make(&key)? == done,
+        Delete(key, count) => table.delete(&key)? == count,
+        Rename(old, new, done) => table.rename(&old, &new)? == done,
+        _ => false,
+    };
+    assert!(rt; is_as_wanted, "{act:?}");
     Ok(())
 }
 
@@ -70,7 +79,7 @@ pub fn acts(
     host: &HostFiles,
     changes: &mut Changes,
     rows: &[(Act, &[Ask])],
-) -> Result<(), AllocError> {
+) -> Result<(), Fail> {
     for (act, asks) in rows {
         carry_out(rt, &mut Table::new(host, changes), *act)?;
         assert!(rt; are_asked(changes, asks)?, "after {act:?}");
@@ -84,7 +93,7 @@ pub fn all(
     host: &HostFiles,
     changes: &mut Changes,
     rows: &[Act],
-) -> Result<(), AllocError> {
+) -> Result<(), Fail> {
     let mut table = Table::new(host, changes);
     for act in rows {
         carry_out(rt, &mut table, *act)?;
@@ -101,8 +110,7 @@ pub fn acts_over(
 ) -> Result<(), Fail> {
     let host = hosts(alloc, files)?;
     let mut changes = Changes::new(alloc);
-    acts(rt, &host, &mut changes, rows)?;
-    Ok(())
+    acts(rt, &host, &mut changes, rows)
 }
 
 /// Carries out each call over these host files.
@@ -114,8 +122,7 @@ pub fn all_over(
 ) -> Result<(), Fail> {
     let host = hosts(alloc, files)?;
     let mut changes = Changes::new(alloc);
-    all(rt, &host, &mut changes, rows)?;
-    Ok(())
+    all(rt, &host, &mut changes, rows)
 }
 
 fn act_alone(
@@ -123,7 +130,7 @@ fn act_alone(
     alloc: Global,
     host: &HostFiles,
     row: (Act, &[Ask]),
-) -> Result<(), AllocError> {
+) -> Result<(), Fail> {
     let mut changes = Changes::new(alloc);
     acts(rt, host, &mut changes, &[row])
 }

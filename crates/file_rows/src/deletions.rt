@@ -6,7 +6,6 @@ use crate::entries::after;
 use crate::fixtures::{ANN, BEN, CAT, hosts};
 use crate::searches::{ALL, Found, Search, searches};
 use cpmfiles::{Ask, Changes, HostFiles, Key};
-use std::alloc::AllocError;
 use std::process::Abort;
 use std::test::Fail;
 
@@ -29,8 +28,7 @@ fn all_files_that_match_are_deleted(rt: HostRuntime) -> Result<(), Fail> {
     const LEFT: &[Search<'_>] = &[(ALL, b'?', &[]), (OTHER, b'?', &[(OTHER, 0, 1)])];
     let host = hosts(rt.alloc(), &[("ann", 1), ("ben", 1), ("b:ann", 1)])?;
     let mut changes = Changes::new(rt.alloc());
-    leave(&rt, &host, &mut changes, ROWS, LEFT)?;
-    Ok(())
+    leave(&rt, &host, &mut changes, ROWS, LEFT)
 }
 
 // Calls with the questions asked up to then, and what is found after them.
@@ -40,7 +38,7 @@ fn leave(
     changes: &mut Changes,
     rows: &[(Act, &[Ask])],
     left: &[Search<'_>],
-) -> Result<(), AllocError> {
+) -> Result<(), Fail> {
     acts(rt, host, changes, rows)?;
     searches(rt, host, changes, left)
 }
@@ -70,6 +68,5 @@ fn a_deletion_by_pattern_takes_512_files(rt: HostRuntime) -> Result<(), Fail> {
         (Delete(*b"\x02F??????????", 128), ASKS),
         (Delete(*b"\x02???????????", 0), ASKS),
     ];
-    acts(&rt, &host, &mut changes, ROWS)?;
-    Ok(())
+    acts(&rt, &host, &mut changes, ROWS)
 }

@@ -3,9 +3,9 @@
 use crate::acts::Act::{Delete, Fill, Make, Rename, Write};
 use crate::acts::{Act, all};
 use crate::fixtures::{ANN, BEN, CAT, hosts};
-use crate::searches::{ALL, Found, Search, entry, found, search, searches};
-use cpmfiles::{Changes, HostFiles, Key, Table};
-use std::alloc::{AllocError, Global};
+use crate::searches::{ALL, Found, Search, entry, found, next, search, searches};
+use cpmfiles::{Changes, HostFiles, Key};
+use std::alloc::Global;
 use std::process::Abort;
 use std::test::Fail;
 
@@ -15,11 +15,14 @@ const ANY_EXTENT: u8 = b'?';
 fn an_entry_has_32_bytes(rt: HostRuntime) -> Result<(), Fail> {
     let host = hosts(rt.alloc(), &[("c:note.txt", 300)])?;
     let mut changes = Changes::new(rt.alloc());
-    let mut table = Table::new(&host, &mut changes);
+    has_one_entry(&rt, &host, &mut changes)
+}
+
+fn has_one_entry(rt: &impl Abort, host: &HostFiles, changes: &mut Changes) -> Result<(), Fail> {
     let wanted = *b"\0NOTE    TXT\0\0\0\x03\0\0\0\0\0\0\0\0\0\0\0\0\0\0\0\0";
     let pattern = *b"\x02???????????";
-    assert_eq!(rt; table.next_entry(&pattern, 0, None)?, Some(wanted));
-    assert_eq!(rt; table.next_entry(&pattern, 0, Some(wanted))?, None);
+    assert_eq!(rt; found(host, changes, &pattern, 0)?, Some(wanted));
+    assert!(rt; next(host, changes, &pattern, 0, Some(wanted))?.is_none());
     Ok(())
 }
 
@@ -42,22 +45,28 @@ fn each_extent_with_a_record_has_an_entry(rt: HostRuntime) -> Result<(), Fail> {
         &host,
         &mut changes,
         &[(ALL, ANY_EXTENT, WANTED), (ALL, 1, SECOND)],
-    )?;
-    Ok(())
+    )
 }
 
 #[test]
 fn the_longest_file_has_512_entries(rt: HostRuntime) -> Result<(), Fail> {
     let host = hosts(rt.alloc(), &[("ann", 8_388_608)])?;
     let mut changes = Changes::new(rt.alloc());
-    let mut table = Table::new(&host, &mut changes);
+    has_512_full_extents(&rt, &host, &mut changes)
+}
+
+fn has_512_full_extents(
+    rt: &impl Abort,
+    host: &HostFiles,
+    changes: &mut Changes,
+) -> Result<(), Fail> {
     let mut last = None;
     for extent in 0..512 {
-        let next = table.next_entry(&ANN, ANY_EXTENT, last)?;
-        assert_eq!(rt; next, Some(entry(&ANN, extent, 128)));
-        last = next;
+        let found = next(host, changes, &ANN, ANY_EXTENT, last)?;
+        assert_eq!(rt; found, Some(entry(&ANN, extent, 128)));
+        last = found;
     }
-    assert_eq!(rt; table.next_entry(&ANN, ANY_EXTENT, last)?, None);
+    assert!(rt; next(host, changes, &ANN, ANY_EXTENT, last)?.is_none());
     Ok(())
 }
 
@@ -66,11 +75,15 @@ fn the_longest_file_has_512_entries(rt: HostRuntime) -> Result<(), Fail> {
 fn an_extent_byte_finds_one_extent(rt: HostRuntime) -> Result<(), Fail> {
     let host = hosts(rt.alloc(), &[("ann", 8_388_608)])?;
     let mut changes = Changes::new(rt.alloc());
+    finds_one_extent(&rt, &host, &mut changes)
+}
+
+fn finds_one_extent(rt: &impl Abort, host: &HostFiles, changes: &mut Changes) -> Result<(), Fail> {
     for extent in [0, 8, 40, 62, 64, 255] {
         let wanted = (ANN, extent as u16, 128);
-        search(&rt, &host, &mut changes, &ANN, extent, &[wanted])?;
+        search(rt, host, changes, &ANN, extent, &[wanted])?;
     }
-    let first = found(&host, &mut changes, &ANN, 40)?;
+    let first = found(host, changes, &ANN, 40)?;
     assert_eq!(rt;
         first.map(|bytes: [u8; 32]| (bytes[12], bytes[14])),
         Some((8, 1))
@@ -85,7 +98,7 @@ fn calls_and_search(
     changes: &mut Changes,
     calls: &[Act],
     row: Search<'_>,
-) -> Result<(), AllocError> {
+) -> Result<(), Fail> {
     all(rt, host, changes, calls)?;
     searches(rt, host, changes, &[row])
 }
@@ -204,19 +217,16 @@ fn patterns_find_files_of_one_drive(rt: HostRuntime) -> Result<(), Fail> {
     let files = &[("a.txt", 1), ("ab.txt", 1), ("b.txt", 1), ("b:a.txt", 1)];
     let host = hosts(rt.alloc(), files)?;
     let mut changes = Changes::new(rt.alloc());
-    const ROWS: &[(Key, &[Found])] = &[
-        (ALL, &[(A, 0, 1), (AB, 0, 1), (B, 0, 1)]),
-        (*b"\0A?      TXT", &[(A, 0, 1), (AB, 0, 1)]),
-        (*b"\0?       TXT", &[(A, 0, 1), (B, 0, 1)]),
-        (*b"\0?????????XT", &[(A, 0, 1), (AB, 0, 1), (B, 0, 1)]),
-        (*b"\0A?      TX ", &[]),
-        (B, &[(B, 0, 1)]),
-        (*b"\x01???????????", &[(OTHER, 0, 1)]),
-        (*b"\x02???????????", &[]),
-        (*b"????????????", &[]),
+    const ROWS: &[Search<'_>] = &[
+        (ALL, 0, &[(A, 0, 1), (AB, 0, 1), (B, 0, 1)]),
+        (*b"\0A?      TXT", 0, &[(A, 0, 1), (AB, 0, 1)]),
+        (*b"\0?       TXT", 0, &[(A, 0, 1), (B, 0, 1)]),
+        (*b"\0?????????XT", 0, &[(A, 0, 1), (AB, 0, 1), (B, 0, 1)]),
+        (*b"\0A?      TX ", 0, &[]),
+        (B, 0, &[(B, 0, 1)]),
+        (*b"\x01???????????", 0, &[(OTHER, 0, 1)]),
+        (*b"\x02???????????", 0, &[]),
+        (*b"????????????", 0, &[]),
     ];
-    for (pattern, wanted) in ROWS {
-        search(&rt, &host, &mut changes, pattern, 0, wanted)?;
-    }
-    Ok(())
+    searches(&rt, &host, &mut changes, ROWS)
 }

@@ -35,10 +35,15 @@ pub fn filled(byte: u8) -> Record {
 pub fn hosts(alloc: Global, files: &[(&str, usize)]) -> Result<HostFiles, Fail> {
     let mut host = HostFiles::new(alloc);
     for (text, length) in files {
-        let bytes = vec![in alloc; b'x'; *length]?;
-        host.set(Name::parse(text)?, bytes.as_slice())?;
+        add(&mut host, alloc, Name::parse(text)?, *length)?;
     }
     Ok(host)
+}
+
+fn add(host: &mut HostFiles, alloc: Global, name: Name, length: usize) -> Result<(), Fail> {
+    let bytes = vec![in alloc; b'x'; length]?;
+    host.set(name, bytes.as_slice())?;
+    Ok(())
 }
 
 /// Whether these are all questions that were asked, where each stands once.

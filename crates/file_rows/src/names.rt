@@ -11,6 +11,7 @@ fn texts_say_keys_and_are_printed(rt: HostRuntime) -> Result<(), Fail> {
         ("A.", *b"\0A          ", "A"),
         ("b:x.y", *b"\x01X       Y  ", "B:X.Y"),
         ("a:x", *b"\0X          ", "X"),
+        ("D:#1", *b"\x03#1         ", "D:#1"),
         ("d:a1$#@-_z.q", *b"\x03A1$#@-_ZQ  ", "D:A1$#@-_Z.Q"),
     ] {
         let name = Name::parse(text)?;

@@ -31,6 +31,17 @@ pub fn entry(key: &Key, extent: u16, count: u8) -> [u8; 32] {
     bytes
 }
 
+/// The next entry that matches a pattern.
+pub fn next(
+    host: &HostFiles,
+    changes: &mut Changes,
+    pattern: &Key,
+    ex: u8,
+    last: Option<[u8; 32]>,
+) -> Result<Option<[u8; 32]>, AllocError> {
+    Table::new(host, changes).next_entry(pattern, ex, last)
+}
+
 /// The first entry that matches a pattern.
 pub fn found(
     host: &HostFiles,
@@ -38,7 +49,7 @@ pub fn found(
     pattern: &Key,
     ex: u8,
 ) -> Result<Option<[u8; 32]>, AllocError> {
-    Table::new(host, changes).next_entry(pattern, ex, None)
+    next(host, changes, pattern, ex, None)
 }
 
 /// Compares all entries that match a pattern with these.
@@ -49,15 +60,17 @@ pub fn search(
     pattern: &Key,
     ex: u8,
     wanted: &[Found],
-) -> Result<(), AllocError> {
-    let mut table = Table::new(host, changes);
+) -> Result<(), Fail> {
     let mut last = None;
-    for (key, extent, count) in wanted {
-        let next = table.next_entry(pattern, ex, last)?;
-        assert_eq!(rt; next, Some(entry(key, *extent, *count)), "{pattern:?}");
-        last = next;
+    for row in wanted {
+        let found = next(host, changes, pattern, ex, last)?;
+        assert_eq!(rt; found, Some(bytes_of(row)), "{pattern:?}");
+        last = found;
     }
-    assert_eq!(rt; table.next_entry(pattern, ex, last)?, None, "{pattern:?}");
+    assert!(rt;
+        next(host, changes, pattern, ex, last)?.is_none(),
+        "{pattern:?}"
+    );
     Ok(())
 }
 
@@ -70,7 +83,7 @@ pub fn searches(
     host: &HostFiles,
     changes: &mut Changes,
     rows: &[Search<'_>],
-) -> Result<(), AllocError> {
+) -> Result<(), Fail> {
     for (pattern, ex, wanted) in rows {
         search(rt, host, changes, pattern, *ex, wanted)?;
     }
@@ -92,20 +105,21 @@ fn goes_on(
 ) -> Result<(), Fail> {
     let host = hosts(alloc, &[("ann", 1), ("ben", 1)])?;
     let mut changes = Changes::new(alloc);
-    let next = next_after(rt, &host, &mut changes, last, call)?;
-    assert_eq!(rt; next, wanted.map(bytes_of), "{call:?}");
-    Ok(())
+    follows(rt, &host, &mut changes, last, call, wanted)
 }
 
-fn next_after(
+fn follows(
     rt: &impl Abort,
     host: &HostFiles,
     changes: &mut Changes,
     last: &Found,
     call: Act,
-) -> Result<Option<[u8; 32]>, AllocError> {
+    wanted: Option<&Found>,
+) -> Result<(), Fail> {
     all(rt, host, changes, &[call])?;
-    Table::new(host, changes).next_entry(&ALL, b'?', Some(bytes_of(last)))
+    let found = next(host, changes, &ALL, b'?', Some(bytes_of(last)))?;
+    assert_eq!(rt; found, wanted.map(bytes_of), "{call:?}");
+    Ok(())
 }
 
 // It takes the files as they are now: those that were made, made longer, renamed and deleted since.
@@ -137,8 +151,7 @@ fn a_search_asks_the_directory_of_its_drive(rt: HostRuntime) -> Result<(), Fail>
     ];
     let host = hosts(rt.alloc(), &[("ann", 1), ("b:ann", 1)])?;
     let mut changes = Changes::new(rt.alloc());
-    asked(&rt, &host, &mut changes, SEARCHES)?;
-    Ok(())
+    asked(&rt, &host, &mut changes, SEARCHES)
 }
 
 // Searches, and after each all questions that were asked up to then.
@@ -147,7 +160,7 @@ fn asked(
     host: &HostFiles,
     changes: &mut Changes,
     rows: &[(Search<'_>, &[Ask])],
-) -> Result<(), AllocError> {
+) -> Result<(), Fail> {
     for (row, asks) in rows {
         searches(rt, host, changes, &[*row])?;
         assert!(rt; are_asked(changes, asks)?);

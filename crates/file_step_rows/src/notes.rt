@@ -3,15 +3,25 @@
 use crate::fixtures::{ANN, BEN, CAT, steps};
 use file_steps::FileSteps;
 use hostfiles::Ask;
+use std::process::Abort;
 use std::test::Fail;
+
+// The steps of these questions.
+fn are(rt: &impl Abort, noted: &FileSteps, rows: &[(Ask, Option<u64>)]) {
+    for (ask, step) in rows {
+        assert_eq!(rt; noted.of(ask), *step);
+    }
+}
 
 #[test]
 fn no_question_has_a_step_at_first(rt: HostRuntime) -> Result<(), Fail> {
-    let none = FileSteps::new(rt.alloc());
-    assert_eq!(rt; none.of(&Ask::Has(ANN)), None);
-    assert_eq!(rt; none.of(&Ask::Length(ANN)), None);
-    assert_eq!(rt; none.of(&Ask::Rec(ANN, 0)), None);
-    assert_eq!(rt; none.of(&Ask::Directory(0)), None);
+    let rows = [
+        (Ask::Has(ANN), None),
+        (Ask::Length(ANN), None),
+        (Ask::Rec(ANN, 0), None),
+        (Ask::Directory(0), None),
+    ];
+    are(&rt, &FileSteps::new(rt.alloc()), &rows);
     Ok(())
 }
 
@@ -25,62 +35,68 @@ fn the_first_step_stands(rt: HostRuntime) -> Result<(), Fail> {
     ];
     for ask in asks {
         let noted = steps(rt.alloc(), &[(ask, 3), (ask, 5), (ask, 2)])?;
-        assert_eq!(rt; noted.of(&ask), Some(3));
+        are(&rt, &noted, &[(ask, Some(3))]);
     }
     Ok(())
 }
 
 #[test]
 fn each_question_has_its_own_step(rt: HostRuntime) -> Result<(), Fail> {
-    let noted = steps(
-        rt.alloc(),
-        &[
-            (Ask::Has(ANN), 1),
-            (Ask::Length(ANN), 2),
-            (Ask::Rec(ANN, 0), 3),
-            (Ask::Rec(ANN, 1), 4),
-            (Ask::Directory(0), 5),
-            (Ask::Has(BEN), 6),
-        ],
-    )?;
-    assert_eq!(rt; noted.of(&Ask::Has(ANN)), Some(1));
-    assert_eq!(rt; noted.of(&Ask::Length(ANN)), Some(2));
-    assert_eq!(rt; noted.of(&Ask::Rec(ANN, 0)), Some(3));
-    assert_eq!(rt; noted.of(&Ask::Rec(ANN, 1)), Some(4));
-    assert_eq!(rt; noted.of(&Ask::Rec(ANN, 2)), None);
-    assert_eq!(rt; noted.of(&Ask::Directory(0)), Some(5));
-    assert_eq!(rt; noted.of(&Ask::Directory(1)), None);
-    assert_eq!(rt; noted.of(&Ask::Has(BEN)), Some(6));
-    assert_eq!(rt; noted.of(&Ask::Length(BEN)), None);
-    assert_eq!(rt; noted.of(&Ask::Rec(BEN, 0)), None);
+    let notes = [
+        (Ask::Has(ANN), 1),
+        (Ask::Length(ANN), 2),
+        (Ask::Rec(ANN, 0), 3),
+        (Ask::Rec(ANN, 1), 4),
+        (Ask::Directory(0), 5),
+        (Ask::Has(BEN), 6),
+    ];
+    let rows = [
+        (Ask::Has(ANN), Some(1)),
+        (Ask::Length(ANN), Some(2)),
+        (Ask::Rec(ANN, 0), Some(3)),
+        (Ask::Rec(ANN, 1), Some(4)),
+        (Ask::Rec(ANN, 2), None),
+        (Ask::Directory(0), Some(5)),
+        (Ask::Directory(1), None),
+        (Ask::Has(BEN), Some(6)),
+        (Ask::Length(BEN), None),
+        (Ask::Rec(BEN, 0), None),
+    ];
+    let noted = steps(rt.alloc(), &notes)?;
+    are(&rt, &noted, &rows);
     Ok(())
 }
 
 #[test]
 fn steps_from_one_on_are_erased(rt: HostRuntime) -> Result<(), Fail> {
-    let mut noted = steps(
-        rt.alloc(),
-        &[
-            (Ask::Has(ANN), 4),
-            (Ask::Has(BEN), 5),
-            (Ask::Length(ANN), 4),
-            (Ask::Length(BEN), 6),
-            (Ask::Rec(CAT, 7), 4),
-            (Ask::Rec(CAT, 8), 5),
-            (Ask::Directory(0), 4),
-            (Ask::Directory(3), 5),
-        ],
-    )?;
+    let notes = [
+        (Ask::Has(ANN), 4),
+        (Ask::Has(BEN), 5),
+        (Ask::Length(ANN), 4),
+        (Ask::Length(BEN), 6),
+        (Ask::Rec(CAT, 7), 4),
+        (Ask::Rec(CAT, 8), 5),
+        (Ask::Directory(0), 4),
+        (Ask::Directory(3), 5),
+    ];
+    let mut noted = steps(rt.alloc(), &notes)?;
+    erase_and_note(&rt, &mut noted)
+}
+
+fn erase_and_note(rt: &impl Abort, noted: &mut FileSteps) -> Result<(), Fail> {
+    let rows = [
+        (Ask::Has(ANN), Some(4)),
+        (Ask::Has(BEN), None),
+        (Ask::Length(ANN), Some(4)),
+        (Ask::Length(BEN), None),
+        (Ask::Rec(CAT, 7), Some(4)),
+        (Ask::Rec(CAT, 8), None),
+        (Ask::Directory(0), Some(4)),
+        (Ask::Directory(3), None),
+    ];
     noted.erase_from(5);
-    assert_eq!(rt; noted.of(&Ask::Has(ANN)), Some(4));
-    assert_eq!(rt; noted.of(&Ask::Has(BEN)), None);
-    assert_eq!(rt; noted.of(&Ask::Length(ANN)), Some(4));
-    assert_eq!(rt; noted.of(&Ask::Length(BEN)), None);
-    assert_eq!(rt; noted.of(&Ask::Rec(CAT, 7)), Some(4));
-    assert_eq!(rt; noted.of(&Ask::Rec(CAT, 8)), None);
-    assert_eq!(rt; noted.of(&Ask::Directory(0)), Some(4));
-    assert_eq!(rt; noted.of(&Ask::Directory(3)), None);
+    are(rt, noted, &rows);
     noted.note(&Ask::Has(BEN), 9)?;
-    assert_eq!(rt; noted.of(&Ask::Has(BEN)), Some(9));
+    are(rt, noted, &[(Ask::Has(BEN), Some(9))]);
     Ok(())
 }

@@ -1,6 +1,6 @@
 // Folders that are not read.
 
-use crate::fixtures::{make_folder, put, remove_folder, told};
+use crate::fixtures::{make_folder, put, remove_folder, tells};
 use std::fs;
 use std::test::Fail;
 
@@ -11,14 +11,8 @@ fn two_files_of_one_name_are_told(rt: HostRuntime) -> Result<(), Fail> {
         put(&rt, folder.as_str(), file, b"x".as_slice())?;
     }
     let path = folder.as_str();
-    assert_eq!(rt;
-        told(&rt, [Some(path), None, None, None])?.as_str(),
-        "two files are A.TXT"
-    );
-    assert_eq!(rt;
-        told(&rt, [None, None, Some(path), None])?.as_str(),
-        "two files are C:A.TXT"
-    );
+    tells(&rt, [Some(path), None, None, None], "two files are A.TXT")?;
+    tells(&rt, [None, None, Some(path), None], "two files are C:A.TXT")?;
     remove_folder(&rt, path)
 }
 
@@ -28,15 +22,9 @@ fn a_folder_that_is_not_there_is_told(rt: HostRuntime) -> Result<(), Fail> {
     let missing = format!(in rt.alloc(); "{folder}/none")?;
     let wanted = format!(in rt.alloc(); "cannot read {folder}/none")?;
     let path = missing.as_str();
-    assert_eq!(rt;
-        told(&rt, [None, Some(path), None, None])?.as_str(),
-        wanted.as_str()
-    );
+    tells(&rt, [None, Some(path), None, None], wanted.as_str())?;
     put(&rt, folder.as_str(), "none", b"x".as_slice())?;
-    assert_eq!(rt;
-        told(&rt, [Some(path), None, None, None])?.as_str(),
-        wanted.as_str()
-    );
+    tells(&rt, [Some(path), None, None, None], wanted.as_str())?;
     remove_folder(&rt, folder.as_str())
 }
 
@@ -52,17 +40,11 @@ fn a_file_may_be_too_long(rt: HostRuntime) -> Result<(), Fail> {
     let folder = make_folder(&rt, "long")?;
     let path = folder.as_str();
     put_sparse(&rt, path, "big", 8_388_608)?;
-    assert_eq!(rt; told(&rt, [Some(path), None, None, None])?.as_str(), " BIG");
+    tells(&rt, [Some(path), None, None, None], " BIG")?;
     put_sparse(&rt, path, "big", 8_388_609)?;
-    assert_eq!(rt;
-        told(&rt, [None, None, None, Some(path)])?.as_str(),
-        "file D:BIG refused 1"
-    );
+    tells(&rt, [None, None, None, Some(path)], "file D:BIG refused 1")?;
     put_sparse(&rt, path, "big", 1_000_000_000_000)?;
-    assert_eq!(rt;
-        told(&rt, [Some(path), None, None, None])?.as_str(),
-        "file BIG refused 1"
-    );
+    tells(&rt, [Some(path), None, None, None], "file BIG refused 1")?;
     remove_folder(&rt, path)
 }
 
@@ -82,7 +64,7 @@ fn there_may_be_too_many_files(rt: HostRuntime) -> Result<(), Fail> {
     put_many(&rt, first.as_str(), 500)?;
     put_many(&rt, second.as_str(), 13)?;
     let folders = [Some(first.as_str()), Some(second.as_str()), None, None];
-    assert_eq!(rt; told(&rt, folders)?.as_str(), "file B:F012 refused 2");
+    tells(&rt, folders, "file B:F012 refused 2")?;
     remove_folder(&rt, first.as_str())?;
     remove_folder(&rt, second.as_str())
 }

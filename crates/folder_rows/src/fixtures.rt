@@ -4,6 +4,8 @@ use filenames::Name;
 use folders::{Fault, read_folders};
 use hostfiles::HostFiles;
 use std::alloc::Global;
+use std::process::Abort;
+use std::rt::Files;
 use std::test::Fail;
 use std::{fs, process};
 
@@ -29,12 +31,26 @@ pub fn put(rt: &HostRuntime, folder: &str, file: &str, bytes: &[u8]) -> Result<(
     Ok(())
 }
 
-/// The names of the host files of four folders, each printed behind a blank, or what is told of their fault.
-pub fn told(rt: &HostRuntime, folders: [Option<&str>; 4]) -> Result<String, Fail> {
+// The names of the host files of four folders, each printed behind a blank, or what is told of their fault.
+fn told<R: Files + AllocGlobal + Clone>(
+    rt: &R,
+    folders: [Option<&str>; 4],
+) -> Result<String, Fail> {
     match read_folders(rt, &folders) {
         Ok(files) => names(rt.alloc(), &files),
         Err(fault) => text(rt.alloc(), &fault),
     }
+}
+
+/// Compares what is told of four folders.
+pub fn tells<R: Files + AllocGlobal + Abort + Clone>(
+    rt: &R,
+    folders: [Option<&str>; 4],
+    wanted: &str,
+) -> Result<(), Fail> {
+    let found = told(rt, folders)?;
+    assert_eq!(rt; found.as_str(), wanted);
+    Ok(())
 }
 
 /// What is told of a fault.

@@ -1,27 +1,59 @@
 // Files that are written into a folder.
 
-use crate::fixtures::{make_folder, put, remove_folder, text, told};
+use crate::fixtures::{make_folder, put, remove_folder, tells, text};
 use filenames::Name;
-use folders::{name_in_folder, temporary_name, write_file, write_to_drive};
+use folders::{Fault, name_in_folder, temporary_name, write_file, write_to_drive};
 use hostfiles::{Changes, HostFiles};
+use std::alloc::Global;
 use std::fs;
 use std::test::Fail;
 
-// Writes a file of a drive that a run made: two records, a hole between them. Gives what is told of a fault.
-fn write_with_a_hole(rt: &HostRuntime, folder: &str, text_of_name: &str) -> Result<String, Fail> {
-    let host = HostFiles::new(rt.alloc());
-    let mut changes = Changes::new(rt.alloc());
-    let name = Name::parse(text_of_name)?;
+// What a run did that made a file.
+fn made(alloc: Global, name: &Name) -> Result<Changes, Fail> {
+    let mut changes = Changes::new(alloc);
     changes.journal.make(&name.key())?;
+    Ok(changes)
+}
+
+// What a run did that made a file of two records, a hole between them.
+fn made_with_a_hole(alloc: Global, name: &Name) -> Result<Changes, Fail> {
+    let mut changes = made(alloc, name)?;
+    write_apart(&mut changes, name)?;
+    Ok(changes)
+}
+
+fn write_apart(changes: &mut Changes, name: &Name) -> Result<(), Fail> {
     changes.journal.write(&name.key(), 0, 0, &[1; 128])?;
     changes.journal.write(&name.key(), 1, 2, &[3; 128])?;
-    if host.records_with(&changes, &name).is_none() {
+    Ok(())
+}
+
+// What is told of a fault; nothing where there is none.
+fn text_of(alloc: Global, answer: Result<(), Fault>) -> Result<String, Fail> {
+    match answer {
+        Ok(()) => Ok(String::new(alloc)),
+        Err(fault) => text(alloc, &fault),
+    }
+}
+
+// Writes a file of a drive that a run made: two records, a hole between them. Gives what is told of a fault.
+fn write_with_a_hole(rt: &HostRuntime, folder: &str, text_of_name: &str) -> Result<String, Fail> {
+    let name = Name::parse(text_of_name)?;
+    let changes = made_with_a_hole(rt.alloc(), &name)?;
+    write(rt, folder, &HostFiles::new(rt.alloc()), &changes, &name)
+}
+
+fn write(
+    rt: &HostRuntime,
+    folder: &str,
+    host: &HostFiles,
+    changes: &Changes,
+    name: &Name,
+) -> Result<String, Fail> {
+    if host.records_with(changes, name).is_none() {
         return Ok(String::from_str(rt.alloc(), "no such file")?);
     }
-    match write_file(rt, folder, &host, &changes, &name) {
-        Ok(()) => Ok(String::new(rt.alloc())),
-        Err(fault) => text(rt.alloc(), &fault),
-    }
+    text_of(rt.alloc(), write_file(rt, folder, host, changes, name))
 }
 
 #[test]
@@ -38,10 +70,7 @@ fn records_are_written_with_holes_as_zeros(rt: HostRuntime) -> Result<(), Fail> 
     wanted[128..256].fill(0);
     wanted[256..].fill(3);
     assert_eq!(rt; bytes.as_slice(), wanted.as_slice());
-    assert_eq!(rt;
-        told(&rt, [Some(folder.as_str()), None, None, None])?.as_str(),
-        " H.DAT"
-    );
+    tells(&rt, [Some(folder.as_str()), None, None, None], " H.DAT")?;
     remove_folder(&rt, folder.as_str())
 }
 
@@ -79,18 +108,23 @@ fn a_file_that_is_being_written_is_passed_over(rt: HostRuntime) -> Result<(), Fa
 
 // Writes a new file of a drive without a record into the folder of its drive. Gives what is told of a fault.
 fn write_empty(rt: &HostRuntime, folder: &str, text_of_name: &str) -> Result<String, Fail> {
-    let host = HostFiles::new(rt.alloc());
-    let mut changes = Changes::new(rt.alloc());
     let name = Name::parse(text_of_name)?;
-    changes.journal.make(&name.key())?;
-    if host.records_with(&changes, &name).is_none() {
+    let changes = made(rt.alloc(), &name)?;
+    let folders = [None, Some(folder), None, Some("/none")];
+    write_on(rt, &folders, &HostFiles::new(rt.alloc()), &changes, &name)
+}
+
+fn write_on(
+    rt: &HostRuntime,
+    folders: &[Option<&str>; 4],
+    host: &HostFiles,
+    changes: &Changes,
+    name: &Name,
+) -> Result<String, Fail> {
+    if host.records_with(changes, name).is_none() {
         return Ok(String::from_str(rt.alloc(), "no such file")?);
     }
-    let folders = [None, Some(folder), None, Some("/none")];
-    match write_to_drive(rt, &folders, &host, &changes, &name) {
-        Ok(()) => Ok(String::new(rt.alloc())),
-        Err(fault) => text(rt.alloc(), &fault),
-    }
+    text_of(rt.alloc(), write_to_drive(rt, folders, host, changes, name))
 }
 
 #[test]
@@ -104,9 +138,6 @@ fn a_file_goes_to_the_folder_of_its_drive(rt: HostRuntime) -> Result<(), Fail> {
     ] {
         assert_eq!(rt; write_empty(&rt, folder.as_str(), name)?.as_str(), wanted);
     }
-    assert_eq!(rt;
-        told(&rt, [Some(folder.as_str()), None, None, None])?.as_str(),
-        " B"
-    );
+    tells(&rt, [Some(folder.as_str()), None, None, None], " B")?;
     remove_folder(&rt, folder.as_str())
 }

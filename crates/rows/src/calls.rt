@@ -4,20 +4,32 @@ use crate::fixtures::{WARM_BOOT, blank};
 use bdos::Cause::{BadDrive, NoDollar, Unsupported, WarmBoot};
 use bdos::{Desk, Served, call};
 use i8080::{Bus, Regs};
+use pagemem::PlainMemory;
+use std::process::Abort;
 use std::test::Fail;
 
 #[test]
 fn a_tab_fills_eight_columns(rt: HostRuntime) -> Result<(), Fail> {
     let mut desk = Desk::new(rt.alloc());
-    for byte in b"a\tb" {
-        desk.print(*byte)?;
-    }
+    print_all(&mut desk, b"a\tb")?;
     assert_eq!(rt; desk.text(), b"a       b".as_slice());
     let copy = desk.snapshot()?;
-    desk.print(b'c')?;
+    print_all(&mut desk, b"c")?;
+    are_printed(&rt, &desk, &copy);
+    Ok(())
+}
+
+fn print_all(desk: &mut Desk, bytes: &[u8]) -> Result<(), Fail> {
+    for byte in bytes {
+        desk.print(*byte)?;
+    }
+    Ok(())
+}
+
+// What was printed before a copy was made is in both.
+fn are_printed(rt: &impl Abort, desk: &Desk, copy: &Desk) {
     assert_eq!(rt; copy.text(), b"a       b".as_slice());
     assert_eq!(rt; desk.text(), b"a       bc".as_slice());
-    Ok(())
 }
 
 // A call with `x` in E, a string at 0278H, and its return address in the last cell and the first.
@@ -44,14 +56,26 @@ const CELLS: [(u16, u8); 5] = [
     (0x027a, b'b'),
 ];
 
+fn write_cells(memory: &mut PlainMemory) {
+    for (at, byte) in CELLS {
+        memory.write(at, byte);
+    }
+}
+
 // Each row is a call's number, the byte behind the string, the stop if there is one, and all that was printed so far.
 #[test]
 fn calls_print_and_return_or_stop(rt: HostRuntime) -> Result<(), Fail> {
     let mut memory = blank(rt.alloc())?;
-    for (at, byte) in CELLS {
-        memory.write(at, byte);
-    }
     let mut desk = Desk::new(rt.alloc());
+    print_and_return_or_stop(&rt, &mut memory, &mut desk)
+}
+
+fn print_and_return_or_stop(
+    rt: &impl Abort,
+    memory: &mut PlainMemory,
+    desk: &mut Desk,
+) -> Result<(), Fail> {
+    write_cells(memory);
     for (number, end, stop, text) in [
         (2, b'$', None, &b"x"[..]),
         (9, b'$', None, b"xa      b"),
@@ -67,7 +91,7 @@ fn calls_print_and_return_or_stop(rt: HostRuntime) -> Result<(), Fail> {
         wanted.c = number;
         let mut regs = CALLING;
         regs.c = number;
-        let answer = call(&mut regs, &mut memory, &mut desk, &[])?;
+        let answer = call(&mut regs, memory, desk, &[])?;
         assert_eq!(rt; answer, served, "call {number}");
         assert_eq!(rt; regs, wanted, "call {number}");
         assert_eq!(rt; desk.text(), text, "call {number}");
@@ -91,15 +115,21 @@ const DRIVES: [(u8, u8, Result<u8, u8>, u8, u16); 9] = [
 #[test]
 fn drives_are_selected_and_reset(rt: HostRuntime) -> Result<(), Fail> {
     let mut memory = blank(rt.alloc())?;
-    for (at, byte) in CELLS {
-        memory.write(at, byte);
-    }
     let mut desk = Desk::new(rt.alloc());
+    select_and_reset(&rt, &mut memory, &mut desk)
+}
+
+fn select_and_reset(
+    rt: &impl Abort,
+    memory: &mut PlainMemory,
+    desk: &mut Desk,
+) -> Result<(), Fail> {
+    write_cells(memory);
     for (number, e, wanted, drive, buffer) in DRIVES {
         let mut regs = CALLING;
         regs.c = number;
         regs.e = e;
-        let answer = match call(&mut regs, &mut memory, &mut desk, &[])? {
+        let answer = match call(&mut regs, memory, desk, &[])? {
             Served::Went => Ok(regs.a),
             Served::Stop(BadDrive(drive)) => Err(drive),
             Served::Stop(_) => Err(0xff),

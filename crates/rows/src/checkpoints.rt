@@ -3,7 +3,7 @@
 ghost use Rattle.std.specs.Prelude.{vec_len};
 
 use self::Act::{Cell, Drop, Limit, Poke, Run};
-use crate::fixtures::{HI, WARM_BOOT, number_of, rerun, runner_of, runner_with};
+use crate::fixtures::{HI, WARM_BOOT, number_of, rerun, runner_of, runner_with, stand};
 use machine::{Bytes, Cause, Meter, Regs};
 use replay::{Edit, Options, Runner};
 use std::alloc::{AllocError, Global};
@@ -95,12 +95,18 @@ fn acts(
     rows: &[(Act<'_>, &[u64])],
 ) -> Result<(), Fail> {
     let mut runner = runner_with(alloc, program, MILLION, options)?;
+    all(rt, alloc, &mut runner, rows)
+}
+
+fn all(
+    rt: &impl Abort,
+    alloc: Global,
+    runner: &mut Runner,
+    rows: &[(Act<'_>, &[u64])],
+) -> Result<(), Fail> {
     for (done, kept) in rows {
-        carry_out(rt, alloc, &mut runner, *done)?;
-        for i in 0..kept.len() {
-            assert_eq!(rt; runner.kept(i), Some(kept[i]), "after {done:?}");
-        }
-        assert_eq!(rt; runner.kept(kept.len()), None, "after {done:?}");
+        carry_out(rt, alloc, runner, *done)?;
+        assert!(rt; stand(runner, kept), "after {done:?}");
     }
     Ok(())
 }
@@ -312,12 +318,37 @@ fn registers_are_those_of_the_edited_session(rt: HostRuntime) -> Result<(), Fail
         (&HALTS[..], 0x0106, 0xc9, b"", b"", halted),
         (&HI[..], 0x0101, 0x02, b"Hi", b"        ", blanks),
     ] {
-        let mut runner = runner_of(rt.alloc(), program, MILLION)?;
-        let _ = rerun(&rt, &mut runner, first)?;
-        carry_out(&rt, rt.alloc(), &mut runner, Poke(at, byte))?;
-        let run = rerun(&rt, &mut runner, then)?;
-        assert_eq!(rt; run.regs, regs);
+        let poke = Poke(at, byte);
+        ends_after(&rt, rt.alloc(), program, (first, then), poke, regs)?;
     }
+    Ok(())
+}
+
+fn ends_after(
+    rt: &impl Abort,
+    alloc: Global,
+    program: &[u8],
+    texts: (&[u8], &[u8]),
+    act: Act<'_>,
+    regs: Regs,
+) -> Result<(), Fail> {
+    let mut runner = runner_of(alloc, program, MILLION)?;
+    ends_with(rt, alloc, &mut runner, texts, act, regs)
+}
+
+// What is printed before an act and after it, and the registers then.
+fn ends_with(
+    rt: &impl Abort,
+    alloc: Global,
+    runner: &mut Runner,
+    texts: (&[u8], &[u8]),
+    act: Act<'_>,
+    regs: Regs,
+) -> Result<(), Fail> {
+    let (first, then) = texts;
+    let _ = rerun(rt, runner, first)?;
+    carry_out(rt, alloc, runner, act)?;
+    assert_eq!(rt; rerun(rt, runner, then)?.regs, regs);
     Ok(())
 }
 
@@ -351,14 +382,48 @@ fn each_due_step_is_kept(rt: HostRuntime) -> Result<(), Fail> {
     ] {
         for spacing in 1..=12 {
             let options = Options { spacing, slots: 64 };
-            let mut runner = runner_with(rt.alloc(), program, limit, options)?;
-            run(&rt, &mut runner, (last, cause, last, text))?;
-            assert!(rt; keeps_due_steps(&runner, spacing, last), "{spacing}");
-            assert_eq!(rt; runner.refusals(), 0, "{spacing}");
-            run(&rt, &mut runner, (0, cause, last, text))?;
-            assert!(rt; keeps_due_steps(&runner, spacing, last), "{spacing}");
-            assert_eq!(rt; runner.refusals(), 0, "{spacing}");
+            let end = (last, cause, last, text);
+            keeps_twice(&rt, rt.alloc(), program, limit, options, end)?;
         }
     }
+    Ok(())
+}
+
+// Runs a program twice, the second time without a step.
+fn keeps_twice(
+    rt: &impl Abort,
+    alloc: Global,
+    program: &[u8],
+    limit: u64,
+    options: Options,
+    wanted: (u64, Cause, u64, &[u8]),
+) -> Result<(), Fail> {
+    let mut runner = runner_with(alloc, program, limit, options)?;
+    keep_twice(rt, &mut runner, options.spacing, wanted)
+}
+
+fn keep_twice(
+    rt: &impl Abort,
+    runner: &mut Runner,
+    spacing: u64,
+    wanted: (u64, Cause, u64, &[u8]),
+) -> Result<(), Fail> {
+    let (_, cause, last, text) = wanted;
+    keeps_all(rt, runner, spacing, wanted)?;
+    keeps_all(rt, runner, spacing, (0, cause, last, text))?;
+    Ok(())
+}
+
+// Runs, and then each due step is kept, and no memory was refused.
+fn keeps_all(
+    rt: &impl Abort,
+    runner: &mut Runner,
+    spacing: u64,
+    wanted: (u64, Cause, u64, &[u8]),
+) -> Result<(), AllocError> {
+    let (_, _, last, _) = wanted;
+    run(rt, runner, wanted)?;
+    assert!(rt; keeps_due_steps(runner, spacing, last), "{spacing}");
+    assert_eq!(rt; runner.refusals(), 0, "{spacing}");
     Ok(())
 }

@@ -3,9 +3,9 @@
 ghost use Rattle.std.specs.Prelude.{vec_len};
 
 use self::Act::{Ends, Holds, Insert, Remove, Replace, Run};
-use crate::fixtures::{HI, number_of, session_of, zeros};
+use crate::fixtures::{HI, number_of, session_of, stand, zeros};
 use machine::{Bytes, Cause, Meter};
-use replay::{Edit, Options, Runner};
+use replay::{Edit, Options, Report, Runner};
 use std::alloc::{AllocError, Global};
 use std::process::Abort;
 use std::test::Fail;
@@ -70,28 +70,37 @@ fn carry_out(
 fn run(rt: &impl Abort, runner: &mut Runner, act: Act<'_>) -> Result<(), AllocError> {
     let mut meter = Meter::new();
     let report = runner.rerun(&mut meter)?;
+    assert!(rt; is_as_wanted(&report, meter.count(), act), "{act:?}");
+    Ok(())
+}
+
+// Whether a run that carried out so many steps is the one of the act.
+fn is_as_wanted(report: &Report<'_>, carried_out: u64, act: Act<'_>) -> bool {
     match act {
         Run(added, cause, steps, text) => {
-            assert_eq!(rt; (report.cause(), report.steps()), (cause, steps));
-            assert_eq!(rt; report.text(), text);
-            assert_eq!(rt; meter.count(), added, "{act:?}");
+            carried_out == added
+                && report.cause() == cause
+                && report.steps() == steps
+                && report.text() == text
         }
         Ends(a, l, pc, sp) => {
             let regs = report.regs();
-            assert_eq!(rt; (regs.a, regs.l, regs.pc, regs.sp), (a, l, pc, sp));
-            assert_eq!(rt; meter.count(), 0, "{act:?}");
+            carried_out == 0 && [regs.a, regs.l] == [a, l] && [regs.pc, regs.sp] == [pc, sp]
         }
-        Holds(at, bytes) => {
-            let mut address = at;
-            for byte in bytes {
-                assert_eq!(rt; report.cell(address), *byte, "{address}");
-                address = address.wrapping_add(1);
-            }
-            assert_eq!(rt; meter.count(), 0, "{act:?}");
-        }
-        _ => {}
+        Holds(at, bytes) => carried_out == 0 && holds(report, at, bytes),
+        _ => false,
     }
-    Ok(())
+}
+
+fn holds(report: &Report<'_>, at: u16, bytes: &[u8]) -> bool {
+    let mut address = at;
+    for byte in bytes {
+        if report.cell(address) != *byte {
+            return false;
+        }
+        address = address.wrapping_add(1);
+    }
+    true
 }
 
 // Each row is what is done, and which checkpoints stand then, of which one is due each four steps.
@@ -113,12 +122,18 @@ fn acts(
         slots: 64,
     };
     let mut runner = Runner::new(alloc, session, options)?;
+    all(rt, alloc, &mut runner, rows)
+}
+
+fn all(
+    rt: &impl Abort,
+    alloc: Global,
+    runner: &mut Runner,
+    rows: &[(Act<'_>, &[u64])],
+) -> Result<(), Fail> {
     for (done, kept) in rows {
-        carry_out(rt, alloc, &mut runner, *done)?;
-        for i in 0..kept.len() {
-            assert_eq!(rt; runner.kept(i), Some(kept[i]), "after {done:?}");
-        }
-        assert_eq!(rt; runner.kept(kept.len()), None, "after {done:?}");
+        carry_out(rt, alloc, runner, *done)?;
+        assert!(rt; stand(runner, kept), "after {done:?}");
     }
     Ok(())
 }

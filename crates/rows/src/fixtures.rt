@@ -82,6 +82,33 @@ pub fn runner_with(
     Ok(Runner::new(alloc, session, options)?)
 }
 
+/// Compares the cells from an address on, as they are where the run ends.
+pub fn cells_are(
+    rt: &impl Abort,
+    runner: &mut Runner,
+    from: u16,
+    wanted: &[u8],
+) -> Result<(), Fail> {
+    let mut meter = Meter::new();
+    let report = runner.rerun(&mut meter)?;
+    let mut at = from;
+    for byte in wanted {
+        assert_eq!(rt; report.cell(at), *byte, "at {at}");
+        at = at.wrapping_add(1);
+    }
+    Ok(())
+}
+
+/// Whether exactly these checkpoints stand.
+pub fn stand(runner: &Runner, kept: &[u64]) -> bool {
+    for i in 0..kept.len() {
+        if runner.kept(i) != Some(kept[i]) {
+            return false;
+        }
+    }
+    runner.kept(kept.len()).is_none()
+}
+
 /// The number of a refusal; 0 where the edit was carried out.
 pub fn number_of(answer: Result<(), EditError>) -> u8 {
     match answer {

@@ -1,14 +1,15 @@
 // What the contracts leave to the reader: that the definitions are the 8080's, by the manual's examples and by second ways.
 
-use crate::fixtures::{blank, rerun, runner_of};
+use crate::fixtures::{blank, cells_are, rerun, runner_of};
 use i8080::opcode::Arithmetic::{self, Adc, Add, Ana, Cmp, Ora, Sbb, Sub, Xra};
 use i8080::{
     Bus, Did, Flags, Regs, bytes_have_one_instruction, decode, execute, opcodes_differ, word_of,
 };
-use machine::Cause::{Undefined, WarmBoot};
-use machine::Meter;
+use machine::Cause::{self, Undefined, WarmBoot};
 use pagemem::PlainMemory;
-use std::alloc::AllocError;
+use replay::Runner;
+use std::alloc::{AllocError, Global};
+use std::process::Abort;
 use std::test::Fail;
 
 // MVI A,0FFH, INR A, RET.
@@ -326,12 +327,33 @@ fn programs_return_with_known_registers(rt: HostRuntime) -> Result<(), Fail> {
         (&SUBTRACT_ITSELF, 4, 0x0056, 0, 0),
         (&DECIMAL_ADJUST, 4, 0x0113, 0, 0),
     ] {
-        let mut runner = runner_of(rt.alloc(), program, 1_000_000)?;
-        let run = rerun(&rt, &mut runner, &[])?;
-        assert_eq!(rt; (run.cause, run.steps), (WarmBoot, steps), "{program:?}");
         let words = [accumulator, bc, 0, hl, 0xfe00, 0xff03];
-        assert_eq!(rt; words_of(run.regs), words, "{program:?}");
+        ends(&rt, rt.alloc(), program, (WarmBoot, steps), words)?;
     }
+    Ok(())
+}
+
+// Runs a program, and compares why and after how many steps it stops, and its registers.
+fn ends(
+    rt: &impl Abort,
+    alloc: Global,
+    program: &[u8],
+    stop: (Cause, u64),
+    words: [u16; 6],
+) -> Result<(), Fail> {
+    let mut runner = runner_of(alloc, program, 1_000_000)?;
+    stops(rt, &mut runner, stop, words)
+}
+
+fn stops(
+    rt: &impl Abort,
+    runner: &mut Runner,
+    stop: (Cause, u64),
+    words: [u16; 6],
+) -> Result<(), Fail> {
+    let run = rerun(rt, runner, &[])?;
+    assert_eq!(rt; (run.cause, run.steps), stop);
+    assert_eq!(rt; words_of(run.regs), words);
     Ok(())
 }
 
@@ -343,11 +365,8 @@ fn programs_end_with_known_registers(rt: HostRuntime) -> Result<(), Fail> {
         (&STACK_AT_ZERO, WarmBoot, 5, 0x0002, 0x1234, 3, 0xff03),
         (&LAST_JUMP, WarmBoot, 5, 0xc302, 0, 0xfdfe, 0xff03),
     ] {
-        let mut runner = runner_of(rt.alloc(), program, 1_000_000)?;
-        let run = rerun(&rt, &mut runner, &[])?;
-        assert_eq!(rt; (run.cause, run.steps), (cause, steps), "{program:?}");
         let words = [accumulator, bc, 0, 0, sp, pc];
-        assert_eq!(rt; words_of(run.regs), words, "{program:?}");
+        ends(&rt, rt.alloc(), program, (cause, steps), words)?;
     }
     Ok(())
 }
@@ -355,8 +374,5 @@ fn programs_end_with_known_registers(rt: HostRuntime) -> Result<(), Fail> {
 #[test]
 fn a_push_wraps_to_the_last_cell(rt: HostRuntime) -> Result<(), Fail> {
     let mut runner = runner_of(rt.alloc(), &STACK_AT_ZERO, 1_000_000)?;
-    let mut meter = Meter::new();
-    let report = runner.rerun(&mut meter)?;
-    assert_eq!(rt; (report.cell(0x0000), report.cell(0xffff)), (0x12, 0x34));
-    Ok(())
+    cells_are(&rt, &mut runner, 0xffff, &[0x34, 0x12])
 }

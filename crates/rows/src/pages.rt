@@ -69,6 +69,11 @@ fn plain_memory_reads_the_same(rt: HostRuntime) -> Result<(), Fail> {
     Ok(())
 }
 
+fn put_two(overlay: &mut Overlay) -> Result<(), AllocError> {
+    put(overlay, 0x0101, 0x11)?;
+    put(overlay, 0x0102, 0x22)
+}
+
 #[test]
 fn a_shared_page_is_copied_before_it_is_written(rt: HostRuntime) -> Result<(), Fail> {
     let mut overlay = Overlay::new(rt.alloc())?;
@@ -76,8 +81,7 @@ fn a_shared_page_is_copied_before_it_is_written(rt: HostRuntime) -> Result<(), F
     overlay.share()?;
     let mut first = overlay.snapshot()?;
     let second = overlay.snapshot()?;
-    put(&mut first, 0x0101, 0x11)?;
-    put(&mut first, 0x0102, 0x22)?;
+    put_two(&mut first)?;
     for (found, wanted) in [
         (first.written(0x0101), Some(0x11)),
         (first.written(0x0102), Some(0x22)),

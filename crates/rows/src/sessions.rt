@@ -1,8 +1,10 @@
 // Sessions that are edited and run again.
 
-use crate::fixtures::{Ended, HI, WARM_BOOT, number_of, rerun, runner_of, session_of, zeros};
+use crate::fixtures::{
+    Ended, HI, WARM_BOOT, number_of, rerun, runner_of, session_of, stand, zeros,
+};
 use machine::{Bytes, Cause, Meter, Regs, whole_is_laid};
-use replay::{Edit, EditError, Options, OptionsError, Runner, prefix_dependence};
+use replay::{Edit, EditError, Options, OptionsError, Report, Runner, prefix_dependence};
 use std::alloc::{AllocError, Global};
 use std::process::Abort;
 use std::test::Fail;
@@ -40,10 +42,24 @@ fn programs_end_by_their_causes(rt: HostRuntime) -> Result<(), Fail> {
         (&[0x08][..], &[][..], Cause::Undefined(0x08), 0, LOADED),
         (&tabbed[..], &b"a       b"[..], Cause::WarmBoot, 7, PRINTED),
     ] {
-        let mut runner = runner_of(rt.alloc(), program, 1_000_000)?;
-        let run = rerun(&rt, &mut runner, text)?;
-        assert_eq!(rt; run, Ended { cause, steps, regs }, "{program:?}");
+        ends(&rt, rt.alloc(), program, text, Ended { cause, steps, regs })?;
     }
+    Ok(())
+}
+
+fn ends(
+    rt: &impl Abort,
+    alloc: Global,
+    program: &[u8],
+    text: &[u8],
+    wanted: Ended,
+) -> Result<(), Fail> {
+    let mut runner = runner_of(alloc, program, 1_000_000)?;
+    ends_so(rt, &mut runner, text, wanted)
+}
+
+fn ends_so(rt: &impl Abort, runner: &mut Runner, text: &[u8], wanted: Ended) -> Result<(), Fail> {
+    assert_eq!(rt; rerun(rt, runner, text)?, wanted);
     Ok(())
 }
 
@@ -63,6 +79,10 @@ fn poke(
 #[test]
 fn a_refused_edit_leaves_the_session(rt: HostRuntime) -> Result<(), Fail> {
     let mut runner = runner_of(rt.alloc(), &HI, 1_000_000)?;
+    are_refused(&rt, rt.alloc(), &mut runner)
+}
+
+fn are_refused(rt: &impl Abort, alloc: Global, runner: &mut Runner) -> Result<(), Fail> {
     for row in [
         (0x0200, &[0x00][..], 6),
         (0x00ff, &[0x00][..], 6),
@@ -71,7 +91,7 @@ fn a_refused_edit_leaves_the_session(rt: HostRuntime) -> Result<(), Fail> {
         (0x0100, &[][..], 0),
         (0x010c, &[][..], 0),
     ] {
-        poke(&rt, rt.alloc(), &mut runner, row)?;
+        poke(rt, alloc, runner, row)?;
     }
     assert_eq!(rt; number_of(runner.edit(Edit::SetLimit(4_000_000_001))), 7);
     assert_eq!(rt; runner.session().program(), HI.as_slice());
@@ -83,14 +103,18 @@ fn a_refused_edit_leaves_the_session(rt: HostRuntime) -> Result<(), Fail> {
 #[test]
 fn a_refused_edit_leaves_the_checkpoints(rt: HostRuntime) -> Result<(), Fail> {
     let mut runner = runner_of(rt.alloc(), &HI, 1_000_000)?;
-    let _ = rerun(&rt, &mut runner, b"Hi")?;
-    poke(&rt, rt.alloc(), &mut runner, (0x0200, &[0x00], 6))?;
+    leave_the_checkpoints(&rt, rt.alloc(), &mut runner)
+}
+
+fn leave_the_checkpoints(rt: &impl Abort, alloc: Global, runner: &mut Runner) -> Result<(), Fail> {
+    let _ = rerun(rt, runner, b"Hi")?;
+    poke(rt, alloc, runner, (0x0200, &[0x00], 6))?;
     assert_eq!(rt; number_of(runner.edit(Edit::Remove(0, 1))), 1);
     assert_eq!(rt; number_of(runner.edit(Edit::SetLimit(4_000_000_001))), 7);
     for (index, step) in [(0, Some(4)), (1, Some(7)), (2, None)] {
         assert_eq!(rt; runner.kept(index), step);
     }
-    let again = rerun(&rt, &mut runner, b"Hi")?;
+    let again = rerun(rt, runner, b"Hi")?;
     assert_eq!(rt; again.steps, 7);
     Ok(())
 }
@@ -99,6 +123,10 @@ fn a_refused_edit_leaves_the_checkpoints(rt: HostRuntime) -> Result<(), Fail> {
 #[test]
 fn a_rerun_is_the_run_of_the_edited_session(rt: HostRuntime) -> Result<(), Fail> {
     let mut runner = runner_of(rt.alloc(), &HI, 1_000_000)?;
+    run_edited(&rt, rt.alloc(), &mut runner)
+}
+
+fn run_edited(rt: &impl Abort, alloc: Global, runner: &mut Runner) -> Result<(), Fail> {
     let called = Regs {
         sp: 0xfdfc,
         pc: 0xfe06,
@@ -111,9 +139,9 @@ fn a_rerun_is_the_run_of_the_edited_session(rt: HostRuntime) -> Result<(), Fail>
         (0x24, 7, &b"Hi"[..], Cause::Limit, 7, PRINTED),
         (0x24, 8, &b"Hi"[..], Cause::WarmBoot, 7, PRINTED),
     ] {
-        poke(&rt, rt.alloc(), &mut runner, (0x010b, &[byte], 0))?;
+        poke(rt, alloc, runner, (0x010b, &[byte], 0))?;
         assert_eq!(rt; number_of(runner.edit(Edit::SetLimit(limit))), 0);
-        let run = rerun(&rt, &mut runner, text)?;
+        let run = rerun(rt, runner, text)?;
         assert_eq!(rt; run, Ended { cause, steps, regs }, "at limit {limit}");
         assert_eq!(rt; run.regs.flags.byte(), 0x02);
     }
@@ -171,10 +199,23 @@ fn refusals_have_their_numbers(rt: HostRuntime) -> Result<(), Fail> {
 #[test]
 fn a_report_tells_how_the_run_ended(rt: HostRuntime) -> Result<(), Fail> {
     let mut runner = runner_of(rt.alloc(), &HI, 1_000_000)?;
+    run_is_told(&rt, &mut runner)?;
+    kept_steps_are_told(&rt, &mut runner);
+    whole_is_laid();
+    prefix_dependence();
+    Ok(())
+}
+
+fn run_is_told(rt: &impl Abort, runner: &mut Runner) -> Result<(), Fail> {
     let mut meter = Meter::new();
     let report = runner.rerun(&mut meter)?;
-    assert_eq!(rt; report.cause(), Cause::WarmBoot);
     assert_eq!(rt; (report.steps(), meter.count()), (7, 7));
+    end_is_told(rt, &report);
+    Ok(())
+}
+
+fn end_is_told(rt: &impl Abort, report: &Report<'_>) {
+    assert_eq!(rt; report.cause(), Cause::WarmBoot);
     assert_eq!(rt; report.regs(), PRINTED);
     assert_eq!(rt; report.text(), b"Hi".as_slice());
     for (at, byte) in [
@@ -188,14 +229,11 @@ fn a_report_tells_how_the_run_ended(rt: HostRuntime) -> Result<(), Fail> {
     ] {
         assert_eq!(rt; report.cell(at), byte, "at {at}");
     }
-    assert_eq!(rt;
-        (runner.kept(0), runner.kept(1), runner.kept(2)),
-        (Some(4), Some(7), None)
-    );
+}
+
+fn kept_steps_are_told(rt: &impl Abort, runner: &mut Runner) {
+    assert!(rt; stand(runner, &[4, 7]));
     runner.drop_oldest(1);
-    assert_eq!(rt; (runner.kept(0), runner.kept(1)), (Some(7), None));
+    assert!(rt; stand(runner, &[7]));
     assert_eq!(rt; runner.session().program(), HI.as_slice());
-    whole_is_laid();
-    prefix_dependence();
-    Ok(())
 }

@@ -1,8 +1,8 @@
 // Tests of what a program finds of its command tail.
 
-use crate::fixtures::{number_of, rerun, zeros};
+use crate::fixtures::{cells_are, number_of, rerun, zeros};
 use hostfiles::{HostFiles, Name};
-use machine::{Bytes, Meter, Session};
+use machine::{Bytes, Session};
 use replay::{Edit, Options, Runner};
 use std::alloc::{AllocError, Global};
 use std::process::Abort;
@@ -27,30 +27,16 @@ fn runner_of(alloc: Global, program: &[u8], tail: &[u8], limit: u64) -> Result<R
     Ok(Runner::new(alloc, session, options)?)
 }
 
-// Compares the cells from an address on, as they are where the run ends.
-fn cells_are(
-    rt: &impl Abort,
-    runner: &mut Runner,
-    from: u16,
-    wanted: &[u8],
-) -> Result<(), AllocError> {
-    let mut meter = Meter::new();
-    let report = runner.rerun(&mut meter)?;
-    let mut at = from;
-    for byte in wanted {
-        assert_eq!(rt; report.cell(at), *byte, "at {at}");
-        at = at.wrapping_add(1);
-    }
-    Ok(())
-}
+// A drive byte and a name.
+type Word<'a> = (u8, &'a [u8; 11]);
 
 // Compares the drive bytes and the names of both words.
 fn names_are(
     rt: &impl Abort,
     runner: &mut Runner,
-    first: (u8, &[u8; 11]),
-    second: (u8, &[u8; 11]),
-) -> Result<(), AllocError> {
+    first: Word<'_>,
+    second: Word<'_>,
+) -> Result<(), Fail> {
     let (first_drive, first_name) = first;
     let (second_drive, second_name) = second;
     cells_are(rt, runner, 0x005c, &[first_drive])?;
@@ -58,6 +44,34 @@ fn names_are(
     cells_are(rt, runner, 0x0068, &[0, 0, 0, 0, second_drive])?;
     cells_are(rt, runner, 0x006d, second_name)?;
     cells_are(rt, runner, 0x0078, &[0, 0, 0, 0, 0, 0, 0, 0])
+}
+
+// What a tail gives.
+fn gives(
+    rt: &impl Abort,
+    alloc: Global,
+    tail: &[u8],
+    first: Word<'_>,
+    second: Word<'_>,
+) -> Result<(), Fail> {
+    let mut runner = runner_of(alloc, &[], tail, 0)?;
+    names_are(rt, &mut runner, first, second)
+}
+
+// Cells from an address on.
+type CellRow<'a> = (u16, &'a [u8]);
+
+// What stands in cells before a program of one byte with a tail.
+fn stands(rt: &impl Abort, alloc: Global, tail: &[u8], rows: &[CellRow<'_>]) -> Result<(), Fail> {
+    let mut runner = runner_of(alloc, &[0x76], tail, 0)?;
+    all_are(rt, &mut runner, rows)
+}
+
+fn all_are(rt: &impl Abort, runner: &mut Runner, rows: &[CellRow<'_>]) -> Result<(), Fail> {
+    for (from, wanted) in rows {
+        cells_are(rt, runner, *from, wanted)?;
+    }
+    Ok(())
 }
 
 #[test]
@@ -70,8 +84,7 @@ fn two_words_give_two_names(rt: HostRuntime) -> Result<(), Fail> {
         (b"a b:c d", (0, b"A          "), (2, b"C          ")),
         (b"a.txt b.txt", (0, b"A       TXT"), (0, b"B       TXT")),
     ] {
-        let mut runner = runner_of(rt.alloc(), &[], tail, 0)?;
-        names_are(&rt, &mut runner, first, second)?;
+        gives(&rt, rt.alloc(), tail, first, second)?;
     }
     Ok(())
 }
@@ -93,8 +106,7 @@ fn a_word_gives_a_drive(rt: HostRuntime) -> Result<(), Fail> {
         (b":x", 0, b":X         "),
         (b"b", 0, b"B          "),
     ] {
-        let mut runner = runner_of(rt.alloc(), &[], tail, 0)?;
-        names_are(&rt, &mut runner, (drive, name), (0, NO_NAME))?;
+        gives(&rt, rt.alloc(), tail, (drive, name), (0, NO_NAME))?;
     }
     Ok(())
 }
@@ -115,8 +127,7 @@ fn a_word_gives_a_name_and_a_type(rt: HostRuntime) -> Result<(), Fail> {
         (b"abcdefghi*.abc*", b"ABCDEFGHABC"),
         (b"a?_-~|", b"A?_-~|     "),
     ] {
-        let mut runner = runner_of(rt.alloc(), &[], tail, 0)?;
-        names_are(&rt, &mut runner, (0, name), (0, NO_NAME))?;
+        gives(&rt, rt.alloc(), tail, (0, name), (0, NO_NAME))?;
     }
     Ok(())
 }
@@ -130,24 +141,34 @@ fn the_tail_stands_behind_its_length(rt: HostRuntime) -> Result<(), Fail> {
         (b"b:x*.c? y", b"\x0a B:X*.C? Y\0"),
         (b"  Two words ", b"\x0d   TWO WORDS \0"),
     ] {
-        let mut runner = runner_of(rt.alloc(), &[0x76], tail, 0)?;
-        cells_are(&rt, &mut runner, 0x0080, cells)?;
-        cells_are(&rt, &mut runner, 0x00ff, &[0, 0x76])?;
+        stands(
+            &rt,
+            rt.alloc(),
+            tail,
+            &[(0x0080, cells), (0x00ff, &[0, 0x76])],
+        )?;
     }
-    let mut runner = runner_of(rt.alloc(), &[0x76], &[b'z'; 126], 0)?;
-    cells_are(&rt, &mut runner, 0x0080, b"\x7f ZZ")?;
-    cells_are(&rt, &mut runner, 0x00fe, b"ZZ\x76\0")?;
-    names_are(&rt, &mut runner, (0, b"ZZZZZZZZ   "), (0, NO_NAME))?;
-    Ok(())
+    let ends = [(0x0080, &b"\x7f ZZ"[..]), (0x00fe, b"ZZ\x76\0")];
+    stands(&rt, rt.alloc(), &[b'z'; 126], &ends)?;
+    gives(
+        &rt,
+        rt.alloc(),
+        &[b'z'; 126],
+        (0, b"ZZZZZZZZ   "),
+        (0, NO_NAME),
+    )
 }
 
 #[test]
 fn the_jumps_stand_before_every_tail(rt: HostRuntime) -> Result<(), Fail> {
+    let jumps = [0xc3, 0x03, 0xff, 0, 0, 0xc3, 0x06, 0xfe, 0, 0];
     for tail in [&b""[..], b"a b"] {
-        let mut runner = runner_of(rt.alloc(), &[], tail, 0)?;
-        let jumps = [0xc3, 0x03, 0xff, 0, 0, 0xc3, 0x06, 0xfe, 0, 0];
-        cells_are(&rt, &mut runner, 0x0000, &jumps)?;
-        cells_are(&rt, &mut runner, 0x005a, &[0, 0])?;
+        stands(
+            &rt,
+            rt.alloc(),
+            tail,
+            &[(0x0000, &jumps), (0x005a, &[0, 0])],
+        )?;
     }
     Ok(())
 }
@@ -216,14 +237,18 @@ fn tails_are_refused_in_order(rt: HostRuntime) -> Result<(), Fail> {
     Ok(())
 }
 
+// A session with this host file, and its name as the tail.
+fn session_of_a_file(alloc: Global, name: Name) -> Result<Session, Fail> {
+    let tail = b"a.txt".to_vec(alloc)?;
+    let mut files = HostFiles::new(alloc);
+    files.set(name, &[b'x'; 130])?;
+    Ok(Session::new(Vec::new(alloc), tail, files, Vec::new(alloc), 0)?)
+}
+
 #[test]
 fn host_files_are_handed_in(rt: HostRuntime) -> Result<(), Fail> {
-    let mut files = HostFiles::new(rt.alloc());
     let name = Name::parse("a.txt")?;
-    files.set(name, &[b'x'; 130])?;
-    let none = Vec::new(rt.alloc());
-    let script = Vec::new(rt.alloc());
-    let session = Session::new(none, b"a.txt".to_vec(rt.alloc())?, files, script, 0)?;
+    let session = session_of_a_file(rt.alloc(), name)?;
     assert_eq!(rt; session.files().records(&name), Some(2));
     assert_eq!(rt; session.tail(), &b"a.txt"[..]);
     Ok(())

@@ -255,7 +255,16 @@ pub fn play(
     rows: &[(Act<'_>, &[u64])],
 ) -> Result<(), Trouble> {
     let mut runner = begin(rt, alloc, given)?;
-    if !carry_out_all(rt, alloc, &mut runner, rows)? {
+    play_on(rt, alloc, &mut runner, rows)
+}
+
+fn play_on(
+    rt: &impl Print,
+    alloc: Global,
+    runner: &mut Runner,
+    rows: &[(Act<'_>, &[u64])],
+) -> Result<(), Trouble> {
+    if !carry_out_all(rt, alloc, runner, rows)? {
         println!(rt; "checkpoints: out of memory")?;
     }
     Ok(())

@@ -194,9 +194,18 @@ pub fn acts(
 ) -> Result<(), Fail> {
     let session = session_of(alloc, program, tail, hosts)?;
     let mut runner = runner_of(alloc, session)?;
+    all(rt, alloc, &mut runner, rows)
+}
+
+fn all(
+    rt: &impl Abort,
+    alloc: Global,
+    runner: &mut Runner,
+    rows: &[(Act<'_>, &[u64])],
+) -> Result<(), Fail> {
     for (act, kept) in rows {
-        carry_out(rt, alloc, &mut runner, *act)?;
-        stand(rt, &runner, kept, *act);
+        carry_out(rt, alloc, runner, *act)?;
+        stand(rt, runner, kept, *act);
     }
     Ok(())
 }

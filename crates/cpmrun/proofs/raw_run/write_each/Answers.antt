@@ -1,7 +1,7 @@
 use Rattle.changed_files.proofs.ChangedWalk.{changed_next}
 use Rattle.replay.specs.Report.{reported_run, session_of}
 use Rattle.edit_lines.proofs.WrittenPieces.{fewer_keys}
-use Rattle.cpmrun.proofs.raw_run.write_changed.Goals as goal
+use Rattle.cpmrun.proofs.raw_run.write_each.Goals as goal
 
 pub loop-name-smaller : goal.loop-name-smaller
 loop-name-smaller g c =

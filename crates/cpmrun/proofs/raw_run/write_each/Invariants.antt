@@ -2,7 +2,7 @@ use Rattle.std.proofs.Common.{length}
 use Rattle.changed_files.specs.Changed.{changed_names}
 use Rattle.changed_files.proofs.ChangedWalk.{keys_above}
 use Rattle.replay.specs.Report.{reported_run, session_of}
-use Rattle.cpmrun.proofs.raw_run.write_changed.Given as goal
+use Rattle.cpmrun.proofs.raw_run.write_each.Given as goal
 
 abbrev pub invariant-loop-name : goal.invariant-loop-name
 invariant-loop-name g l = Unit {0}
