@@ -1,5 +1,5 @@
 -- Lines that are carried out one after the other.
-use Rattle.std.proofs.Common.{◌≡◌, ℕ, ◌+◌, ◌-◌, ◌≤◌, List, [], ◌∷◌, ◌++◌, length, take, drop, refl, sym, ap, subst, ◌∙◌, arith, append_assoc, length-append, take-append-drop, Option, Some, Err}
+use Rattle.std.proofs.Common.{◌*◌, ◌≡◌, ℕ, ◌+◌, ◌-◌, ◌≤◌, List, [], ◌∷◌, ◌++◌, length, take, drop, refl, sym, ap, subst, ◌∙◌, arith, append_assoc, length-append, take-append-drop, Option, Some, Err}
 use Rattle.std.proofs.lemmas.List.{append-nil}
 use Rattle.std.proofs.lemmas.List.Folds.{concat-append}
 use Rattle.std.proofs.Math.Seq.{take-append_seam}
@@ -14,9 +14,10 @@ use Rattle.edit_lines.specs.EditLine.{EditLine, MayWantMemory}
 use Rattle.edit_lines.specs.Pieces.{lines_of, past_lines}
 use Rattle.edit_lines.specs.Replay.{Carries, Replays, MalformedAt, none, more, reply, session_after}
 use Rattle.edit_lines.specs.Progress.{BreaksOff, Faults, CarriesOut}
+use Rattle.edit_lines.specs.declared.limits.TheConstants.{LINE_LIMIT, LINES_LIMIT}
 
 -- one more line is carried out
-pub Carries-snoc : {s t : Session} {ls rs : List (List ℕ)} (l : List ℕ) (c : Command) → Carries s ls rs t → length l ≤ 65536
+pub Carries-snoc : {s t : Session} {ls rs : List (List ℕ)} (l : List ℕ) (c : Command) → Carries s ls rs t → length l ≤ LINE_LIMIT
     → EditLine l c → Carries s (ls ++ l ∷ []) (rs ++ reply t c ∷ []) (session_after t c)
 Carries-snoc l c none short is = more c short is none
 Carries-snoc l c (more d short' is' rest) short is = more d short' is' (Carries-snoc l c rest short is)
@@ -38,11 +39,11 @@ take_most rs r =
     ap (λ k. take k (rs ++ r ∷ [])) n ∙ take-append_seam rs (r ∷ [])
 
 module _ (left : Option (List ℕ)) (first s t : Session) (held h₀ h₁ : Option (List ℕ)) (whole line : List ℕ) (done replies : List (List ℕ))
-    (carried : Carries first done replies s) (written : Appends held h₀ (concat replies)) (few : length done ≤ 1000000) where
+    (carried : Carries first done replies s) (written : Appends held h₀ (concat replies)) (few : length done ≤ LINES_LIMIT) where
   -- no line more was carried out
   pub stays_there : (others : List (List ℕ)) → lines_of whole ≡ done ++ others
       → ((rest : List ℕ) → left ≡ Some rest → (others : List (List ℕ)) × (lines_of (whole ++ rest) ≡ done ++ others))
-      → length (past_lines (length done) whole) ≤ 131072 → BreaksOff left first held whole s h₀
+      → length (past_lines (length done) whole) ≤ 2 * LINE_LIMIT → BreaksOff left first held whole s h₀
   stays_there others cut cuts near = record {
     text = concat replies;
     written = written;
@@ -58,10 +59,10 @@ module _ (left : Option (List ℕ)) (first s t : Session) (held h₀ h₁ : Opti
   }
 
   -- what carrying out the next line answered, where it failed
-  pub Faults-from : (U : Type 0) (n : ℕ) (f : ReplayFault) → n ≡ length done + 1 → length line ≤ 65536
+  pub Faults-from : (U : Type 0) (n : ℕ) (f : ReplayFault) → n ≡ length done + 1 → length line ≤ LINE_LIMIT
       → (others : List (List ℕ)) → lines_of whole ≡ done ++ line ∷ others
       → ((rest : List ℕ) → left ≡ Some rest → (others : List (List ℕ)) × (lines_of (whole ++ rest) ≡ done ++ line ∷ others))
-      → length (past_lines (length done) whole) ≤ 131072 → length (past_lines (length done + 1) whole) ≤ 131072
+      → length (past_lines (length done) whole) ≤ 2 * LINE_LIMIT → length (past_lines (length done + 1) whole) ≤ 2 * LINE_LIMIT
       → CarriesOut {U = U} n line s t h₀ h₁ (Err f) → Faults left first held whole t h₁ f
   Faults-from U n (Malformed k) number short others cut cuts near near' h = rw (h.2, h.3) (record {
     text = concat replies;

@@ -8,7 +8,7 @@ use Rattle.replay.specs.declared.edit.Edit.TheVariants.{Insert, Replace, Remove,
 use Rattle.edit_lines.specs.declared.line.Command.{Command}
 use Rattle.edit_lines.specs.declared.line.Command.TheVariants.{Edit, Run, DropOldest}
 use Rattle.edit_lines.specs.EditLine.{EditLine, IsAddress, IsHexText, IsNumber, IsName, IsPaired, IsPlaced, IsPlaceOf, NamesBytesAt}
-use Rattle.filenames.specs.Names.{Key, name_of}
+use Rattle.filenames.specs.Names.{Key}
 use Rattle.edit_lines.specs.FileLines.{IsFile}
 use Rattle.edit_lines.specs.Pieces.{words_of}
 

@@ -6,6 +6,7 @@ use Rattle.edit_lines.specs.declared.line.Command.{Command}
 use Rattle.edit_lines.specs.EditLine.{EditLine}
 use Rattle.edit_lines.specs.Replay.{Carries, none, more, End, Finished, MalformedAt, TooLongAt, EndsAt, Replays, reply, session_after}
 use Rattle.edit_lines.proofs.Grammar.{one_command_lem}
+use Rattle.edit_lines.specs.declared.limits.TheConstants.{LINE_LIMIT, LINES_LIMIT}
 
 ends_once : (n : ℕ) (left : List (List ℕ)) (d e : End) → EndsAt n left d → EndsAt n left e → d ≡ e
 ends_once n left (Finished j) (Finished k) p q = ap Finished (p.1 ∙ sym q.1)
@@ -23,7 +24,7 @@ ends_once n (l ∷ ls) (TooLongAt j) (MalformedAt k) p q = absurd (omega (arith,
 ends_once n (l ∷ ls) (TooLongAt j) (TooLongAt k) p q = ap TooLongAt (p.0 ∙ sym q.0)
 
 -- a line that has a command, and is neither too long nor past the last, ends no replay
-not_ended : (n : ℕ) (l : List ℕ) (ls : List (List ℕ)) (c : Command) → EditLine l c → length l ≤ 65536 → n + 1 ≤ 1000000
+not_ended : (n : ℕ) (l : List ℕ) (ls : List (List ℕ)) (c : Command) → EditLine l c → length l ≤ LINE_LIMIT → n + 1 ≤ LINES_LIMIT
     → (e : End) → EndsAt n (l ∷ ls) e → ⊥
 not_ended n l ls c is short few (Finished k) p = let e = p.0 in cc
 not_ended n l ls c is short few (MalformedAt k) p = elim p.2 [ inl past ↦ omega (arith, past, few, p.0) | inr nothing ↦ nothing c is ]
@@ -31,7 +32,7 @@ not_ended n l ls c is short few (TooLongAt k) p = omega (arith, short, p.1)
 
 carried_once : (s t u : Session) (ds es ps qs : List (List ℕ)) (n m k : ℕ) (left others : List (List ℕ)) (d e : End)
     → Carries s ds ps t → Carries s es qs u → ds ++ left ≡ es ++ others
-    → m ≡ n + length ds → k ≡ n + length es → m ≤ 1000000 → k ≤ 1000000
+    → m ≡ n + length ds → k ≡ n + length es → m ≤ LINES_LIMIT → k ≤ LINES_LIMIT
     → EndsAt m left d → EndsAt k others e → (ps ≡ qs) × (t ≡ u) × (d ≡ e)
 carried_once s t u [] [] ps qs n m k left others d e none none cut p q few few' x y =
     let same : k ≡ m = omega (arith, p, q) in

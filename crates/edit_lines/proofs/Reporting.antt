@@ -1,5 +1,5 @@
 -- The report as it is written in pieces.
-use Rattle.std.proofs.Common.{◌≡◌, ℕ, List, ◌++◌, take, Option, Result, Ok, Err, OnErr, OnOk, ◌+◌, ◌<◌, arith, codes, refl, sym, ap, subst, ◌∙◌}
+use Rattle.std.proofs.Common.{◌≡◌, ℕ, List, ◌++◌, take, Option, Result, Ok, Err, OnOk, ◌+◌, ◌<◌, arith, codes, refl, ap, subst, ◌∙◌}
 use Rattle.std.specs.Io.KnownBytes.{Appends}
 use Rattle.replay.specs.Edits.{AnswersEdit, edited, number_of}
 use Rattle.replay.specs.declared.edit.Edit.{Edit}

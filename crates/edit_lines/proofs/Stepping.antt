@@ -14,6 +14,7 @@ use Rattle.edit_lines.specs.Replay.{none, Finished, TooLongAt, EndsAt, Replays, 
 use Rattle.edit_lines.specs.Progress.{StandsAt, EndsWith, BreaksOff, Faults, CarriesOut}
 use Rattle.edit_lines.proofs.Cutting.{pieces-append, past_lines-pieces, past_lines-last, lines_of-append, lines_of-pieces}
 use Rattle.edit_lines.proofs.Carrying.{Carries-snoc, concat-snoc, Faults-from, stays_there}
+use Rattle.edit_lines.specs.declared.limits.TheConstants.{LINE_LIMIT, LINES_LIMIT}
 
 not_cut : (b : ℕ) → (b ≡ 10 → ⊥) → eqb b 10 ≡ false
 not_cut b ne = elim (cases_Bool (eqb b 10)) [ inl t ↦ absurd (ne (eqb-true b 10 t)) | inr f ↦ f ]
@@ -53,14 +54,14 @@ at_once left s held = record {
 }
 
 -- a line that is too long is at the front of what is left, however it goes on
-ends_long : (n : ℕ) (q : List ℕ) (qs : List (List ℕ)) → 65536 < length q → EndsAt n (without_empty_last (q ∷ qs)) (TooLongAt (n + 1))
+ends_long : (n : ℕ) (q : List ℕ) (qs : List (List ℕ)) → LINE_LIMIT < length q → EndsAt n (without_empty_last (q ∷ qs)) (TooLongAt (n + 1))
 ends_long n [] qs h = absurd (omega arith)
 ends_long n (b ∷ q) [] h = (refl, h)
 ends_long n (b ∷ q) (p ∷ qs) h = (refl, h)
 
 module _ (first : Session) (held : Option (List ℕ)) (bytes : List ℕ) (now : Session) (holds : Option (List ℕ)) (line : List ℕ) (count : ℕ)
-    (r : StandsAt first held bytes now holds line count) (few : count ≤ 1000000) (short : length line ≤ 65536) where
-  enough : length r.done ≤ 1000000
+    (r : StandsAt first held bytes now holds line count) (few : count ≤ LINES_LIMIT) (short : length line ≤ LINE_LIMIT) where
+  enough : length r.done ≤ LINES_LIMIT
   enough = omega (arith, r.counted)
 
   cut_beside : (b : ℕ) → (b ≡ 10 → ⊥) → pieces 10 (bytes ++ b ∷ []) ≡ r.done ++ (line ++ b ∷ []) ∷ []
@@ -120,7 +121,7 @@ module _ (first : Session) (held : Option (List ℕ)) (bytes : List ℕ) (now : 
       (subst (λ x. CarriesOut {U = U} (count + 1) x now t holds h₁ (Err f)) same h)
 
   -- the line is too long
-  pub line_too_long : (left : Option (List ℕ)) (b : ℕ) (rest : List ℕ) → (b ≡ 10 → ⊥) → length line ≡ 65536 → length rest ≤ 65535
+  pub line_too_long : (left : Option (List ℕ)) (b : ℕ) (rest : List ℕ) → (b ≡ 10 → ⊥) → length line ≡ LINE_LIMIT → length rest ≤ 65535
       → EndsWith left first held ((bytes ++ b ∷ []) ++ rest) now holds (count + 1) (TooLongAt (count + 1))
   line_too_long left b rest ne full few_more = record {
     text = concat r.replies;
@@ -186,7 +187,7 @@ module _ (first : Session) (held : Option (List ℕ)) (bytes : List ℕ) (now : 
 
   -- whose command was carried out
   pub ends_done : 0 < length line → (t : Session) (h₁ : Option (List ℕ)) (c : Command) → EditLine line c → t ≡ session_after now c
-      → Appends holds h₁ (reply now c) → count + 1 ≤ 1000000
+      → Appends holds h₁ (reply now c) → count + 1 ≤ LINES_LIMIT
       → (text : List ℕ) × Appends held h₁ text × Replays first (lines_of bytes) text t (Finished (count + 1))
   ends_done some t h₁ c is e w fits = (
     concat r.replies ++ reply now c,

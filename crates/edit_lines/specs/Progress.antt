@@ -1,5 +1,5 @@
 -- Where a replay stands, and what holds after each fault.
-use Rattle.std.specs.Prelude.{◌≡◌, ℕ, ◌-◌, ◌≤◌, List, [], ◌∷◌, ◌++◌, length, take, Option, Some, Result, Ok, Err}
+use Rattle.std.specs.Prelude.{◌*◌, ◌≡◌, ℕ, ◌-◌, ◌≤◌, List, [], ◌∷◌, ◌++◌, length, take, Option, Some, Result, Ok, Err}
 use Rattle.std.specs.List.{concat}
 use Rattle.std.specs.Io.KnownBytes.{Appends, IsAtEnd}
 use Rattle.machine.specs.Views.{Session}
@@ -10,6 +10,7 @@ use Rattle.edit_lines.specs.declared.ending.ReplayFault.TheVariants.{Malformed, 
 use Rattle.edit_lines.specs.EditLine.{EditLine, WantsMemory, MayWantMemory}
 use Rattle.edit_lines.specs.Pieces.{pieces, lines_of, past_lines}
 use Rattle.edit_lines.specs.Replay.{Carries, End, Finished, MalformedAt, TooLongAt, IsMalformed, Replays, reply, session_after}
+use Rattle.edit_lines.specs.declared.limits.TheConstants.{LINE_LIMIT, LINES_LIMIT}
 
 -- the bytes read so far are whole lines, all carried out, and the beginning of one more
 pub record StandsAt (first : Session) (held : Option (List ℕ)) (bytes : List ℕ) (now : Session) (holds : Option (List ℕ)) (line : List ℕ) (count : ℕ) : Type 0 where
@@ -27,7 +28,7 @@ pub record EndsWith (left : Option (List ℕ)) (first : Session) (held : Option 
   pub written : Appends held holds text
   pub replays : (rest : List ℕ) → left ≡ Some rest → Replays first (lines_of (bytes ++ rest)) text now end
   pub some : (rest : List ℕ) × Replays first (lines_of (bytes ++ rest)) text now end
-  pub near : length (past_lines (k - 1) bytes) ≤ 131072
+  pub near : length (past_lines (k - 1) bytes) ≤ 2 * LINE_LIMIT
 
 -- some first lines were read and carried out, and all their replies but the last were written whole, that one in part; they
 -- are the first lines of the bytes that were read, and of these and those that are left where the reader tells that
@@ -38,11 +39,11 @@ pub record BreaksOff (left : Option (List ℕ)) (first : Session) (held : Option
   pub replies : List (List ℕ)
   pub read : (others : List (List ℕ)) × (lines_of bytes ≡ done ++ others)
   pub cut : (rest : List ℕ) → left ≡ Some rest → (others : List (List ℕ)) × (lines_of (bytes ++ rest) ≡ done ++ others)
-  pub few : length done ≤ 1000000
+  pub few : length done ≤ LINES_LIMIT
   pub carried : Carries first done replies now
   pub begins : (rest : List ℕ) × (concat replies ≡ text ++ rest)
   pub contains : (rest : List ℕ) × (text ≡ concat (take (length replies - 1) replies) ++ rest)
-  pub near : length (past_lines (length done) bytes) ≤ 131072
+  pub near : length (past_lines (length done) bytes) ≤ 2 * LINE_LIMIT
 
 -- the lines whose 0AH was read were carried out, and their replies written
 pub record ReadsNoMore (first : Session) (held : Option (List ℕ)) (bytes : List ℕ) (now : Session) (holds : Option (List ℕ)) : Type 0 where
@@ -52,7 +53,7 @@ pub record ReadsNoMore (first : Session) (held : Option (List ℕ)) (bytes : Lis
   pub rest : List ℕ
   pub cut : pieces 10 bytes ≡ ended ++ rest ∷ []
   pub replays : Replays first ended text now (Finished (length ended))
-  pub near : length rest ≤ 131072
+  pub near : length rest ≤ 2 * LINE_LIMIT
 
 -- what holds after a fault, where these bytes were read, and these are left if the reader tells
 abbrev pub Faults : Option (List ℕ) → Session → Option (List ℕ) → List ℕ → Session → Option (List ℕ) → ReplayFault → Type 0
@@ -74,10 +75,10 @@ Does c s t held holds (Err Read) = ⊥
 -- what carrying out line number n answers
 abbrev pub CarriesOut : {U : Type 0} → ℕ → List ℕ → Session → Session → Option (List ℕ) → Option (List ℕ) → Result U ReplayFault → Type 0
 CarriesOut n line s t held holds (Ok u) =
-    (c : Command) × EditLine line c × (n ≤ 1000000) × (t ≡ session_after s c) × Appends held holds (reply s c)
+    (c : Command) × EditLine line c × (n ≤ LINES_LIMIT) × (t ≡ session_after s c) × Appends held holds (reply s c)
 CarriesOut n line s t held holds (Err Write) =
-    (c : Command) × EditLine line c × (n ≤ 1000000) × (t ≡ session_after s c) × ((m : ℕ) × Appends held holds (take m (reply s c)))
-CarriesOut n line s t held holds (Err OutOfMemory) = (n ≤ 1000000) × MayWantMemory line × (t ≡ s) × (holds ≡ held)
+    (c : Command) × EditLine line c × (n ≤ LINES_LIMIT) × (t ≡ session_after s c) × ((m : ℕ) × Appends held holds (take m (reply s c)))
+CarriesOut n line s t held holds (Err OutOfMemory) = (n ≤ LINES_LIMIT) × MayWantMemory line × (t ≡ s) × (holds ≡ held)
 CarriesOut n line s t held holds (Err (Malformed k)) = (k ≡ n) × IsMalformed n line × (t ≡ s) × (holds ≡ held)
 CarriesOut n line s t held holds (Err (LineTooLong k)) = ⊥
 CarriesOut n line s t held holds (Err Read) = ⊥

@@ -11,6 +11,7 @@ use Rattle.edit_lines.specs.declared.line.Command.TheVariants.{Edit, Run, DropOl
 use Rattle.edit_lines.specs.EditLine.{EditLine}
 use Rattle.edit_lines.specs.ReportText.{line}
 use Rattle.edit_lines.specs.Reports.{report_text}
+use Rattle.edit_lines.specs.declared.limits.TheConstants.{LINE_LIMIT, LINES_LIMIT}
 
 -- the reply to an edit, by what it makes of the session
 abbrev pub edit_reply : Result Session ℕ → List ℕ
@@ -36,7 +37,7 @@ session_after s (DropOldest n) = s
 -- the lines are carried out in turn, each with its reply, from the first session to the last
 pub data Carries : Session → List (List ℕ) → List (List ℕ) → Session → Type 0 where
   none : {s : Session} → Carries s [] [] s
-  more : {s t : Session} {l : List ℕ} {ls rs : List (List ℕ)} (c : Command) → length l ≤ 65536 → EditLine l c
+  more : {s t : Session} {l : List ℕ} {ls rs : List (List ℕ)} (c : Command) → length l ≤ LINE_LIMIT → EditLine l c
       → Carries (session_after s c) ls rs t → Carries s (l ∷ ls) (reply s c ∷ rs) t
 
 -- how a replay ends: after so many lines, or at a line
@@ -47,15 +48,15 @@ pub data End : Type 0 where
 
 -- line number n has no command
 abbrev pub IsMalformed : ℕ → List ℕ → Type 0
-IsMalformed n l = (1000000 < n) ⊎ ((c : Command) → EditLine l c → ⊥)
+IsMalformed n l = (LINES_LIMIT < n) ⊎ ((c : Command) → EditLine l c → ⊥)
 
 -- what ends a replay after n lines, where these are left
 abbrev pub EndsAt : ℕ → List (List ℕ) → End → Type 0
 EndsAt n left (Finished k) = (left ≡ []) × (k ≡ n)
 EndsAt n [] (MalformedAt k) = ⊥
-EndsAt n (l ∷ ls) (MalformedAt k) = (k ≡ n + 1) × (length l ≤ 65536) × IsMalformed k l
+EndsAt n (l ∷ ls) (MalformedAt k) = (k ≡ n + 1) × (length l ≤ LINE_LIMIT) × IsMalformed k l
 EndsAt n [] (TooLongAt k) = ⊥
-EndsAt n (l ∷ ls) (TooLongAt k) = (k ≡ n + 1) × (65536 < length l)
+EndsAt n (l ∷ ls) (TooLongAt k) = (k ≡ n + 1) × (LINE_LIMIT < length l)
 
 -- the replay of these lines writes the text, leaves the last session and ends so
 pub record Replays (first : Session) (lines : List (List ℕ)) (text : List ℕ) (last : Session) (end : End) : Type 0 where
@@ -63,7 +64,7 @@ pub record Replays (first : Session) (lines : List (List ℕ)) (text : List ℕ)
   pub left : List (List ℕ)
   pub replies : List (List ℕ)
   pub cut : lines ≡ done ++ left
-  pub few : length done ≤ 1000000
+  pub few : length done ≤ LINES_LIMIT
   pub carried : Carries first done replies last
   pub written : text ≡ concat replies
   pub ends : EndsAt (length done) left end

@@ -10,6 +10,7 @@ ghost use Rattle.edit_lines.specs.Writing.{Replies, Writes};
 use crate::changed_lines::{Asked, write_changed_files, write_piece};
 use crate::ending::ReplayFault;
 use crate::ends::{Failed, Writer, write_all};
+use crate::limits::LINES_LIMIT;
 use crate::line::{Command, parse_line};
 use crate::reply::{head_of, refused};
 use machine::{Meter, STEP_LIMIT};
@@ -120,7 +121,7 @@ pub fn carry_out<W: Writer>(
     ensures reads { result ≡ Err ReplayFault.Read → ⊥ }
     ensures meter { meter.new ≤ meter.old + STEP_LIMIT }
 {
-    if number > 1_000_000 {
+    if number > LINES_LIMIT {
         return Err(ReplayFault::Malformed(number));
     }
     let Ok(parsed) = parse_line(alloc, line) else {

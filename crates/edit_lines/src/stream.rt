@@ -1,6 +1,7 @@
 ghost use Rattle.std.specs.Prelude.{◌≡◌, ℕ, ◌+◌, ◌*◌, ◌^◌, ◌<◌, ◌≤◌, ◌⊎◌, List, Option, ◌∷◌, ◌++◌, [], length, IfOk, OnOk, IfErr, vec_len};
 ghost use Rattle.std.specs.Io.KnownBytes.{Appends, Consumes, IsAtEnd};
 ghost use Rattle.machine.specs.Views.{Session};
+ghost use Rattle.edit_lines.specs.declared.limits.TheConstants.{LINE_LIMIT, LINES_LIMIT};
 ghost use Rattle.edit_lines.specs.EditLine.{MayWantMemory};
 ghost use Rattle.edit_lines.specs.Pieces.{lines_of};
 ghost use Rattle.edit_lines.specs.Replay.{End, Finished, Replays};
@@ -9,6 +10,7 @@ ghost use Rattle.edit_lines.specs.Progress.{Faults, Finishes, Goes, StandsAt};
 use crate::carry_out::carry_out;
 use crate::ending::{Ending, ReplayFault};
 use crate::ends::{Reader, Writer};
+use crate::limits::{LINE_LIMIT, LINES_LIMIT};
 use machine::{Meter, STEP_LIMIT};
 use replay::Runner;
 use std::alloc::Global;
@@ -18,8 +20,8 @@ use std::alloc::Global;
 struct Place {
     line: Vec<u8>,
     lines: u64,
-    ghost short: { vec_len line ≤ 65536 },
-    ghost few: { lines ≤ 1000000 },
+    ghost short: { vec_len line ≤ LINE_LIMIT },
+    ghost few: { lines ≤ LINES_LIMIT },
 }
 
 /// Takes one byte of the text.
@@ -41,10 +43,10 @@ fn take_byte<W: Writer>(
     ensures reads { result ≡ Err ReplayFault.Read → ⊥ }
     ensures meter { OnOk result (meter.new ≤ STEP_LIMIT * place.new.lines) }
     ensures on { OnOk result (65537 * place.old.lines + vec_len place.old.line < 65537 * place.new.lines + vec_len place.new.line) }
-    ensures memory { result ≡ Err ReplayFault.OutOfMemory → ((byte ≡ 10 → ⊥) × (vec_len place.old.line < 65536)) ⊎ ((byte ≡ 10) × MayWantMemory place.old.line.items) }
+    ensures memory { result ≡ Err ReplayFault.OutOfMemory → ((byte ≡ 10 → ⊥) × (vec_len place.old.line < LINE_LIMIT)) ⊎ ((byte ≡ 10) × MayWantMemory place.old.line.items) }
 {
     if byte != b'\n' {
-        if place.line.len() == 65_536 {
+        if place.line.len() == LINE_LIMIT {
             return Err(ReplayFault::LineTooLong(place.lines + 1));
         }
         if place.line.push(byte).is_err() {

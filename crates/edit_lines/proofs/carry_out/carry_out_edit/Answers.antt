@@ -1,6 +1,6 @@
 use Rattle.std.proofs.Common.{ap, sym}
 use Rattle.edit_lines.specs.Replay.{edit_after, edit_reply}
-use Rattle.edit_lines.proofs.Reporting.{edit_does, refused_by}
+use Rattle.edit_lines.proofs.Reporting.{edit_does}
 use Rattle.edit_lines.proofs.carry_out.carry_out_edit.Goals as goal
 
 pub returns-in-Ok-clause-does : goal.returns-in-Ok-clause-does

@@ -1,4 +1,4 @@
-use Rattle.std.proofs.Common.{List, ℕ, ◌++◌, ◌≡◌, ◌∙◌, codes, refl}
+use Rattle.std.proofs.Common.{◌++◌, ◌∙◌, codes, refl}
 use Rattle.replay.specs.Report.{reported_run, session_of}
 use Rattle.edit_lines.specs.ReportText.{line}
 use Rattle.edit_lines.specs.Reports.{report_text}

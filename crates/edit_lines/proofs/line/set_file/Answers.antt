@@ -1,4 +1,3 @@
-use Rattle.std.specs.Prelude.{codes}
 use Rattle.edit_lines.proofs.Grammar.{no_file}
 use Rattle.edit_lines.proofs.line.set_file.Goals as goal
 

@@ -4,8 +4,8 @@ use Rattle.edit_lines.proofs.Carrying.{wants}
 use Rattle.edit_lines.proofs.Stepping.{line_grows, line_done, line_fails, line_too_long, line_stays}
 use Rattle.edit_lines.proofs.stream.take_byte.Goals as goal
 
-pub returns-then-len-eq65536-clause-goes : goal.returns-then-len-eq65536-clause-goes
-returns-then-len-eq65536-clause-goes g c = λ first held bytes rest r left few_more.
+pub returns-then-len-eq-LINE_LIMIT-clause-goes : goal.returns-then-len-eq-LINE_LIMIT-clause-goes
+returns-then-len-eq-LINE_LIMIT-clause-goes g c = λ first held bytes rest r left few_more.
     let p = c.args.place.now in
     line_too_long first held bytes _ _ p.line.items p.lines r p.few (omega (arith, p.short, p.line.ok.0)) left c.args.byte rest
     c.if-byte-ne10.true (omega (arith, p.line.ok.0, c.len.ensures)) few_more
