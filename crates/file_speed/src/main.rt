@@ -6,6 +6,8 @@ mod walks;
 mod watch;
 mod writes;
 
+use std::alloc::Global;
+use std::time::CpuClock;
 use std::{env, io};
 use watch::Watch;
 
@@ -15,13 +17,15 @@ fn main(rt: HostRuntime) -> io::Result<()> {
     if words.next().is_none() {
         return Ok(());
     }
-    let alloc = rt.alloc();
-    let mut watch = Watch::start(&rt)?;
-    writes::host_file(&rt, alloc, &mut watch)?;
+    measure(&rt, rt.alloc(), &mut Watch::start(&rt)?)
+}
+
+fn measure(rt: &(impl Print + CpuClock), alloc: Global, watch: &mut Watch) -> io::Result<()> {
+    writes::host_file(rt, alloc, watch)?;
     let names = ["copy-of-one", "first-write-of-one", "second-write-of-one"];
-    writes::copies(&rt, alloc, &mut watch, names, 1)?;
+    writes::copies(rt, alloc, watch, names, 1)?;
     let names = ["copy-of-all", "first-write-of-all", "second-write-of-all"];
-    writes::copies(&rt, alloc, &mut watch, names, files::PLACES)?;
-    writes::gap(&rt, alloc, &mut watch)?;
-    walks::walks(&rt, alloc, &mut watch)
+    writes::copies(rt, alloc, watch, names, files::PLACES)?;
+    writes::gap(rt, alloc, watch)?;
+    walks::walks(rt, alloc, watch)
 }

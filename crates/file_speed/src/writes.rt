@@ -77,17 +77,26 @@ fn in_one_order(
         ],
     };
     let mut changes = Changes::new(alloc);
-    let mut table = Table::new(host, &mut changes);
+    read_and_write(rt, watch, &mut Table::new(host, &mut changes), order, names)
+}
+
+fn read_and_write(
+    rt: &(impl Print + CpuClock),
+    watch: &mut Watch,
+    table: &mut Table<'_>,
+    order: Order,
+    names: [&str; 5],
+) -> io::Result<()> {
     watch.skip(rt)?;
-    read_all(&mut table, order)?;
+    read_all(table, order)?;
     watch.lap(rt, names[0], PLACES)?;
-    read_all(&mut table, order)?;
+    read_all(table, order)?;
     watch.lap(rt, names[1], PLACES)?;
-    write_all(&mut table, order, 1)?;
+    write_all(table, order, 1)?;
     watch.lap(rt, names[2], PLACES)?;
-    read_all(&mut table, order)?;
+    read_all(table, order)?;
     watch.lap(rt, names[3], PLACES)?;
-    write_all(&mut table, order, 2)?;
+    write_all(table, order, 2)?;
     watch.lap(rt, names[4], PLACES)
 }
 
@@ -105,40 +114,56 @@ pub fn copies(
 {
     let host = HostFiles::new(alloc);
     let changes = made(alloc, &host, count)?;
-    let mut all = Vec::with_capacity(alloc, COPIES as usize)?;
     watch.skip(rt)?;
+    let mut all = copies_of(alloc, &changes)?;
+    write_in_copies(rt, watch, &host, all.as_mut_slice(), names)
+}
+
+fn copies_of(alloc: Global, changes: &Changes) -> Result<Vec<Changes>, AllocError> {
+    let mut all = Vec::with_capacity(alloc, COPIES as usize)?;
     for _ in 0..COPIES {
         all.push(changes.snapshot()?)?;
     }
+    Ok(all)
+}
+
+fn write_in_copies(
+    rt: &(impl Print + CpuClock),
+    watch: &mut Watch,
+    host: &HostFiles,
+    copies: &mut [Changes],
+    names: [&str; 3],
+) -> io::Result<()> {
     watch.lap(rt, names[0], COPIES)?;
-    let first = write_each(alloc, &host, all)?;
+    write_each(host, copies)?;
     watch.lap(rt, names[1], COPIES)?;
-    let second = write_each(alloc, &host, first)?;
-    watch.lap(rt, names[2], COPIES)?;
-    drop(second);
-    Ok(())
+    write_each(host, copies)?;
+    watch.lap(rt, names[2], COPIES)
 }
 
 // Writes the first record in each copy.
-fn write_each(
-    alloc: Global,
-    host: &HostFiles,
-    copies: Vec<Changes>,
-) -> Result<Vec<Changes>, AllocError> {
-    let mut written = Vec::with_capacity(alloc, copies.len())?;
-    for copy in copies {
-        let mut changes = copy;
-        Table::new(host, &mut changes).write(&KEY, 0, &[1; 128])?;
-        written.push(changes)?;
+fn write_each(host: &HostFiles, copies: &mut [Changes]) -> Result<(), AllocError> {
+    for at in 0..copies.len() {
+        if let Some(changes) = copies.get_mut(at) {
+            Table::new(host, changes).write(&KEY, 0, &[1; 128])?;
+        }
     }
-    Ok(written)
+    Ok(())
 }
 
 /// A new file of which the last place alone is written, with zeros before it.
 pub fn gap(rt: &(impl Print + CpuClock), alloc: Global, watch: &mut Watch) -> io::Result<()> {
     let host = HostFiles::new(alloc);
     let mut changes = made(alloc, &host, 0)?;
+    fill_gap(rt, watch, &mut Table::new(&host, &mut changes))
+}
+
+fn fill_gap(
+    rt: &(impl Print + CpuClock),
+    watch: &mut Watch,
+    table: &mut Table<'_>,
+) -> io::Result<()> {
     watch.skip(rt)?;
-    Table::new(&host, &mut changes).write_filled(&KEY, 65_535, &[1; 128])?;
+    table.write_filled(&KEY, 65_535, &[1; 128])?;
     watch.lap(rt, "fill-gap", 1)
 }
