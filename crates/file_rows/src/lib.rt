@@ -11,14 +11,22 @@ mod deletions;
 #[cfg(test)]
 mod entries;
 #[cfg(test)]
+mod finding;
+#[cfg(test)]
 mod fixtures;
+#[cfg(test)]
+mod hosting;
 #[cfg(test)]
 mod hosts;
 #[cfg(test)]
 mod names;
+#[cfg(test)]
+mod questions;
 #[cfg(test)]
 mod renames;
 #[cfg(test)]
 mod searches;
 #[cfg(test)]
 mod tables;
+#[cfg(test)]
+mod telling;
