@@ -1,70 +1,58 @@
 // Folders that are not read.
 
-use crate::fixtures::{make_folder, put, remove_folder, tells};
-use std::fs;
+use crate::acts::Act::{Put, PutMany, PutSparse, RemoveAll, Tells, TellsBoth};
+use crate::acts::Text::{Around, Is};
+use crate::acts::{Act, play};
 use std::test::Fail;
 
 #[test]
 fn two_files_of_one_name_are_told(rt: HostRuntime) -> Result<(), Fail> {
-    let folder = make_folder(&rt, "twice")?;
-    for file in ["z", "Z", "a.txt", "A.TXT", "A.txt", "0"] {
-        put(&rt, folder.as_str(), file, b"x".as_slice())?;
-    }
-    let path = folder.as_str();
-    tells(&rt, [Some(path), None, None, None], "two files are A.TXT")?;
-    tells(&rt, [None, None, Some(path), None], "two files are C:A.TXT")?;
-    remove_folder(&rt, path)
+    const ACTS: &[Act<'_>] = &[
+        Put("z", b"x"),
+        Put("Z", b"x"),
+        Put("a.txt", b"x"),
+        Put("A.TXT", b"x"),
+        Put("A.txt", b"x"),
+        Put("0", b"x"),
+        Tells("", Some(0), Is("two files are A.TXT")),
+        Tells("", Some(2), Is("two files are C:A.TXT")),
+        RemoveAll(""),
+    ];
+    play(&rt, "twice", ACTS)
 }
 
 #[test]
 fn a_folder_that_is_not_there_is_told(rt: HostRuntime) -> Result<(), Fail> {
-    let folder = make_folder(&rt, "gone")?;
-    let missing = format!(in rt.alloc(); "{folder}/none")?;
-    let wanted = format!(in rt.alloc(); "cannot read {folder}/none")?;
-    let path = missing.as_str();
-    tells(&rt, [None, Some(path), None, None], wanted.as_str())?;
-    put(&rt, folder.as_str(), "none", b"x".as_slice())?;
-    tells(&rt, [Some(path), None, None, None], wanted.as_str())?;
-    remove_folder(&rt, folder.as_str())
-}
-
-// Makes a file of zeros of this length, which takes no room.
-fn put_sparse(rt: &HostRuntime, folder: &str, file: &str, len: u64) -> Result<(), Fail> {
-    let path = format!(in rt.alloc(); "{folder}/{file}")?;
-    fs::create(rt, path.as_str())?.set_len(len)?;
-    Ok(())
+    const ACTS: &[Act<'_>] = &[
+        Tells("none", Some(1), Around("cannot read ", "/none")),
+        Put("none", b"x"),
+        Tells("none", Some(0), Around("cannot read ", "/none")),
+        RemoveAll(""),
+    ];
+    play(&rt, "gone", ACTS)
 }
 
 #[test]
 fn a_file_may_be_too_long(rt: HostRuntime) -> Result<(), Fail> {
-    let folder = make_folder(&rt, "long")?;
-    let path = folder.as_str();
-    put_sparse(&rt, path, "big", 8_388_608)?;
-    tells(&rt, [Some(path), None, None, None], " BIG")?;
-    put_sparse(&rt, path, "big", 8_388_609)?;
-    tells(&rt, [None, None, None, Some(path)], "file D:BIG refused 1")?;
-    put_sparse(&rt, path, "big", 1_000_000_000_000)?;
-    tells(&rt, [Some(path), None, None, None], "file BIG refused 1")?;
-    remove_folder(&rt, path)
-}
-
-// Writes so many empty files.
-fn put_many(rt: &HostRuntime, folder: &str, count: u32) -> Result<(), Fail> {
-    for number in 0..count {
-        let file = format!(in rt.alloc(); "f{number:03}")?;
-        put(rt, folder, file.as_str(), b"".as_slice())?;
-    }
-    Ok(())
+    const ACTS: &[Act<'_>] = &[
+        PutSparse("big", 8_388_608),
+        Tells("", Some(0), Is(" BIG")),
+        PutSparse("big", 8_388_609),
+        Tells("", Some(3), Is("file D:BIG refused 1")),
+        PutSparse("big", 1_000_000_000_000),
+        Tells("", Some(0), Is("file BIG refused 1")),
+        RemoveAll(""),
+    ];
+    play(&rt, "long", ACTS)
 }
 
 #[test]
 fn there_may_be_too_many_files(rt: HostRuntime) -> Result<(), Fail> {
-    let first = make_folder(&rt, "many")?;
-    let second = make_folder(&rt, "more")?;
-    put_many(&rt, first.as_str(), 500)?;
-    put_many(&rt, second.as_str(), 13)?;
-    let folders = [Some(first.as_str()), Some(second.as_str()), None, None];
-    tells(&rt, folders, "file B:F012 refused 2")?;
-    remove_folder(&rt, first.as_str())?;
-    remove_folder(&rt, second.as_str())
+    const ACTS: &[Act<'_>] = &[
+        PutMany("many", 500),
+        PutMany("more", 13),
+        TellsBoth("many", "more", Is("file B:F012 refused 2")),
+        RemoveAll(""),
+    ];
+    play(&rt, "count", ACTS)
 }

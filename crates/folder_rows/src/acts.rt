@@ -1,0 +1,222 @@
+// What is done in the folder of a test, and what is told of it then.
+
+use crate::listed::{Telling, told};
+use crate::written::{How, has_a_hole, wrote};
+use std::alloc::{AllocError, Global};
+use std::os::unix::fs::symlink;
+use std::test::Fail;
+use std::{fs, process};
+
+/// What a test does or asks. Each begins with a path in the folder of the test; an empty one is that folder.
+#[derive(Clone, Copy)]
+pub enum Act<'a> {
+    /// A file of these bytes is written.
+    Put(&'a str, &'a [u8]),
+    /// A file of so many zeros is made, which takes no room.
+    PutSparse(&'a str, u64),
+    /// A folder of so many empty files is made.
+    PutMany(&'a str, u32),
+    MakeFolder(&'a str),
+    /// A folder in which nothing is left is removed.
+    RemoveFolder(&'a str),
+    /// A folder is removed with all that is in it.
+    RemoveAll(&'a str),
+    /// A symbolic link, which leads here.
+    Link(&'a str, &'a str),
+    /// What is told of a folder that is read as that of a drive, from 0 on; with none, where no folder is read.
+    Tells(&'a str, Option<usize>, Text<'a>),
+    /// What is told where another folder is read as that of drive B.
+    TellsBoth(&'a str, &'a str, Text<'a>),
+    /// On drive C there are a file `two` of two records and a file `none` of none.
+    HasBoth(&'a str),
+    /// What is told where the file of this name, which a run made, is written.
+    Writes(&'a str, &'a str, How, Text<'a>),
+    /// The written file has two records, and zeros in the hole between them.
+    HasAHole(&'a str),
+}
+
+use Act::{
+    HasAHole, HasBoth, Link, MakeFolder, Put, PutMany, PutSparse, RemoveAll, RemoveFolder, Tells,
+    TellsBoth, Writes,
+};
+
+/// What is to be told.
+#[derive(Clone, Copy)]
+pub enum Text<'a> {
+    /// This.
+    Is(&'a str),
+    /// The path of the test's folder between these two.
+    Around(&'a str, &'a str),
+}
+
+// An act, counted from 1, after which other than what is wanted is told.
+#[derive(Clone, Copy, Debug)]
+struct NotAsWanted {
+    act: u32,
+}
+
+/// Carries out acts in an empty folder of this name.
+pub fn play(rt: &HostRuntime, name: &str, acts: &[Act<'_>]) -> Result<(), Fail> {
+    let folder = make_folder(rt, name)?;
+    all(rt, folder.as_str(), acts)
+}
+
+// Makes an empty folder for a test of this name, and gives its path.
+fn make_folder(rt: &HostRuntime, name: &str) -> Result<String, Fail> {
+    let id = process::id(rt.process());
+    let path = format!(in rt.alloc(); "/tmp/vembrusk-{id}-{name}")?;
+    make_empty(rt, path.as_str())?;
+    Ok(path)
+}
+
+fn make_empty(rt: &HostRuntime, path: &str) -> Result<(), Fail> {
+    let _ = fs::remove_dir_all(rt, path);
+    fs::create_dir_all(rt, path)?;
+    Ok(())
+}
+
+fn all(rt: &HostRuntime, folder: &str, acts: &[Act<'_>]) -> Result<(), Fail> {
+    let mut number: u32 = 0;
+    for act in acts {
+        number = number.wrapping_add(1);
+        if !carry_out(rt, folder, *act)? {
+            return Err(Fail::from(NotAsWanted { act: number }));
+        }
+    }
+    Ok(())
+}
+
+// Carries out an act, and gives whether what is told is as wanted.
+fn carry_out(rt: &HostRuntime, folder: &str, act: Act<'_>) -> Result<bool, Fail> {
+    let path = path_in(rt.alloc(), folder, place_of(act))?;
+    carry_out_at(rt, folder, path.as_str(), act)
+}
+
+fn path_in(alloc: Global, folder: &str, place: &str) -> Result<String, AllocError> {
+    if place.is_empty() {
+        return String::from_str(alloc, folder);
+    }
+    format!(in alloc; "{folder}/{place}")
+}
+
+fn place_of(act: Act<'_>) -> &str {
+    match act {
+        Put(place, _) | PutSparse(place, _) | PutMany(place, _) => place,
+        MakeFolder(place) | RemoveFolder(place) | RemoveAll(place) | Link(place, _) => place,
+        Tells(place, _, _) | TellsBoth(place, _, _) | HasBoth(place) => place,
+        Writes(place, _, _, _) | HasAHole(place) => place,
+    }
+}
+
+fn carry_out_at(rt: &HostRuntime, folder: &str, path: &str, act: Act<'_>) -> Result<bool, Fail> {
+    match act {
+        Put(_, bytes) => fs::write(rt, path, bytes)?,
+        PutSparse(_, len) => put_sparse(rt, path, len)?,
+        PutMany(_, count) => put_many(rt, path, count)?,
+        MakeFolder(_) => fs::create_dir(rt, path)?,
+        RemoveFolder(_) => fs::remove_dir(rt, path)?,
+        RemoveAll(_) => fs::remove_dir_all(rt, path)?,
+        Link(_, target) => symlink(rt, target, path)?,
+        _ => return answers(rt, folder, path, act),
+    }
+    Ok(true)
+}
+
+fn put_sparse(rt: &HostRuntime, path: &str, len: u64) -> Result<(), Fail> {
+    fs::create(rt, path)?.set_len(len)?;
+    Ok(())
+}
+
+fn put_many(rt: &HostRuntime, folder: &str, count: u32) -> Result<(), Fail> {
+    fs::create_dir(rt, folder)?;
+    for number in 0..count {
+        put_empty(rt, folder, number)?;
+    }
+    Ok(())
+}
+
+fn put_empty(rt: &HostRuntime, folder: &str, number: u32) -> Result<(), Fail> {
+    let path = format!(in rt.alloc(); "{folder}/f{number:03}")?;
+    fs::write(rt, path.as_str(), b"".as_slice())?;
+    Ok(())
+}
+
+fn answers(rt: &HostRuntime, folder: &str, path: &str, act: Act<'_>) -> Result<bool, Fail> {
+    match act {
+        Tells(_, drive, text) => tells(rt, folder, on_drive(drive, path), text),
+        TellsBoth(_, place, text) => tells_both(rt, folder, path, place, text),
+        HasBoth(_) => has_both(rt, path),
+        Writes(_, name, how, text) => writes(rt, folder, path, name, how, text),
+        HasAHole(_) => has_a_hole(rt, path),
+        _ => Ok(false),
+    }
+}
+
+// A folder as that of a drive, with none for the others.
+fn on_drive(drive: Option<usize>, path: &str) -> [Option<&str>; 4] {
+    let mut folders = [None; 4];
+    if let Some(place) = drive
+        && place < 4
+    {
+        folders[place] = Some(path);
+    }
+    folders
+}
+
+fn tells(
+    rt: &HostRuntime,
+    folder: &str,
+    folders: [Option<&str>; 4],
+    wanted: Text<'_>,
+) -> Result<bool, Fail> {
+    let found = told(rt, folders, Telling::Names)?;
+    Ok(is_text(found.as_str(), folder, wanted))
+}
+
+fn tells_both(
+    rt: &HostRuntime,
+    folder: &str,
+    first: &str,
+    place: &str,
+    wanted: Text<'_>,
+) -> Result<bool, Fail> {
+    let second = path_in(rt.alloc(), folder, place)?;
+    tells(rt, folder, on_two_drives(first, second.as_str()), wanted)
+}
+
+// Folders as those of drives A and B.
+fn on_two_drives<'a>(first: &'a str, second: &'a str) -> [Option<&'a str>; 4] {
+    [Some(first), Some(second), None, None]
+}
+
+fn writes(
+    rt: &HostRuntime,
+    folder: &str,
+    path: &str,
+    name: &str,
+    how: How,
+    wanted: Text<'_>,
+) -> Result<bool, Fail> {
+    let found = wrote(rt, path, name, how)?;
+    Ok(is_text(found.as_str(), folder, wanted))
+}
+
+fn has_both(rt: &HostRuntime, path: &str) -> Result<bool, Fail> {
+    let found = told(rt, on_drive(Some(2), path), Telling::Both)?;
+    Ok(found.as_str() == "both")
+}
+
+fn is_text(found: &str, folder: &str, wanted: Text<'_>) -> bool {
+    match wanted {
+        Text::Is(text) => found == text,
+        Text::Around(before, after) => are_joined(found.as_bytes(), before, folder, after),
+    }
+}
+
+// Whether a text is these three, one after another.
+fn are_joined(found: &[u8], first: &str, second: &str, third: &str) -> bool {
+    match found.strip_prefix(first.as_bytes()) {
+        Some(rest) => rest.strip_prefix(second.as_bytes()) == Some(third.as_bytes()),
+        None => false,
+    }
+}

@@ -1,0 +1,84 @@
+// What is told of folders that are read.
+
+use filenames::Name;
+use folders::{Fault, read_folders};
+use hostfiles::HostFiles;
+use std::alloc::{AllocError, Global};
+use std::rt::Files;
+use std::test::Fail;
+
+/// What is told of host files.
+#[derive(Clone, Copy)]
+pub enum Telling {
+    /// Their names, each printed behind a blank.
+    Names,
+    /// `both`, where drive C has a file `two` of 130 bytes `y`, and a file `none` of none.
+    Both,
+}
+
+/// What is told of the host files of four folders, or of their fault.
+pub fn told<R: Files + AllocGlobal + Clone>(
+    rt: &R,
+    folders: [Option<&str>; 4],
+    telling: Telling,
+) -> Result<String, Fail> {
+    match read_folders(rt, &folders) {
+        Ok(files) => tell(rt.alloc(), &files, telling),
+        Err(fault) => Ok(text(rt.alloc(), &fault)?),
+    }
+}
+
+fn tell(alloc: Global, files: &HostFiles, telling: Telling) -> Result<String, Fail> {
+    match telling {
+        Telling::Names => Ok(names(alloc, files)?),
+        Telling::Both => both(alloc, files),
+    }
+}
+
+fn both(alloc: Global, files: &HostFiles) -> Result<String, Fail> {
+    let two = Name::parse("c:two")?;
+    let none = Name::parse("c:none")?;
+    let told = if are_there(files, &two, &none) {
+        "both"
+    } else {
+        "other"
+    };
+    Ok(String::from_str(alloc, told)?)
+}
+
+/// What is told of a fault.
+pub fn text(alloc: Global, fault: &Fault) -> Result<String, AllocError> {
+    format!(in alloc; "{fault}")
+}
+
+fn names(alloc: Global, files: &HostFiles) -> Result<String, AllocError> {
+    let mut list = String::new(alloc);
+    push_names(alloc, files, &mut list)?;
+    Ok(list)
+}
+
+fn push_names(alloc: Global, files: &HostFiles, list: &mut String) -> Result<(), AllocError> {
+    let mut after: Option<Name> = None;
+    for _ in 0..1024 {
+        let Some(name) = files.next(after.as_ref()) else {
+            break;
+        };
+        push_name(alloc, &name, list)?;
+        after = Some(name);
+    }
+    Ok(())
+}
+
+fn push_name(alloc: Global, name: &Name, list: &mut String) -> Result<(), AllocError> {
+    let printed = format!(in alloc; " {name}")?;
+    list.push_str(printed.as_str())
+}
+
+fn are_there(files: &HostFiles, two: &Name, none: &Name) -> bool {
+    let mut last = [0x1a; 128];
+    last[0] = b'y';
+    last[1] = b'y';
+    files.records(two) == Some(2)
+        && files.records(none) == Some(0)
+        && files.record(two, 1) == Some(last)
+}

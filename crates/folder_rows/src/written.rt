@@ -1,0 +1,105 @@
+// Files that a run made, and that are written.
+
+use crate::listed::text;
+use filenames::Name;
+use folders::{Fault, name_in_folder, temporary_name, write_file, write_to_drive};
+use hostfiles::{Changes, HostFiles};
+use std::alloc::{AllocError, Global};
+use std::fs;
+use std::test::Fail;
+
+/// What is written, and where.
+#[derive(Clone, Copy)]
+pub enum How {
+    /// Two records, a hole between them, into the folder.
+    WithAHole,
+    /// No record, into the folder of the file's drive: this one for drive B, none for A and C, and for D one that is not there.
+    ToItsDrive,
+}
+
+/// Writes a file that a run made, and gives what is told of a fault; nothing where there is none.
+pub fn wrote(rt: &HostRuntime, folder: &str, name: &str, how: How) -> Result<String, Fail> {
+    let name = Name::parse(name)?;
+    let mut changes = Changes::new(rt.alloc());
+    made_and_wrote(rt, folder, &mut changes, &name, how)
+}
+
+fn made_and_wrote(
+    rt: &HostRuntime,
+    folder: &str,
+    changes: &mut Changes,
+    name: &Name,
+    how: How,
+) -> Result<String, Fail> {
+    make(changes, name, how)?;
+    Ok(write(rt, folder, changes, name, how)?)
+}
+
+fn make(changes: &mut Changes, name: &Name, how: How) -> Result<(), AllocError> {
+    changes.journal.make(&name.key())?;
+    match how {
+        How::WithAHole => write_apart(changes, name),
+        How::ToItsDrive => Ok(()),
+    }
+}
+
+fn write_apart(changes: &mut Changes, name: &Name) -> Result<(), AllocError> {
+    changes.journal.write(&name.key(), 0, 0, &[1; 128])?;
+    changes.journal.write(&name.key(), 1, 2, &[3; 128])
+}
+
+fn write(
+    rt: &HostRuntime,
+    folder: &str,
+    changes: &Changes,
+    name: &Name,
+    how: How,
+) -> Result<String, AllocError> {
+    let host = HostFiles::new(rt.alloc());
+    if host.records_with(changes, name).is_none() {
+        return String::from_str(rt.alloc(), "no such file");
+    }
+    let folders = [None, Some(folder), None, Some("/none")];
+    let answer = match how {
+        How::WithAHole => write_file(rt, folder, &host, changes, name),
+        How::ToItsDrive => write_to_drive(rt, &folders, &host, changes, name),
+    };
+    text_of(rt.alloc(), answer)
+}
+
+// What is told of a fault; nothing where there is none.
+fn text_of(alloc: Global, answer: Result<(), Fault>) -> Result<String, AllocError> {
+    match answer {
+        Ok(()) => Ok(String::new(alloc)),
+        Err(fault) => text(alloc, &fault),
+    }
+}
+
+/// Whether a file has two records, and zeros in the hole between them.
+pub fn has_a_hole(rt: &HostRuntime, path: &str) -> Result<bool, Fail> {
+    let bytes = fs::read(rt, path)?;
+    Ok(are_apart(bytes.as_slice()))
+}
+
+fn are_apart(bytes: &[u8]) -> bool {
+    let mut wanted = [1; 384];
+    wanted[128..256].fill(0);
+    wanted[256..].fill(3);
+    bytes == wanted.as_slice()
+}
+
+/// Whether a file is written under this name at first, which is passed over where a folder is read.
+pub fn is_passed_over(alloc: Global, name: &str, file: &str) -> Result<bool, Fail> {
+    let name = Name::parse(name)?;
+    let temporary = temporary_name(alloc, &name)?;
+    Ok(temporary.as_str() == file && is_no_name(temporary.as_str()))
+}
+
+fn is_no_name(file: &str) -> bool {
+    for drive in 0..4 {
+        if name_in_folder(drive, file).is_some() {
+            return false;
+        }
+    }
+    true
+}
