@@ -2,9 +2,9 @@
 
 use crate::steps::Step::{All, Are, Call, Fill, NoDrive, Put};
 use crate::steps::{
-    ALL_NAMES, ANN, BEN, BLOCK, BUFFER, CLOSE, CR, DELETE, EX, FILE_SIZE, FILL_RANDOM, MAKE,
+    ALL_NAMES, ANN, BEN, BLOCK, BUFFER, CLOSE, CR, Case, DELETE, EX, FILE_SIZE, FILL_RANDOM, MAKE,
     NEW_NAME, OPEN, OTHER, READ, READ_RANDOM, RENAME, RESET_DISKS, SEARCH_FIRST, SEARCH_NEXT,
-    SELECT_DISK, SET_BUFFER, SET_RANDOM, Step, WRITE, WRITE_RANDOM, steps,
+    SELECT_DISK, SET_BUFFER, SET_RANDOM, Step, WRITE, WRITE_RANDOM, play,
 };
 use std::test::Fail;
 
@@ -25,11 +25,6 @@ const CURRENT: &[Step<'_>] = &[
     Call(CLOSE, OTHER, 0),
 ];
 
-#[test]
-fn a_control_block_names_a_drive(rt: HostRuntime) -> Result<(), Fail> {
-    steps(&rt, rt.alloc(), &[("ann", 1), ("b:ben", 1)], CURRENT)
-}
-
 // Drive byte 4 is D, and a file of one name may be on each drive.
 const EACH: &[Step<'_>] = &[
     Put(BLOCK, b"\x04ANN        "),
@@ -44,11 +39,6 @@ const EACH: &[Step<'_>] = &[
     Call(CLOSE, BLOCK, 0),
 ];
 
-#[test]
-fn a_name_may_be_on_each_drive(rt: HostRuntime) -> Result<(), Fail> {
-    steps(&rt, rt.alloc(), &[("ann", 1)], EACH)
-}
-
 // Both names of a rename are on the drive of the first byte.
 const RENAMED: &[Step<'_>] = &[
     Put(BLOCK, b"\x02ANN        "),
@@ -61,11 +51,6 @@ const RENAMED: &[Step<'_>] = &[
     Put(BLOCK, b"\x01ANN        "),
     Call(CLOSE, BLOCK, 0),
 ];
-
-#[test]
-fn a_renamed_file_stays_on_its_drive(rt: HostRuntime) -> Result<(), Fail> {
-    steps(&rt, rt.alloc(), &[("ann", 1), ("b:ann", 1)], RENAMED)
-}
 
 // A search keeps its drive, whatever is current then. An entry doesn't tell the drive.
 const SEARCHED: &[Step<'_>] = &[
@@ -80,12 +65,6 @@ const SEARCHED: &[Step<'_>] = &[
     Are(BUFFER, b"\0CAT        \0\0\0\x03"),
     Call(SEARCH_NEXT, BLOCK, 0xff),
 ];
-
-#[test]
-fn a_search_keeps_its_drive(rt: HostRuntime) -> Result<(), Fail> {
-    let files = &[("ann", 1), ("ben", 129), ("b:cat", 257)];
-    steps(&rt, rt.alloc(), files, SEARCHED)
-}
 
 // Drive byte 5 would be E: each call stops, and changes nothing.
 const NO_DRIVE: &[Step<'_>] = &[
@@ -110,11 +89,6 @@ const NO_DRIVE: &[Step<'_>] = &[
     All(BUFFER, 128, b'-'),
 ];
 
-#[test]
-fn a_fifth_drive_stops_each_call(rt: HostRuntime) -> Result<(), Fail> {
-    steps(&rt, rt.alloc(), &[("ann", 1)], NO_DRIVE)
-}
-
 // A call that stops leaves the current drive, the buffer address and the search.
 const LEFT: &[Step<'_>] = &[
     Call(SELECT_DISK, 1, 0),
@@ -128,12 +102,6 @@ const LEFT: &[Step<'_>] = &[
     Put(BLOCK, b"\0BEN        "),
     Call(CLOSE, BLOCK, 0),
 ];
-
-#[test]
-fn a_call_that_stops_leaves_the_desk(rt: HostRuntime) -> Result<(), Fail> {
-    let files = &[("ann", 1), ("b:ben", 1), ("b:cat", 129)];
-    steps(&rt, rt.alloc(), files, LEFT)
-}
 
 // Function 13 goes back to the buffer at 0080H.
 const BUFFERS: &[Step<'_>] = &[
@@ -150,7 +118,45 @@ const BUFFERS: &[Step<'_>] = &[
     Are(0x0100, b"\0"),
 ];
 
+const CASES: &[Case<'_>] = &[
+    Case {
+        name: "a control block names a drive",
+        files: &[("ann", 1), ("b:ben", 1)],
+        steps: CURRENT,
+    },
+    Case {
+        name: "a name may be on each drive",
+        files: &[("ann", 1)],
+        steps: EACH,
+    },
+    Case {
+        name: "a renamed file stays on its drive",
+        files: &[("ann", 1), ("b:ann", 1)],
+        steps: RENAMED,
+    },
+    Case {
+        name: "a search keeps its drive",
+        files: &[("ann", 1), ("ben", 129), ("b:cat", 257)],
+        steps: SEARCHED,
+    },
+    Case {
+        name: "a fifth drive stops each call",
+        files: &[("ann", 1)],
+        steps: NO_DRIVE,
+    },
+    Case {
+        name: "a call that stops leaves the desk",
+        files: &[("ann", 1), ("b:ben", 1), ("b:cat", 129)],
+        steps: LEFT,
+    },
+    Case {
+        name: "a record goes to the buffer address",
+        files: &[("ann", 130)],
+        steps: BUFFERS,
+    },
+];
+
 #[test]
-fn a_record_goes_to_the_buffer_address(rt: HostRuntime) -> Result<(), Fail> {
-    steps(&rt, rt.alloc(), &[("ann", 130)], BUFFERS)
+fn drives_and_buffer_addresses(rt: HostRuntime) -> Result<(), Fail> {
+    play(&rt, rt.alloc(), CASES)
 }

@@ -2,8 +2,8 @@
 
 use crate::steps::Step::{All, Are, Call, Fill, Put};
 use crate::steps::{
-    ALL_NAMES, ANN, BLOCK, BUFFER, MAKE, READ, SEARCH_FIRST, SET_BUFFER, SET_RANDOM, Step, WRITE,
-    steps,
+    ALL_NAMES, ANN, BLOCK, BUFFER, Case, MAKE, READ, SEARCH_FIRST, SET_BUFFER, SET_RANDOM, Step,
+    WRITE, play,
 };
 use std::test::Fail;
 
@@ -34,11 +34,6 @@ const READ_OVER: &[Step<'_>] = &[
     Are(0x0040, b"\0"),
 ];
 
-#[test]
-fn a_record_is_read_over_its_control_block(rt: HostRuntime) -> Result<(), Fail> {
-    steps(&rt, rt.alloc(), &[("ann", 130)], READ_OVER)
-}
-
 // The record has 48 letters a, the control block's 12 bytes of the name and 24 zeros, and 44 letters b.
 const WRITTEN: &[Step<'_>] = &[
     Put(HIGH_BLOCK, ANN),
@@ -58,11 +53,6 @@ const WRITTEN: &[Step<'_>] = &[
     All(0x0354, 44, b'b'),
 ];
 
-#[test]
-fn a_record_is_written_with_its_control_block(rt: HostRuntime) -> Result<(), Fail> {
-    steps(&rt, rt.alloc(), &[], WRITTEN)
-}
-
 const ENTRY: &[Step<'_>] = &[
     Put(BLOCK, ALL_NAMES),
     Call(SET_BUFFER, HIGH_BUFFER, 0),
@@ -73,11 +63,6 @@ const ENTRY: &[Step<'_>] = &[
     Are(0x0040, b"\0"),
 ];
 
-#[test]
-fn a_directory_record_goes_on_in_page_zero(rt: HostRuntime) -> Result<(), Fail> {
-    steps(&rt, rt.alloc(), &[("ann", 130)], ENTRY)
-}
-
 // The byte cr is the first cell of memory, and the random place is in the three after it.
 const PLACE: &[Step<'_>] = &[
     Put(0x0000, b"\xc3\x11\x22\x33\x44"),
@@ -85,7 +70,30 @@ const PLACE: &[Step<'_>] = &[
     Are(0x0000, b"\xc3\xc3\0\0\x44"),
 ];
 
+const CASES: &[Case<'_>] = &[
+    Case {
+        name: "a record is read over its control block",
+        files: &[("ann", 130)],
+        steps: READ_OVER,
+    },
+    Case {
+        name: "a record is written with its control block",
+        files: &[],
+        steps: WRITTEN,
+    },
+    Case {
+        name: "a directory record goes on in page zero",
+        files: &[("ann", 130)],
+        steps: ENTRY,
+    },
+    Case {
+        name: "a random place is in page zero",
+        files: &[],
+        steps: PLACE,
+    },
+];
+
 #[test]
-fn a_random_place_is_in_page_zero(rt: HostRuntime) -> Result<(), Fail> {
-    steps(&rt, rt.alloc(), &[], PLACE)
+fn cells_across_the_end_of_memory(rt: HostRuntime) -> Result<(), Fail> {
+    play(&rt, rt.alloc(), CASES)
 }

@@ -2,8 +2,8 @@
 
 use crate::steps::Step::{All, Are, Call, Fill, Put};
 use crate::steps::{
-    ALL_NAMES, ANN, BEN, BLOCK, CAT, CLOSE, CR, DELETE, EX, FILE_SIZE, MAKE, NEW_NAME, OTHER, R0,
-    RENAME, Step, steps,
+    ALL_NAMES, ANN, BEN, BLOCK, CAT, CLOSE, CR, Case, DELETE, EX, FILE_SIZE, MAKE, NEW_NAME, OTHER,
+    R0, RENAME, Step, play,
 };
 use std::test::Fail;
 
@@ -27,11 +27,6 @@ const NOT_MADE: &[Step<'_>] = &[
     All(EX, 24, 0x77),
 ];
 
-#[test]
-fn a_file_is_made_for_a_new_name_that_can_be_said(rt: HostRuntime) -> Result<(), Fail> {
-    steps(&rt, rt.alloc(), &[("ann", 1)], NOT_MADE)
-}
-
 // ANN has 130 bytes, and so CAT has two records then. Byte 16 of the control block is not used.
 const RENAMED: &[Step<'_>] = &[
     Put(BLOCK, ANN),
@@ -48,11 +43,6 @@ const RENAMED: &[Step<'_>] = &[
     Call(FILE_SIZE, BLOCK, 0),
     Are(R0, b"\x02\0\0"),
 ];
-
-#[test]
-fn a_file_gets_another_name(rt: HostRuntime) -> Result<(), Fail> {
-    steps(&rt, rt.alloc(), &[("ann", 130)], RENAMED)
-}
 
 // A name that is there, the file's own name, a pattern, and names that can't be said.
 const NOT_A_NEW_NAME: &[Step<'_>] = &[
@@ -73,11 +63,6 @@ const NOT_A_NEW_NAME: &[Step<'_>] = &[
     Call(CLOSE, OTHER, 0),
 ];
 
-#[test]
-fn a_new_name_is_free_and_can_be_said(rt: HostRuntime) -> Result<(), Fail> {
-    steps(&rt, rt.alloc(), &[("ann", 1), ("ben", 1)], NOT_A_NEW_NAME)
-}
-
 // A name that no file has, and patterns that a file's name matches.
 const NOT_AN_OLD_NAME: &[Step<'_>] = &[
     Put(NEW_NAME, CAT),
@@ -92,11 +77,6 @@ const NOT_AN_OLD_NAME: &[Step<'_>] = &[
     Put(BLOCK, ANN),
     Call(CLOSE, BLOCK, 0),
 ];
-
-#[test]
-fn an_old_name_is_that_of_a_file(rt: HostRuntime) -> Result<(), Fail> {
-    steps(&rt, rt.alloc(), &[("ann", 1)], NOT_AN_OLD_NAME)
-}
 
 // A deletion alone takes `?` for any letter: no file is named so.
 const DELETED: &[Step<'_>] = &[
@@ -115,11 +95,6 @@ const DELETED: &[Step<'_>] = &[
     Call(CLOSE, BLOCK, 0xff),
 ];
 
-#[test]
-fn a_deleted_file_is_not_there(rt: HostRuntime) -> Result<(), Fail> {
-    steps(&rt, rt.alloc(), &[("ann", 1), ("ben", 1)], DELETED)
-}
-
 // BEN matches alone: ANN has another first letter, and BEN.TXT another type.
 const SOME_DELETED: &[Step<'_>] = &[
     Put(BLOCK, b"\0B??        "),
@@ -132,8 +107,40 @@ const SOME_DELETED: &[Step<'_>] = &[
     Call(CLOSE, BLOCK, 0),
 ];
 
+const CASES: &[Case<'_>] = &[
+    Case {
+        name: "a file is made for a new name that can be said",
+        files: &[("ann", 1)],
+        steps: NOT_MADE,
+    },
+    Case {
+        name: "a file gets another name",
+        files: &[("ann", 130)],
+        steps: RENAMED,
+    },
+    Case {
+        name: "a new name is free and can be said",
+        files: &[("ann", 1), ("ben", 1)],
+        steps: NOT_A_NEW_NAME,
+    },
+    Case {
+        name: "an old name is that of a file",
+        files: &[("ann", 1)],
+        steps: NOT_AN_OLD_NAME,
+    },
+    Case {
+        name: "a deleted file is not there",
+        files: &[("ann", 1), ("ben", 1)],
+        steps: DELETED,
+    },
+    Case {
+        name: "a deletion takes what matches",
+        files: &[("ann", 1), ("ben", 1), ("ben.txt", 1)],
+        steps: SOME_DELETED,
+    },
+];
+
 #[test]
-fn a_deletion_takes_what_matches(rt: HostRuntime) -> Result<(), Fail> {
-    let files = &[("ann", 1), ("ben", 1), ("ben.txt", 1)];
-    steps(&rt, rt.alloc(), files, SOME_DELETED)
+fn names(rt: HostRuntime) -> Result<(), Fail> {
+    play(&rt, rt.alloc(), CASES)
 }

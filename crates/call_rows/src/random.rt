@@ -2,8 +2,8 @@
 
 use crate::steps::Step::{All, Are, Call, Fill, Put};
 use crate::steps::{
-    ANN, BEN, BLOCK, BUFFER, CR, EX, FILE_SIZE, FILL_RANDOM, MAKE, R0, READ_RANDOM, SET_RANDOM,
-    Step, WRITE_RANDOM, steps,
+    ANN, BEN, BLOCK, BUFFER, CR, Case, EX, FILE_SIZE, FILL_RANDOM, MAKE, R0, READ_RANDOM,
+    SET_RANDOM, Step, WRITE_RANDOM, play,
 };
 use std::test::Fail;
 
@@ -26,11 +26,6 @@ const LONGEST: &[Step<'_>] = &[
     All(BUFFER, 128, b'w'),
 ];
 
-#[test]
-fn the_longest_file_has_65_536_places(rt: HostRuntime) -> Result<(), Fail> {
-    steps(&rt, rt.alloc(), &[], LONGEST)
-}
-
 // A place that was not written: 1 where its extent holds a record, else 4; buffer and control block stay.
 const HOLE: &[Step<'_>] = &[
     Put(BLOCK, ANN),
@@ -51,11 +46,6 @@ const HOLE: &[Step<'_>] = &[
     All(BUFFER, 128, b'-'),
 ];
 
-#[test]
-fn a_place_in_a_written_extent_is_a_hole(rt: HostRuntime) -> Result<(), Fail> {
-    steps(&rt, rt.alloc(), &[], HOLE)
-}
-
 const WRITTEN: &[Step<'_>] = &[
     Put(BLOCK, ANN),
     Call(MAKE, BLOCK, 0),
@@ -71,11 +61,6 @@ const WRITTEN: &[Step<'_>] = &[
     Call(FILE_SIZE, BLOCK, 0),
     Are(R0, b"\x03\0\0"),
 ];
-
-#[test]
-fn a_written_place_is_read_and_is_the_place_then(rt: HostRuntime) -> Result<(), Fail> {
-    steps(&rt, rt.alloc(), &[], WRITTEN)
-}
 
 const FILLED: &[Step<'_>] = &[
     Put(BLOCK, ANN),
@@ -95,11 +80,6 @@ const FILLED: &[Step<'_>] = &[
     Call(READ_RANDOM, BLOCK, 1),
 ];
 
-#[test]
-fn places_before_a_record_are_filled_with_zeros(rt: HostRuntime) -> Result<(), Fail> {
-    steps(&rt, rt.alloc(), &[], FILLED)
-}
-
 // A hole that an earlier write left stays where function 40 fills the places after it.
 const OLDER_HOLE: &[Step<'_>] = &[
     Put(BLOCK, ANN),
@@ -117,11 +97,6 @@ const OLDER_HOLE: &[Step<'_>] = &[
     All(BUFFER, 128, 0),
 ];
 
-#[test]
-fn an_older_hole_stays(rt: HostRuntime) -> Result<(), Fail> {
-    steps(&rt, rt.alloc(), &[], OLDER_HOLE)
-}
-
 // An empty file has no record in any extent; one record makes its extent a written one.
 const PAST_THE_END: &[Step<'_>] = &[
     Put(BLOCK, ANN),
@@ -135,11 +110,6 @@ const PAST_THE_END: &[Step<'_>] = &[
     Put(R0, b"\x80"),
     Call(READ_RANDOM, BLOCK, 4),
 ];
-
-#[test]
-fn a_place_past_the_end_is_told_by_its_extent(rt: HostRuntime) -> Result<(), Fail> {
-    steps(&rt, rt.alloc(), &[], PAST_THE_END)
-}
 
 // Place 300 is told by 2 in ex and 44 in cr, and no other extent holds a record.
 const FAR: &[Step<'_>] = &[
@@ -157,11 +127,6 @@ const FAR: &[Step<'_>] = &[
     Are(R0, b"\x2d\x01\0"),
 ];
 
-#[test]
-fn an_extent_without_a_record_gives_4(rt: HostRuntime) -> Result<(), Fail> {
-    steps(&rt, rt.alloc(), &[], FAR)
-}
-
 // Where no file has the name, all else of the control block is without effect, but for its length, which becomes 0.
 const ABSENT: &[Step<'_>] = &[
     Put(BLOCK, BEN),
@@ -174,11 +139,6 @@ const ABSENT: &[Step<'_>] = &[
     Call(FILE_SIZE, BLOCK, 0xff),
     Are(CR, b"\x11\0\0\0"),
 ];
-
-#[test]
-fn a_file_that_is_not_there_gives_255(rt: HostRuntime) -> Result<(), Fail> {
-    steps(&rt, rt.alloc(), &[("ann", 300)], ABSENT)
-}
 
 // The sequential place is 4,096 times s2 and 128 times ex and cr, whether there is a file or not.
 const PLACES: &[Step<'_>] = &[
@@ -198,7 +158,55 @@ const PLACES: &[Step<'_>] = &[
     Are(R0, b"\0\0\x01"),
 ];
 
+const CASES: &[Case<'_>] = &[
+    Case {
+        name: "the longest file has 65 536 places",
+        files: &[],
+        steps: LONGEST,
+    },
+    Case {
+        name: "a place in a written extent is a hole",
+        files: &[],
+        steps: HOLE,
+    },
+    Case {
+        name: "a written place is read and is the place then",
+        files: &[],
+        steps: WRITTEN,
+    },
+    Case {
+        name: "places before a record are filled with zeros",
+        files: &[],
+        steps: FILLED,
+    },
+    Case {
+        name: "an older hole stays",
+        files: &[],
+        steps: OLDER_HOLE,
+    },
+    Case {
+        name: "a place past the end is told by its extent",
+        files: &[],
+        steps: PAST_THE_END,
+    },
+    Case {
+        name: "an extent without a record gives 4",
+        files: &[],
+        steps: FAR,
+    },
+    Case {
+        name: "a file that is not there gives 255",
+        files: &[("ann", 300)],
+        steps: ABSENT,
+    },
+    Case {
+        name: "a sequential place becomes the random one",
+        files: &[],
+        steps: PLACES,
+    },
+];
+
 #[test]
-fn a_sequential_place_becomes_the_random_one(rt: HostRuntime) -> Result<(), Fail> {
-    steps(&rt, rt.alloc(), &[], PLACES)
+fn random_places(rt: HostRuntime) -> Result<(), Fail> {
+    play(&rt, rt.alloc(), CASES)
 }

@@ -1,7 +1,5 @@
 // What a call works on: memory, files and the desk.
 
-ghost use Rattle.std.specs.Prelude.{◌≡◌, vec_len, IfOk};
-
 use bdos::{Desk, Served};
 use cpmfiles::{Changes, HostFiles, Name, Table};
 use i8080::{Bus, Flags, Regs};
@@ -26,22 +24,35 @@ pub struct Scene {
 }
 
 impl Scene {
-    /// A scene at its beginning, with host files, each of so many bytes `x`.
-    pub fn new(alloc: Global, files: &[(&str, usize)]) -> Result<Scene, Fail> {
-        let mut memory = PlainMemory::new(zeros(alloc)?);
-        memory.write(STACK, 0x45);
-        memory.write(STACK.wrapping_add(1), 0x03);
-        let mut host = HostFiles::new(alloc);
-        for (text, length) in files {
-            let bytes = vec![in alloc; b'x'; *length]?;
-            host.set(Name::parse(text)?, bytes.as_slice())?;
-        }
-        Ok(Scene {
+    /// A scene over a memory, with nothing else.
+    pub fn new(alloc: Global, memory: PlainMemory) -> Scene {
+        Scene {
             memory,
-            host,
+            host: HostFiles::new(alloc),
             changes: Changes::new(alloc),
             desk: Desk::new(alloc),
-        })
+        }
+    }
+
+    /// Puts the caller's address on the stack, and sets the buffer address and host files, each of so many bytes `x`.
+    pub fn begin(
+        &mut self,
+        alloc: Global,
+        buffer: u16,
+        files: &[(&str, usize)],
+    ) -> Result<(), Fail> {
+        self.put(STACK, &[0x45, 0x03]);
+        self.desk.set_buffer(buffer);
+        for (text, length) in files {
+            self.set_file(alloc, Name::parse(text)?, *length)?;
+        }
+        Ok(())
+    }
+
+    fn set_file(&mut self, alloc: Global, name: Name, length: usize) -> Result<(), Fail> {
+        let bytes = vec![in alloc; b'x'; length]?;
+        self.host.set(name, bytes.as_slice())?;
+        Ok(())
     }
 
     /// Carries out a call with a word in DE.
@@ -65,6 +76,13 @@ impl Scene {
             address = address.wrapping_add(1);
         }
     }
+
+    /// Writes a byte into so many cells from an address on.
+    pub fn fill(&mut self, at: u16, count: u16, byte: u8) {
+        for i in 0..count {
+            self.memory.write(at.wrapping_add(i), byte);
+        }
+    }
 }
 
 // Carries out the call of the registers.
@@ -79,11 +97,9 @@ fn serve(
     call(regs, memory, &mut table, desk, &[])
 }
 
-// A memory's bytes.
-fn zeros(alloc: Global) -> Result<Vec<u8>, AllocError>
-    ensures { IfOk result (λ v. vec_len v ≡ 65536) }
-{
-    Ok(vec![in alloc; 0; 65_536]?)
+/// A memory of zeros.
+pub fn blank_memory(alloc: Global) -> Result<PlainMemory, AllocError> {
+    Ok(PlainMemory::new(vec![in alloc; 0; 65_536]?))
 }
 
 /// The registers before a call with a word in DE.

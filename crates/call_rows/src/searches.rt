@@ -2,8 +2,8 @@
 
 use crate::steps::Step::{All, Are, Call, Fill, Put};
 use crate::steps::{
-    ALL_NAMES, ANN, BLOCK, BUFFER, DELETE, EX, MAKE, OTHER, R0, SEARCH_FIRST, SEARCH_NEXT, Step,
-    WRITE_RANDOM, steps,
+    ALL_NAMES, ANN, BLOCK, BUFFER, Case, DELETE, EX, MAKE, OTHER, R0, SEARCH_FIRST, SEARCH_NEXT,
+    Step, WRITE_RANDOM, play,
 };
 use std::test::Fail;
 
@@ -25,22 +25,11 @@ const GOES_ON: &[Step<'_>] = &[
     Are(BLOCK, ALL_NAMES),
 ];
 
-#[test]
-fn a_search_goes_on_after_a_deletion(rt: HostRuntime) -> Result<(), Fail> {
-    let files = &[("ann", 1), ("ben", 130), ("cat", 0)];
-    steps(&rt, rt.alloc(), files, GOES_ON)
-}
-
 const NO_SEARCH: &[Step<'_>] = &[
     Fill(BUFFER, 128, b'-'),
     Call(SEARCH_NEXT, BLOCK, 0xff),
     All(BUFFER, 128, b'-'),
 ];
-
-#[test]
-fn nothing_goes_on_without_a_search(rt: HostRuntime) -> Result<(), Fail> {
-    steps(&rt, rt.alloc(), &[("ann", 1)], NO_SEARCH)
-}
 
 // Once no entry is left, the search is over, even if a file is made that would match.
 const ENDED: &[Step<'_>] = &[
@@ -56,11 +45,6 @@ const ENDED: &[Step<'_>] = &[
     Are(BLOCK, ALL_NAMES),
 ];
 
-#[test]
-fn a_search_ends_with_the_last_entry(rt: HostRuntime) -> Result<(), Fail> {
-    steps(&rt, rt.alloc(), &[("ann", 1)], ENDED)
-}
-
 // A search that finds nothing ends that before it.
 const NONE_FOUND: &[Step<'_>] = &[
     Put(BLOCK, ALL_NAMES),
@@ -72,11 +56,6 @@ const NONE_FOUND: &[Step<'_>] = &[
     All(BUFFER, 128, b'-'),
 ];
 
-#[test]
-fn a_search_that_finds_nothing_ends_the_one_before(rt: HostRuntime) -> Result<(), Fail> {
-    steps(&rt, rt.alloc(), &[("ann", 1), ("ben", 1)], NONE_FOUND)
-}
-
 // 16,385 bytes are a full extent and one record more. The ex of a pattern is that of an entry, or `?` for each.
 const ALL_EXTENTS: &[Step<'_>] = &[
     Put(BLOCK, ANN),
@@ -87,12 +66,6 @@ const ALL_EXTENTS: &[Step<'_>] = &[
     Are(BUFFER, b"\0ANN        \x01\0\0\x01"),
     Call(SEARCH_NEXT, BLOCK, 0xff),
 ];
-
-#[test]
-fn each_extent_has_an_entry(rt: HostRuntime) -> Result<(), Fail> {
-    let files = &[("ann", 16_385), ("ben", 1)];
-    steps(&rt, rt.alloc(), files, ALL_EXTENTS)
-}
 
 const ONE_EXTENT: &[Step<'_>] = &[
     Put(BLOCK, ANN),
@@ -106,12 +79,6 @@ const ONE_EXTENT: &[Step<'_>] = &[
     Put(EX, b"\x02"),
     Call(SEARCH_FIRST, BLOCK, 0xff),
 ];
-
-#[test]
-fn an_extent_is_found_by_its_number(rt: HostRuntime) -> Result<(), Fail> {
-    let files = &[("ann", 16_385), ("ben", 1)];
-    steps(&rt, rt.alloc(), files, ONE_EXTENT)
-}
 
 // Place 4,096 is the first of extent 32, whose entry has 0 in ex and 1 in s2. Extents without a record have no entry.
 const HIGH_EXTENT: &[Step<'_>] = &[
@@ -130,7 +97,45 @@ const HIGH_EXTENT: &[Step<'_>] = &[
     Call(SEARCH_FIRST, BLOCK, 0),
 ];
 
+const CASES: &[Case<'_>] = &[
+    Case {
+        name: "a search goes on after a deletion",
+        files: &[("ann", 1), ("ben", 130), ("cat", 0)],
+        steps: GOES_ON,
+    },
+    Case {
+        name: "nothing goes on without a search",
+        files: &[("ann", 1)],
+        steps: NO_SEARCH,
+    },
+    Case {
+        name: "a search ends with the last entry",
+        files: &[("ann", 1)],
+        steps: ENDED,
+    },
+    Case {
+        name: "a search that finds nothing ends the one before",
+        files: &[("ann", 1), ("ben", 1)],
+        steps: NONE_FOUND,
+    },
+    Case {
+        name: "each extent has an entry",
+        files: &[("ann", 16_385), ("ben", 1)],
+        steps: ALL_EXTENTS,
+    },
+    Case {
+        name: "an extent is found by its number",
+        files: &[("ann", 16_385), ("ben", 1)],
+        steps: ONE_EXTENT,
+    },
+    Case {
+        name: "an entry has the high part of its extent",
+        files: &[],
+        steps: HIGH_EXTENT,
+    },
+];
+
 #[test]
-fn an_entry_has_the_high_part_of_its_extent(rt: HostRuntime) -> Result<(), Fail> {
-    steps(&rt, rt.alloc(), &[], HIGH_EXTENT)
+fn searches_of_the_directory(rt: HostRuntime) -> Result<(), Fail> {
+    play(&rt, rt.alloc(), CASES)
 }

@@ -2,8 +2,8 @@
 
 use crate::steps::Step::{All, Are, Call, Fill, Put};
 use crate::steps::{
-    ANN, BEN, BLOCK, BUFFER, CLOSE, CR, EX, FILE_SIZE, MAKE, NEW_NAME, OPEN, R0, RC, READ, Step,
-    WRITE, steps,
+    ANN, BEN, BLOCK, BUFFER, CLOSE, CR, Case, EX, FILE_SIZE, MAKE, NEW_NAME, OPEN, R0, RC, READ,
+    Step, WRITE, play,
 };
 use std::test::Fail;
 
@@ -22,11 +22,6 @@ const OPENED: &[Step<'_>] = &[
     Are(RC, b"\x02"),
 ];
 
-#[test]
-fn an_opened_file_has_its_count(rt: HostRuntime) -> Result<(), Fail> {
-    steps(&rt, rt.alloc(), &[("ann", 130)], OPENED)
-}
-
 // 16,385 bytes are 129 records: extent 0 is full, extent 1 has one, and extent 2 none.
 const EXTENTS: &[Step<'_>] = &[
     Put(BLOCK, ANN),
@@ -39,11 +34,6 @@ const EXTENTS: &[Step<'_>] = &[
     Call(OPEN, BLOCK, 0),
     Are(EX, b"\x02\0\0\0"),
 ];
-
-#[test]
-fn the_count_is_that_of_the_extent(rt: HostRuntime) -> Result<(), Fail> {
-    steps(&rt, rt.alloc(), &[("ann", 16_385)], EXTENTS)
-}
 
 // The last record is filled up with 1AH, and past it nothing is read.
 const ALL_READ: &[Step<'_>] = &[
@@ -64,11 +54,6 @@ const ALL_READ: &[Step<'_>] = &[
     Are(CR, b"\x02"),
 ];
 
-#[test]
-fn records_are_read_up_to_the_end(rt: HostRuntime) -> Result<(), Fail> {
-    steps(&rt, rt.alloc(), &[("ann", 130)], ALL_READ)
-}
-
 const NEXT_EXTENT: &[Step<'_>] = &[
     Put(BLOCK, ANN),
     Put(CR, b"\x7f"),
@@ -82,11 +67,6 @@ const NEXT_EXTENT: &[Step<'_>] = &[
     Are(CR, b"\x01"),
     Call(READ, BLOCK, 1),
 ];
-
-#[test]
-fn reading_goes_on_in_the_next_extent(rt: HostRuntime) -> Result<(), Fail> {
-    steps(&rt, rt.alloc(), &[("ann", 16_385)], NEXT_EXTENT)
-}
 
 // A file that is made has no record; of the control block the bytes 13 to 31 become zeros.
 const MADE: &[Step<'_>] = &[
@@ -103,11 +83,6 @@ const MADE: &[Step<'_>] = &[
     Put(CR, b"\0"),
     Call(READ, BLOCK, 1),
 ];
-
-#[test]
-fn a_made_file_is_empty(rt: HostRuntime) -> Result<(), Fail> {
-    steps(&rt, rt.alloc(), &[], MADE)
-}
 
 const READ_BACK: &[Step<'_>] = &[
     Put(BLOCK, ANN),
@@ -127,11 +102,6 @@ const READ_BACK: &[Step<'_>] = &[
     Are(CR, b"\x02"),
 ];
 
-#[test]
-fn written_records_are_read_back(rt: HostRuntime) -> Result<(), Fail> {
-    steps(&rt, rt.alloc(), &[], READ_BACK)
-}
-
 // A hole gives the value of the end, and the place stays.
 const HOLE: &[Step<'_>] = &[
     Put(BLOCK, ANN),
@@ -146,11 +116,6 @@ const HOLE: &[Step<'_>] = &[
     All(BUFFER, 128, b'-'),
 ];
 
-#[test]
-fn a_hole_is_not_read(rt: HostRuntime) -> Result<(), Fail> {
-    steps(&rt, rt.alloc(), &[], HOLE)
-}
-
 // After place 4,095 the next one is told by s2.
 const NEXT_S2: &[Step<'_>] = &[
     Put(BLOCK, ANN),
@@ -161,11 +126,6 @@ const NEXT_S2: &[Step<'_>] = &[
     Are(EX, b"\0\0\x01"),
     Are(CR, b"\0"),
 ];
-
-#[test]
-fn the_place_after_4_095_is_told_by_s2(rt: HostRuntime) -> Result<(), Fail> {
-    steps(&rt, rt.alloc(), &[], NEXT_S2)
-}
 
 // After the last place the control block has place 65,536, where no record can be written.
 const LAST_PLACE: &[Step<'_>] = &[
@@ -184,11 +144,6 @@ const LAST_PLACE: &[Step<'_>] = &[
     Are(R0, b"\0\0\x01"),
 ];
 
-#[test]
-fn no_record_is_written_at_place_65_536(rt: HostRuntime) -> Result<(), Fail> {
-    steps(&rt, rt.alloc(), &[], LAST_PLACE)
-}
-
 // That no file has the name is decided before the place, which would give 2 to a write.
 const ABSENT: &[Step<'_>] = &[
     Put(BLOCK, BEN),
@@ -201,7 +156,60 @@ const ABSENT: &[Step<'_>] = &[
     All(EX, 24, 0x77),
 ];
 
+const CASES: &[Case<'_>] = &[
+    Case {
+        name: "an opened file has its count",
+        files: &[("ann", 130)],
+        steps: OPENED,
+    },
+    Case {
+        name: "the count is that of the extent",
+        files: &[("ann", 16_385)],
+        steps: EXTENTS,
+    },
+    Case {
+        name: "records are read up to the end",
+        files: &[("ann", 130)],
+        steps: ALL_READ,
+    },
+    Case {
+        name: "reading goes on in the next extent",
+        files: &[("ann", 16_385)],
+        steps: NEXT_EXTENT,
+    },
+    Case {
+        name: "a made file is empty",
+        files: &[],
+        steps: MADE,
+    },
+    Case {
+        name: "written records are read back",
+        files: &[],
+        steps: READ_BACK,
+    },
+    Case {
+        name: "a hole is not read",
+        files: &[],
+        steps: HOLE,
+    },
+    Case {
+        name: "the place after 4 095 is told by s2",
+        files: &[],
+        steps: NEXT_S2,
+    },
+    Case {
+        name: "no record is written at place 65 536",
+        files: &[],
+        steps: LAST_PLACE,
+    },
+    Case {
+        name: "a file that is not there gives 255",
+        files: &[("ann", 130)],
+        steps: ABSENT,
+    },
+];
+
 #[test]
-fn a_file_that_is_not_there_gives_255(rt: HostRuntime) -> Result<(), Fail> {
-    steps(&rt, rt.alloc(), &[("ann", 130)], ABSENT)
+fn sequential_places(rt: HostRuntime) -> Result<(), Fail> {
+    play(&rt, rt.alloc(), CASES)
 }

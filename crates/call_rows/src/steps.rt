@@ -1,6 +1,6 @@
 // Calls one after another, with their values and what they leave in memory.
 
-use crate::scene::{Scene, calling, returned};
+use crate::scene::{Scene, blank_memory, calling, returned};
 use bdos::Cause::BadDrive;
 use bdos::Served;
 use i8080::Bus;
@@ -78,7 +78,7 @@ pub const CAT: &[u8] = b"\0CAT        ";
 pub const ALL_NAMES: &[u8] = b"\0???????????";
 
 /// What a test does, and what it compares.
-#[derive(Clone, Copy, Debug)]
+#[derive(Clone, Copy)]
 pub enum Step<'a> {
     /// Bytes are put into the cells from an address on.
     Put(u16, &'a [u8]),
@@ -96,76 +96,92 @@ pub enum Step<'a> {
 
 use Step::{All, Are, Call, Fill, NoDrive, Put};
 
-/// Carries out steps over host files, each of so many bytes `x`. The buffer begins at 0300H.
-pub fn steps(
+/// Steps over host files, each of so many bytes `x`. The buffer begins at 0300H.
+#[derive(Clone, Copy)]
+pub struct Case<'a> {
+    /// What the steps show.
+    pub name: &'a str,
+    pub files: &'a [(&'a str, usize)],
+    pub steps: &'a [Step<'a>],
+}
+
+/// Carries out the steps of each case.
+pub fn play(rt: &impl Abort, alloc: Global, cases: &[Case<'_>]) -> Result<(), Fail> {
+    for case in cases {
+        play_case(rt, alloc, case)?;
+    }
+    Ok(())
+}
+
+// Owns the scene of a case, and lends it.
+fn play_case(rt: &impl Abort, alloc: Global, case: &Case<'_>) -> Result<(), Fail> {
+    let mut scene = Scene::new(alloc, blank_memory(alloc)?);
+    carry_out(rt, alloc, &mut scene, case)
+}
+
+fn carry_out(
     rt: &impl Abort,
     alloc: Global,
-    files: &[(&str, usize)],
-    rows: &[Step<'_>],
+    scene: &mut Scene,
+    case: &Case<'_>,
 ) -> Result<(), Fail> {
-    let mut scene = Scene::new(alloc, files)?;
-    scene.desk.set_buffer(BUFFER);
-    for step in rows {
-        carry_out(rt, &mut scene, *step)?;
-    }
+    scene.begin(alloc, BUFFER, case.files)?;
+    let wrong = first_wrong(scene, case.steps)?;
+    assert!(rt; wrong == 0, "{}: step {wrong}", case.name);
     Ok(())
 }
 
-fn carry_out(rt: &impl Abort, scene: &mut Scene, step: Step<'_>) -> Result<(), AllocError> {
+// The number of the first step, counted from 1, that is not as it says; 0 if there is none.
+fn first_wrong(scene: &mut Scene, steps: &[Step<'_>]) -> Result<u32, AllocError> {
+    let mut number: u32 = 0;
+    for step in steps {
+        number = number.wrapping_add(1);
+        if !holds(scene, *step)? {
+            return Ok(number);
+        }
+    }
+    Ok(0)
+}
+
+// Carries out a step, and gives whether what it says is so.
+fn holds(scene: &mut Scene, step: Step<'_>) -> Result<bool, AllocError> {
     match step {
         Put(at, bytes) => scene.put(at, bytes),
-        Fill(at, count, byte) => fill(scene, at, count, byte),
-        Call(number, word, value) => goes_back(rt, scene, number, word, value)?,
-        NoDrive(number, word, drive) => stops(rt, scene, number, word, drive)?,
-        Are(at, bytes) => are(rt, scene, at, bytes),
-        All(at, count, byte) => all(rt, scene, at, count, byte),
+        Fill(at, count, byte) => scene.fill(at, count, byte),
+        Call(number, word, value) => return goes_back(scene, number, word, value),
+        NoDrive(number, word, drive) => return stops(scene, number, word, drive),
+        Are(at, bytes) => return Ok(are(scene, at, bytes)),
+        All(at, count, byte) => return Ok(all(scene, at, count, byte)),
     }
-    Ok(())
+    Ok(true)
 }
 
-fn fill(scene: &mut Scene, at: u16, count: u16, byte: u8) {
-    for i in 0..count {
-        scene.memory.write(at.wrapping_add(i), byte);
-    }
-}
-
-fn goes_back(
-    rt: &impl Abort,
-    scene: &mut Scene,
-    number: u8,
-    word: u16,
-    value: u8,
-) -> Result<(), AllocError> {
+fn goes_back(scene: &mut Scene, number: u8, word: u16, value: u8) -> Result<bool, AllocError> {
     let (served, regs) = scene.call(number, word)?;
-    assert_eq!(rt; served, Served::Went, "call {number}");
-    assert_eq!(rt; regs, returned(number, word, value), "call {number}");
-    Ok(())
+    Ok(served == Served::Went && regs == returned(number, word, value))
 }
 
-fn stops(
-    rt: &impl Abort,
-    scene: &mut Scene,
-    number: u8,
-    word: u16,
-    drive: u8,
-) -> Result<(), AllocError> {
+fn stops(scene: &mut Scene, number: u8, word: u16, drive: u8) -> Result<bool, AllocError> {
     let (served, regs) = scene.call(number, word)?;
-    assert_eq!(rt; served, Served::Stop(BadDrive(drive)), "call {number}");
-    assert_eq!(rt; regs, calling(number, word), "call {number}");
-    Ok(())
+    Ok(served == Served::Stop(BadDrive(drive)) && regs == calling(number, word))
 }
 
-fn are(rt: &impl Abort, scene: &mut Scene, at: u16, bytes: &[u8]) {
+fn are(scene: &mut Scene, at: u16, bytes: &[u8]) -> bool {
     let mut address = at;
     for byte in bytes {
-        assert_eq!(rt; scene.memory.read(address), *byte, "cell {address}");
+        if scene.memory.read(address) != *byte {
+            return false;
+        }
         address = address.wrapping_add(1);
     }
+    true
 }
 
-fn all(rt: &impl Abort, scene: &mut Scene, at: u16, count: u16, byte: u8) {
+fn all(scene: &mut Scene, at: u16, count: u16, byte: u8) -> bool {
     for i in 0..count {
-        let address = at.wrapping_add(i);
-        assert_eq!(rt; scene.memory.read(address), byte, "cell {address}");
+        if scene.memory.read(at.wrapping_add(i)) != byte {
+            return false;
+        }
     }
+    true
 }
