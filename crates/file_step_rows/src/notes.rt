@@ -1,102 +1,96 @@
 // Steps that are noted and erased.
 
-use crate::fixtures::{ANN, BEN, CAT, steps};
-use file_steps::FileSteps;
+use crate::fixtures::Act::{Anew, EraseFrom, Is, Note};
+use crate::fixtures::{ANN, Act, BEN, CAT, play};
 use hostfiles::Ask;
-use std::process::Abort;
 use std::test::Fail;
-
-// The steps of these questions.
-fn are(rt: &impl Abort, noted: &FileSteps, rows: &[(Ask, Option<u64>)]) {
-    for (ask, step) in rows {
-        assert_eq!(rt; noted.of(ask), *step);
-    }
-}
 
 #[test]
 fn no_question_has_a_step_at_first(rt: HostRuntime) -> Result<(), Fail> {
-    let rows = [
-        (Ask::Has(ANN), None),
-        (Ask::Length(ANN), None),
-        (Ask::Rec(ANN, 0), None),
-        (Ask::Directory(0), None),
+    const ACTS: &[Act<'_>] = &[
+        Is(Ask::Has(ANN), None),
+        Is(Ask::Length(ANN), None),
+        Is(Ask::Rec(ANN, 0), None),
+        Is(Ask::Directory(0), None),
     ];
-    are(&rt, &FileSteps::new(rt.alloc()), &rows);
-    Ok(())
+    play(&rt, rt.alloc(), &[], ACTS)
 }
 
 #[test]
 fn the_first_step_stands(rt: HostRuntime) -> Result<(), Fail> {
-    let asks = [
-        Ask::Has(ANN),
-        Ask::Length(ANN),
-        Ask::Rec(ANN, 65_535),
-        Ask::Directory(255),
+    const ACTS: &[Act<'_>] = &[
+        Note(Ask::Has(ANN), 3),
+        Note(Ask::Has(ANN), 5),
+        Note(Ask::Has(ANN), 2),
+        Is(Ask::Has(ANN), Some(3)),
+        Anew,
+        Note(Ask::Length(ANN), 3),
+        Note(Ask::Length(ANN), 5),
+        Note(Ask::Length(ANN), 2),
+        Is(Ask::Length(ANN), Some(3)),
+        Anew,
+        Note(Ask::Rec(ANN, 65_535), 3),
+        Note(Ask::Rec(ANN, 65_535), 5),
+        Note(Ask::Rec(ANN, 65_535), 2),
+        Is(Ask::Rec(ANN, 65_535), Some(3)),
+        Anew,
+        Note(Ask::Directory(255), 3),
+        Note(Ask::Directory(255), 5),
+        Note(Ask::Directory(255), 2),
+        Is(Ask::Directory(255), Some(3)),
     ];
-    for ask in asks {
-        let noted = steps(rt.alloc(), &[(ask, 3), (ask, 5), (ask, 2)])?;
-        are(&rt, &noted, &[(ask, Some(3))]);
-    }
-    Ok(())
+    play(&rt, rt.alloc(), &[], ACTS)
 }
 
 #[test]
 fn each_question_has_its_own_step(rt: HostRuntime) -> Result<(), Fail> {
-    let notes = [
-        (Ask::Has(ANN), 1),
-        (Ask::Length(ANN), 2),
-        (Ask::Rec(ANN, 0), 3),
-        (Ask::Rec(ANN, 1), 4),
-        (Ask::Directory(0), 5),
-        (Ask::Has(BEN), 6),
+    const NOTES: &[Act<'_>] = &[
+        Note(Ask::Has(ANN), 1),
+        Note(Ask::Length(ANN), 2),
+        Note(Ask::Rec(ANN, 0), 3),
+        Note(Ask::Rec(ANN, 1), 4),
+        Note(Ask::Directory(0), 5),
+        Note(Ask::Has(BEN), 6),
     ];
-    let rows = [
-        (Ask::Has(ANN), Some(1)),
-        (Ask::Length(ANN), Some(2)),
-        (Ask::Rec(ANN, 0), Some(3)),
-        (Ask::Rec(ANN, 1), Some(4)),
-        (Ask::Rec(ANN, 2), None),
-        (Ask::Directory(0), Some(5)),
-        (Ask::Directory(1), None),
-        (Ask::Has(BEN), Some(6)),
-        (Ask::Length(BEN), None),
-        (Ask::Rec(BEN, 0), None),
+    const STEPS: &[Act<'_>] = &[
+        Is(Ask::Has(ANN), Some(1)),
+        Is(Ask::Length(ANN), Some(2)),
+        Is(Ask::Rec(ANN, 0), Some(3)),
+        Is(Ask::Rec(ANN, 1), Some(4)),
+        Is(Ask::Rec(ANN, 2), None),
+        Is(Ask::Directory(0), Some(5)),
+        Is(Ask::Directory(1), None),
+        Is(Ask::Has(BEN), Some(6)),
+        Is(Ask::Length(BEN), None),
+        Is(Ask::Rec(BEN, 0), None),
     ];
-    let noted = steps(rt.alloc(), &notes)?;
-    are(&rt, &noted, &rows);
-    Ok(())
+    play(&rt, rt.alloc(), NOTES, STEPS)
 }
 
 #[test]
 fn steps_from_one_on_are_erased(rt: HostRuntime) -> Result<(), Fail> {
-    let notes = [
-        (Ask::Has(ANN), 4),
-        (Ask::Has(BEN), 5),
-        (Ask::Length(ANN), 4),
-        (Ask::Length(BEN), 6),
-        (Ask::Rec(CAT, 7), 4),
-        (Ask::Rec(CAT, 8), 5),
-        (Ask::Directory(0), 4),
-        (Ask::Directory(3), 5),
+    const NOTES: &[Act<'_>] = &[
+        Note(Ask::Has(ANN), 4),
+        Note(Ask::Has(BEN), 5),
+        Note(Ask::Length(ANN), 4),
+        Note(Ask::Length(BEN), 6),
+        Note(Ask::Rec(CAT, 7), 4),
+        Note(Ask::Rec(CAT, 8), 5),
+        Note(Ask::Directory(0), 4),
+        Note(Ask::Directory(3), 5),
     ];
-    let mut noted = steps(rt.alloc(), &notes)?;
-    erase_and_note(&rt, &mut noted)
-}
-
-fn erase_and_note(rt: &impl Abort, noted: &mut FileSteps) -> Result<(), Fail> {
-    let rows = [
-        (Ask::Has(ANN), Some(4)),
-        (Ask::Has(BEN), None),
-        (Ask::Length(ANN), Some(4)),
-        (Ask::Length(BEN), None),
-        (Ask::Rec(CAT, 7), Some(4)),
-        (Ask::Rec(CAT, 8), None),
-        (Ask::Directory(0), Some(4)),
-        (Ask::Directory(3), None),
+    const ERASED: &[Act<'_>] = &[
+        EraseFrom(5),
+        Is(Ask::Has(ANN), Some(4)),
+        Is(Ask::Has(BEN), None),
+        Is(Ask::Length(ANN), Some(4)),
+        Is(Ask::Length(BEN), None),
+        Is(Ask::Rec(CAT, 7), Some(4)),
+        Is(Ask::Rec(CAT, 8), None),
+        Is(Ask::Directory(0), Some(4)),
+        Is(Ask::Directory(3), None),
+        Note(Ask::Has(BEN), 9),
+        Is(Ask::Has(BEN), Some(9)),
     ];
-    noted.erase_from(5);
-    are(rt, noted, &rows);
-    noted.note(&Ask::Has(BEN), 9)?;
-    are(rt, noted, &[(Ask::Has(BEN), Some(9))]);
-    Ok(())
+    play(&rt, rt.alloc(), NOTES, ERASED)
 }
