@@ -10,3 +10,5 @@ mod contents;
 mod directories;
 #[cfg(test)]
 mod holes;
+#[cfg(test)]
+mod playing;
