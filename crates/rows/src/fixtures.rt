@@ -1,13 +1,9 @@
 ghost use Rattle.std.specs.Prelude.{◌≡◌, vec_len, IfOk};
 
-use hostfiles::HostFiles;
-use i8080::Flags;
-use machine::{Cause, Meter, Regs, Session, SessionError};
+use i8080::{Flags, Regs, word_of};
 use pagemem::PlainMemory;
-use replay::{EditError, Options, Runner};
+use replay::Runner;
 use std::alloc::{AllocError, Global};
-use std::process::Abort;
-use std::test::Fail;
 
 /// A program that prints `Hi` by call 9 and returns.
 pub const HI: [u8; 12] = [
@@ -46,59 +42,6 @@ pub fn blank(alloc: Global) -> Result<PlainMemory, AllocError> {
     Ok(PlainMemory::new(zeros(alloc, 65_536)?))
 }
 
-/// A session without a command tail and without host files, or its refusal.
-pub fn session_of(
-    alloc: Global,
-    program: Vec<u8>,
-    script: Vec<u8>,
-    limit: u64,
-) -> Result<Session, SessionError> {
-    Session::new(
-        program,
-        Vec::new(alloc),
-        HostFiles::new(alloc),
-        script,
-        limit,
-    )
-}
-
-/// A runner of a program without a script, with a checkpoint each four steps.
-pub fn runner_of(alloc: Global, program: &[u8], limit: u64) -> Result<Runner, Fail> {
-    let options = Options {
-        spacing: 4,
-        slots: 64,
-    };
-    runner_with(alloc, program, limit, options)
-}
-
-/// A runner of a program without a script.
-pub fn runner_with(
-    alloc: Global,
-    program: &[u8],
-    limit: u64,
-    options: Options,
-) -> Result<Runner, Fail> {
-    let session = session_of(alloc, program.to_vec(alloc)?, Vec::new(alloc), limit)?;
-    Ok(Runner::new(alloc, session, options)?)
-}
-
-/// Compares the cells from an address on, as they are where the run ends.
-pub fn cells_are(
-    rt: &impl Abort,
-    runner: &mut Runner,
-    from: u16,
-    wanted: &[u8],
-) -> Result<(), Fail> {
-    let mut meter = Meter::new();
-    let report = runner.rerun(&mut meter)?;
-    let mut at = from;
-    for byte in wanted {
-        assert_eq!(rt; report.cell(at), *byte, "at {at}");
-        at = at.wrapping_add(1);
-    }
-    Ok(())
-}
-
 /// Whether exactly these checkpoints stand.
 pub fn stand(runner: &Runner, kept: &[u64]) -> bool {
     for i in 0..kept.len() {
@@ -109,31 +52,14 @@ pub fn stand(runner: &Runner, kept: &[u64]) -> bool {
     runner.kept(kept.len()).is_none()
 }
 
-/// The number of a refusal; 0 where the edit was carried out.
-pub fn number_of(answer: Result<(), EditError>) -> u8 {
-    match answer {
-        Ok(()) => 0,
-        Err(error) => error.number(),
-    }
-}
-
-/// How a run ended.
-#[derive(Clone, Copy, Debug, PartialEq, Eq)]
-pub struct Ended {
-    pub cause: Cause,
-    pub steps: u64,
-    pub regs: Regs,
-}
-
-/// Runs a session again, and compares the text that it printed. No more steps are carried out than a cold run takes.
-pub fn rerun(rt: &impl Abort, runner: &mut Runner, text: &[u8]) -> Result<Ended, AllocError> {
-    let mut meter = Meter::new();
-    let report = runner.rerun(&mut meter)?;
-    assert_eq!(rt; report.text(), text);
-    assert!(rt; meter.count() <= report.steps());
-    Ok(Ended {
-        cause: report.cause(),
-        steps: report.steps(),
-        regs: report.regs(),
-    })
+/// A and the flag byte, BC, DE, HL, SP and PC.
+pub fn words_of(regs: Regs) -> [u16; 6] {
+    [
+        word_of(regs.flags.byte(), regs.a),
+        word_of(regs.c, regs.b),
+        word_of(regs.e, regs.d),
+        word_of(regs.l, regs.h),
+        regs.sp,
+        regs.pc,
+    ]
 }

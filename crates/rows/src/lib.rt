@@ -3,6 +3,8 @@
 #![tactic(auto)]
 
 #[cfg(test)]
+mod acts;
+#[cfg(test)]
 mod calls;
 #[cfg(test)]
 mod checkpoints;
@@ -16,6 +18,14 @@ mod fixtures;
 mod instructions;
 #[cfg(test)]
 mod pages;
+#[cfg(test)]
+mod playing;
+#[cfg(test)]
+mod programs;
+#[cfg(test)]
+mod refusals;
+#[cfg(test)]
+mod replaying;
 #[cfg(test)]
 mod sessions;
 #[cfg(test)]

@@ -4,6 +4,7 @@ use crate::fixtures::{HI, blank};
 use i8080::{Bus, fetch};
 use pagemem::{Cells, Image, Overlay, View, memories_agree};
 use std::alloc::AllocError;
+use std::process::Abort;
 use std::test::Fail;
 
 // Writes a cell.
@@ -14,48 +15,57 @@ fn put(overlay: &mut Overlay, a: u16, value: u8) -> Result<(), AllocError> {
 }
 
 // Three cells, read in turn.
-fn three<B: Bus>(bus: &mut B) -> Result<(u8, u8, u8), AllocError> {
-    Ok((fetch(bus, 0x0100), fetch(bus, 0x0101), fetch(bus, 0xffff)))
+fn three<B: Bus>(bus: &mut B) -> Result<[u8; 3], AllocError> {
+    Ok([fetch(bus, 0x0100), fetch(bus, 0x0101), fetch(bus, 0xffff)])
+}
+
+// Three cells of an overlay laid over an image.
+fn three_laid(image: Image<'_>, overlay: &mut Overlay) -> Result<[u8; 3], AllocError> {
+    three(&mut View::new(image, overlay))
 }
 
 #[test]
 fn reads_of_unwritten_cells_alone_are_looks(rt: HostRuntime) -> Result<(), Fail> {
     let page_zero = [0; 256];
-    let image = Image::new(&page_zero, &HI);
     let mut overlay = Overlay::new(rt.alloc())?;
+    reads_are_looks(&rt, Image::new(&page_zero, &HI), &mut overlay)
+}
+
+fn reads_are_looks(rt: &impl Abort, image: Image<'_>, overlay: &mut Overlay) -> Result<(), Fail> {
     overlay.ready(0x0100)?;
-    assert_eq!(rt; overlay.read(image, 0x0100), 0x0e);
-    put(&mut overlay, 0x0101, 0x5a)?;
+    assert!(rt; overlay.read(image, 0x0100) == 0x0e);
+    put(overlay, 0x0101, 0x5a)?;
     let mut earlier = overlay.snapshot()?;
-    put(&mut overlay, 0xffff, 0x5a)?;
-    assert_eq!(rt;
-        three(&mut View::new(image, &mut overlay))?,
-        (0x0e, 0x5a, 0x5a)
-    );
-    assert_eq!(rt;
-        (overlay.written(0x0101), overlay.written(0x0100)),
-        (Some(0x5a), None)
-    );
-    assert_eq!(rt; overlay.look_count(), 1);
-    assert_eq!(rt; overlay.nth_look(0), 0x0100);
-    assert_eq!(rt;
-        (
-            overlay.looked(0x0100),
-            overlay.looked(0x0101),
-            overlay.looked(0xffff)
-        ),
-        (true, false, false)
-    );
-    assert_eq!(rt; earlier.written(0xffff), None);
-    assert_eq!(rt;
-        three(&mut View::new(image, &mut earlier))?,
-        (0x0e, 0x5a, 0x00)
-    );
-    assert_eq!(rt;
-        (overlay.take_look(), overlay.take_look()),
-        (Some(0x0100), None)
-    );
+    later_looks(rt, image, overlay, &mut earlier)
+}
+
+// What is read and written after a snapshot.
+fn later_looks(
+    rt: &impl Abort,
+    image: Image<'_>,
+    overlay: &mut Overlay,
+    earlier: &mut Overlay,
+) -> Result<(), Fail> {
+    put(overlay, 0xffff, 0x5a)?;
+    assert!(rt; three_laid(image, overlay)? == [0x0e, 0x5a, 0x5a]);
+    one_is_looked(rt, overlay);
+    assert!(rt; earlier.written(0xffff) == None);
+    assert!(rt; three_laid(image, earlier)? == [0x0e, 0x5a, 0x00]);
+    assert!(rt; [overlay.take_look(), overlay.take_look()] == [Some(0x0100), None]);
     Ok(())
+}
+
+fn one_is_looked(rt: &impl Abort, overlay: &Overlay) {
+    let written = [overlay.written(0x0101), overlay.written(0x0100)];
+    assert!(rt; written == [Some(0x5a), None]);
+    assert!(rt; overlay.look_count() == 1);
+    assert!(rt; overlay.nth_look(0) == 0x0100);
+    let looked = [
+        overlay.looked(0x0100),
+        overlay.looked(0x0101),
+        overlay.looked(0xffff),
+    ];
+    assert!(rt; looked == [true, false, false]);
 }
 
 #[test]
@@ -64,7 +74,7 @@ fn plain_memory_reads_the_same(rt: HostRuntime) -> Result<(), Fail> {
     memory.write(0x0100, 0x0e);
     memory.write(0x0101, 0x5a);
     memory.write(0xffff, 0x5a);
-    assert_eq!(rt; three(&mut memory)?, (0x0e, 0x5a, 0x5a));
+    assert!(rt; three(&mut memory)? == [0x0e, 0x5a, 0x5a]);
     memories_agree();
     Ok(())
 }
@@ -79,20 +89,26 @@ fn a_shared_page_is_copied_before_it_is_written(rt: HostRuntime) -> Result<(), F
     let mut overlay = Overlay::new(rt.alloc())?;
     put(&mut overlay, 0x0101, 0x5a)?;
     overlay.share()?;
+    first_alone_is_written(&rt, &overlay)
+}
+
+fn first_alone_is_written(rt: &impl Abort, overlay: &Overlay) -> Result<(), Fail> {
     let mut first = overlay.snapshot()?;
     let second = overlay.snapshot()?;
-    put_two(&mut first)?;
-    for (found, wanted) in [
-        (first.written(0x0101), Some(0x11)),
-        (first.written(0x0102), Some(0x22)),
-        (second.written(0x0101), Some(0x5a)),
-        (second.written(0x0102), None),
-        (overlay.written(0x0101), Some(0x5a)),
-        (overlay.written(0x0102), None),
-    ] {
-        assert_eq!(rt; found, wanted);
+    write_first(rt, &mut first, [&second, overlay])
+}
+
+fn write_first(rt: &impl Abort, first: &mut Overlay, others: [&Overlay; 2]) -> Result<(), Fail> {
+    put_two(first)?;
+    assert!(rt; two_written(first) == [Some(0x11), Some(0x22)]);
+    for other in others {
+        assert!(rt; two_written(other) == [Some(0x5a), None]);
     }
     Ok(())
+}
+
+fn two_written(overlay: &Overlay) -> [Option<u8>; 2] {
+    [overlay.written(0x0101), overlay.written(0x0102)]
 }
 
 #[test]
@@ -102,13 +118,14 @@ fn cells_are_shared_and_copied(rt: HostRuntime) -> Result<(), Fail> {
     cells.write(0x0101, 0x5a);
     cells.share()?;
     let mut copy = Overlay::over(rt.alloc(), cells.snapshot()?)?;
+    copy_is_as_before(&rt, &mut cells, &mut copy)
+}
+
+fn copy_is_as_before(rt: &impl Abort, cells: &mut Cells, copy: &mut Overlay) -> Result<(), Fail> {
     cells.ready(0x0101)?;
-    assert_eq!(rt; cells.written(0x0101), Some(0x5a));
+    assert!(rt; cells.written(0x0101) == Some(0x5a));
     cells.write(0x0101, 0x11);
-    assert_eq!(rt;
-        (copy.written(0x0101), cells.written(0x0101)),
-        (Some(0x5a), Some(0x11))
-    );
-    assert_eq!(rt; copy.take_look(), None);
+    assert!(rt; [copy.written(0x0101), cells.written(0x0101)] == [Some(0x5a), Some(0x11)]);
+    assert!(rt; copy.take_look() == None);
     Ok(())
 }
