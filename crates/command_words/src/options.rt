@@ -1,6 +1,6 @@
-ghost use Rattle.std.specs.Prelude.{◌≡◌, false, codes, IfOk};
+ghost use Rattle.std.specs.Prelude.{◌≡◌, ◌∷◌, [], false, codes, IfOk, map};
 ghost use Rattle.clap.specs.Words.{app_of, rule_of};
-ghost use Rattle.command_words.specs.CommandLine.{command_line, file_rules, folder_rules, number_rule, number_rules, option_rule, output_rules, place_rules, with_rules};
+ghost use Rattle.command_words.specs.CommandLine.{command_line, number_rule, number_rules, option_rule, place_rules, with_rules};
 
 use clap::{Arg, Command, value_parser};
 use std::alloc::{AllocError, Global};
@@ -32,15 +32,90 @@ Exit status:
   10  by BadDrive
   12  memory was refused";
 
-/// An option whose value is a path.
-fn path_option<'a>(alloc: Global, name: &'a str, value: &'a str, help: &'a str) -> Arg<'a>
-    ensures rule { rule_of result ≡ option_rule name.entry.now }
+/// An option whose value is a path, with what that is called and what it is for.
+struct PathOption<'a> {
+    name: &'a str,
+    value: &'a str,
+    help: &'a str,
+}
+
+/// The folders of the host files, the single files, and the folders that changed files are written to.
+const PATHS: &[PathOption<'_>] = &[
+    PathOption {
+        name: "files",
+        value: "DIR",
+        help: "The folder of the files of drive A [default: no files]",
+    },
+    PathOption {
+        name: "files-b",
+        value: "DIR",
+        help: "The same of drive B",
+    },
+    PathOption {
+        name: "files-c",
+        value: "DIR",
+        help: "The same of drive C",
+    },
+    PathOption {
+        name: "files-d",
+        value: "DIR",
+        help: "The same of drive D",
+    },
+    PathOption {
+        name: "console",
+        value: "FILE",
+        help: "What is typed at the console, at most 1,048,576 bytes [default: nothing]",
+    },
+    PathOption {
+        name: "edits",
+        value: "FILE",
+        help: "The edit lines to be replayed, each answered on standard output [default: the session is run once]",
+    },
+    PathOption {
+        name: "out",
+        value: "DIR",
+        help: "The folder that changed files of drive A are written to; of no effect with --edits [default: they are not written]",
+    },
+    PathOption {
+        name: "out-b",
+        value: "DIR",
+        help: "The same of drive B",
+    },
+    PathOption {
+        name: "out-c",
+        value: "DIR",
+        help: "The same of drive C",
+    },
+    PathOption {
+        name: "out-d",
+        value: "DIR",
+        help: "The same of drive D",
+    },
+];
+
+/// The argument of an option whose value is a path.
+fn path_argument<'a>(alloc: Global, option: &PathOption<'a>) -> Arg<'a>
+    ensures rule { rule_of result ≡ option_rule option.now.name.now }
     ensures local { result.global ≡ false }
 {
-    Arg::new(alloc, name)
-        .long(name)
-        .value_name(value)
-        .help(help)
+    Arg::new(alloc, option.name)
+        .long(option.name)
+        .value_name(option.value)
+        .help(option.help)
+}
+
+/// The command with options whose values are paths.
+fn with_paths<'a>(
+    alloc: Global,
+    mut command: Command<'a>,
+    options: &[PathOption<'a>],
+) -> Result<Command<'a>, AllocError>
+    ensures { IfOk result (λ c. app_of c ≡ with_rules (app_of command.entry) (map (λ o. option_rule o.name.now) options.now)) }
+{
+    for option in options {
+        command = command.arg(path_argument(alloc, option))?;
+    }
+    Ok(command)
 }
 
 /// The command with the two words that stand by their place.
@@ -58,55 +133,15 @@ fn with_places<'a>(alloc: Global, command: Command<'a>) -> Result<Command<'a>, A
         ))
 }
 
-/// The command with the options for the folders of host files.
-fn with_folders<'a>(alloc: Global, command: Command<'a>) -> Result<Command<'a>, AllocError>
-    ensures { IfOk result (λ c. app_of c ≡ with_rules (app_of command.entry) folder_rules) }
+/// The argument of an option whose value is a number, which may yet be any text.
+fn number_argument<'a>(alloc: Global, name: &'a str, default: &'a str) -> Arg<'a>
+    ensures rule { rule_of result ≡ record (option_rule name.entry.now) { defaults = default.entry.now ∷ [] } }
+    ensures local { result.global ≡ false }
 {
-    command
-        .arg(path_option(
-            alloc,
-            "files",
-            "DIR",
-            "The folder of the files of drive A [default: no files]",
-        ))?
-        .arg(path_option(alloc, "files-b", "DIR", "The same of drive B"))?
-        .arg(path_option(alloc, "files-c", "DIR", "The same of drive C"))?
-        .arg(path_option(alloc, "files-d", "DIR", "The same of drive D"))
-}
-
-/// The command with the options for the folders that changed files are written to.
-fn with_outputs<'a>(alloc: Global, command: Command<'a>) -> Result<Command<'a>, AllocError>
-    ensures { IfOk result (λ c. app_of c ≡ with_rules (app_of command.entry) output_rules) }
-{
-    command
-        .arg(path_option(
-            alloc,
-            "out",
-            "DIR",
-            "The folder that changed files of drive A are written to; of no effect with --edits [default: they are not written]",
-        ))?
-        .arg(path_option(alloc, "out-b", "DIR", "The same of drive B"))?
-        .arg(path_option(alloc, "out-c", "DIR", "The same of drive C"))?
-        .arg(path_option(alloc, "out-d", "DIR", "The same of drive D"))
-}
-
-/// The command with the options for single files.
-fn with_files<'a>(alloc: Global, command: Command<'a>) -> Result<Command<'a>, AllocError>
-    ensures { IfOk result (λ c. app_of c ≡ with_rules (app_of command.entry) file_rules) }
-{
-    command
-        .arg(path_option(
-            alloc,
-            "console",
-            "FILE",
-            "What is typed at the console, at most 1,048,576 bytes [default: nothing]",
-        ))?
-        .arg(path_option(
-            alloc,
-            "edits",
-            "FILE",
-            "The edit lines to be replayed, each answered on standard output [default: the session is run once]",
-        ))
+    Arg::new(alloc, name)
+        .long(name)
+        .value_name("N")
+        .default_value(default)
 }
 
 /// The limit of steps.
@@ -114,11 +149,8 @@ fn limit_option<'a>(alloc: Global) -> Arg<'a>
     ensures rule { rule_of result ≡ number_rule (codes "limit") 0 4000000000 (codes "1000000") }
     ensures local { result.global ≡ false }
 {
-    Arg::new(alloc, "limit")
-        .long("limit")
-        .value_name("N")
+    number_argument(alloc, "limit", "1000000")
         .value_parser(value_parser!(u64).range(0..=4_000_000_000))
-        .default_value("1000000")
         .help("The steps after which a run stops, 0 to 4,000,000,000")
 }
 
@@ -127,11 +159,8 @@ fn spacing_option<'a>(alloc: Global) -> Arg<'a>
     ensures rule { rule_of result ≡ number_rule (codes "spacing") 1 1000000000 (codes "10000") }
     ensures local { result.global ≡ false }
 {
-    Arg::new(alloc, "spacing")
-        .long("spacing")
-        .value_name("N")
+    number_argument(alloc, "spacing", "10000")
         .value_parser(value_parser!(u64).range(1..=1_000_000_000))
-        .default_value("10000")
         .help("The steps from one checkpoint to the next, 1 to 1,000,000,000")
 }
 
@@ -140,11 +169,8 @@ fn slots_option<'a>(alloc: Global) -> Arg<'a>
     ensures rule { rule_of result ≡ number_rule (codes "slots") 1 4096 (codes "64") }
     ensures local { result.global ≡ false }
 {
-    Arg::new(alloc, "slots")
-        .long("slots")
-        .value_name("N")
+    number_argument(alloc, "slots", "64")
         .value_parser(value_parser!(u64).range(1..=4096))
-        .default_value("64")
         .help("The most checkpoints that are kept, 1 to 4,096")
 }
 
@@ -168,8 +194,6 @@ pub fn command<'a>(alloc: Global) -> Result<Command<'a>, AllocError>
         .about(ABOUT)
         .after_help(AFTER_HELP);
     let command = with_places(alloc, command)?;
-    let command = with_folders(alloc, command)?;
-    let command = with_files(alloc, command)?;
-    let command = with_outputs(alloc, command)?;
+    let command = with_paths(alloc, command, PATHS)?;
     with_numbers(alloc, command)
 }
