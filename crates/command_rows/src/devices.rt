@@ -1,104 +1,41 @@
 // Standard output and standard error that fail.
 
-ghost use Rattle.std.specs.Prelude.{None};
-
-use crate::fixtures::{HI, make_folder, owned, put, remove_folder};
-use cpmrun::{Failed, Over, Writer, command};
-use std::process::Abort;
-use std::rt::Files;
+use crate::fixtures::Act::{Ask, Put};
+use crate::fixtures::Wanted::{NoRoom, Untold};
+use crate::fixtures::{Act, HI, in_folder_of};
 use std::test::Fail;
 
-// Takes so many bytes, and then fails.
-#[derive(Drop)]
-struct Narrow {
-    room: usize,
-    failures: u64,
-}
-
-impl Writer for Narrow {
-    ghost holds = { λ _. None };
-
-    ghost failures = { λ n. n.failures };
-
-    fn write(&mut self, piece: &[u8]) -> Result<usize, Failed> {
-        let count = piece.len().min(self.room);
-        if count == 0 && !piece.is_empty() {
-            self.failures += 1;
-            return Err(Failed);
-        }
-        self.room -= count;
-        Ok(count)
-    }
-}
-
-// The words, whose output finds no room, or not enough.
-fn finds_no_room<R: Files + AllocGlobal + Clone + Drop + Abort>(
-    rt: &R,
-    folder: &str,
-    words: &[&str],
-    room: usize,
-) -> Result<(), Fail> {
-    let list = owned(rt.alloc(), folder, words)?;
-    let mut out = Narrow { room, failures: 0 };
-    let mut err = Over::new(Vec::new(rt.alloc()));
-    let status = command(rt, list.as_slice(), &mut out, &mut err);
-    let told = err.into_inner();
-    assert_eq!(rt; status, 1, "{words:?}");
-    assert_eq!(rt;
-        told.as_slice(),
-        b"cpmrun: cannot write standard output\n".as_slice(),
-        "{words:?}"
-    );
-    Ok(())
-}
+const FULL: &[Act<'_>] = &[
+    Put("p3.com", HI),
+    Put("run", b"run\n"),
+    Ask(&["@/p3.com"], NoRoom(0)),
+    Ask(&["@/p3.com"], NoRoom(1)),
+    Ask(&["@/p3.com", "--edits", "@/run"], NoRoom(0)),
+    Ask(&["@/p3.com", "--edits", "@/run"], NoRoom(1)),
+    Ask(&["--help"], NoRoom(0)),
+    Ask(&["--help"], NoRoom(1)),
+    Ask(&["--version"], NoRoom(0)),
+    Ask(&["--version"], NoRoom(1)),
+];
 
 #[test]
 fn standard_output_may_fail(rt: HostRuntime) -> Result<(), Fail> {
-    let folder = make_folder(&rt, "full")?;
-    put(&rt, folder.as_str(), "p3.com", HI)?;
-    put(&rt, folder.as_str(), "run", b"run\n".as_slice())?;
-    for words in [
-        &["@/p3.com"][..],
-        &["@/p3.com", "--edits", "@/run"],
-        &["--help"],
-        &["--version"],
-    ] {
-        for room in [0, 1] {
-            finds_no_room(&rt, folder.as_str(), words, room)?;
-        }
-    }
-    remove_folder(&rt, folder.as_str())
+    in_folder_of(&rt, rt.process(), "full", FULL)
 }
 
-// The words, told to a standard error without room, with the status that is wanted.
-fn is_not_told<R: Files + AllocGlobal + Clone + Drop + Abort>(
-    rt: &R,
-    folder: &str,
-    words: &[&str],
-    room: usize,
-    wanted: u8,
-) -> Result<(), Fail> {
-    let list = owned(rt.alloc(), folder, words)?;
-    let mut out = Over::new(Vec::new(rt.alloc()));
-    let mut err = Narrow { room, failures: 0 };
-    let status = command(rt, list.as_slice(), &mut out, &mut err);
-    assert_eq!(rt; status, wanted, "{words:?}");
-    Ok(())
-}
+const MUTE: &[Act<'_>] = &[
+    Put("p3.com", HI),
+    Ask(&["@/p3.com"], Untold(0, 0)),
+    Ask(&["@/p3.com"], Untold(5, 0)),
+    Ask(&["@/p3.com", "--limit", "5"], Untold(0, 3)),
+    Ask(&["@/p3.com", "--limit", "5"], Untold(5, 3)),
+    Ask(&["@/none"], Untold(0, 1)),
+    Ask(&["@/none"], Untold(5, 1)),
+    Ask(&["--slots", "0"], Untold(0, 1)),
+    Ask(&["--slots", "0"], Untold(5, 1)),
+];
 
 #[test]
 fn a_failure_of_standard_error_is_passed_over(rt: HostRuntime) -> Result<(), Fail> {
-    let folder = make_folder(&rt, "mute")?;
-    put(&rt, folder.as_str(), "p3.com", HI)?;
-    for (words, wanted) in [
-        (&["@/p3.com"][..], 0),
-        (&["@/p3.com", "--limit", "5"], 3),
-        (&["@/none"], 1),
-        (&["--slots", "0"], 1),
-    ] {
-        for room in [0, 5] {
-            is_not_told(&rt, folder.as_str(), words, room, wanted)?;
-        }
-    }
-    remove_folder(&rt, folder.as_str())
+    in_folder_of(&rt, rt.process(), "mute", MUTE)
 }

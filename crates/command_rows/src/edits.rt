@@ -1,6 +1,8 @@
 // Edit lines that are replayed over a session of files.
 
-use crate::fixtures::{HI, TAKE, answers, make_folder, put, put_zeros, remove_folder};
+use crate::fixtures::Act::{Ask, Put, PutZeros};
+use crate::fixtures::Wanted::Answer;
+use crate::fixtures::{Act, HI, TAKE, in_folder_of};
 use std::test::Fail;
 
 const REPORT: &str =
@@ -12,60 +14,57 @@ const AT_LIMIT: &str =
 const TAKEN: &str =
     "stop WarmBoot\nsteps 6\nregs A=78 F=02 B=00 C=01 D=00 E=00 H=00 L=78 SP=FE00 PC=FF03\ntext 78\nend\n";
 
+const LINES: &[Act<'_>] = &[
+    Put("p3.com", HI),
+    Put("take.com", TAKE),
+    Put("typed", b"x"),
+    Put("run", b"run\n"),
+    Ask(&["@/p3.com", "--edits", "@/run"], Answer(0, REPORT, "")),
+    Ask(
+        &[
+            "--edits", "@/run", "@/p3.com", "a tail", "--out", "none", "--out-d", "none",
+        ],
+        Answer(0, REPORT, ""),
+    ),
+    Ask(
+        &[
+            "@/p3.com",
+            "--limit",
+            "5",
+            "--edits",
+            "@/run",
+            "--slots",
+            "1",
+            "--spacing=1",
+        ],
+        Answer(0, AT_LIMIT, ""),
+    ),
+    Ask(
+        &["@/take.com", "--edits", "@/run", "--console", "@/typed"],
+        Answer(0, TAKEN, ""),
+    ),
+];
+
 #[test]
 fn edit_lines_are_answered(rt: HostRuntime) -> Result<(), Fail> {
-    let folder = make_folder(&rt, "lines")?;
-    for (file, bytes) in [
-        ("p3.com", HI),
-        ("take.com", TAKE),
-        ("typed", b"x"),
-        ("run", b"run\n"),
-    ] {
-        put(&rt, folder.as_str(), file, bytes)?;
-    }
-    for (words, out) in [
-        (&["@/p3.com", "--edits", "@/run"][..], REPORT),
-        (
-            &[
-                "--edits", "@/run", "@/p3.com", "a tail", "--out", "none", "--out-d", "none",
-            ],
-            REPORT,
-        ),
-        (
-            &[
-                "@/p3.com",
-                "--limit",
-                "5",
-                "--edits",
-                "@/run",
-                "--slots",
-                "1",
-                "--spacing=1",
-            ],
-            AT_LIMIT,
-        ),
-        (
-            &["@/take.com", "--edits", "@/run", "--console", "@/typed"],
-            TAKEN,
-        ),
-    ] {
-        answers(&rt, folder.as_str(), words, 0, out, "")?;
-    }
-    remove_folder(&rt, folder.as_str())
+    in_folder_of(&rt, rt.process(), "lines", LINES)
 }
+
+const FAULTS: &[Act<'_>] = &[
+    Put("p3.com", HI),
+    Put("bogus", b"limit 5\nbogus\nrun\n"),
+    PutZeros("long", 65_537),
+    Ask(
+        &["@/p3.com", "--edits", "@/bogus"],
+        Answer(2, "ok\n", "cpmrun: line 2 is malformed\n"),
+    ),
+    Ask(
+        &["@/p3.com", "--edits", "@/long"],
+        Answer(2, "", "cpmrun: line 1 is too long\n"),
+    ),
+];
 
 #[test]
 fn a_fault_of_edit_lines_comes_after_the_replies(rt: HostRuntime) -> Result<(), Fail> {
-    let folder = make_folder(&rt, "faults")?;
-    put(&rt, folder.as_str(), "p3.com", HI)?;
-    put(&rt, folder.as_str(), "bogus", b"limit 5\nbogus\nrun\n")?;
-    put_zeros(&rt, folder.as_str(), "long", 65_537)?;
-    for (lines, out, told) in [
-        ("@/bogus", "ok\n", "cpmrun: line 2 is malformed\n"),
-        ("@/long", "", "cpmrun: line 1 is too long\n"),
-    ] {
-        let words = ["@/p3.com", "--edits", lines];
-        answers(&rt, folder.as_str(), &words, 2, out, told)?;
-    }
-    remove_folder(&rt, folder.as_str())
+    in_folder_of(&rt, rt.process(), "faults", FAULTS)
 }

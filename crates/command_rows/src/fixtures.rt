@@ -1,8 +1,11 @@
-// Folders and files for a test, and what the command answers to words.
+// What is done in the folder of a test, and what the command answers to words there.
 
-use cpmrun::{Over, command};
+ghost use Rattle.std.specs.Prelude.{None};
+
+use cpmrun::{Failed, Over, Writer, command};
 use std::alloc::{AllocError, Global};
-use std::process::Abort;
+use std::fs::OpenFile;
+use std::process::{Abort, Process};
 use std::rt::Files;
 use std::test::Fail;
 use std::{fs, process};
@@ -13,24 +16,66 @@ pub const HI: &[u8] = b"\x0e\x09\x11\x09\x01\xcd\x05\x00\xc9Hi$";
 /// A program that takes a byte of the console by call 1 and returns.
 pub const TAKE: &[u8] = b"\x0e\x01\xcd\x05\x00\xc9";
 
-/// What the command answered: its status, and what stands on standard output and standard error.
-#[derive(Drop)]
-pub struct Answer {
-    pub status: u8,
-    pub out: Vec<u8>,
-    pub err: Vec<u8>,
+/// What is wanted of the command: its status, and what stands on standard output and standard error.
+#[derive(Clone, Copy, Debug)]
+pub enum Wanted<'a> {
+    /// These texts, the second with the folder's path in place of its first `@`.
+    Answer(u8, &'a str, &'a str),
+    /// Texts that hold these parts, and no text where there are none.
+    Parts(u8, &'a [&'a str], &'a [&'a str]),
+    /// Standard output takes so many bytes and then fails, and that is told.
+    NoRoom(usize),
+    /// Standard error takes so many bytes and then fails, which is passed over.
+    Untold(usize, u8),
 }
 
-/// A text with the folder's path in place of its first `@`.
-pub fn in_folder(alloc: Global, folder: &str, text: &str) -> Result<String, AllocError> {
+/// What is done in a folder.
+#[derive(Clone, Copy)]
+pub enum Act<'a> {
+    /// A file is written.
+    Put(&'a str, &'a [u8]),
+    /// A file of zeros of this length is made, which takes no room.
+    PutZeros(&'a str, u64),
+    /// The command has these words, each with the folder's path in place of its first `@`.
+    Ask(&'a [&'a str], Wanted<'a>),
+    /// The command has words of a program, the folders of A to D, a script, and a file of edit lines that is not there, and this
+    /// is told.
+    Load(&'a [&'a str; 6], &'a str),
+}
+
+// Takes so many bytes, and then fails.
+#[derive(Drop)]
+struct Narrow {
+    room: usize,
+    failures: u64,
+}
+
+impl Writer for Narrow {
+    ghost holds = { λ _. None };
+
+    ghost failures = { λ n. n.failures };
+
+    fn write(&mut self, piece: &[u8]) -> Result<usize, Failed> {
+        let count = piece.len().min(self.room);
+        if count == 0 && !piece.is_empty() {
+            self.failures += 1;
+            return Err(Failed);
+        }
+        self.room -= count;
+        Ok(count)
+    }
+}
+
+// A text with the folder's path in place of its first `@`.
+fn in_folder(alloc: Global, folder: &str, text: &str) -> Result<String, AllocError> {
     match text.split_once('@') {
         Some((before, after)) => format!(in alloc; "{before}{folder}{after}"),
         None => String::from_str(alloc, text),
     }
 }
 
-/// Words that own their texts, with the folder's path in place of `@`.
-pub fn owned(alloc: Global, folder: &str, words: &[&str]) -> Result<Vec<String>, AllocError> {
+// Words that own their texts, with the folder's path in place of `@`.
+fn owned(alloc: Global, folder: &str, words: &[&str]) -> Result<Vec<String>, AllocError> {
     let mut list = Vec::new(alloc);
     for word in words {
         list.push(in_folder(alloc, folder, word)?)?;
@@ -38,65 +83,215 @@ pub fn owned(alloc: Global, folder: &str, words: &[&str]) -> Result<Vec<String>,
     Ok(list)
 }
 
-/// The answer of the command to words, with the folder's path in place of `@`.
-pub fn answer_of<R: Files + AllocGlobal + Clone + Drop>(
+// Whether a text is this one, with the folder's path in place of its first `@`.
+fn is_in_folder(text: &str, folder: &str, wanted: &str) -> bool {
+    let Some((before, after)) = wanted.split_once('@') else {
+        return text == wanted;
+    };
+    match text.strip_prefix(before) {
+        Some(rest) => rest.strip_prefix(folder) == Some(after),
+        None => false,
+    }
+}
+
+// Whether a text holds each of these parts, and is empty where there are none.
+fn holds(text: &str, parts: &[&str]) -> bool {
+    for part in parts {
+        if !text.contains(*part) {
+            return false;
+        }
+    }
+    text.is_empty() == parts.is_empty()
+}
+
+// What the command told: its status, and what stands on standard output and standard error.
+type Told<'a> = (u8, &'a [u8], &'a [u8]);
+
+fn is_wanted(folder: &str, told: Told<'_>, wanted: Wanted<'_>) -> bool {
+    let (status, out, err) = told;
+    let (Ok(out), Ok(err)) = (str::from_utf8(out), str::from_utf8(err)) else {
+        return false;
+    };
+    match wanted {
+        Wanted::Answer(code, text, fault) => {
+            status == code && out == text && is_in_folder(err, folder, fault)
+        }
+        Wanted::Parts(code, texts, faults) => {
+            status == code && holds(out, texts) && holds(err, faults)
+        }
+        Wanted::NoRoom(_) => status == 1 && err == "cpmrun: cannot write standard output\n",
+        Wanted::Untold(_, code) => status == code,
+    }
+}
+
+fn compare(rt: &impl Abort, folder: &str, told: Told<'_>, wanted: Wanted<'_>) {
+    assert!(rt;
+        is_wanted(folder, told, wanted),
+        "{wanted:?} is told {told:?}"
+    );
+}
+
+// What the command answers to words, of which both outputs take all.
+fn answer<R: Files + AllocGlobal + Clone + Drop + Abort>(
     rt: &R,
     folder: &str,
-    words: &[&str],
-) -> Result<Answer, Fail> {
-    let words = owned(rt.alloc(), folder, words)?;
+    words: &[String],
+    wanted: Wanted<'_>,
+) {
     let mut out = Over::new(Vec::new(rt.alloc()));
     let mut err = Over::new(Vec::new(rt.alloc()));
-    let status = command(rt, words.as_slice(), &mut out, &mut err);
-    Ok(Answer {
-        status,
-        out: out.into_inner(),
-        err: err.into_inner(),
-    })
+    let status = command(rt, words, &mut out, &mut err);
+    let out = out.into_inner();
+    let err = err.into_inner();
+    compare(rt, folder, (status, out.as_slice(), err.as_slice()), wanted);
 }
 
-/// The answer of the command is this, with the folder's path in place of `@`.
-pub fn answers<R: Files + AllocGlobal + Clone + Drop + Abort>(
+fn find_no_room<R: Files + AllocGlobal + Clone + Drop + Abort>(
+    rt: &R,
+    folder: &str,
+    words: &[String],
+    room: usize,
+    wanted: Wanted<'_>,
+) {
+    let mut out = Narrow { room, failures: 0 };
+    let mut err = Over::new(Vec::new(rt.alloc()));
+    let status = command(rt, words, &mut out, &mut err);
+    let err = err.into_inner();
+    compare(rt, folder, (status, b"".as_slice(), err.as_slice()), wanted);
+}
+
+fn leave_untold<R: Files + AllocGlobal + Clone + Drop + Abort>(
+    rt: &R,
+    folder: &str,
+    words: &[String],
+    room: usize,
+    wanted: Wanted<'_>,
+) {
+    let mut out = Over::new(Vec::new(rt.alloc()));
+    let mut err = Narrow { room, failures: 0 };
+    let status = command(rt, words, &mut out, &mut err);
+    let out = out.into_inner();
+    compare(rt, folder, (status, out.as_slice(), b"".as_slice()), wanted);
+}
+
+fn ask<R: Files + AllocGlobal + Clone + Drop + Abort>(
+    rt: &R,
+    folder: &str,
+    words: &[String],
+    wanted: Wanted<'_>,
+) {
+    match wanted {
+        Wanted::NoRoom(room) => find_no_room(rt, folder, words, room, wanted),
+        Wanted::Untold(room, _) => leave_untold(rt, folder, words, room, wanted),
+        _ => answer(rt, folder, words, wanted),
+    }
+}
+
+fn ask_in<R: Files + AllocGlobal + Clone + Drop + Abort>(
     rt: &R,
     folder: &str,
     words: &[&str],
-    status: u8,
-    out: &str,
-    err: &str,
+    wanted: Wanted<'_>,
 ) -> Result<(), Fail> {
-    let err = in_folder(rt.alloc(), folder, err)?;
-    let answer = answer_of(rt, folder, words)?;
-    assert_eq!(rt; answer.status, status, "{words:?}");
-    assert_eq!(rt; answer.out.as_slice(), out.as_bytes(), "{words:?}");
-    assert_eq!(rt; answer.err.as_slice(), err.as_bytes(), "{words:?}");
+    let words = owned(rt.alloc(), folder, words)?;
+    ask(rt, folder, words.as_slice(), wanted);
     Ok(())
 }
 
-/// Makes an empty folder for a test of this name, and gives its path.
-pub fn make_folder(rt: &HostRuntime, name: &str) -> Result<String, Fail> {
-    let id = process::id(rt.process());
-    let path = format!(in rt.alloc(); "/tmp/vembrusk-{id}-{name}")?;
-    let _ = fs::remove_dir_all(rt, path.as_str());
-    fs::create_dir_all(rt, path.as_str())?;
-    Ok(path)
+fn load_in<R: Files + AllocGlobal + Clone + Drop + Abort>(
+    rt: &R,
+    folder: &str,
+    named: &[&str; 6],
+    told: &str,
+) -> Result<(), Fail> {
+    let [program, a, b, c, d, console] = *named;
+    let words = [
+        program,
+        "--files-d",
+        d,
+        "--files-c",
+        c,
+        "--files-b",
+        b,
+        "--files",
+        a,
+        "--console",
+        console,
+        "--edits",
+        "@/f",
+    ];
+    ask_in(rt, folder, &words, Wanted::Answer(1, "", told))
 }
 
-/// Takes the folder of a test away.
-pub fn remove_folder(rt: &HostRuntime, path: &str) -> Result<(), Fail> {
-    fs::remove_dir_all(rt, path)?;
-    Ok(())
-}
-
-/// Writes a file in a folder.
-pub fn put(rt: &HostRuntime, folder: &str, file: &str, bytes: &[u8]) -> Result<(), Fail> {
+fn put<R: Files + AllocGlobal>(rt: &R, folder: &str, file: &str, bytes: &[u8]) -> Result<(), Fail> {
     let path = format!(in rt.alloc(); "{folder}/{file}")?;
     fs::write(rt, path.as_str(), bytes)?;
     Ok(())
 }
 
-/// Makes a file of zeros of this length in a folder, which takes no room.
-pub fn put_zeros(rt: &HostRuntime, folder: &str, file: &str, len: u64) -> Result<(), Fail> {
+fn put_zeros<R: Files + AllocGlobal>(
+    rt: &R,
+    folder: &str,
+    file: &str,
+    len: u64,
+) -> Result<(), Fail> {
     let path = format!(in rt.alloc(); "{folder}/{file}")?;
     fs::create(rt, path.as_str())?.set_len(len)?;
     Ok(())
+}
+
+fn carry_out<R: Files + AllocGlobal + Clone + Drop + Abort>(
+    rt: &R,
+    folder: &str,
+    act: Act<'_>,
+) -> Result<(), Fail> {
+    match act {
+        Act::Put(file, bytes) => put(rt, folder, file, bytes),
+        Act::PutZeros(file, len) => put_zeros(rt, folder, file, len),
+        Act::Ask(words, wanted) => ask_in(rt, folder, words, wanted),
+        Act::Load(named, told) => load_in(rt, folder, named, told),
+    }
+}
+
+fn carry_out_all<R: Files + AllocGlobal + Clone + Drop + Abort>(
+    rt: &R,
+    folder: &str,
+    acts: &[Act<'_>],
+) -> Result<(), Fail> {
+    for act in acts {
+        carry_out(rt, folder, *act)?;
+    }
+    Ok(())
+}
+
+/// Carries out acts in an empty folder of this name, which is taken away then.
+pub fn in_folder_of<R: Files + AllocGlobal + Clone + Drop + Abort>(
+    rt: &R,
+    process: Process,
+    name: &str,
+    acts: &[Act<'_>],
+) -> Result<(), Fail> {
+    let id = process::id(process);
+    let path = format!(in rt.alloc(); "/tmp/vembrusk-{id}-{name}")?;
+    in_empty_folder(rt, path.as_str(), acts)
+}
+
+fn in_empty_folder<R: Files + AllocGlobal + Clone + Drop + Abort>(
+    rt: &R,
+    path: &str,
+    acts: &[Act<'_>],
+) -> Result<(), Fail> {
+    let _ = fs::remove_dir_all(rt, path);
+    fs::create_dir_all(rt, path)?;
+    carry_out_all(rt, path, acts)?;
+    fs::remove_dir_all(rt, path)?;
+    Ok(())
+}
+
+/// Carries out acts without a folder.
+pub fn without_folder<R: Files + AllocGlobal + Clone + Drop + Abort>(
+    rt: &R,
+    acts: &[Act<'_>],
+) -> Result<(), Fail> {
+    carry_out_all(rt, "", acts)
 }
