@@ -3,9 +3,9 @@
 
 ghost use Rattle.std.specs.Prelude.{◌≤◌};
 
-use crate::ends::{Ended, Given, LOADED, alone, run, runner_of};
+use crate::acts::Act::{Edit, Run};
+use crate::acts::{Change, EMPTY, Ended, Given, LOADED, play};
 use machine::{Cause, Regs};
-use replay::{Edit, Runner};
 use std::alloc::Global;
 use std::process::Abort;
 use std::test::Fail;
@@ -135,37 +135,30 @@ fn end_of(number: u8, word: u16) -> (Cause, u64, Regs) {
     (Cause::WarmBoot, 7, back(number, word))
 }
 
-// A runner of a program that makes a call and returns, up to its call.
-fn runner_at(alloc: Global, number: u8, word: u16) -> Result<Runner, Fail> {
-    let high = (word / 256) as u8;
-    let program = [0x0e, number, 0x11, low(word), high, 0xcd, 0x05, 0x00, 0xc9];
+// A run is broken off at its call, and goes on from the checkpoint there. Then it is run again from its end.
+fn calls(rt: &impl Abort, alloc: Global, number: u8, word: u16) -> Result<(), Fail> {
+    let program = [
+        0x0e,
+        number,
+        0x11,
+        low(word),
+        (word / 256) as u8,
+        0xcd,
+        0x05,
+        0x00,
+        0xc9,
+    ];
     let given = Given {
+        program: &program,
         limit: 4,
-        ..alone(&program)
+        ..EMPTY
     };
-    runner_of(alloc, given)
-}
-
-// The run is broken off at the call.
-fn breaks_off(rt: &impl Abort, runner: &mut Runner, regs: Regs) -> Result<(), Fail> {
-    let wanted = Ended {
+    let broken_off = Ended {
         cause: Cause::Limit,
         steps: 4,
-        regs,
+        regs: at_call(number, word),
         text: b"",
     };
-    assert_eq!(rt; run(rt, runner, wanted)?, 4);
-    Ok(())
-}
-
-// The run ends as it should, and begins after so many steps.
-fn goes_on(
-    rt: &impl Abort,
-    runner: &mut Runner,
-    number: u8,
-    word: u16,
-    from: u64,
-) -> Result<u64, Fail> {
     let (cause, steps, regs) = end_of(number, word);
     let printed = [low(word)];
     let wanted = Ended {
@@ -174,27 +167,13 @@ fn goes_on(
         regs,
         text: &printed[..count_printed(number, word)],
     };
-    let added = run(rt, runner, wanted)?;
-    assert_eq!(rt;
-        added.wrapping_add(from),
-        steps,
-        "call {number} with {word}"
-    );
-    Ok(steps)
-}
-
-// A run is broken off at its call, and goes on from the checkpoint there. Then it is run again from its end.
-fn run_in_parts(rt: &impl Abort, runner: &mut Runner, number: u8, word: u16) -> Result<(), Fail> {
-    breaks_off(rt, runner, at_call(number, word))?;
-    assert!(rt; runner.edit(Edit::SetLimit(LIMIT)).is_ok());
-    let steps = goes_on(rt, runner, number, word, 4)?;
-    goes_on(rt, runner, number, word, steps)?;
-    Ok(())
-}
-
-fn calls(rt: &impl Abort, alloc: Global, number: u8, word: u16) -> Result<(), Fail> {
-    let mut runner = runner_at(alloc, number, word)?;
-    run_in_parts(rt, &mut runner, number, word)
+    let acts = [
+        Run(4, broken_off),
+        Edit(Change::Limit(LIMIT)),
+        Run(steps.wrapping_sub(4), wanted),
+        Run(0, wanted),
+    ];
+    play(rt, alloc, given, &acts)
 }
 
 #[test]

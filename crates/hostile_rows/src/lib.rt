@@ -4,11 +4,15 @@
 #![tactic(auto)]
 
 #[cfg(test)]
+mod acts;
+#[cfg(test)]
 mod calls_at_the_edge;
 #[cfg(test)]
 mod ends;
 #[cfg(test)]
 mod every_number;
+#[cfg(test)]
+mod left;
 #[cfg(test)]
 mod page_zero;
 #[cfg(test)]

@@ -1,7 +1,8 @@
 // Programs that write over page zero, or come to the system's area.
 
-use crate::ends::Left::{Cells, Filled};
-use crate::ends::{Ended, Given, LOADED, alone, ends};
+use crate::acts::{EMPTY, Ended, Given, LOADED, NO_FLAGS, alone};
+use crate::ends::{Trial, comes_out, ends};
+use crate::left::Left::{Cells, Filled};
 use i8080::Flags;
 use machine::{Cause, Regs};
 use std::test::Fail;
@@ -9,135 +10,151 @@ use std::test::Fail;
 // The random place is put over the jump to the warm start, which then leads into page zero, over 61 NOPs back to the program.
 const ROUND: [u8; 9] = [0x0e, 0x24, 0x11, 0xe0, 0xff, 0xcd, 0x05, 0x00, 0xc9];
 
-#[test]
-fn a_jump_to_the_warm_start_is_made_one_to_page_zero(rt: HostRuntime) -> Result<(), Fail> {
-    let given = Given {
+const TO_PAGE_ZERO: &Trial<'_> = &Trial {
+    given: Given {
+        program: &ROUND,
         limit: 68,
-        ..alone(&ROUND)
-    };
-    let regs = Regs {
-        c: 0x24,
-        d: 0xff,
-        e: 0xe0,
-        sp: 0xfe00,
-        ..LOADED
-    };
-    let wanted = Ended {
+        ..EMPTY
+    },
+    wanted: Ended {
         cause: Cause::Limit,
         steps: 68,
-        regs,
+        regs: Regs {
+            c: 0x24,
+            d: 0xff,
+            e: 0xe0,
+            sp: 0xfe00,
+            ..LOADED
+        },
         text: b"",
-    };
-    let left = [Cells(0x0000, b"\xc3\xc3\0\0")];
-    ends(&rt, rt.alloc(), given, wanted, &left)
+    },
+    left: &[Cells(0x0000, b"\xc3\xc3\0\0")],
+};
+
+#[test]
+fn a_jump_to_the_warm_start_is_made_one_to_page_zero(rt: HostRuntime) -> Result<(), Fail> {
+    comes_out(&rt, rt.alloc(), TO_PAGE_ZERO)
 }
 
 // Each round takes 68 steps and leaves the stack two cells higher. In the 243rd the return address, 0108H, comes to lie in the
 // control block, and 8 is no drive.
-#[test]
-fn a_stack_climbs_into_a_control_block(rt: HostRuntime) -> Result<(), Fail> {
-    let regs = Regs {
-        c: 0x24,
-        d: 0xff,
-        e: 0xe0,
-        sp: 0xffe0,
-        pc: 0xfe06,
-        ..LOADED
-    };
-    let wanted = Ended {
+const CLIMBING: &Trial<'_> = &Trial {
+    given: Given {
+        program: &ROUND,
+        ..EMPTY
+    },
+    wanted: Ended {
         cause: Cause::BadDrive(8),
         steps: 16_460,
-        regs,
+        regs: Regs {
+            c: 0x24,
+            d: 0xff,
+            e: 0xe0,
+            sp: 0xffe0,
+            pc: 0xfe06,
+            ..LOADED
+        },
         text: b"",
-    };
-    let left = [Cells(0xffde, b"\x08\x01\x08\x01\0\0")];
-    ends(&rt, rt.alloc(), alone(&ROUND), wanted, &left)
+    },
+    left: &[Cells(0xffde, b"\x08\x01\x08\x01\0\0")],
+};
+
+#[test]
+fn a_stack_climbs_into_a_control_block(rt: HostRuntime) -> Result<(), Fail> {
+    comes_out(&rt, rt.alloc(), CLIMBING)
 }
 
 // The directory's record ends in page zero, as 64 PUSH H, up to the names of the tail: eleven CMC, and then a blank.
-#[test]
-fn a_directory_record_is_carried_out(rt: HostRuntime) -> Result<(), Fail> {
-    let searches = [
-        0x0e, 0x1a, 0x11, 0xc0, 0xff, 0xcd, 0x05, 0x00, 0x0e, 0x11, 0x11, 0x5c, 0x00, 0xcd, 0x05,
-        0x00, 0xc9,
-    ];
-    let given = Given {
+const DIRECTORY: &Trial<'_> = &Trial {
+    given: Given {
+        program: &[
+            0x0e, 0x1a, 0x11, 0xc0, 0xff, 0xcd, 0x05, 0x00, 0x0e, 0x11, 0x11, 0x5c, 0x00, 0xcd,
+            0x05, 0x00, 0xc9,
+        ],
         tail: b"*.*",
         hosts: &[("a", b"1")],
-        ..alone(&searches)
-    };
-    let flags = Flags {
-        cy: true,
-        ..LOADED.flags
-    };
-    let regs = Regs {
-        c: 0x11,
-        e: 0x5c,
-        sp: 0xfd80,
-        pc: 0x006d,
-        flags,
-        ..LOADED
-    };
-    let wanted = Ended {
+        ..EMPTY
+    },
+    wanted: Ended {
         cause: Cause::Undefined(0x20),
         steps: 120,
-        regs,
+        regs: Regs {
+            c: 0x11,
+            e: 0x5c,
+            sp: 0xfd80,
+            pc: 0x006d,
+            flags: Flags {
+                cy: true,
+                ..NO_FLAGS
+            },
+            ..LOADED
+        },
         text: b"",
-    };
-    let left = [
+    },
+    left: &[
         Cells(0xffc0, b"\0A          \0\0\0\x01"),
         Filled(0xffe0, 96, 0xe5),
         Filled(0xfd80, 128, 0),
-    ];
-    ends(&rt, rt.alloc(), given, wanted, &left)
+    ],
+};
+
+#[test]
+fn a_directory_record_is_carried_out(rt: HostRuntime) -> Result<(), Fail> {
+    comes_out(&rt, rt.alloc(), DIRECTORY)
 }
 
 // RET at 0005H: a call goes back at once, and nothing is printed.
-#[test]
-fn a_call_meets_what_was_put_at_the_entry(rt: HostRuntime) -> Result<(), Fail> {
-    let program = [
-        0x3e, 0xc9, 0x32, 0x05, 0x00, 0x0e, 0x02, 0x1e, 0x41, 0xcd, 0x05, 0x00, 0xc9,
-    ];
-    let regs = Regs {
-        a: 0xc9,
-        c: 0x02,
-        e: 0x41,
-        sp: 0xfe00,
-        pc: 0xff03,
-        ..LOADED
-    };
-    let wanted = Ended {
+const AT_THE_ENTRY: &Trial<'_> = &Trial {
+    given: Given {
+        program: &[
+            0x3e, 0xc9, 0x32, 0x05, 0x00, 0x0e, 0x02, 0x1e, 0x41, 0xcd, 0x05, 0x00, 0xc9,
+        ],
+        ..EMPTY
+    },
+    wanted: Ended {
         cause: Cause::WarmBoot,
         steps: 8,
-        regs,
+        regs: Regs {
+            a: 0xc9,
+            c: 0x02,
+            e: 0x41,
+            sp: 0xfe00,
+            pc: 0xff03,
+            ..LOADED
+        },
         text: b"",
-    };
-    ends(
-        &rt,
-        rt.alloc(),
-        alone(&program),
-        wanted,
-        &[Cells(5, b"\xc9\x06\xfe")],
-    )
+    },
+    left: &[Cells(5, b"\xc9\x06\xfe")],
+};
+
+#[test]
+fn a_call_meets_what_was_put_at_the_entry(rt: HostRuntime) -> Result<(), Fail> {
+    comes_out(&rt, rt.alloc(), AT_THE_ENTRY)
 }
 
 // HLT at 0000H: a return to the system stops there.
-#[test]
-fn a_return_meets_what_was_put_at_the_start(rt: HostRuntime) -> Result<(), Fail> {
-    let program = [0x3e, 0x76, 0x32, 0x00, 0x00, 0xc9];
-    let regs = Regs {
-        a: 0x76,
-        sp: 0xfe00,
-        pc: 0x0000,
-        ..LOADED
-    };
-    let wanted = Ended {
+const AT_THE_START: &Trial<'_> = &Trial {
+    given: Given {
+        program: &[0x3e, 0x76, 0x32, 0x00, 0x00, 0xc9],
+        ..EMPTY
+    },
+    wanted: Ended {
         cause: Cause::Halt,
         steps: 3,
-        regs,
+        regs: Regs {
+            a: 0x76,
+            sp: 0xfe00,
+            pc: 0x0000,
+            ..LOADED
+        },
         text: b"",
-    };
-    ends(&rt, rt.alloc(), alone(&program), wanted, &[])
+    },
+    left: &[],
+};
+
+#[test]
+fn a_return_meets_what_was_put_at_the_start(rt: HostRuntime) -> Result<(), Fail> {
+    comes_out(&rt, rt.alloc(), AT_THE_START)
 }
 
 // The address of the jump at 0005H becomes another one of the system's area: LXI H, SHLD 0006H, CALL 5.

@@ -1,13 +1,15 @@
 // Programs that are put together of parts, where page zero is written over and each call goes to the system's entry itself.
 
-use crate::ends::{Ended, Given, LOADED, Left, alone, ends};
+use crate::acts::{Ended, Given, LOADED, alone};
+use crate::ends::ends;
+use crate::left::Left;
 use machine::{Cause, Regs};
 use std::alloc::{AllocError, Global};
 use std::process::Abort;
 use std::test::Fail;
 
 /// A part of a program.
-#[derive(Clone, Copy, Debug)]
+#[derive(Clone, Copy)]
 pub enum Part<'a> {
     /// Bytes are put into the cells from an address on: `MVI A` and `STA` for each.
     Put(u16, &'a [u8]),
@@ -17,7 +19,7 @@ pub enum Part<'a> {
 
 /// Parts of a program, its host files and its script; and the byte in A and L that the last call gives, what is printed, and what
 /// is left.
-#[derive(Clone, Copy, Debug)]
+#[derive(Clone, Copy)]
 pub struct Row<'a> {
     pub parts: &'a [Part<'a>],
     pub hosts: &'a [(&'a str, &'a [u8])],
@@ -75,8 +77,8 @@ fn after(regs: Regs, part: Part<'_>, value: u8) -> Regs {
     }
 }
 
-/// Runs a program of parts and a HLT at its end, and compares how it ends.
-pub fn halts(rt: &impl Abort, alloc: Global, row: Row<'_>) -> Result<(), Fail> {
+// Runs a program of parts and a HLT at its end, and compares how it ends.
+fn halts(rt: &impl Abort, alloc: Global, row: Row<'_>) -> Result<(), Fail> {
     let mut program = Vec::new(alloc);
     let mut regs = LOADED;
     let mut steps = 0u64;
@@ -99,4 +101,12 @@ pub fn halts(rt: &impl Abort, alloc: Global, row: Row<'_>) -> Result<(), Fail> {
         text: row.text,
     };
     ends(rt, alloc, given, wanted, row.left)
+}
+
+/// Runs the program of each row with a HLT at its end, and compares how it ends.
+pub fn all_halt(rt: &impl Abort, alloc: Global, rows: &[Row<'_>]) -> Result<(), Fail> {
+    for row in rows {
+        halts(rt, alloc, *row)?;
+    }
+    Ok(())
 }
