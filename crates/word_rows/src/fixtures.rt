@@ -1,11 +1,55 @@
-// Words as a caller hands them in.
+// What words as a caller hands them in come to.
 
-use command_words::{Outcome, outcome_of, read_words};
+use command_words::{Outcome, Words, outcome_of, read_words};
 use std::alloc::{AllocError, Global};
+use std::process::Abort;
 use std::test::Fail;
 
-/// Words that own their texts.
-pub fn owned(alloc: Global, words: &[&str]) -> Result<Vec<String>, AllocError> {
+/// What words are read as: the fields of `Words`.
+#[derive(Clone, Copy)]
+pub struct Fields<'a> {
+    pub program: &'a str,
+    pub tail: &'a str,
+    /// Of the drives A to D.
+    pub files: &'a [Option<&'a str>],
+    pub console: Option<&'a str>,
+    pub limit: u64,
+    /// Of the drives A to D.
+    pub out: &'a [Option<&'a str>],
+    pub edits: Option<&'a str>,
+    pub spacing: u64,
+    pub slots: usize,
+}
+
+/// What is wanted of words.
+#[derive(Clone, Copy)]
+pub enum Wanted<'a> {
+    /// They are read so.
+    Read(&'a Fields<'a>),
+    /// They are not read. What their error comes to, and parts of its text.
+    Refused(Outcome, &'a [&'a str]),
+    /// They are not read. What their error comes to, and its text.
+    Told(Outcome, &'a str),
+}
+
+/// Words, and what is wanted of them.
+pub type Row<'a> = (&'a [&'a str], Wanted<'a>);
+
+/// What the word `p.com` alone is read as.
+pub const PROGRAM: Fields<'_> = Fields {
+    program: "p.com",
+    tail: "",
+    files: &[None; 4],
+    console: None,
+    limit: 1_000_000,
+    out: &[None; 4],
+    edits: None,
+    spacing: 10_000,
+    slots: 64,
+};
+
+// Words that own their texts.
+fn owned(alloc: Global, words: &[&str]) -> Result<Vec<String>, AllocError> {
     let mut list = Vec::new(alloc);
     for word in words {
         list.push(String::from_str(alloc, word)?)?;
@@ -13,19 +57,84 @@ pub fn owned(alloc: Global, words: &[&str]) -> Result<Vec<String>, AllocError> {
     Ok(list)
 }
 
-/// What the error of words comes to, and its text; none where they are read.
-pub fn refusal(alloc: Global, words: &[&str]) -> Result<Option<(Outcome, String)>, Fail> {
-    let list = owned(alloc, words)?;
-    match read_words(alloc, list.as_slice()) {
-        Ok(_) => Ok(None),
-        Err(error) => Ok(Some((outcome_of(&error), format!(in alloc; "{error}")?))),
+fn are_same(folders: &[Option<&str>], wanted: &[Option<&str>]) -> bool {
+    folders == wanted
+}
+
+fn has_same_files(words: &Words<'_>, wanted: &Fields<'_>) -> bool {
+    are_same(&words.files, wanted.files)
+        && are_same(&words.out, wanted.out)
+        && words.console == wanted.console
+        && words.edits == wanted.edits
+}
+
+fn has_same_numbers(words: &Words<'_>, wanted: &Fields<'_>) -> bool {
+    words.limit == wanted.limit && words.spacing == wanted.spacing && words.slots == wanted.slots
+}
+
+fn is_read(words: &Words<'_>, wanted: Wanted<'_>) -> bool {
+    match wanted {
+        Wanted::Read(wanted) => {
+            words.program == wanted.program
+                && words.tail == wanted.tail
+                && has_same_files(words, wanted)
+                && has_same_numbers(words, wanted)
+        }
+        _ => false,
     }
 }
 
-/// Whether words are a fault of use.
-pub fn is_misuse(alloc: Global, words: &[&str]) -> Result<bool, Fail> {
-    match refusal(alloc, words)? {
-        Some((outcome, _)) => Ok(outcome == Outcome::Misuse),
-        None => Ok(false),
+fn has_parts(text: &str, parts: &[&str]) -> bool {
+    for part in parts {
+        if !text.contains(*part) {
+            return false;
+        }
     }
+    true
+}
+
+fn is_refused(outcome: Outcome, text: &str, wanted: Wanted<'_>) -> bool {
+    match wanted {
+        Wanted::Read(_) => false,
+        Wanted::Refused(wanted, parts) => outcome == wanted && has_parts(text, parts),
+        Wanted::Told(wanted, told) => outcome == wanted && text == told,
+    }
+}
+
+fn compare_words(rt: &impl Abort, read: &Words<'_>, row: &Row<'_>) {
+    let (words, wanted) = row;
+    assert!(rt; is_read(read, *wanted), "{words:?}");
+}
+
+fn compare_error(rt: &impl Abort, outcome: Outcome, text: &str, row: &Row<'_>) {
+    let (words, wanted) = row;
+    assert!(rt;
+        is_refused(outcome, text, *wanted),
+        "{words:?} {outcome:?} {text}"
+    );
+}
+
+fn compare(
+    rt: &impl Abort,
+    alloc: Global,
+    list: &[String],
+    row: &Row<'_>,
+) -> Result<(), AllocError> {
+    match read_words(alloc, list) {
+        Ok(words) => compare_words(rt, &words, row),
+        Err(error) => {
+            let text = format!(in alloc; "{error}")?;
+            compare_error(rt, outcome_of(&error), text.as_str(), row);
+        }
+    }
+    Ok(())
+}
+
+/// The words of each row come to what is wanted of them.
+pub fn come_to(rt: &impl Abort, alloc: Global, rows: &[Row<'_>]) -> Result<(), Fail> {
+    for row in rows {
+        let list = owned(alloc, row.0)?;
+        compare(rt, alloc, list.as_slice(), row)?;
+    }
+    Ok(())
 }

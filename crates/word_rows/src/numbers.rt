@@ -1,56 +1,76 @@
 // Numbers at the ends of their ranges.
 
-use crate::fixtures::{is_misuse, owned};
-use command_words::read_words;
-use std::alloc::Global;
+use crate::fixtures::Wanted::{self, Read, Refused};
+use crate::fixtures::{Fields, PROGRAM, Row, come_to};
+use command_words::Outcome;
 use std::test::Fail;
 
-// The limit, the spacing and the slots of words that are read.
-fn numbers(alloc: Global, words: &[&str]) -> Result<(u64, u64, usize), Fail> {
-    let list = owned(alloc, words)?;
-    let words = read_words(alloc, list.as_slice())?;
-    Ok((words.limit, words.spacing, words.slots))
-}
+const WITHIN: &[Row<'_>] = &[
+    (
+        &["p.com", "--limit", "0"],
+        Read(&Fields {
+            limit: 0,
+            ..PROGRAM
+        }),
+    ),
+    (
+        &["p.com", "--limit", "4000000000"],
+        Read(&Fields {
+            limit: 4_000_000_000,
+            ..PROGRAM
+        }),
+    ),
+    (
+        &["p.com", "--spacing", "1"],
+        Read(&Fields {
+            spacing: 1,
+            ..PROGRAM
+        }),
+    ),
+    (
+        &["p.com", "--spacing", "1000000000"],
+        Read(&Fields {
+            spacing: 1_000_000_000,
+            ..PROGRAM
+        }),
+    ),
+    (
+        &["p.com", "--slots", "1"],
+        Read(&Fields {
+            slots: 1,
+            ..PROGRAM
+        }),
+    ),
+    (
+        &["p.com", "--slots", "4096"],
+        Read(&Fields {
+            slots: 4096,
+            ..PROGRAM
+        }),
+    ),
+];
 
 #[test]
 fn numbers_within_their_ranges(rt: HostRuntime) -> Result<(), Fail> {
-    for (option, number, wanted) in [
-        ("--limit", "0", (0, 10_000, 64)),
-        ("--limit", "4000000000", (4_000_000_000, 10_000, 64)),
-        ("--spacing", "1", (1_000_000, 1, 64)),
-        ("--spacing", "1000000000", (1_000_000, 1_000_000_000, 64)),
-        ("--slots", "1", (1_000_000, 10_000, 1)),
-        ("--slots", "4096", (1_000_000, 10_000, 4096)),
-    ] {
-        let words = ["p.com", option, number];
-        assert_eq!(rt;
-            numbers(rt.alloc(), words.as_slice())?,
-            wanted,
-            "{option} {number}"
-        );
-    }
-    Ok(())
+    come_to(&rt, rt.alloc(), WITHIN)
 }
+
+const MISUSE: Wanted<'_> = Refused(Outcome::Misuse, &[]);
+
+const PAST: &[Row<'_>] = &[
+    (&["p.com", "--limit", "4000000001"], MISUSE),
+    (&["p.com", "--limit", "18446744073709551616"], MISUSE),
+    (&["p.com", "--limit", "many"], MISUSE),
+    (&["p.com", "--limit", ""], MISUSE),
+    (&["p.com", "--limit", "0x10"], MISUSE),
+    (&["p.com", "--spacing", "0"], MISUSE),
+    (&["p.com", "--spacing", "1000000001"], MISUSE),
+    (&["p.com", "--slots", "0"], MISUSE),
+    (&["p.com", "--slots", "4097"], MISUSE),
+    (&["p.com", "--slots", "-1"], MISUSE),
+];
 
 #[test]
 fn numbers_past_their_ranges(rt: HostRuntime) -> Result<(), Fail> {
-    for (option, number) in [
-        ("--limit", "4000000001"),
-        ("--limit", "18446744073709551616"),
-        ("--limit", "many"),
-        ("--limit", ""),
-        ("--limit", "0x10"),
-        ("--spacing", "0"),
-        ("--spacing", "1000000001"),
-        ("--slots", "0"),
-        ("--slots", "4097"),
-        ("--slots", "-1"),
-    ] {
-        let words = ["p.com", option, number];
-        assert!(rt;
-            is_misuse(rt.alloc(), words.as_slice())?,
-            "{option} {number}"
-        );
-    }
-    Ok(())
+    come_to(&rt, rt.alloc(), PAST)
 }
