@@ -1,10 +1,13 @@
 -- No question is forgotten.
-use Rattle.std.proofs.Common.{◌≡◌, ℕ, zero, suc, Bool, List, [], ◌∷◌, true, false, is_some, get_or, slice_set, Option, Some, None, refl, sym, ap, subst, ◌∙◌}
+use Rattle.std.proofs.Common.{◌≡◌, ℕ, zero, suc, Bool, List, [], ◌∷◌, true, false, is_some, get_or, slice_set, ◌==◌, ◌&&◌, arith, Option, Some, None, refl, sym, ap, subst, ◌∙◌}
 use Rattle.std.specs.Cmp.Lexicographic.{nat_list_cmp_total}
-use Rattle.std.specs.FinMap.{get, insert}
+use Rattle.std.specs.FinMap.{FinMap, get, insert, len, empty_of_len, get-empty}
+use Rattle.std.specs.List.{list_any}
+use Rattle.std.specs.declared.cmp.Ordering.{Ordering}
 use Rattle.keymaps.proofs.Views.{same_key, same_place, places_total, there_still}
+use Rattle.std.proofs.lemmas.Bool.{and_parts, not-true}
 use Rattle.hostfiles.specs.Hosts.{Key}
-use Rattle.hostfiles.specs.Looks.{Extends, is_looked, look_has_by, look_length_by, look_record_by, look_directory}
+use Rattle.hostfiles.specs.Looks.{Extends, is_looked, asks_nothing, look_has_by, look_length_by, look_record_by, look_directory}
 use Rattle.hostfiles.specs.declared.journal.Base.{Base}
 use Rattle.hostfiles.specs.declared.journal.Base.TheVariants.{Same, Gone, New, Moved}
 use Rattle.hostfiles.specs.declared.journal.Grown.{Grown}
@@ -73,6 +76,26 @@ nothing_looked l a b c d (Has k) = ap is_some (a k)
 nothing_looked l a b c d (Length k) = ap is_some (b k)
 nothing_looked l a b c d (Rec k n) = ap is_some (c (k, n))
 nothing_looked l a b c d (Directory n) = d n
+
+-- no drive is marked where no mark stands
+pub none_marked : (ds : List Bool) → list_any (λ marked. marked) ds ≡ false → (d : ℕ) → get_or ds d false ≡ false
+none_marked [] e d = refl
+none_marked (true ∷ ds) e d = absurd (cc)
+none_marked (false ∷ ds) e zero = refl
+none_marked (false ∷ ds) e (suc d) = none_marked ds e d
+
+no_key : {K X : Type 0} {R : K → K → Ordering} (m : FinMap R X) → (len m == 0) ≡ true → (k : K) → get m k ≡ None
+no_key m e k = ap (λ x. get x k) (empty_of_len m (number_of e)) ∙ get-empty _ k where
+  number_of : (len m == 0) ≡ true → len m ≡ 0
+  number_of h = grind arith
+
+pub nothing_asked : (l : Looks) → asks_nothing l ≡ true → (q : Ask) → is_looked l q ≡ false
+nothing_asked l e =
+    let marks = and_parts (len l.has == 0 && len l.lengths == 0 && len l.records == 0) _ e in
+    let records = and_parts (len l.has == 0 && len l.lengths == 0) _ marks.0 in
+    let keys = and_parts (len l.has == 0) _ records.0 in
+    let unmarked = not-true (list_any (λ marked. marked) l.directories) marks.1 in
+    nothing_looked l (no_key l.has keys.0) (no_key l.lengths keys.1) (no_key l.records records.1) (none_marked l.directories unmarked)
 
 pub same_looks : (l m : Looks) → m.has ≡ l.has → m.lengths ≡ l.lengths → m.records ≡ l.records → m.directories ≡ l.directories → m ≡ l
 same_looks l m a b c d = ap (λ x. record m { has = x }) a ∙ ap (λ x. record m { has = l.has; lengths = x }) b ∙ ap (λ x. record m { has = l.has; lengths = l.lengths; records = x }) c ∙ ap (λ x. record l { directories = x }) d

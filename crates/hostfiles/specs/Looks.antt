@@ -1,8 +1,9 @@
 -- The questions that a run asks of the host files, and those that what it did answers.
-use Rattle.std.specs.Prelude.{◌≡◌, ℕ, ◌==◌, ◌&&◌, Bool, true, false, Option, Some, None, is_some, nat_lt, if◌then◌else◌, replicate, slice_set, get_or}
+use Rattle.std.specs.Prelude.{◌≡◌, ℕ, ◌==◌, ◌&&◌, not, Bool, true, false, Option, Some, None, is_some, nat_lt, if◌then◌else◌, replicate, slice_set, get_or}
+use Rattle.std.specs.List.{list_any}
 use Rattle.std.specs.Ordering.{nat_cmp, eq_by_cmp}
 use Rattle.std.specs.Cmp.Lexicographic.{slice_cmp}
-use Rattle.std.specs.FinMap.{get, insert, remove, empty, contains_key}
+use Rattle.std.specs.FinMap.{get, insert, remove, empty, contains_key, len}
 use Rattle.hostfiles.specs.Hosts.{Key, Host}
 use Rattle.hostfiles.specs.Files.{Own, entry_at, has, length_at, is_below}
 use Rattle.hostfiles.specs.declared.journal.Base.{Base}
@@ -21,6 +22,10 @@ is_looked l (Has key) = contains_key l.has key
 is_looked l (Length key) = contains_key l.lengths key
 is_looked l (Rec key k) = contains_key l.records (key, k)
 is_looked l (Directory drive) = get_or l.directories drive false
+
+-- whether no question was asked
+abbrev pub asks_nothing : Looks → Bool
+asks_nothing l = len l.has == 0 && len l.lengths == 0 && len l.records == 0 && not (list_any (λ marked. marked) l.directories)
 
 -- whether two questions are the same
 abbrev pub is_same_ask : Ask → Ask → Bool

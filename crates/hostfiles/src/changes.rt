@@ -2,7 +2,7 @@
 
 ghost use Rattle.std.specs.Prelude.{◌≡◌, true, false, IfOk, IfSome, IfNone};
 ghost use Rattle.std.specs.FinMap as finmap;
-ghost use Rattle.hostfiles.specs.Looks.{no_looks, is_looked, forgot};
+ghost use Rattle.hostfiles.specs.Looks.{no_looks, is_looked, asks_nothing, forgot};
 
 use crate::journal::Journal;
 use crate::looks::{Ask, Looks};
@@ -44,6 +44,14 @@ impl Changes {
         ensures { result ≡ is_looked self.now.looks ask.now }
     {
         self.looks.looked(ask)
+    }
+
+    /// Whether no question was asked.
+    pub fn asks_nothing(&self) -> bool
+        ensures value { result ≡ asks_nothing self.now.looks }
+        ensures none { result ≡ true → (q : Ask) → is_looked self.now.looks q ≡ false }
+    {
+        self.looks.is_empty()
     }
 
     /// Gives one of the questions that were asked and forgets it; none where there is none. Takes no memory.

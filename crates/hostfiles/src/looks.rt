@@ -1,7 +1,8 @@
 // The questions that a run asked of the host files.
 
 ghost use Rattle.std.specs.Prelude.{◌≡◌, ℕ, true, false, OnOk, OnErr, IfOk, IfSome, IfNone, get_or, length, slice_set};
-ghost use Rattle.hostfiles.specs.Looks.{is_looked, look_has_by, look_length_by, look_record_by, look_directory, no_looks, forgot};
+ghost use Rattle.std.specs.List.{list_any};
+ghost use Rattle.hostfiles.specs.Looks.{is_looked, asks_nothing, look_has_by, look_length_by, look_record_by, look_directory, no_looks, forgot};
 
 use crate::journal::{Base, Grown};
 use filenames::Key;
@@ -65,6 +66,16 @@ impl Looks {
             Ask::Rec(key, k) => self.records.contains(&key, k),
             Ask::Directory(drive) => self.directories[drive as usize],
         }
+    }
+
+    /// Whether no question was asked.
+    pub fn is_empty(&self) -> bool
+        ensures { result ≡ asks_nothing self.now }
+    {
+        self.has.len() == 0
+            && self.lengths.len() == 0
+            && self.records.len() == 0
+            && !is_some_marked(&self.directories)
     }
 
     /// Whether there is a file of the key: a question where the file stands on its own host file. An `Err` changes nothing.
@@ -177,7 +188,8 @@ fn take_drive(directories: &mut [bool]) -> Option<u8>
 
 // Whether a drive is marked. All marks are read, many at once, since nearly always none is.
 fn is_some_marked(directories: &[bool]) -> bool
-    ensures { result ≡ false → (drive : ℕ) → get_or directories.now drive false ≡ false }
+    ensures value { result ≡ list_any (λ marked. marked) directories.now }
+    ensures none { result ≡ false → (drive : ℕ) → get_or directories.now drive false ≡ false }
 {
     let mut some = false;
     for drive in 0..directories.len() {

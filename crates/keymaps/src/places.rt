@@ -38,6 +38,13 @@ impl PlaceSet {
         }
     }
 
+    /// How many places there are.
+    pub fn len(&self) -> usize
+        ensures { result ≡ finmap.len self.now }
+    {
+        self.map.len()
+    }
+
     /// Whether a place is in the set.
     pub fn contains(&self, key: &Key, place: u32) -> bool
         ensures { result ≡ finmap.contains_key self.now (key.now, place) }

@@ -1,6 +1,6 @@
 ghost use Rattle.std.specs.Prelude.{◌≡◌, ◌<◌, ◌&&◌, ◌==◌, ℕ, true, false, not, IfOk, IfSome, IfNone, length, slice_index};
 ghost use Rattle.bdos.specs.Places.{is_within};
-ghost use Rattle.hostfiles.specs.Looks.{is_looked, forgot};
+ghost use Rattle.hostfiles.specs.Looks.{is_looked, asks_nothing, forgot};
 ghost use Rattle.machine.specs.Machine.{start, NothingLooked};
 
 use crate::session::Session;
@@ -97,6 +97,15 @@ impl Running {
         self.desk.take_look()
     }
 
+    /// Whether no question of the host files was asked.
+    #[inline(always)]
+    pub fn asks_nothing(&self) -> bool
+        ensures value { result ≡ asks_nothing self.now.looked.files }
+        ensures none { result ≡ true → (ask : Ask) → is_looked self.now.looked.files ask ≡ false }
+    {
+        self.changes.asks_nothing()
+    }
+
     /// Takes a question of the host files out of those that were asked. `None` where there is none. The state stays, and so do the
     /// cells and the script places that were looked at.
     pub fn take_ask(&mut self) -> Option<Ask>
@@ -108,6 +117,10 @@ impl Running {
         ensures none { IfNone result ((ask : Ask) → is_looked self.old.looked.files ask ≡ false) }
         ensures same { IfNone result (self.new ≡ self.old) }
     {
+        // so it is nearly always, and this is told without moving a question
+        if self.changes.asks_nothing() {
+            return None;
+        }
         self.changes.take_look()
     }
 }

@@ -35,10 +35,10 @@ fn note_new(
     ensures counted { OnErr result (refusals.new ≡ refusals.old + 1) }
 {
     let taken = running.take_place();
-    let asked = running.take_ask();
-    if taken.is_none() && asked.is_none() && running.look_count() == noted {
+    if taken.is_none() && running.asks_nothing() && running.look_count() == noted {
         return Ok(());
     }
+    let asked = running.take_ask();
     note(looks, running, noted, taken, asked, refusals)
 }
 
