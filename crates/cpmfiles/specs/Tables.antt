@@ -8,8 +8,9 @@ use Rattle.filenames.specs.Names.{is_sayable}
 use Rattle.directory.specs.Entries.{is_match}
 use Rattle.hostfiles.specs.Hosts.{Key, Host}
 use Rattle.hostfiles.specs.Files.{Own, has, nothing, shapes}
-use Rattle.hostfiles.specs.Looks.{look_has, look_directory}
+use Rattle.hostfiles.specs.Looks.{look_has, look_directory, Extends}
 use Rattle.hostfiles.specs.declared.looks.Looks.{Looks}
+use Rattle.cpmfiles.specs.declared.table.Table.{Table}
 
 -- `?` among the bytes of a name
 abbrev pub has_wildcard : Key → Bool
@@ -50,3 +51,8 @@ count_deleted host own pattern =
 -- a pattern with `?` asks the directory of its drive, one without whether the file is there
 abbrev pub look_deleted : Own → Key → Looks → Looks
 look_deleted own pattern l = if has_wildcard pattern then look_directory (slice_index pattern 0) l else look_has own pattern l
+
+-- each question that is looked at after was looked at before, or is among those that a whole call looks at
+abbrev pub LooksWithin : (Own → Looks → Looks) → Table → Table → Type 0
+LooksWithin look old new =
+    Extends new.changes.now.looks (look old.changes.now.journal.entries old.changes.now.looks)

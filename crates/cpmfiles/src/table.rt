@@ -6,7 +6,7 @@ ghost use Rattle.filenames.specs.Names.{is_sayable};
 ghost use Rattle.directory.specs.Entries.{next_entry, entry_bytes, position_in, count_at};
 ghost use Rattle.hostfiles.specs.Files.{has, records, length_at, place, place_of, entry_at, file_of, shape_of, extent_count, shapes, made, renamed, wrote, wrote_filled};
 ghost use Rattle.hostfiles.specs.Looks.{look_has, look_length, look_records, look_content, look_read, look_directory, Extends};
-ghost use Rattle.cpmfiles.specs.Tables.{can_make, can_rename, has_wildcard, look_made, look_renamed, count_deleted, look_deleted, Deletes};
+ghost use Rattle.cpmfiles.specs.Tables.{can_make, can_rename, has_wildcard, look_made, look_renamed, count_deleted, look_deleted, Deletes, LooksWithin};
 
 use directory::{Position, next_entry};
 use filenames::{Key, is_sayable};
@@ -18,7 +18,7 @@ use records::Record;
 use std::alloc::AllocError;
 
 /// Host files joined with what a run did to them. Each call marks what it asks of the host files; an `Err` is want of memory, and changes
-/// no file and nothing that the run did.
+/// no file and nothing that the run did. It may have marked some of what the whole call asks, and nothing else.
 #[derive(Drop)]
 pub struct Table<'a> {
     /// The host files.
@@ -44,6 +44,7 @@ impl Table<'_> {
         ensures answer { IfOk result (λ b. b ≡ has self.old.host.now self.old.changes.now.journal.entries key.now) }
         ensures looks { OnOk result (self.new.changes.now.looks ≡ look_has self.old.changes.now.journal.entries key.now self.old.changes.now.looks) }
         ensures extends { Extends self.old.changes.now.looks self.new.changes.now.looks }
+        ensures bound { OnErr result (LooksWithin (λ own. look_has own key.now) self.old self.new) }
         ensures stays { self.new.changes.now.journal ≡ self.old.changes.now.journal }
         ensures host { self.new.host.now ≡ self.old.host.now }
         ensures lender { self.new.changes.ghost_name ≡ self.old.changes.ghost_name }
@@ -54,11 +55,12 @@ impl Table<'_> {
     }
 
     /// How many places the file of the key has, if there is one.
-    #[tactic(auto, using(crate::proofs::LookLaws::extends_same, crate::proofs::LookLaws::extends_trans))]
+    #[tactic(auto, using(crate::proofs::LookLaws::extends_same, crate::proofs::LookLaws::extends_trans, crate::proofs::LookLaws::within_records))]
     pub fn records(&mut self, key: &Key) -> Result<Option<u32>, AllocError>
         ensures answer { IfOk result (λ n. n ≡ records self.old.host.now self.old.changes.now.journal.entries key.now) }
         ensures looks { OnOk result (self.new.changes.now.looks ≡ look_records self.old.host.now self.old.changes.now.journal.entries key.now self.old.changes.now.looks) }
         ensures extends { Extends self.old.changes.now.looks self.new.changes.now.looks }
+        ensures bound { OnErr result (LooksWithin (λ own. look_records self.old.host.now own key.now) self.old self.new) }
         ensures stays { self.new.changes.now.journal ≡ self.old.changes.now.journal }
         ensures host { self.new.host.now ≡ self.old.host.now }
         ensures lender { self.new.changes.ghost_name ≡ self.old.changes.ghost_name }
@@ -76,6 +78,7 @@ impl Table<'_> {
         ensures answer { IfOk result (λ n. n ≡ length_at self.old.host.now self.old.changes.now.journal.entries key.now) }
         ensures looks { OnOk result (self.new.changes.now.looks ≡ look_length self.old.changes.now.journal.entries key.now self.old.changes.now.looks) }
         ensures extends { Extends self.old.changes.now.looks self.new.changes.now.looks }
+        ensures bound { OnErr result (LooksWithin (λ own. look_length own key.now) self.old self.new) }
         ensures stays { self.new.changes.now.journal ≡ self.old.changes.now.journal }
         ensures host { self.new.host.now ≡ self.old.host.now }
         ensures lender { self.new.changes.ghost_name ≡ self.old.changes.ghost_name }
@@ -94,6 +97,7 @@ impl Table<'_> {
         ensures err { OnErr result (bytes.new ≡ bytes.old) }
         ensures looks { OnOk result (self.new.changes.now.looks ≡ look_read self.old.host.now self.old.changes.now.journal.entries key.now k self.old.changes.now.looks) }
         ensures extends { Extends self.old.changes.now.looks self.new.changes.now.looks }
+        ensures bound { OnErr result (LooksWithin (λ own. look_read self.old.host.now own key.now k) self.old self.new) }
         ensures stays { self.new.changes.now.journal ≡ self.old.changes.now.journal }
         ensures host { self.new.host.now ≡ self.old.host.now }
         ensures lender { self.new.changes.ghost_name ≡ self.old.changes.ghost_name }
@@ -118,6 +122,7 @@ impl Table<'_> {
         ensures answer { IfOk result (λ r. r ≡ place_of self.old.host.now key.now (entry_at self.old.changes.now.journal.entries key.now) k) }
         ensures looks { OnOk result (self.new.changes.now.looks ≡ look_content self.old.changes.now.journal.entries key.now k self.old.changes.now.looks) }
         ensures extends { Extends self.old.changes.now.looks self.new.changes.now.looks }
+        ensures bound { OnErr result (LooksWithin (λ own. look_content own key.now k) self.old self.new) }
         ensures stays { self.new.changes.now.journal ≡ self.old.changes.now.journal }
         ensures host { self.new.host.now ≡ self.old.host.now }
         ensures lender { self.new.changes.ghost_name ≡ self.old.changes.ghost_name }
@@ -140,6 +145,7 @@ impl Table<'_> {
     fn mark_content(&mut self, key: &Key, k: u32) -> Result<(), AllocError>
         ensures looks { OnOk result (self.new.changes.now.looks ≡ look_content self.old.changes.now.journal.entries key.now k self.old.changes.now.looks) }
         ensures extends { Extends self.old.changes.now.looks self.new.changes.now.looks }
+        ensures bound { OnErr result (LooksWithin (λ own. look_content own key.now k) self.old self.new) }
         ensures stays { self.new.changes.now.journal ≡ self.old.changes.now.journal }
         ensures host { self.new.host.now ≡ self.old.host.now }
         ensures lender { self.new.changes.ghost_name ≡ self.old.changes.ghost_name }
@@ -163,6 +169,7 @@ impl Table<'_> {
         ensures answer { IfOk result (λ b. b ≡ has self.old.host.now self.old.changes.now.journal.entries key.now) }
         ensures looks { OnOk result (self.new.changes.now.looks ≡ look_records self.old.host.now self.old.changes.now.journal.entries key.now self.old.changes.now.looks) }
         ensures extends { Extends self.old.changes.now.looks self.new.changes.now.looks }
+        ensures bound { OnErr result (LooksWithin (λ own. look_records self.old.host.now own key.now) self.old self.new) }
         ensures done { IfOk result (λ b. b ≡ true → self.new.changes.now.journal.entries ≡ wrote (length_at self.old.host.now self.old.changes.now.journal.entries key.now) self.old.changes.now.journal.entries key.now k bytes.now) }
         ensures absent { IfOk result (λ b. b ≡ false → self.new.changes.now.journal.entries ≡ self.old.changes.now.journal.entries) }
         ensures err { OnErr result (self.new.changes.now.journal.entries ≡ self.old.changes.now.journal.entries) }
@@ -182,6 +189,7 @@ impl Table<'_> {
         ensures answer { IfOk result (λ b. b ≡ has self.old.host.now self.old.changes.now.journal.entries key.now) }
         ensures looks { OnOk result (self.new.changes.now.looks ≡ look_records self.old.host.now self.old.changes.now.journal.entries key.now self.old.changes.now.looks) }
         ensures extends { Extends self.old.changes.now.looks self.new.changes.now.looks }
+        ensures bound { OnErr result (LooksWithin (λ own. look_records self.old.host.now own key.now) self.old self.new) }
         ensures done { IfOk result (λ b. b ≡ true → self.new.changes.now.journal.entries ≡ wrote_filled (length_at self.old.host.now self.old.changes.now.journal.entries key.now) self.old.changes.now.journal.entries key.now k bytes.now) }
         ensures absent { IfOk result (λ b. b ≡ false → self.new.changes.now.journal.entries ≡ self.old.changes.now.journal.entries) }
         ensures err { OnErr result (self.new.changes.now.journal.entries ≡ self.old.changes.now.journal.entries) }
@@ -200,6 +208,7 @@ impl Table<'_> {
         ensures answer { IfOk result (λ n. n ≡ extent_count self.old.host.now self.old.changes.now.journal.entries key.now e) }
         ensures looks { OnOk result (self.new.changes.now.looks ≡ look_records self.old.host.now self.old.changes.now.journal.entries key.now self.old.changes.now.looks) }
         ensures extends { Extends self.old.changes.now.looks self.new.changes.now.looks }
+        ensures bound { OnErr result (LooksWithin (λ own. look_records self.old.host.now own key.now) self.old self.new) }
         ensures stays { self.new.changes.now.journal ≡ self.old.changes.now.journal }
         ensures host { self.new.host.now ≡ self.old.host.now }
         ensures lender { self.new.changes.ghost_name ≡ self.old.changes.ghost_name }
@@ -246,6 +255,7 @@ impl Table<'_> {
         ensures answer { IfOk result (λ b. b ≡ can_make self.old.host.now self.old.changes.now.journal.entries key.now) }
         ensures looks { OnOk result (self.new.changes.now.looks ≡ look_made self.old.changes.now.journal.entries key.now self.old.changes.now.looks) }
         ensures extends { Extends self.old.changes.now.looks self.new.changes.now.looks }
+        ensures bound { OnErr result (LooksWithin (λ own. look_made own key.now) self.old self.new) }
         ensures done { IfOk result (λ b. b ≡ true → self.new.changes.now.journal.entries ≡ made self.old.changes.now.journal.entries key.now) }
         ensures unmade { IfOk result (λ b. b ≡ false → self.new.changes.now.journal.entries ≡ self.old.changes.now.journal.entries) }
         ensures err { OnErr result (self.new.changes.now.journal.entries ≡ self.old.changes.now.journal.entries) }
@@ -268,6 +278,7 @@ impl Table<'_> {
         ensures answer { IfOk result (λ n. n ≡ count_deleted self.old.host.now self.old.changes.now.journal.entries pattern.now) }
         ensures looks { OnOk result (self.new.changes.now.looks ≡ look_deleted self.old.changes.now.journal.entries pattern.now self.old.changes.now.looks) }
         ensures extends { Extends self.old.changes.now.looks self.new.changes.now.looks }
+        ensures bound { OnErr result (LooksWithin (λ own. look_deleted own pattern.now) self.old self.new) }
         ensures done { OnOk result (Deletes self.old.host.now self.old.changes.now.journal.entries pattern.now self.new.changes.now.journal.entries) }
         ensures err { OnErr result (self.new.changes.now.journal.entries ≡ self.old.changes.now.journal.entries) }
         ensures host { self.new.host.now ≡ self.old.host.now }
@@ -285,6 +296,7 @@ impl Table<'_> {
         ensures answer { IfOk result (λ n. n ≡ count_deleted self.old.host.now self.old.changes.now.journal.entries key.now) }
         ensures looks { OnOk result (self.new.changes.now.looks ≡ look_deleted self.old.changes.now.journal.entries key.now self.old.changes.now.looks) }
         ensures extends { Extends self.old.changes.now.looks self.new.changes.now.looks }
+        ensures bound { OnErr result (LooksWithin (λ own. look_deleted own key.now) self.old self.new) }
         ensures done { OnOk result (Deletes self.old.host.now self.old.changes.now.journal.entries key.now self.new.changes.now.journal.entries) }
         ensures err { OnErr result (self.new.changes.now.journal.entries ≡ self.old.changes.now.journal.entries) }
         ensures host { self.new.host.now ≡ self.old.host.now }
@@ -304,6 +316,7 @@ impl Table<'_> {
         ensures answer { IfOk result (λ n. n ≡ count_deleted self.old.host.now self.old.changes.now.journal.entries pattern.now) }
         ensures looks { OnOk result (self.new.changes.now.looks ≡ look_deleted self.old.changes.now.journal.entries pattern.now self.old.changes.now.looks) }
         ensures extends { Extends self.old.changes.now.looks self.new.changes.now.looks }
+        ensures bound { OnErr result (LooksWithin (λ own. look_deleted own pattern.now) self.old self.new) }
         ensures done { OnOk result (Deletes self.old.host.now self.old.changes.now.journal.entries pattern.now self.new.changes.now.journal.entries) }
         ensures err { OnErr result (self.new.changes.now.journal.entries ≡ self.old.changes.now.journal.entries) }
         ensures host { self.new.host.now ≡ self.old.host.now }
@@ -316,11 +329,12 @@ impl Table<'_> {
     }
 
     /// Puts a file under another key, where a file has the old key, the new key can be said and no file has it. Neither has a `?`.
-    #[tactic(auto, using(crate::proofs::LookLaws::extends_same, crate::proofs::LookLaws::extends_trans))]
+    #[tactic(auto, using(crate::proofs::LookLaws::extends_same, crate::proofs::LookLaws::extends_trans, crate::proofs::LookLaws::within_second))]
     pub fn rename(&mut self, old: &Key, new: &Key) -> Result<bool, AllocError>
         ensures answer { IfOk result (λ b. b ≡ can_rename self.old.host.now self.old.changes.now.journal.entries old.now new.now) }
         ensures looks { OnOk result (self.new.changes.now.looks ≡ look_renamed self.old.changes.now.journal.entries old.now new.now self.old.changes.now.looks) }
         ensures extends { Extends self.old.changes.now.looks self.new.changes.now.looks }
+        ensures bound { OnErr result (LooksWithin (λ own. look_renamed own old.now new.now) self.old self.new) }
         ensures done { IfOk result (λ b. b ≡ true → self.new.changes.now.journal.entries ≡ renamed self.old.changes.now.journal.entries old.now new.now) }
         ensures unmoved { IfOk result (λ b. b ≡ false → self.new.changes.now.journal.entries ≡ self.old.changes.now.journal.entries) }
         ensures err { OnErr result (self.new.changes.now.journal.entries ≡ self.old.changes.now.journal.entries) }
