@@ -1,6 +1,5 @@
 -- The names that a deletion takes, as a list.
-use Rattle.std.proofs.Common.{arith, ◌≡◌, ℕ, suc, Bool, true, false, cond, ◌&&◌, ◌||◌, ◌==◌, List, [], ◌∷◌, map, length, Option, Some, None, is_some, refl, sym, ap, ◌∙◌, slice_index, nat_lt, drop, Ok}
-use Rattle.std.specs.declared.alloc.AllocError.{AllocError}
+use Rattle.std.proofs.Common.{arith, ◌≡◌, ℕ, suc, Bool, true, false, cond, ◌&&◌, ◌||◌, ◌==◌, List, [], ◌∷◌, map, length, Option, Some, is_some, refl, sym, ap, ◌∙◌, slice_index, nat_lt, drop, Ok}
 use Rattle.std.specs.List.{filter, list_any}
 use Rattle.std.specs.Ordering.{nat_cmp, eq_by_cmp}
 use Rattle.std.specs.Cmp.Lexicographic.{slice_cmp, nat_list_cmp_total}
@@ -9,7 +8,7 @@ use Rattle.std.specs.FinMap.Entries.{is_some-find}
 use Rattle.std.proofs.lemmas.Map.Views.{any-filter_same}
 use Rattle.keymaps.proofs.Views.{same_key, key_of}
 use Rattle.directory.proofs.Walk.{is_later}
-use Rattle.directory.specs.Entries.{Shape, Shapes, is_match, fits_name}
+use Rattle.directory.specs.Entries.{is_match, fits_name}
 use Rattle.hostfiles.specs.Hosts.{Key, Host}
 use Rattle.hostfiles.specs.Files.{Own, has, nothing, deleted, shapes}
 use Rattle.hostfiles.specs.Looks.{look_has, look_directory, Extends}
@@ -129,6 +128,7 @@ module _ (b : Block) (v v' : Drives) (n : ℕ) where
       looks = l;
       err_own = tt;
       extends = extends;
+      bound = tt;
       host = host;
       lender = lender;
     }
@@ -138,6 +138,7 @@ module _ (b : Block) (v v' : Drives) (n : ℕ) where
       looks = l;
       err_own = tt;
       extends = extends;
+      bound = tt;
       host = host;
       lender = lender;
     }

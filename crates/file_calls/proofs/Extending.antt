@@ -1,2 +1,19 @@
--- No question is forgotten.
+-- No question is forgotten, and at a failure none is asked that the whole tree does not ask.
+use Rattle.std.proofs.Common.{List, [], ◌∷◌}
+use Rattle.hostfiles.specs.Files.{Own}
+use Rattle.hostfiles.specs.Looks.{Extends}
+use Rattle.hostfiles.specs.declared.looks.Looks.{Looks}
+use Rattle.cpmfiles.proofs.LookLaws.{within_has, within_length, within_content, within_directory}
+use Rattle.file_calls.specs.Questions.{FileQuestion, IsThere, ShapeOf, Content, FilesOn, look_for, look_for_all}
 pub use Rattle.hostfiles.proofs.LookLemmas.{extends_same, extends_trans, extends_by_directory}
+
+within_one : (own : Own) (q : FileQuestion) (l m : Looks) → Extends l m → Extends l (look_for own q m)
+within_one own (IsThere key) l m h = within_has own key l m h
+within_one own (ShapeOf key) l m h = within_length own key l m h
+within_one own (Content key k) l m h = within_content own key k l m h
+within_one own (FilesOn drive) l m h = within_directory drive l m h
+
+-- what is asked first is among what is asked with all that follows
+pub within_all : (own : Own) (qs : List FileQuestion) (l m : Looks) → Extends l m → Extends l (look_for_all own qs m)
+within_all own [] l m h = h
+within_all own (q ∷ qs) l m h = within_all own qs l (look_for own q m) (within_one own q l m h)

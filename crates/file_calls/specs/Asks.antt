@@ -1,5 +1,5 @@
 -- What a function leaves that asks the files, and changes none.
-use Rattle.std.specs.Prelude.{◌≡◌, IfOk, OnOk}
+use Rattle.std.specs.Prelude.{◌≡◌, IfOk, OnOk, OnErr}
 use Rattle.std.specs.declared.result.Result.{Result}
 use Rattle.std.specs.declared.alloc.AllocError.{AllocError}
 use Rattle.interaction_trees.specs.Tree.{result_of, asked}
@@ -10,6 +10,8 @@ pub record Asks {E : Type 0} (t : FileTree E) (v : Drives) (result : Result E Al
   pub found : IfOk result (λ e. e ≡ result_of (file_answers v.host v.own) t)
   pub looks : OnOk result (v'.looks ≡ look_for_all v.own (asked (file_answers v.host v.own) t) v.looks)
   pub extends : Extends v.looks v'.looks
+  -- at a failure: no question but those before and those of the whole tree
+  pub bound : OnErr result (Extends v'.looks (look_for_all v.own (asked (file_answers v.host v.own) t) v.looks))
   pub own : v'.own ≡ v.own
   pub host : v'.host ≡ v.host
   pub lender : v'.lender ≡ v.lender

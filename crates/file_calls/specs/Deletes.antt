@@ -24,5 +24,7 @@ pub record Deletes (t : FileTree (List Key)) (v : Drives) (result : Result Bool 
   pub looks : OnOk result (v'.looks ≡ look_for_all v.own (asked (file_answers v.host v.own) t) v.looks)
   pub err_own : OnErr result (v'.own ≡ v.own)
   pub extends : Extends v.looks v'.looks
+  -- at a failure: no question but those before and those of the whole tree
+  pub bound : OnErr result (Extends v'.looks (look_for_all v.own (asked (file_answers v.host v.own) t) v.looks))
   pub host : v'.host ≡ v.host
   pub lender : v'.lender ≡ v.lender
