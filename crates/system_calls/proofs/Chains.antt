@@ -33,13 +33,11 @@ use Rattle.file_calls.specs.declared.finding.Finding.{Finding}
 use Rattle.file_calls.specs.Changes.{FileChange, Unchanged, Deleted, own_with}
 use Rattle.file_calls.specs.Deletes.{Deletes}
 use Rattle.file_calls.specs.Asks.{Asks}
+use Rattle.file_calls.proofs.Extending.{within_all}
 use Rattle.system_calls.specs.Questions.{SystemTree, SystemAnswers, reading_first, asking_state, asking_files, state_questions, file_questions, system_answers}
 use Rattle.system_calls.specs.FileCalls.{SystemEnd, back, carried_on, with_block, on_drive, drive_named, block_read, value_of}
-use Rattle.system_calls.specs.Fulfils.{FulfilsBy, end_in, cells_asked, places_asked}
+use Rattle.system_calls.specs.Fulfils.{FulfilsBy, end_in, cells_asked, places_asked, files_asked}
 use Rattle.system_calls.proofs.Trees.{result-reading, cells-reading, places-reading, files-reading, result-state, questions-state, files-state, result-files, state-files, questions-files}
-
-abbrev files_asked : SystemTree SystemEnd → List ℕ → Memory → Drives → List FileQuestion
-files_asked t script m v = file_questions (asked (system_answers (bytes m) script v.host v.own) t)
 
 on_err : {P Q : Type 0} (result : Result Served AllocError) → (P → Q) → OnErr result P → OnErr result Q
 on_err (Ok s) f h = tt
@@ -90,6 +88,7 @@ module _ {script : List ℕ} {r : Regs} {m m1 : Memory} {d : Desk} {v : Drives} 
         asks = subst (λ (qs : List FileQuestion). OnOk result (v'.looks ≡ look_for_all v.own qs v.looks)) files w.asks;
         err_looks = on_err result (extends_past m.own (reading.asked t (bytes m)) m.looks m1.looks m'.looks h.looks) w.err_looks;
         err_bound = subst (λ (l : Looks). OnErr result (Extends m'.looks l)) all w.err_bound;
+        err_asks_bound = subst (λ (qs : List FileQuestion). OnErr result (file_looks.Extends v'.looks (look_for_all v.own qs v.looks))) files w.err_asks_bound;
         err_regs = w.err_regs;
         err_desk = w.err_desk;
         err_own = subst (λ (o : Own). OnErr result (m'.own ≡ o)) h.own w.err_own;
@@ -136,6 +135,7 @@ module _ {script : List ℕ} {r : Regs} {m : Memory} {d : Desk} {v v1 : Drives} 
         asks = subst (λ (l : file_questions_asked.Looks). OnOk result (v'.looks ≡ l)) files w.asks;
         err_looks = w.err_looks;
         err_bound = subst (λ (at : List ℕ). OnErr result (Extends m'.looks (look_all m.own at m.looks))) cells w.err_bound;
+        err_asks_bound = subst (λ (l : file_questions_asked.Looks). OnErr result (file_looks.Extends v'.looks l)) files w.err_asks_bound;
         err_regs = w.err_regs;
         err_desk = w.err_desk;
         err_own = w.err_own;
@@ -147,12 +147,26 @@ module _ {script : List ℕ} {r : Regs} {m : Memory} {d : Desk} {v v1 : Drives} 
         beneath = w.beneath;
         lender = w.lender;
       }
-  -- want of memory where the files are asked, or after it: nothing was changed, and nothing more was read
 
+-- what is asked of the files first is among what the whole call asks
+asked_before : {E : Type 0} (t : FileTree E) (k : E → SystemTree SystemEnd) (script : List ℕ) (m : Memory) (v : Drives) (l : file_questions_asked.Looks)
+    → file_looks.Extends l (look_for_all v.own (asked (file_answers v.host v.own) t) v.looks)
+    → file_looks.Extends l (look_for_all v.own (files_asked (asking_files t k) script m v) v.looks)
+asked_before t k script m v l h =
+    let f : SystemAnswers = system_answers (bytes m) script v.host v.own in
+    let first : List FileQuestion = asked (file_answers v.host v.own) t in
+    let rest : List FileQuestion = file_questions (asked f (k (result_of (file_answers v.host v.own) t))) in
+    subst (λ (whole : file_questions_asked.Looks). file_looks.Extends l whole)
+    (sym (look_for-append v.own first rest v.looks) ∙ ap (λ qs. look_for_all v.own qs v.looks) (sym (questions-files f k t)))
+    (within_all v.own rest l (look_for_all v.own first v.looks) h)
+
+-- want of memory where the files are asked, or after it: nothing was changed, and nothing more was read
 module _ {t : SystemTree SystemEnd} {script : List ℕ} {r r' : Regs} {m m' : Memory} {d d' : Desk} {v v' : Drives} {was is : ℕ → Bool} {e : AllocError} where
-  pub gives_up : r' ≡ r → m' ≡ m → d' ≡ d → v'.own ≡ v.own → file_looks.Extends v.looks v'.looks → v'.host ≡ v.host → v'.lender ≡ v.lender → ((j : ℕ) → is j ≡ was j)
+  pub gives_up : r' ≡ r → m' ≡ m → d' ≡ d → v'.own ≡ v.own → file_looks.Extends v.looks v'.looks
+      → file_looks.Extends v'.looks (look_for_all v.own (files_asked t script m v) v.looks)
+      → v'.host ≡ v.host → v'.lender ≡ v.lender → ((j : ℕ) → is j ≡ was j)
       → FulfilsBy t script r m d v was (Err e) r' m' d' v' is
-  gives_up regs memory desk files extends host lends same = record {
+  gives_up regs memory desk files extends bound host lends same = record {
     served = tt;
     regs = tt;
     desk = tt;
@@ -163,6 +177,7 @@ module _ {t : SystemTree SystemEnd} {script : List ℕ} {r r' : Regs} {m m' : Me
     asks = tt;
     err_looks = subst (λ (x : Memory). Extends m.looks x.looks) (sym memory) (extends_itself m.looks);
     err_bound = subst (λ (x : Memory). Extends x.looks (look_all m.own (cells_asked t script m v) m.looks)) (sym memory) (extends_by m.own (cells_asked t script m v) m.looks _ refl);
+    err_asks_bound = bound;
     err_regs = regs;
     err_desk = desk;
     err_own = ap (λ (x : Memory). x.own) memory;
@@ -174,6 +189,15 @@ module _ {t : SystemTree SystemEnd} {script : List ℕ} {r r' : Regs} {m m' : Me
     beneath = ap (λ (x : Memory). x.beneath) memory;
     lender = ap (λ (x : Memory). x.lender) memory;
   }
+
+-- want of memory where the files are asked
+module _ {script : List ℕ} {r r' : Regs} {m m' : Memory} {d d' : Desk} {v v' : Drives} {was is : ℕ → Bool} {e : AllocError} where
+  pub fails_asking : {E : Type 0} (t : FileTree E) (k : E → SystemTree SystemEnd) → r' ≡ r → m' ≡ m → d' ≡ d → v'.own ≡ v.own → file_looks.Extends v.looks v'.looks
+      → file_looks.Extends v'.looks (look_for_all v.own (asked (file_answers v.host v.own) t) v.looks)
+      → v'.host ≡ v.host → v'.lender ≡ v.lender → ((j : ℕ) → is j ≡ was j)
+      → FulfilsBy (asking_files t k) script r m d v was (Err e) r' m' d' v' is
+  fails_asking t k regs memory desk files extends bound host lends same =
+      gives_up regs memory desk files extends (asked_before t k script m v v'.looks bound) host lends same
 
 -- what another name of a tree asks
 pub asked_as : {t u : FileTree Finding} {v v' : Drives} {result : Result Finding AllocError} → t ≡ u → Asks t v result v' → Asks u v result v'
@@ -209,6 +233,7 @@ module _ {script : List ℕ} {r r' : Regs} {m m' : Memory} {d d' : Desk} {v v' :
     asks = asks;
     err_looks = tt;
     err_bound = tt;
+    err_asks_bound = tt;
     err_regs = tt;
     err_desk = tt;
     err_own = tt;
@@ -235,6 +260,7 @@ module _ {script : List ℕ} {r r' : Regs} {m m' : Memory} {d d' : Desk} {v v' :
     asks = ap (λ (x : Drives). x.looks) drives;
     err_looks = tt;
     err_bound = tt;
+    err_asks_bound = tt;
     err_regs = tt;
     err_desk = tt;
     err_own = tt;
@@ -279,6 +305,7 @@ module _ {script : List ℕ} {r : Regs} {m : Memory} {d : Desk} {was is : ℕ �
         asks = on_ok result (ap (λ qs. look_for_all v.own qs v.looks) (sym (files-state f k t)));
         err_looks = w.err_looks;
         err_bound = subst (λ qs. OnErr result (Extends m'.looks (look_all m.own (addresses qs) m.looks))) questions w.err_bound;
+        err_asks_bound = at_err result (within_all v.own (files_asked (asking_state t k) script m v) v.looks v.looks (extends_same v.looks v.looks refl));
         err_regs = w.err_regs;
         err_desk = w.err_desk;
         err_own = w.err_own;
@@ -313,6 +340,7 @@ module _ {script : List ℕ} {r r' : Regs} {m : Memory} {d : Desk} {v v' : Drive
         asks = h.looks ∙ ap (λ qs. look_for_all v.own qs v.looks) (sym (append-nil (asked (file_answers v.host v.own) t)) ∙ sym (questions-files f k t));
         err_looks = tt;
         err_bound = tt;
+        err_asks_bound = tt;
         err_regs = tt;
         err_desk = tt;
         err_own = tt;

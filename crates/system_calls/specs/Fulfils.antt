@@ -11,7 +11,7 @@ use Rattle.bdos.specs.Places.{Watched, is_within}
 use Rattle.bdos.specs.Questions.{addresses, script_places}
 use Rattle.bdos.specs.Calls.{served_of, regs_after, desk_after, own_after}
 use Rattle.hostfiles.specs.Looks as file_looks
-use Rattle.file_calls.specs.Questions.{Drives, look_for_all}
+use Rattle.file_calls.specs.Questions.{FileQuestion, Drives, look_for_all}
 use Rattle.file_calls.specs.Changes.{own_with}
 use Rattle.system_calls.specs.Questions.{SystemTree, system_answers, state_questions, file_questions}
 use Rattle.system_calls.specs.FileCalls.{SystemEnd}
@@ -26,6 +26,9 @@ cells_asked t script m v = addresses (state_questions (asked (system_answers (by
 abbrev pub places_asked : SystemTree SystemEnd → List ℕ → Memory → Drives → List ℕ
 places_asked t script m v = script_places (state_questions (asked (system_answers (bytes m) script v.host v.own) t))
 
+abbrev pub files_asked : SystemTree SystemEnd → List ℕ → Memory → Drives → List FileQuestion
+files_asked t script m v = file_questions (asked (system_answers (bytes m) script v.host v.own) t)
+
 pub record FulfilsBy (t : SystemTree SystemEnd) (script : List ℕ) (r : Regs) (m : Memory) (d : Desk) (v : Drives) (was : ℕ → Bool) (result : Result Served AllocError) (r' : Regs) (m' : Memory) (d' : Desk) (v' : Drives) (is : ℕ → Bool) : Type 0 where
   pub served : IfOk result (λ s. s ≡ served_of (end_in t script m v).0)
   pub regs : OnOk result (r' ≡ regs_after (end_in t script m v).0 r)
@@ -34,10 +37,11 @@ pub record FulfilsBy (t : SystemTree SystemEnd) (script : List ℕ) (r : Regs) (
   pub files : OnOk result (v'.own ≡ own_with (end_in t script m v).1 v.own)
   pub looks : OnOk result (m'.looks ≡ look_all m.own (cells_asked t script m v) m.looks)
   pub places : OnOk result ((k : ℕ) → is k ≡ (was k || is_among k (places_asked t script m v)))
-  pub asks : OnOk result (v'.looks ≡ look_for_all v.own (file_questions (asked (system_answers (bytes m) script v.host v.own) t)) v.looks)
-  -- at a failure: the looks before, and of memory some of those of the whole call
+  pub asks : OnOk result (v'.looks ≡ look_for_all v.own (files_asked t script m v) v.looks)
+  -- at a failure: the looks before, and some of those of the whole call, of memory and of the files
   pub err_looks : OnErr result (Extends m.looks m'.looks)
   pub err_bound : OnErr result (Extends m'.looks (look_all m.own (cells_asked t script m v) m.looks))
+  pub err_asks_bound : OnErr result (file_looks.Extends v'.looks (look_for_all v.own (files_asked t script m v) v.looks))
   pub err_regs : OnErr result (r' ≡ r)
   pub err_desk : OnErr result (d' ≡ d)
   pub err_own : OnErr result (m'.own ≡ m.own)
