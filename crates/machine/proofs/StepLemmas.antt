@@ -45,6 +45,7 @@ use Rattle.hostfiles.specs.declared.looks.Looks as file_questions_asked
 use Rattle.hostfiles.specs.declared.looks.Ask.{Ask}
 use Rattle.file_calls.specs.Changes.{FileChange, Unchanged, own_with}
 use Rattle.file_calls.specs.Questions.{FileQuestion, Drives, look_for, look_for_all}
+use Rattle.file_calls.proofs.Extending.{within_all}
 use Rattle.system_calls.specs.Questions.{SystemQuestion, OfState, OfFiles, SystemAnswers, SystemTree, system_answers, reading_first, state_questions, file_questions}
 use Rattle.system_calls.specs.FileCalls.{SystemEnd}
 use Rattle.system_calls.specs.Calls.{Serves, call}
@@ -57,7 +58,7 @@ use Rattle.host_questions.proofs.Answering.{answers_are}
 use Rattle.machine.specs.Views.{Session, Own, Looked}
 use Rattle.machine.specs.declared.session.TheConstants.{SCRIPT_LIMIT}
 use Rattle.machine.specs.Session.{image_of}
-use Rattle.machine.specs.Machine.{Question, Cell, Script, OfHost, Answers, ask, same_question, is_in, Reached, Went, Stopped, reached, reached_with, reached_by_call, script_limit, script_limit-is, next, own_or_ask, asking_host, part, laid, desk_with, made, outcome, looks_at, looked_at, is_near, IsBounded}
+use Rattle.machine.specs.Machine.{Question, Cell, Script, OfHost, Answers, ask, same_question, is_in, Reached, Went, Stopped, reached, reached_with, reached_by_call, script_limit, script_limit-is, next, own_or_ask, asking_host, part, laid, desk_with, made, outcome, looks_at, looked_at, IsBounded}
 use Rattle.machine.specs.WrittenCells.{written_cells, Devices, devices_of, state_with}
 use Rattle.machine.specs.Stops.{stop_of_instruction, stop_of_call}
 use Rattle.machine.specs.Steps.{told, seen, drives_in, looked_in, TakesStep}
@@ -228,13 +229,18 @@ module _ (s : Session) (r : Regs) (d : Devices) (own : ℕ → Option ℕ) (h : 
 
   -- some of the looks after it
   bounded_of : (t : SystemTree Reached) → next (record { regs = r; desk = d.desk }) ≡ t → (old new : Looked)
+      → HaveMarks (length old.files.directories) (file_questions (asked (memory_answers s own d.files) t))
       → memory.Extends new.cells (look_all own (addresses (state_questions (asked (memory_answers s own d.files) t))) old.cells) → ((k : ℕ) → is_within new.places k ≡ is_within old.places k)
+      → file_looks.Extends new.files (look_for_all d.files (file_questions (asked (memory_answers s own d.files) t)) old.files)
       → IsBounded old (looks_at (ask s) (state_with r d own)) new
-  bounded_of t e old new cells places (Cell q) near among =
+  bounded_of t e old new marks cells places asks (Cell q) among =
       sym (looks_of_cell (ask s) own d.files h (asked (memory_answers s own d.files) t) old.cells q ∙ ap (λ qs. is_among q old.cells || is_in (Cell q) qs) (sym (looks_are t e)))
       ∙ among_further q new.cells _ cells among
-  bounded_of t e old new cells places (Script k) near within = ap (λ b. b || is_in (Script k) (looks_at (ask s) (state_with r d own))) (sym (places k) ∙ within)
-  bounded_of t e old new cells places (OfHost a) near asked = absurd (cc)
+  bounded_of t e old new marks cells places asks (Script k) within = ap (λ b. b || is_in (Script k) (looks_at (ask s) (state_with r d own))) (sym (places k) ∙ within)
+  bounded_of t e old new marks cells places asks (OfHost a) marked =
+      sym (looks_of_host (ask s) (own_written own d.files) a (asked (memory_answers s own d.files) t) old.files marks
+      ∙ ap (λ qs. is_looked old.files a || is_in (OfHost a) qs) (sym (looks_are t e)))
+      ∙ asks.kept a marked
 
 -- what a tree's end leaves
 abbrev Leaves : Reached → Regs → Devices → (ℕ → Option ℕ) → Regs → Devices → (ℕ → Option ℕ) → Type 0
@@ -287,17 +293,19 @@ carried s r r' d d' o o' t sound w = record {
 
 -- a tree that failed
 broken_off : (s : Session) (r r' : Regs) (d d' : Devices) (o o' : Overlay) (t : SystemTree Reached) (e : AllocError) → IsSound s.files d.files → next (record { regs = r; desk = d.desk }) ≡ t
+    → HaveMarks (length d.asks.directories) (file_questions (asked (memory_answers s (own_of o) d.files) t))
     → r' ≡ r → d'.desk ≡ d.desk → own_of o' ≡ own_of o → d'.files ≡ d.files → memory.Extends (looks_of o) (looks_of o')
     → memory.Extends (looks_of o') (look_all (own_of o) (addresses (state_questions (asked (memory_answers s (own_of o) d.files) t))) (looks_of o))
     → ((k : ℕ) → is_within d'.places k ≡ is_within d.places k) → file_looks.Extends d.asks d'.asks
+    → file_looks.Extends d'.asks (look_for_all d.files (file_questions (asked (memory_answers s (own_of o) d.files) t)) d.asks)
     → TakesStep s r d o (Err e) r' d' o'
-broken_off s r r' d d' o o' t e sound at regs desk own done extends bound places asks = record {
+broken_off s r r' d d' o o' t e sound at marks regs desk own done extends bound places asks bound_asks = record {
   outcome = tt;
   stays = tt;
   failed = λ i. record { core = record { regs = regs i; desk = desk i }; own = record { cells = written_cells (own i); files = done i } };
   looked = tt;
   extends = record { cells = extends; places = λ k h. places k ∙ h; files = asks };
-  bounded = bounded_of s r d (own_of o) (within o) sound t at (looked_in o d) (looked_in o' d') bound places;
+  bounded = bounded_of s r d (own_of o) (within o) sound t at (looked_in o d) (looked_in o' d') marks bound places bound_asks;
 }
 
 -- ---- an instruction
@@ -346,11 +354,13 @@ module _ (s : Session) (r r' : Regs) (d : Devices) (o o' : Overlay) (sound : IsS
 
   pub instruction_fails : (e : AllocError) → end.Performs (instruction r) r (seen s o) (Err e) r' (seen s o') → TakesStep s r d o (Err e) r' d o'
   instruction_fails e p =
-      let asks : addresses (state_questions (asked answers_here (reading_first (instruction r) ends_with))) ≡ reading.asked (instruction r) (over (own_of o) (image_of s)) =
-      cells-reading answers_here ends_with (instruction r) ∙ append-nil _ in
-      broken_off s r r' d d o o' (reading_first (instruction r) ends_with) e sound (at_instruction r d.desk low) p.err_regs refl p.err_own refl
+      let t = reading_first (instruction r) ends_with in
+      let asks : addresses (state_questions (asked answers_here t)) ≡ reading.asked (instruction r) (over (own_of o) (image_of s)) = cells-reading answers_here ends_with (instruction r) ∙ append-nil _ in
+      let files : file_questions (asked answers_here t) ≡ [] = files-reading answers_here ends_with (instruction r) in
+      broken_off s r r' d d o o' t e sound (at_instruction r d.desk low) (subst (HaveMarks (length d.asks.directories)) (sym files) tt) p.err_regs refl p.err_own refl
       (extends_by (own_of o) (reading.asked (instruction r) (over (own_of o) (image_of s))) (looks_of o) (looks_of o') p.looks)
       (subst (λ (at : List ℕ). memory.Extends (looks_of o') (look_all (own_of o) at (looks_of o))) (sym asks) (bound_here (looks_of o') _ p.looks)) (λ j. refl) (extends_same d.asks d.asks refl)
+      (within_all d.files (file_questions (asked answers_here t)) d.asks d.asks (extends_same d.asks d.asks refl))
 
 -- ---- a call
 
@@ -391,10 +401,15 @@ module _ (s : Session) (r r' : Regs) (d d' : Watched) (c c' : Changes) (o o' : O
       }) in
       subst (λ (x : Option Cause). TakesStep s r (devices_of d c) o (Ok x) r' (devices_of d' c') o') (ap stop_of ends ∙ call_stops _ ∙ ap stop_of_call (sym p.served)) all
 
-  pub call_fails : (e : AllocError) → Serves script_limit s.script r (seen s o) d (drives_in s c g) (Err e) r' (seen s o') d' (drives_in s c' g) → TakesStep s r (devices_of d c) o (Err e) r' (devices_of d' c') o'
-  call_fails e p =
-      broken_off s r r' (devices_of d c) (devices_of d' c') o o' (returning reached_by_call tree) e sound (at_call r d.desk at) p.err_regs p.err_desk p.err_own p.err_files p.err_looks
-      (subst (λ (qs : List SystemQuestion). memory.Extends (looks_of o') (look_all (own_of o) (addresses (state_questions qs)) (looks_of o))) (sym (asked-returning answers_called reached_by_call tree)) p.err_bound) p.err_places p.extends
+  pub call_fails : (e : AllocError) → length c.looks.directories ≡ 256 → AsksDrives tree
+      → Serves script_limit s.script r (seen s o) d (drives_in s c g) (Err e) r' (seen s o') d' (drives_in s c' g) → TakesStep s r (devices_of d c) o (Err e) r' (devices_of d' c') o'
+  call_fails e whole drives p =
+      let asks : asked answers_called (returning reached_by_call tree) ≡ asked answers_called tree = asked-returning answers_called reached_by_call tree in
+      broken_off s r r' (devices_of d c) (devices_of d' c') o o' (returning reached_by_call tree) e sound (at_call r d.desk at)
+      (subst (λ qs. HaveMarks (length c.looks.directories) (file_questions qs)) (sym asks) (have_marks (length c.looks.directories) whole _ (drives answers_called)))
+      p.err_regs p.err_desk p.err_own p.err_files p.err_looks
+      (subst (λ (qs : List SystemQuestion). memory.Extends (looks_of o') (look_all (own_of o) (addresses (state_questions qs)) (looks_of o))) (sym asks) p.err_bound) p.err_places p.extends
+      (subst (λ (qs : List SystemQuestion). file_looks.Extends c'.looks (look_for_all c.journal.entries (file_questions qs) c.looks)) (sym asks) p.err_asks_bound)
 
 -- ---- a stop that asks nothing
 
@@ -455,6 +470,7 @@ at_limit d d' {script = script} {other = other} {r = r} {r' = r'} {m = m} {m' = 
       asks = p.asks;
       err_looks = p.err_looks;
       err_bound = p.err_bound;
+      err_asks_bound = p.err_asks_bound;
       err_regs = p.err_regs;
       err_desk = p.err_desk;
       err_own = p.err_own;

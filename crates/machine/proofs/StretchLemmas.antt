@@ -69,6 +69,7 @@ module _ (s : Session) (from end n : ℕ) (r r' : Regs) (d d' : Devices) (o o' :
     before_failure = tt;
     last = λ past q. looked_after w q ∙ ap (λ (k : ℕ). looked_at looked q || is_in q (looks (ask s) k)) (omega arith);
     extends = subst (λ (l : Looked). Extends l (looked_in o' d')) same w.extends;
+    bounded = tt;
   }
 
   -- one that ends before the step n, which stops
@@ -82,6 +83,7 @@ module _ (s : Session) (from end n : ℕ) (r r' : Regs) (d d' : Devices) (o o' :
     before_failure = tt;
     last = tt;
     extends = subst (λ (l : Looked). Extends l (looked_in o' d')) same w.extends;
+    bounded = tt;
   }
 
   -- one that ends before the step n, which fails
@@ -95,6 +97,10 @@ module _ (s : Session) (from end n : ℕ) (r r' : Regs) (d d' : Devices) (o o' :
     before_failure = quiet;
     last = tt;
     extends = subst (λ (l : Looked). Extends l (looked_in o' d')) same w.extends;
+    bounded = λ q h.
+        ap (λ (l : Looked). looked_at l q || is_in q (looks (ask s) n)) (sym same)
+        ∙ ap (λ (qs : List Question). looked_at (looked_in o d) q || is_in q qs) (looks_here (ask s) n (state_with r d (own_of o)) at)
+        ∙ w.bounded q h;
   }
 
   -- and one that ends where nothing new was looked at
@@ -115,6 +121,7 @@ module _ (s : Session) (from end n : ℕ) (r r' : Regs) (d d' : Devices) (o o' :
     before_failure = tt;
     last = λ past q. ap (λ (l : Looked). looked_at l q) same ∙ looked_before q (is_in q (looks (ask s) (n - 1))) (quiet (n - 1) (omega arith) (omega arith) q);
     extends = subst (λ (l : Looked). Extends l (looked_in o d)) same (record { cells = extends_itself (looks_of o); places = λ k h. h; files = extends_same d.asks d.asks refl });
+    bounded = tt;
   }
 
 -- the same looks, where there are no more

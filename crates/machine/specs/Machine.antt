@@ -195,15 +195,9 @@ pub record NothingLooked (looked : Looked) : Type 0 where
   pub places : (k : ℕ) → is_within looked.places k ≡ false
   pub files : (a : Ask) → is_looked looked.files a ≡ false
 
--- a cell, or a place of the script
-abbrev pub is_near : Question → Bool
-is_near (Cell a) = true
-is_near (Script k) = true
-is_near (OfHost a) = false
-
--- no more cells and places were looked at than before and among these
+-- nothing more was looked at than before and among these
 abbrev pub IsBounded : Looked → List Question → Looked → Type 0
-IsBounded old qs new = (q : Question) → is_near q ≡ true → looked_at new q ≡ true → (looked_at old q || is_in q qs) ≡ true
+IsBounded old qs new = (q : Question) → looked_at new q ≡ true → (looked_at old q || is_in q qs) ≡ true
 
 -- some more was looked at: more cells after those before, and the places and the questions before stay
 pub record Extends (old new : Looked) : Type 0 where

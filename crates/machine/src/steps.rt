@@ -146,7 +146,8 @@ fn proceed(
     carry_out(regs, overlay, session)
 }
 
-/// One step, or the cause of a stop. A stop or `Err` leaves the state, but for what was looked at.
+/// One step, or the cause of a stop. A stop or `Err` leaves the state, but for what was looked at; and at an `Err` each cell, script
+/// place and question of the host files that is looked at afterwards was looked at before, or is among those of the step.
 #[inline(always)]
 pub fn step(
     running: &mut Running,

@@ -94,7 +94,8 @@ fn proceed_along(
 
 /// Carries out steps from the step `from` on: at least one, and on up to the step `end`, to a step that looks at something new,
 /// to a call of the system, or to a stop. Answers the step that was reached, and the cause of a stop. A stop and `Err` leave
-/// the state that was reached, but for what was looked at.
+/// the state that was reached, but for what was looked at; and at an `Err` what is looked at afterwards was looked at before, or is
+/// among what the step looks at that failed.
 pub fn run_from(
     running: &mut Running,
     session: &Session,

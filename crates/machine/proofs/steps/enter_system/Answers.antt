@@ -19,4 +19,4 @@ returns-in-Ok c =
     (sym c.stop_of_call.ensures) (called _ _ _ _ _ _ _ _ _ c.args.changes.ghost_name c.requires.sound c.if-regs-2.false _ c.serve.ensures.marks c.serve.ensures.drives (c.in-Ok.ensures.serves c.args.changes.ghost_name))
 
 pub returns-in-Err : goal.returns-in-Err
-returns-in-Err c = call_fails _ _ _ _ _ _ _ _ _ c.args.changes.ghost_name c.requires.sound c.if-regs-2.false _ (c.in-Err.ensures.serves c.args.changes.ghost_name)
+returns-in-Err c = call_fails _ _ _ _ _ _ _ _ _ c.args.changes.ghost_name c.requires.sound c.if-regs-2.false _ c.serve.ensures.marks c.serve.ensures.drives (c.in-Err.ensures.serves c.args.changes.ghost_name)

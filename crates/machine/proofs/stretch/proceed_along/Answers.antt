@@ -16,3 +16,7 @@ returns-in-Ok-None-clause-stretches c =
 
 pub enter_system-requires-clause-sound : goal.enter_system-requires-clause-sound
 enter_system-requires-clause-sound c = sound_after c.args.session.now c.args.from _ c.requires.at
+
+pub returns-in-Err-clause-stretches : goal.returns-in-Err-clause-stretches
+returns-in-Err-clause-stretches c =
+    ends_by_failure c.args.session.now c.args.from c.args.end c.args.from _ _ _ _ _ _ _ (omega arith) refl c.requires.at (λ i low high. absurd (omega arith)) _ c.requires.order c.in-Err.ensures
