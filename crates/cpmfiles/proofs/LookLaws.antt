@@ -46,3 +46,6 @@ within_read host own key k l m h = by_case (has host own key) (nat_lt k (length_
 pub within_second : (own : Own) (old new : Key) (l m : Looks) → Extends l (look_has own old m)
     → Extends l (look_has own new (look_has own old m))
 within_second own old new l m h = within_has own new l (look_has own old m) h
+
+-- questions one after another
+pub ruleset asked_in_turn = (extends_same, extends_trans, within_records, within_second)

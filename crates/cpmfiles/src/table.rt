@@ -55,7 +55,7 @@ impl Table<'_> {
     }
 
     /// How many places the file of the key has, if there is one.
-    #[tactic(auto, using(crate::proofs::LookLaws::extends_same, crate::proofs::LookLaws::extends_trans, crate::proofs::LookLaws::within_records))]
+    #[tactic(auto, using(crate::proofs::LookLaws::asked_in_turn))]
     pub fn records(&mut self, key: &Key) -> Result<Option<u32>, AllocError>
         ensures answer { IfOk result (λ n. n ≡ records self.old.host.now self.old.changes.now.journal.entries key.now) }
         ensures looks { OnOk result (self.new.changes.now.looks ≡ look_records self.old.host.now self.old.changes.now.journal.entries key.now self.old.changes.now.looks) }
@@ -90,7 +90,7 @@ impl Table<'_> {
     }
 
     /// Reads the record at a place. `false` where there is no file, or none that long, or a hole at the place: `bytes` then stay.
-    #[tactic(auto, using(crate::proofs::LookLaws::extends_trans, crate::proofs::LookLaws::extends_same))]
+    #[tactic(auto, using(crate::proofs::LookLaws::asked_in_turn))]
     pub fn read(&mut self, key: &Key, k: u32, bytes: &mut Record) -> Result<bool, AllocError>
         ensures found { IfOk result (λ b. b ≡ true → place self.old.host.now self.old.changes.now.journal.entries key.now k ≡ Some bytes.new) }
         ensures none { IfOk result (λ b. b ≡ false → (place self.old.host.now self.old.changes.now.journal.entries key.now k ≡ None) × (bytes.new ≡ bytes.old)) }
@@ -329,7 +329,7 @@ impl Table<'_> {
     }
 
     /// Puts a file under another key, where a file has the old key, the new key can be said and no file has it. Neither has a `?`.
-    #[tactic(auto, using(crate::proofs::LookLaws::extends_same, crate::proofs::LookLaws::extends_trans, crate::proofs::LookLaws::within_second))]
+    #[tactic(auto, using(crate::proofs::LookLaws::asked_in_turn))]
     pub fn rename(&mut self, old: &Key, new: &Key) -> Result<bool, AllocError>
         ensures answer { IfOk result (λ b. b ≡ can_rename self.old.host.now self.old.changes.now.journal.entries old.now new.now) }
         ensures looks { OnOk result (self.new.changes.now.looks ≡ look_renamed self.old.changes.now.journal.entries old.now new.now self.old.changes.now.looks) }

@@ -17,3 +17,6 @@ within_one own (FilesOn drive) l m h = within_directory drive l m h
 pub within_all : (own : Own) (qs : List FileQuestion) (l m : Looks) → Extends l m → Extends l (look_for_all own qs m)
 within_all own [] l m h = h
 within_all own (q ∷ qs) l m h = within_all own qs l (look_for own q m) (within_one own q l m h)
+
+-- questions one after another
+pub ruleset asked_in_turn = (extends_same, extends_trans, within_all)

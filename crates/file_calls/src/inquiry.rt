@@ -36,7 +36,7 @@ fn count(table: &Table<'_>, key: &Key, extent: u32) -> u8
 }
 
 /// Function 15: the count of the extent that the control block names.
-#[tactic(auto, using(crate::proofs::Extending::extends_same, crate::proofs::Extending::extends_trans, crate::proofs::Extending::within_all))]
+#[tactic(auto, using(crate::proofs::Extending::asked_in_turn))]
 pub fn open_file(table: &mut Table<'_>, block: &Block) -> Result<Finding, AllocError>
     ensures asks { Asks (calls.open_file block.now) (drives_of table.old) result (drives_of table.new) }
     ensures apart { IfOk result IsApart }
@@ -50,7 +50,7 @@ pub fn open_file(table: &mut Table<'_>, block: &Block) -> Result<Finding, AllocE
 }
 
 /// Function 16: whether the file is there.
-#[tactic(auto, using(crate::proofs::Extending::extends_same, crate::proofs::Extending::extends_trans, crate::proofs::Extending::within_all))]
+#[tactic(auto, using(crate::proofs::Extending::asked_in_turn))]
 pub fn close_file(table: &mut Table<'_>, block: &Block) -> Result<Finding, AllocError>
     ensures asks { Asks (calls.close_file block.now) (drives_of table.old) result (drives_of table.new) }
     ensures apart { IfOk result IsApart }
@@ -102,7 +102,7 @@ fn search(table: &mut Table<'_>, pattern: &Key, extent: u8, after: Option<[u8; 3
 }
 
 /// Function 20: the record at the place of the control block.
-#[tactic(auto, using(crate::proofs::Extending::extends_same, crate::proofs::Extending::extends_trans, crate::proofs::Extending::within_all))]
+#[tactic(auto, using(crate::proofs::Extending::asked_in_turn))]
 pub fn read_sequential(table: &mut Table<'_>, block: &Block) -> Result<Finding, AllocError>
     ensures asks { Asks (calls.read_sequential block.now) (drives_of table.old) result (drives_of table.new) }
     ensures apart { IfOk result IsApart }
@@ -122,7 +122,7 @@ pub fn read_sequential(table: &mut Table<'_>, block: &Block) -> Result<Finding, 
 }
 
 /// Function 21: a record to be written at the place of the control block.
-#[tactic(auto, using(crate::proofs::Extending::extends_same, crate::proofs::Extending::extends_trans, crate::proofs::Extending::within_all))]
+#[tactic(auto, using(crate::proofs::Extending::asked_in_turn))]
 pub fn write_sequential(table: &mut Table<'_>, block: &Block) -> Result<Finding, AllocError>
     ensures asks { Asks (calls.write_sequential block.now) (drives_of table.old) result (drives_of table.new) }
     ensures apart { IfOk result IsApart }
@@ -145,7 +145,7 @@ pub fn write_sequential(table: &mut Table<'_>, block: &Block) -> Result<Finding,
 }
 
 /// Function 22: a file to be made, where the name can be said and no file has it.
-#[tactic(auto, using(crate::proofs::Extending::extends_same, crate::proofs::Extending::extends_trans, crate::proofs::Extending::within_all))]
+#[tactic(auto, using(crate::proofs::Extending::asked_in_turn))]
 pub fn make_file(table: &mut Table<'_>, block: &Block) -> Result<Finding, AllocError>
     ensures asks { Asks (calls.make_file block.now) (drives_of table.old) result (drives_of table.new) }
     ensures apart { IfOk result IsApart }
@@ -161,7 +161,7 @@ pub fn make_file(table: &mut Table<'_>, block: &Block) -> Result<Finding, AllocE
 }
 
 /// Function 23: a file to be renamed.
-#[tactic(auto, using(crate::proofs::Extending::extends_same, crate::proofs::Extending::extends_trans))]
+#[tactic(auto, using(crate::proofs::Extending::asked_in_turn))]
 pub fn rename_file(table: &mut Table<'_>, block: &Block) -> Result<Finding, AllocError>
     ensures asks { Asks (calls.rename_file block.now) (drives_of table.old) result (drives_of table.new) }
     ensures apart { IfOk result IsApart }
@@ -185,7 +185,7 @@ pub fn rename_file(table: &mut Table<'_>, block: &Block) -> Result<Finding, Allo
 }
 
 /// Function 33: the record at the random place.
-#[tactic(auto, using(crate::proofs::Extending::extends_same, crate::proofs::Extending::extends_trans, crate::proofs::Extending::within_all))]
+#[tactic(auto, using(crate::proofs::Extending::asked_in_turn))]
 pub fn read_random(table: &mut Table<'_>, block: &Block) -> Result<Finding, AllocError>
     ensures asks { Asks (calls.read_random block.now) (drives_of table.old) result (drives_of table.new) }
     ensures apart { IfOk result IsApart }
@@ -219,7 +219,7 @@ fn missing(table: &Table<'_>, key: &Key, place: u32) -> u8
 }
 
 /// Functions 34 and 40: a record to be written at the random place; 40 fills the places before it.
-#[tactic(auto, using(crate::proofs::Extending::extends_same, crate::proofs::Extending::extends_trans, crate::proofs::Extending::within_all))]
+#[tactic(auto, using(crate::proofs::Extending::asked_in_turn))]
 pub fn write_random(
     table: &mut Table<'_>,
     block: &Block,
@@ -246,7 +246,7 @@ pub fn write_random(
 }
 
 /// Function 35: how many places the file has.
-#[tactic(auto, using(crate::proofs::Extending::extends_same, crate::proofs::Extending::extends_trans, crate::proofs::Extending::within_all))]
+#[tactic(auto, using(crate::proofs::Extending::asked_in_turn))]
 pub fn file_size(table: &mut Table<'_>, block: &Block) -> Result<Finding, AllocError>
     ensures asks { Asks (calls.file_size block.now) (drives_of table.old) result (drives_of table.new) }
     ensures apart { IfOk result IsApart }

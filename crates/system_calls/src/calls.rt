@@ -16,7 +16,7 @@ use i8080::{Bus, Regs, fetch, fetch_word, word_of};
 use std::alloc::AllocError;
 
 /// Carries out the call whose number is in C. A call that stops, and an `Err` (a want of memory), leave the registers, the written cells, the desk
-/// and the files as they were; what was looked at may have grown. (CP/M 2.2 Interface Guide.)
+/// and the files as they were; what was looked at may have grown, by what the whole call looks at. (CP/M 2.2 Interface Guide.)
 #[tactic(auto, unfolding(crate::specs::Calls::call))]
 pub fn call<B: Bus>(
     regs: &mut Regs,
