@@ -1,4 +1,5 @@
--- The BDOS calls: what each asks of the state, and what it then does. (CP/M 2.2 Interface Guide.)
+-- The BDOS calls: what each asks of the state, and what it then does. (CP/M 2.2 Interface Guide, functions 0 to 2, 6 to 14 and 24
+-- to 26; what stops a call, and in which order it asks: this project's profile.)
 use Rattle.std.specs.Prelude.{◌≡◌, ℕ, ◌==◌, ◌+◌, ◌||◌, Bool, is_some, if◌then◌else◌, nat_lt, List, [], ◌∷◌, ◌++◌, Option, Some, None, IfOk, OnOk, OnErr, suc, length, reverse}
 use Rattle.std.specs.declared.result.Result.{Result}
 use Rattle.std.specs.declared.alloc.AllocError.{AllocError}

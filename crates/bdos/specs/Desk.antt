@@ -1,5 +1,6 @@
 -- What the BDOS keeps beside memory and files: how far the console script was taken, what the console shows, where records go,
--- the current drive, and where a search of the directory goes on. (CP/M 2.2 Interface Guide, functions 1, 2, 9, 14, 17 and 26.)
+-- the current drive, and where a search of the directory goes on. (CP/M 2.2 Interface Guide, functions 1, 2, 9, 14, 17 and 26;
+-- the cursor, the text, the rules of the column, and what is kept of a search: this project's profile.)
 use Rattle.std.specs.Prelude.{ℕ, ◌+◌, ◌-◌, ◌%◌, ◌==◌, ◌||◌, nat_le, nat_lt, if◌then◌else◌, List, [], ◌∷◌, ◌++◌, replicate, None}
 use Rattle.bdos.specs.declared.desk.Spot.{Spot}
 

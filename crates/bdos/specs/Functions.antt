@@ -1,4 +1,4 @@
--- The calls by their numbers. (CP/M 2.2 Interface Guide.)
+-- The calls by their numbers. (CP/M 2.2 Interface Guide; which of its calls are there: this project's profile.)
 use Rattle.std.specs.Prelude.{ℕ, ◌==◌, if◌then◌else◌, Option, Some, None}
 use Rattle.bdos.specs.declared.function.Function.{Function}
 use Rattle.bdos.specs.declared.function.Function.TheVariants.{SystemReset, ConsoleInput, ConsoleOutput, DirectConsole, GetIoByte, SetIoByte, PrintString, ReadConsoleBuffer, ConsoleStatus, VersionNumber, ResetDisks, SelectDisk, LoginVector, CurrentDisk, SetBufferAddress}

@@ -1,4 +1,4 @@
--- The script places that were looked at: calls look at places in order, and never behind the cursor.
+-- The script places that were looked at: calls look at places in order, and never behind the cursor. (This project's own.)
 use Rattle.std.specs.Prelude.{ℕ, ◌+◌, ◌≤◌, ◌<◌, ◌&&◌, nat_le, nat_lt, Bool}
 use Rattle.bdos.specs.declared.places.Places.{Places}
 use Rattle.bdos.specs.declared.desk.Spot.{Spot}

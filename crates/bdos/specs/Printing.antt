@@ -1,4 +1,5 @@
--- What printing the string of a memory leaves.
+-- What printing the string of a memory leaves. (CP/M 2.2 Interface Guide, function 9; what is left where there is no `$`, and
+-- where memory is refused: this project's own.)
 use Rattle.std.specs.Prelude.{◌≡◌, ℕ, Bool, true, List, Option, Some, None, is_some, length, take, ◌≤◌, IfOk, OnOk, OnErr}
 use Rattle.std.specs.declared.result.Result.{Result}
 use Rattle.std.specs.declared.alloc.AllocError.{AllocError}

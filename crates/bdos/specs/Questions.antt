@@ -1,4 +1,5 @@
--- What a step asks of the state: bytes of cells and of the console script are all of it.
+-- What a step asks of memory and of the console script: the byte of a cell, and the byte at a place or that there is none. What
+-- it asks of files is defined in the crate `file_calls`. (This project's own.)
 use Rattle.std.specs.Prelude.{ℕ, Option, List, [], ◌∷◌, slice_get}
 use Rattle.i8080.specs.Reading.{Reading, Done}
 use Rattle.i8080.specs.Reading as reading

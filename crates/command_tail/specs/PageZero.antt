@@ -1,4 +1,5 @@
--- Page zero with a command tail. (CP/M 2.2 Interface Guide, page zero.)
+-- Page zero with a command tail. (CP/M 2.2 Interface Guide, page zero; the addresses of the system, and what its first bytes hold
+-- when a program is loaded: this project's profile.)
 use Rattle.std.specs.Prelude.{ℕ, ◌+◌, ◌-◌, List, [], ◌∷◌, ◌++◌, length, map, take, drop, replicate}
 use Rattle.std.specs.Char.{to_ascii_uppercase}
 use Rattle.command_tail.specs.Words.{first_word, second_word, named_by}

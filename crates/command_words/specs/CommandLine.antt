@@ -1,4 +1,5 @@
--- The command line of `cpmrun` as a command of clap, and what is read of its matches.
+-- The command line of `cpmrun` as a command of clap, and what is read of its matches. (Over clap's own definitions; the words:
+-- this project's own.)
 use Rattle.std.specs.Prelude.{◌≡◌, ℕ, List, [], ◌∷◌, Option, Some, map, option_map, unwrap_or, codes, true}
 use Rattle.std.specs.Borrow.{Bor}
 use Rattle.std.specs.Str.Parse.{IsNumeral, digits_value, without_leading_plus}

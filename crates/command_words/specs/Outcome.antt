@@ -1,4 +1,4 @@
--- What a program is to do with an error of clap.
+-- What a program is to do with an error of clap. (Over clap's own definitions; the rest: this project's own.)
 use Rattle.std.specs.Prelude.{◌≡◌, List}
 use Rattle.clap.specs.Words.{IsAmong, Text}
 use Rattle.clap.specs.declared.error.kind.ErrorKind.{ErrorKind}

@@ -1,4 +1,5 @@
--- The calls of a table.
+-- The calls of a table. (CP/M 2.2 Interface Guide, functions 17, 19, 22 and 23; what each asks of the host files, and which keys
+-- it refuses: this project's profile.)
 use Rattle.std.specs.Prelude.{◌≡◌, ℕ, Bool, ◌&&◌, ◌==◌, not, Some, length, drop, filter, slice_index, if◌then◌else◌}
 use Rattle.std.specs.Ordering.{nat_cmp, eq_by_cmp}
 use Rattle.std.specs.List.{list_any}

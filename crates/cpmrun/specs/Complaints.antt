@@ -1,4 +1,4 @@
--- What the program says of its faults: their statuses and their messages.
+-- What the program says of its faults: their statuses and their messages. (This project's own.)
 use Rattle.std.specs.Prelude.{◌≡◌, ℕ, List, [], ◌⊎◌, ◌++◌, codes, Option, string_bytes}
 use Rattle.std.specs.Fmt.{decimal}
 use Rattle.folders.specs.Faults.{text_of}

@@ -1,4 +1,4 @@
--- The ways in which the program ends.
+-- The ways in which the program ends. (This project's own.)
 use Rattle.std.specs.Prelude.{◌≡◌, ℕ, ◌<◌, ◌⊎◌, List, Option, MatchOption}
 use Rattle.std.specs.Io.KnownBytes.{Appends}
 use Rattle.command_words.specs.Outcome.{ComesTo}

@@ -1,4 +1,4 @@
--- The session that the files of the command line give, and why they give none.
+-- The session that the files of the command line give, and why they give none. (This project's own.)
 use Rattle.std.specs.Prelude.{◌≡◌, ℕ, ◌⊎◌, List, [], Option, Some, None, Result, Ok, Err, true, is_some, slice_index}
 use Rattle.std.specs.FinMap as finmap
 use Rattle.command_words.specs.CommandLine.{text_of}

@@ -1,4 +1,4 @@
--- One run of a session: what it writes, its status, and what it leaves where it is broken off.
+-- One run of a session: what it writes, its status, and what it leaves where it is broken off. (This project's own.)
 use Rattle.std.specs.Prelude.{◌≡◌, ℕ, ◌<◌, ◌⊎◌, ◌++◌, List, Option, codes, take}
 use Rattle.std.specs.Borrow.{Bor}
 use Rattle.std.specs.Io.KnownBytes.{Appends}

@@ -1,4 +1,4 @@
--- What the words of the command line ask for.
+-- What the words of the command line ask for. (This project's own.)
 use Rattle.std.specs.Prelude.{◌≡◌, ℕ, ◌≤◌, List, []}
 use Rattle.command_words.specs.CommandLine.{Says, faults_at, matches_at}
 use Rattle.command_words.specs.Outcome.{ComesTo}

@@ -1,4 +1,4 @@
--- The lines that tell the changed files: of a report, and those that tell the ones that are gone alone.
+-- The lines that tell the changed files: of a report, and those that tell the ones that are gone alone. (This project's own.)
 use Rattle.std.specs.Prelude.{ℕ, List, [], ◌∷◌, ◌++◌, map, Option, Some, None, codes}
 use Rattle.std.specs.List.{concat}
 use Rattle.hex.specs.Hex.{encode_lower}

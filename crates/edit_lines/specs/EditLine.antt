@@ -1,5 +1,5 @@
 -- What a line of an edit text means, one case a command: `insert AT HEX`, `replace AT HEX`, `remove AT COUNT`, `poke ADDR HEX`,
--- `file NAME HEX`, `gone NAME`, `limit N`, `drop N`, `run`.
+-- `file NAME HEX`, `gone NAME`, `limit N`, `drop N`, `run`. (This project's own.)
 use Rattle.std.specs.Prelude.{◌≡◌, ℕ, ◌+◌, ◌*◌, ◌%◌, ◌<◌, ◌≤◌, ◌⊎◌, List, [], ◌∷◌, length, codes, Ok}
 use Rattle.std.specs.Str.Parse.{IsNumeral, digits_value}
 use Rattle.hex.specs.Hex.{decode_of}

@@ -1,4 +1,4 @@
--- The words of the lines of an edit text that change the host files: `file NAME HEX` and `gone NAME`.
+-- The words of the lines of an edit text that change the host files: `file NAME HEX` and `gone NAME`. (This project's own.)
 use Rattle.std.specs.Prelude.{◌≡◌, ◌%◌, ◌<◌, ℕ, List, length}
 use Rattle.filenames.specs.Names.{Key}
 use Rattle.edit_lines.specs.EditLine.{IsName, IsHexText}

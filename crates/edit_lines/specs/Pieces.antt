@@ -1,4 +1,5 @@
--- A text cut at a byte: its lines, which end with 0AH, and the words of a line, between which one blank stands.
+-- A text cut at a byte: its lines, which end with 0AH, and the words of a line, between which one blank stands. (This project's
+-- own.)
 use Rattle.std.specs.Prelude.{ℕ, ◌==◌, if◌then◌else◌, List, [], ◌∷◌}
 use Rattle.std.proofs.Common.{zero, suc}
 

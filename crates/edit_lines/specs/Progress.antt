@@ -1,4 +1,4 @@
--- Where a replay stands, and what holds after each fault.
+-- Where a replay stands, and what holds after each fault. (This project's own.)
 use Rattle.std.specs.Prelude.{◌*◌, ◌≡◌, ℕ, ◌-◌, ◌≤◌, List, [], ◌∷◌, ◌++◌, length, take, Option, Some, Result, Ok, Err}
 use Rattle.std.specs.List.{concat}
 use Rattle.std.specs.Io.KnownBytes.{Appends, IsAtEnd}

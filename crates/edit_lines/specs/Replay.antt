@@ -1,5 +1,5 @@
--- What a replay of an edit text does: a reply to each line in turn, up to the first line that is too long or malformed.
--- A line has 65,536 bytes at most, and a text 1,000,000 lines.
+-- What a replay of an edit text does: a reply to each line in turn, up to the first line that is too long or malformed. A line
+-- has 65,536 bytes at most, and a text 1,000,000 lines. (This project's own.)
 use Rattle.std.specs.Prelude.{◌≡◌, ℕ, ◌+◌, ◌<◌, ◌≤◌, ◌⊎◌, List, [], ◌∷◌, ◌++◌, length, codes, Result, Ok, Err}
 use Rattle.std.specs.Fmt.{decimal}
 use Rattle.std.specs.List.{concat}

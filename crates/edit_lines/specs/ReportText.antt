@@ -1,4 +1,4 @@
--- The texts that a replay writes: the report and its lines.
+-- The texts that a replay writes: the report and its lines. (This project's own.)
 use Rattle.std.specs.Prelude.{ℕ, ◌/◌, ◌%◌, List, [], ◌∷◌, ◌++◌, codes}
 use Rattle.std.specs.Fmt.{decimal}
 use Rattle.hex.specs.Hex.{encode_lower, encode_upper}

@@ -1,4 +1,4 @@
--- The reply to `run`.
+-- The reply to `run`. (This project's own.)
 use Rattle.std.specs.Prelude.{ℕ, List, ◌++◌, codes}
 use Rattle.machine.specs.Views.{Session}
 use Rattle.replay.specs.Cold.{Cold}

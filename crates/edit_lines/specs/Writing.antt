@@ -1,4 +1,4 @@
--- What a writer took of a text.
+-- What a writer took of a text. (This project's own.)
 use Rattle.std.specs.Prelude.{◌≡◌, ℕ, ◌+◌, ◌<◌, ◌⊎◌, List, take, Option, Result, Ok, Err}
 use Rattle.std.specs.Io.KnownBytes.{Appends}
 use Rattle.edit_lines.specs.declared.ending.ReplayFault.{ReplayFault}

@@ -1,4 +1,4 @@
--- What a function leaves that asks the files, and changes none.
+-- What a function leaves that asks the files, and changes none. (This project's own.)
 use Rattle.std.specs.Prelude.{◌≡◌, IfOk, OnOk, OnErr}
 use Rattle.std.specs.declared.result.Result.{Result}
 use Rattle.std.specs.declared.alloc.AllocError.{AllocError}

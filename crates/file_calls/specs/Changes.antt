@@ -1,4 +1,5 @@
--- What a call does to files.
+-- What a call does to files. (CP/M 2.2 Interface Guide, functions 19, 21 to 23, 34 and 40; holes between records, and what a
+-- renamed file stands on: this project's profile.)
 use Rattle.std.specs.Prelude.{List, if◌then◌else◌}
 use Rattle.hostfiles.specs.Hosts.{Key, Record}
 use Rattle.hostfiles.specs.Files.{Own, made, renamed, wrote, wrote_filled}

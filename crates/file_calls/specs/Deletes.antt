@@ -1,4 +1,4 @@
--- What a function leaves that deletes files.
+-- What a function leaves that deletes files. (This project's own.)
 use Rattle.std.specs.Prelude.{◌≡◌, Bool, true, false, List, [], ◌∷◌, IfOk, OnOk, OnErr}
 use Rattle.std.specs.declared.result.Result.{Result}
 use Rattle.std.specs.declared.alloc.AllocError.{AllocError}

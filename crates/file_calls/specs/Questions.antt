@@ -1,4 +1,4 @@
--- What a file call asks of the files.
+-- What a file call asks of the files, and what it then asks of the host files. (This project's own.)
 use Rattle.std.specs.Prelude.{ℕ, ◌==◌, Bool, List, [], ◌∷◌, Option, slice_index}
 use Rattle.std.specs.List.{filter}
 use Rattle.std.specs.FinMap.{entries}

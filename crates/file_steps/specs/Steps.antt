@@ -1,4 +1,4 @@
--- For each question that was asked of the host files the first step that asked it.
+-- For each question that was asked of the host files the first step that asked it. (This project's own.)
 use Rattle.std.specs.Prelude.{◌≡◌, ℕ, Bool, true, false, Option, Some, None, nat_lt, if◌then◌else◌, get_or}
 use Rattle.std.specs.FinMap.{get}
 use Rattle.hostfiles.specs.declared.looks.Ask.{Ask}

@@ -1,4 +1,4 @@
--- Which steps the change of a host file touches.
+-- Which steps the change of a host file touches. (This project's own.)
 use Rattle.std.specs.Prelude.{◌≡◌, ◌<◌, ◌≤◌, ◌⊎◌, ℕ, List, [], Option, Some, None, unwrap_or, slice_get}
 use Rattle.std.specs.FinMap.{get, insert, remove}
 use Rattle.hostfiles.specs.Hosts.{Key, Record, Host}

@@ -1,4 +1,5 @@
--- File control blocks: the CP/M 2.2 Interface Guide. The byte s2 counts 4,096 places.
+-- File control blocks: where names and places stand. (CP/M 2.2 Interface Guide, file control blocks; that s2 counts 4,096 places:
+-- this project's profile.)
 use Rattle.std.specs.Prelude.{ℕ, ◌+◌, ◌*◌, ◌/◌, ◌%◌, List, take, drop, slice_index, slice_set}
 
 -- eleven bytes of name and type from one on

@@ -1,4 +1,4 @@
--- Why a text is no name.
+-- Why a text is no name. (This project's own.)
 use Rattle.std.specs.Prelude.{◌≡◌, ℕ, Result, Ok, Err}
 use Rattle.filenames.specs.Names.{Key}
 use Rattle.filenames.specs.declared.name.NameError.{NameError}

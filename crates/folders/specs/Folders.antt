@@ -1,4 +1,4 @@
--- Host files that are read from folders, and why they are not; why a changed file is not written.
+-- Host files that are read from folders, and why they are not; why a changed file is not written. (This project's own.)
 use Rattle.std.specs.Prelude.{◌≡◌, ℕ, ◌⊎◌, List, Option, Some, None, Result, Ok, Err, slice_index, get_or, option_map, string_bytes}
 use Rattle.std.specs.Borrow.{Bor}
 use Rattle.filenames.specs.Names.{Key}

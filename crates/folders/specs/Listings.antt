@@ -1,4 +1,4 @@
--- The files of a folder by the names that they give.
+-- The files of a folder by the names that they give. (This project's own.)
 use Rattle.std.specs.Prelude.{Option, Some, None, if◌then◌else◌}
 use Rattle.std.specs.Ordering.{nat_cmp, is_lt}
 use Rattle.std.specs.Cmp.Lexicographic.{slice_cmp}

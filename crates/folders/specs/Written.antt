@@ -1,4 +1,4 @@
--- The bytes of a file that is written into a folder.
+-- The bytes of a file that is written into a folder. (This project's own.)
 use Rattle.std.specs.Prelude.{ℕ, List, [], unwrap_or}
 use Rattle.std.specs.List.{flat_map, range_with_len}
 use Rattle.hostfiles.specs.Hosts.{Key, Host}

@@ -1,4 +1,4 @@
--- The files that a program sees: what a run did to them, laid over the host files.
+-- The files that a program sees: what a run did to them, laid over the host files. (This project's profile.)
 use Rattle.std.specs.Prelude.{ℕ, ◌+◌, ◌-◌, Bool, true, false, ◌&&◌, List, [], ◌∷◌, ◌++◌, length, map, Option, Some, None, unwrap_or, slice_get, nat_lt, if◌then◌else◌, option_map, is_some}
 use Rattle.std.specs.Ordering.{nat_cmp}
 use Rattle.std.specs.List.{range_with_len}

@@ -1,4 +1,4 @@
--- Why a host file is not set.
+-- Why a host file is not set. (This project's own.)
 use Rattle.std.specs.Prelude.{◌≡◌, ℕ, Option, Some, None, Result, Ok, Err}
 use Rattle.hostfiles.specs.declared.host.FilesError.{FilesError}
 use Rattle.hostfiles.specs.declared.host.FilesError.TheVariants.{FileTooLong, TooManyFiles, OutOfMemory}

@@ -1,4 +1,5 @@
--- Host files. A record has 128 bytes, and 1AH fills up the last: the CP/M 2.2 Interface Guide.
+-- Host files. (CP/M 2.2 Interface Guide: a record has 128 bytes, a file at most 65,536 records, and 1AH ends a text; that 1AH
+-- fills up the last record, and that there are at most 512 files: this project's profile.)
 use Rattle.filenames.specs.Names.{is_sayable}
 use Rattle.std.specs.Prelude.{◌≡◌, ◌≤◌, ℕ, ◌+◌, ◌-◌, ◌*◌, ◌/◌, Bool, true, ◌||◌, List, ◌++◌, length, map, take, drop, replicate, nat_lt, if◌then◌else◌, Option, Some, None}
 use Rattle.std.specs.Ordering.{nat_cmp}

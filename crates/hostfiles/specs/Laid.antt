@@ -1,4 +1,4 @@
--- How the map of all files changes by what a run does.
+-- How the map of all files changes by what a run does. (This project's profile.)
 use Rattle.std.specs.Prelude.{◌≡◌, ℕ, ◌+◌, ◌-◌, ◌≤◌, [], ◌++◌, length, replicate, slice_set, get_or, Some, None}
 use Rattle.std.specs.Option.{option_map, option_and_then}
 use Rattle.std.specs.FinMap.{insert, remove, empty, get}

@@ -1,4 +1,4 @@
--- The questions that a run asks of the host files, and those that what it did answers.
+-- The questions that a run asks of the host files, and those that what it did answers. (This project's profile.)
 use Rattle.std.specs.Prelude.{◌≡◌, ℕ, ◌==◌, ◌&&◌, not, Bool, true, false, Option, Some, None, is_some, nat_lt, if◌then◌else◌, replicate, slice_set, get_or}
 use Rattle.std.specs.List.{list_any}
 use Rattle.std.specs.Ordering.{nat_cmp, eq_by_cmp}

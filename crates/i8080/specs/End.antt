@@ -1,4 +1,4 @@
--- How an instruction ends, and what it leaves.
+-- How an instruction ends, and what it leaves. (This project's own.)
 use Rattle.std.specs.Prelude.{ℕ, ◌≡◌, List, [], ◌∷◌, IfOk, OnOk, OnErr}
 use Rattle.std.specs.declared.result.Result.{Result}
 use Rattle.std.specs.declared.alloc.AllocError.{AllocError}

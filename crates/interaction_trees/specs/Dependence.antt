@@ -1,4 +1,5 @@
--- A machine over two families of questions: what a step asks of the state, and what the state asks of the session.
+-- A machine over two families of questions: what a step asks of the state, and what the state asks of the session. (This
+-- project's own.)
 --
 -- S, B: the session's questions and their answers. Q, A: the state's. W: what a run wrote. St: a state. R: what a step
 -- makes of its answers. X: why a run stops.

@@ -1,4 +1,4 @@
--- The order of keys, and of places of files.
+-- The order of keys, byte by byte, and of places of files, by the key and then by the number. (This project's own.)
 use Rattle.std.specs.Prelude.{ℕ, Bool, true, List, Option, Some, None, if◌then◌else◌, length, nat_lt, not}
 use Rattle.std.specs.declared.cmp.Ordering.{Ordering}
 use Rattle.std.specs.Ordering.{nat_cmp, is_lt, is_gt, ordering_then}

@@ -1,4 +1,4 @@
--- A state without its text.
+-- A state without its text. (This project's own.)
 use Rattle.std.specs.Prelude.{ℕ, List, length}
 use Rattle.i8080.specs.declared.registers.Regs.{Regs}
 use Rattle.bdos.specs.declared.desk.Spot.{Spot}

@@ -1,4 +1,5 @@
--- The machine: what a step asks, and what it makes of the answers. (8080 manual; CP/M 2.2 Interface Guide.)
+-- The machine: what a step asks, and what it makes of the answers. (Intel 8080 Microcomputer Systems User's Manual; CP/M 2.2
+-- Interface Guide; what is looked at, why a run stops, and where the system's area lies: this project's profile.)
 use Rattle.std.specs.Prelude.{◌≡◌, ℕ, ◌==◌, ◌||◌, nat_le, nat_lt, if◌then◌else◌, refl, Bool, true, false, List, [], ◌∷◌, ◌++◌, Option, Some, None, slice_get}
 use Rattle.std.specs.FinMap as map
 use Rattle.interaction_trees.specs.Tree.{Tree, Return, Query, returning}

@@ -1,4 +1,4 @@
--- Why a session is refused.
+-- Why a session is refused. (This project's own.)
 use Rattle.std.specs.Prelude.{◌≡◌, ℕ, Result, Ok, Err}
 use Rattle.machine.specs.Views.{Session}
 use Rattle.machine.specs.declared.session.SessionError.{SessionError}

@@ -1,4 +1,4 @@
--- A step over pages.
+-- A step over pages. (This project's own.)
 use Rattle.std.specs.Prelude.{◌≡◌, ◌||◌, Option, Some, None, IfOk, OnOk, OnErr, IfSome}
 use Rattle.std.specs.declared.result.Result.{Result}
 use Rattle.std.specs.declared.alloc.AllocError.{AllocError}

@@ -1,4 +1,4 @@
--- Steps one after another of which none but the last looks at anything new.
+-- Steps one after another of which none but the last looks at anything new. (This project's own.)
 use Rattle.std.specs.Prelude.{◌≡◌, ℕ, ◌<◌, ◌≤◌, ◌-◌, ◌||◌, true, Option, Some, None, Ok, Err, IfOk, IfNone, IfSome, OnErr}
 use Rattle.std.specs.declared.result.Result.{Result}
 use Rattle.std.specs.declared.alloc.AllocError.{AllocError}

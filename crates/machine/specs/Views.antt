@@ -1,4 +1,4 @@
--- What contracts see of a session and of a state.
+-- What contracts see of a session and of a state. (This project's own.)
 use Rattle.std.specs.Prelude.{◌≡◌, refl, ℕ, Bool, List, Option, Some, None}
 use Rattle.std.specs.Ordering.{nat_cmp}
 use Rattle.std.specs.FinMap.{FinMap, code}

@@ -1,4 +1,5 @@
--- The same machine with its whole memory as one list and its files as one map, and nothing told apart by who wrote it.
+-- The same machine with its whole memory as one list and its files as one map, and nothing told apart by who wrote it. (This
+-- project's own.)
 use Rattle.std.specs.Prelude.{◌≡◌, ℕ, zero, suc, List, [], ◌∷◌, Option, Some, None, map, slice_index, slice_set, unwrap_or}
 use Rattle.std.specs.Option.{option_map}
 use Rattle.std.specs.List.{range_with_len}

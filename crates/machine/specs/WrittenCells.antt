@@ -1,4 +1,4 @@
--- What pages hold, as data.
+-- What pages hold, as data. (This project's own.)
 use Rattle.std.specs.Prelude.{◌≡◌, refl, ℕ, zero, suc, Option, Some, None}
 use Rattle.std.specs.FinMap as map
 use Rattle.i8080.specs.declared.registers.Regs.{Regs}

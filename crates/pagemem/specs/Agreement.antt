@@ -1,4 +1,4 @@
--- What a run of reads and writes finds in a memory.
+-- What a run of reads and writes finds in a memory. (This project's own.)
 use Rattle.std.specs.Prelude.{◌≡◌, ℕ, List, [], ◌∷◌}
 use Rattle.i8080.specs.Memory.{Memory, bytes, look, write}
 

@@ -1,4 +1,4 @@
--- What is seen of written cells.
+-- What is seen of written cells. (This project's own.)
 use Rattle.std.specs.Prelude.{ℕ, Bool}
 use Rattle.i8080.specs.Memory.{Own}
 use Rattle.pagemem.specs.declared.cells.Cells.{Cells}

@@ -1,4 +1,4 @@
--- What is seen of an image.
+-- What is seen of an image. (This project's own.)
 use Rattle.std.specs.Prelude.{ℕ}
 use Rattle.pagemem.specs.Image.{image_at}
 use Rattle.pagemem.specs.declared.image.Image.{Image}

@@ -1,4 +1,4 @@
--- Marks of cells, and the order in which they were set.
+-- Marks of cells, and the order in which they were set. (This project's own.)
 use Rattle.std.specs.Prelude.{◌≡◌, ℕ, ◌<◌, Bool, false, List, length, take, get_or, slice_index, count_by}
 use Rattle.i8080.specs.Memory.{is_among}
 

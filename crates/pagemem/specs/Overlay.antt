@@ -1,4 +1,4 @@
--- What is seen of an overlay.
+-- What is seen of an overlay. (This project's own.)
 use Rattle.std.specs.Prelude.{ℕ, Bool}
 use Rattle.i8080.specs.Memory.{Own, Looks}
 use Rattle.pagemem.specs.declared.overlay.Overlay.{Overlay}

@@ -1,4 +1,4 @@
--- What is seen of settled cells.
+-- What is seen of settled cells. (This project's own.)
 use Rattle.std.specs.Prelude.{◌≡◌, ℕ, Bool, false, IsTrue, None, get_or}
 use Rattle.i8080.specs.Memory.{Own, Looks, is_among}
 use Rattle.pagemem.specs.declared.settled.Settled.{Settled}

@@ -1,4 +1,4 @@
--- What a view joins.
+-- What a view joins. (This project's own.)
 use Rattle.std.specs.Prelude.{ℕ}
 use Rattle.std.specs.Borrow.{GName}
 use Rattle.pagemem.specs.declared.overlay.Overlay.{Overlay}

@@ -1,4 +1,5 @@
--- What extents hold, by place, and as data. A file has at most 65,536 records, and an extent is 128 of them: the CP/M 2.2 Interface Guide.
+-- What extents hold, by place, and as data. (CP/M 2.2 Interface Guide: a file has at most 65,536 records, and an extent is 128 of
+-- them.)
 use Rattle.std.specs.Prelude.{◌≡◌, refl, ℕ, zero, suc, ◌+◌, ◌/◌, ◌%◌, List, Option, Some, None, get_or, replicate}
 use Rattle.std.specs.FinMap as finmap
 use Rattle.std.specs.Map.{lookup}

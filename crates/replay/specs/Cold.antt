@@ -1,4 +1,4 @@
--- The cold run of a session, up to its limit.
+-- The cold run of a session, up to its limit. (This project's own.)
 use Rattle.std.specs.Prelude.{ℕ, zero, suc}
 use Rattle.interaction_trees.specs.Dependence.{Step, Stop}
 use Rattle.bdos.specs.declared.cause.Cause.{Cause}

@@ -1,4 +1,4 @@
--- What an edit makes of a session.
+-- What an edit makes of a session. (This project's own.)
 use Rattle.std.specs.Prelude.{◌≡◌, ℕ, ◌+◌, ◌-◌, ◌||◌, ◌≤◌, List, [], length, nat_lt, if◌then◌else◌, true, Option, Some, None, Result, Ok, Err}
 use Rattle.std.specs.FinMap.{contains_key}
 use Rattle.hostfiles.specs.Hosts.{Key, Record, Host, has_room, records_in, refusal_of}

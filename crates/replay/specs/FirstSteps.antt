@@ -1,4 +1,4 @@
--- The first steps that looked at the places of one kind.
+-- The first steps that looked at the places of one kind. (This project's own.)
 use Rattle.std.specs.Prelude.{◌≡◌, ℕ, ◌≤◌, ◌⊎◌, ◌==◌, max, List, [], ◌∷◌, Option, Some, None, if◌then◌else◌, slice_index_or}
 use Rattle.replay.specs.declared.first_steps.Look.{Look}
 

@@ -1,4 +1,4 @@
--- The length of a text that is kept.
+-- The length of a text that is kept. (This project's own.)
 use Rattle.std.specs.Prelude.{ℕ, Option, Some, None}
 use Rattle.machine.specs.Kept.{Kept}
 

@@ -1,4 +1,4 @@
--- The options of a runner: their ranges, and the numbers of the refusals.
+-- The options of a runner: their ranges, and the numbers of the refusals. (This project's own.)
 use Rattle.std.specs.Prelude.{◌≡◌, ℕ, ◌==◌, ◌||◌, nat_lt, if◌then◌else◌, Option, Some, None}
 use Rattle.replay.specs.declared.options.Options.{Options}
 use Rattle.replay.specs.declared.options.OptionsError.{OptionsError}

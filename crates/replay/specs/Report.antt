@@ -1,4 +1,4 @@
--- What a report tells.
+-- What a report tells. (This project's own.)
 use Rattle.std.specs.Prelude.{ℕ, List, Option, Some, None, take}
 use Rattle.machine.specs.Views.{Session, State}
 use Rattle.machine.specs.Kept.{Kept, whole}

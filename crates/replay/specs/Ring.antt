@@ -1,4 +1,4 @@
--- Checkpoints: which stand, and which a rerun may add.
+-- Checkpoints: which stand, and which a rerun may add. (This project's own.)
 use Rattle.std.specs.Prelude.{◌≡◌, ℕ, ◌<◌, ◌≤◌, ◌%◌, List, [], ◌∷◌, ◌++◌, Some, ◌⊎◌, max, nat_le, if◌then◌else◌, length, take, map}
 use Rattle.circular_buffer.specs.Buffer.{Buffer, buffer, keep_last}
 use Rattle.machine.specs.Machine.{Answers, after}

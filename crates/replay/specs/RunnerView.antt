@@ -1,4 +1,4 @@
--- What contracts see of a runner.
+-- What contracts see of a runner. (This project's own.)
 use Rattle.std.specs.Prelude.{◌≡◌, ℕ, ◌+◌, ◌<◌, ◌≤◌, List, ◌++◌, Some, drop, map, take}
 use Rattle.circular_buffer.specs.Buffer.{Buffer}
 use Rattle.machine.specs.declared.session.TheConstants.{STEP_LIMIT}

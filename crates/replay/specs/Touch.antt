@@ -1,4 +1,4 @@
--- Which steps an edit touches.
+-- Which steps an edit touches. (This project's own.)
 use Rattle.std.specs.Prelude.{◌≡◌, ℕ, ◌<◌, ◌≤◌, Some, ◌⊎◌}
 use Rattle.interaction_trees.specs.Tree.{AgreeOn}
 use Rattle.machine.specs.Machine.{Question, Answers, looks}

@@ -5,11 +5,15 @@ use edit_lines::ReplayFault;
 use machine::{Cause, Regs};
 use replay::Options;
 
+/// A host file: its name and its bytes.
+pub type Host<'a> = (&'a str, &'a [u8]);
+
 /// What a runner is made of.
 #[derive(Clone, Copy)]
 pub struct Given<'a> {
     pub program: &'a [u8],
     pub tail: &'a [u8],
+    pub hosts: &'a [Host<'a>],
     pub script: &'a [u8],
     pub limit: u64,
     pub options: Options,
@@ -19,6 +23,7 @@ pub struct Given<'a> {
 pub const ALONE: Given<'_> = Given {
     program: b"",
     tail: b"",
+    hosts: &[],
     script: b"",
     limit: 1_000_000,
     options: Options {

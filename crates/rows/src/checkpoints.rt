@@ -1,18 +1,16 @@
 // Which checkpoints stand after edits and runs, and how many steps each run carries out.
 
-use crate::acts::Act::{Drop, Due, Holds, Limit, Poke, Run, Tells};
+use crate::acts::Act::{Drop, Holds, Limit, Poke, Run, Tells};
 use crate::acts::Fact::{Registers, Text};
 use crate::acts::Play::{Acts, Rows};
 use crate::acts::{ALONE, Case, Given, PRINTS};
-use crate::fixtures::{HI, WARM_BOOT};
+use crate::fixtures::WARM_BOOT;
 use crate::playing::{play, play_all};
 use machine::{Cause, Regs};
 use replay::Options;
 use std::test::Fail;
 
 const WARM: Cause = Cause::WarmBoot;
-
-const MILLION: u64 = 1_000_000;
 
 // Stores 5 over its own byte, and loads it from there.
 const OVERWRITES: [u8; 11] = [
@@ -302,46 +300,4 @@ const POKED: &[Case<'_>] = &[
 #[test]
 fn registers_are_those_of_the_edited_session(rt: HostRuntime) -> Result<(), Fail> {
     play_all(&rt, rt.alloc(), POKED)
-}
-
-// Each row is a program, its limit, and after how many steps and by what cause it ends, and what is printed.
-const DUE: [(&[u8], u64, u64, Cause, &[u8]); 10] = [
-    (&HI, MILLION, 7, WARM, b"Hi"),
-    (&HI, 0, 0, Cause::Limit, b""),
-    (&OVERWRITES, MILLION, 5, WARM, b""),
-    (&TWO_BYTES, MILLION, 11, WARM, b"ab"),
-    (&ONE_MORE, MILLION, 7, WARM, b"Hi"),
-    (&HALTS, MILLION, 3, Cause::Halt, b""),
-    (&[0xc9], MILLION, 2, WARM, b""),
-    (&[0x3e, 0x3e, 0x97, 0xc9], MILLION, 4, WARM, b""),
-    (&[0x3e, 0x9b, 0x27, 0xc9], MILLION, 4, WARM, b""),
-    (&[0x08], MILLION, 0, Cause::Undefined(8), b""),
-];
-
-// Each program is run twice with each spacing up to 12, the second time without a step.
-#[test]
-fn each_due_step_is_kept(rt: HostRuntime) -> Result<(), Fail> {
-    for (program, limit, last, cause, text) in DUE {
-        for spacing in 1..=12 {
-            let given = Given {
-                program,
-                limit,
-                options: Options { spacing, slots: 64 },
-                ..ALONE
-            };
-            let due = Due(spacing, last);
-            let acts = [
-                Run(last, cause, last, text),
-                due,
-                Run(0, cause, last, text),
-                due,
-            ];
-            let case = Case {
-                given,
-                play: Acts(&acts),
-            };
-            play(&rt, rt.alloc(), &case)?;
-        }
-    }
-    Ok(())
 }

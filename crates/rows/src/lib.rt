@@ -11,6 +11,8 @@ mod checkpoints;
 #[cfg(test)]
 mod console;
 #[cfg(test)]
+mod due_steps;
+#[cfg(test)]
 mod edits;
 #[cfg(test)]
 mod fixtures;

@@ -1,10 +1,10 @@
 // One runner, which is lent to whatever is done to it.
 
-use crate::acts::{Act, Case, Fact, Given, Play, Row};
+use crate::acts::{Act, Case, Fact, Given, Host, Play, Row};
 use crate::fixtures::{stand, words_of};
 use crate::replaying::{replays, takes_steps};
 use hostfiles::HostFiles;
-use machine::{Bytes, Meter, Session};
+use machine::{Bytes, Meter, Name, Session};
 use replay::{Edit, EditError, OptionsError, Report, Runner};
 use std::alloc::{AllocError, Global};
 use std::process::Abort;
@@ -211,12 +211,21 @@ fn play_on(
     }
 }
 
+fn hosts_of(alloc: Global, hosts: &[Host<'_>]) -> Result<HostFiles, Fail> {
+    let mut files = HostFiles::new(alloc);
+    for (name, bytes) in hosts {
+        files.set(Name::parse(name)?, bytes)?;
+    }
+    Ok(files)
+}
+
 // The session that is made of this.
 fn session_of(alloc: Global, given: &Given<'_>) -> Result<Session, Fail> {
+    let hosts = hosts_of(alloc, given.hosts)?;
     let program = given.program.to_vec(alloc)?;
     let tail = given.tail.to_vec(alloc)?;
     let script = given.script.to_vec(alloc)?;
-    Ok(Session::new(program, tail, HostFiles::new(alloc), script, given.limit)?)
+    Ok(Session::new(program, tail, hosts, script, given.limit)?)
 }
 
 /// Makes a runner, and does to it what it is made for.

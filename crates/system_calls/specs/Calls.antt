@@ -1,4 +1,5 @@
--- The calls by their numbers. (CP/M 2.2 Interface Guide; function 40 is its "write random with zero fill".)
+-- The calls by their numbers. (CP/M 2.2 Interface Guide; function 40 is its "write random with zero fill"; which of its calls are
+-- there: this project's profile.)
 use Rattle.std.specs.Prelude.{ℕ, ◌==◌, List, if◌then◌else◌}
 use Rattle.std.specs.declared.result.Result.{Result}
 use Rattle.std.specs.declared.alloc.AllocError.{AllocError}

@@ -1,4 +1,4 @@
--- The drives whose directories a call asks for.
+-- The drives whose directories a call asks for. (This project's own.)
 use Rattle.std.specs.Prelude.{ℕ, ◌<◌, List, [], ◌∷◌}
 use Rattle.interaction_trees.specs.Tree.{asked}
 use Rattle.file_calls.specs.Questions.{FileQuestion, IsThere, ShapeOf, Content, FilesOn}

@@ -1,5 +1,6 @@
--- The calls of files: the control block is read, the files are asked, and then the call is carried out. (CP/M 2.2 Interface Guide,
--- functions 15 to 23 and 33 to 40.)
+-- The calls of files: the control block is read, the files are asked, and then the call is carried out. (CP/M 2.2 Interface
+-- Guide, functions 15 to 23, 33 to 36 and 40; what a drive that is not there does, which bytes of the control block are written,
+-- and in which order: this project's profile.)
 use Rattle.std.specs.Prelude.{ℕ, zero, suc, ◌+◌, ◌-◌, ◌/◌, ◌%◌, ◌==◌, Bool, List, [], ◌∷◌, ◌++◌, Option, Some, None, nat_le, if◌then◌else◌, replicate}
 use Rattle.interaction_trees.specs.Tree.{Return}
 use Rattle.i8080.specs.declared.registers.Regs.{Regs}

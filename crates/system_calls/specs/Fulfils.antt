@@ -1,4 +1,4 @@
--- What a function leaves that carries out a call.
+-- What a function leaves that carries out a call. (This project's own.)
 use Rattle.std.specs.Prelude.{◌≡◌, ℕ, ◌||◌, Bool, List, IfOk, OnOk, OnErr}
 use Rattle.std.specs.declared.result.Result.{Result}
 use Rattle.std.specs.declared.alloc.AllocError.{AllocError}

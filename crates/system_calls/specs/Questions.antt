@@ -1,4 +1,4 @@
--- What a call asks of the state: memory and the console script, and the files.
+-- What a call asks of the state: memory and the console script, and the files. (This project's own.)
 use Rattle.std.specs.Prelude.{ℕ, List, [], ◌∷◌}
 use Rattle.interaction_trees.specs.Tree.{Tree, Return, Query}
 use Rattle.i8080.specs.Reading.{Reading, Done}
