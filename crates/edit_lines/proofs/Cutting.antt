@@ -1,6 +1,7 @@
 -- A text cut at a byte, as it grows.
-use Rattle.std.proofs.Common.{◌≡◌, ℕ, suc, List, [], ◌∷◌, ◌++◌, length, refl, ap, ◌∙◌, inl, inr, eqb}
+use Rattle.std.proofs.Common.{◌≡◌, ℕ, suc, ◌<◌, List, [], ◌∷◌, ◌++◌, length, refl, sym, ap, ◌∙◌, arith, append_assoc, inl, inr, false, eqb, eqb-true}
 use Rattle.std.proofs.lemmas.Bool.{cases_Bool}
+use Rattle.std.proofs.lemmas.List.{append-nil}
 use Rattle.edit_lines.specs.Pieces.{first_piece, other_pieces, pieces, without_empty_last, lines_of, past_lines}
 
 nil_ne_snoc : (ds : List (List ℕ)) (l : List ℕ) → [] ≡ ds ++ l ∷ [] → ⊥
@@ -84,3 +85,24 @@ lines_of-append xs ys ds l e =
 pub lines_of-pieces : (xs : List ℕ) (ds : List (List ℕ)) (l : List ℕ) → pieces 10 xs ≡ ds ++ l ∷ []
     → lines_of xs ≡ ds ++ without_empty_last (l ∷ [])
 lines_of-pieces xs ds l e = ap without_empty_last e ∙ without_empty_last-append ds l []
+
+not_cut : (b : ℕ) → (b ≡ 10 → ⊥) → eqb b 10 ≡ false
+not_cut b ne = elim (cases_Bool (eqb b 10)) [ inl t ↦ absurd (ne (eqb-true b 10 t)) | inr f ↦ f ]
+
+-- one more byte of a text, which is no 0AH, goes on with its last line
+pub cut_beside : (xs : List ℕ) (ds : List (List ℕ)) (l : List ℕ) → pieces 10 xs ≡ ds ++ l ∷ [] → (b : ℕ) → (b ≡ 10 → ⊥)
+    → pieces 10 (xs ++ b ∷ []) ≡ ds ++ (l ++ b ∷ []) ∷ []
+cut_beside xs ds l e b ne = let f = not_cut b ne in let p = pieces-append 10 xs (b ∷ []) ds l e in rw f at p
+
+-- 0AH ends it
+pub cut_here : (xs : List ℕ) (ds : List (List ℕ)) (l : List ℕ) → pieces 10 xs ≡ ds ++ l ∷ []
+    → pieces 10 (xs ++ 10 ∷ []) ≡ (ds ++ l ∷ []) ++ [] ∷ []
+cut_here xs ds l e =
+    pieces-append 10 xs (10 ∷ []) ds l e
+    ∙ ap (λ p. ds ++ p ∷ [] ∷ []) (append-nil l)
+    ∙ sym (append_assoc ds (l ∷ []) ([] ∷ []))
+
+-- a last line that is not empty is a line
+pub one_line : (l : List ℕ) → 0 < length l → without_empty_last (l ∷ []) ≡ l ∷ []
+one_line [] h = absurd (omega arith)
+one_line (b ∷ l) h = refl

@@ -2,6 +2,7 @@ pub mod Parts
 pub mod Cutting
 pub mod Carrying
 pub mod Stepping
+pub mod EffectLemmas
 pub mod Answering
 pub mod Grammar
 pub mod Once

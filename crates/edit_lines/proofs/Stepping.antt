@@ -1,6 +1,5 @@
 -- What one more byte, and the end of the input, do to a replay.
-use Rattle.std.proofs.Common.{◌≡◌, ℕ, suc, ◌+◌, ◌-◌, ◌≤◌, ◌<◌, List, [], ◌∷◌, ◌++◌, length, refl, sym, ap, subst, ◌∙◌, arith, append_assoc, length-append, inl, inr, Option, Some, Err, false, eqb, eqb-true}
-use Rattle.std.proofs.lemmas.Bool.{cases_Bool}
+use Rattle.std.proofs.Common.{◌≡◌, ℕ, suc, ◌+◌, ◌-◌, ◌≤◌, ◌<◌, List, [], ◌∷◌, ◌++◌, length, refl, sym, ap, subst, ◌∙◌, arith, append_assoc, length-append, Option, Some, Err}
 use Rattle.std.proofs.lemmas.List.{append-nil}
 use Rattle.std.specs.List.{concat}
 use Rattle.std.specs.Io.KnownBytes.{Appends, IsAtEnd}
@@ -12,16 +11,9 @@ use Rattle.edit_lines.specs.EditLine.{EditLine}
 use Rattle.edit_lines.specs.Pieces.{first_piece, other_pieces, pieces, without_empty_last, lines_of, past_lines}
 use Rattle.edit_lines.specs.Replay.{none, Finished, TooLongAt, EndsAt, Replays, reply, session_after}
 use Rattle.edit_lines.specs.Progress.{StandsAt, EndsWith, BreaksOff, Faults, CarriesOut}
-use Rattle.edit_lines.proofs.Cutting.{pieces-append, past_lines-pieces, past_lines-last, lines_of-append, lines_of-pieces}
+use Rattle.edit_lines.proofs.Cutting.{cut_beside, cut_here, one_line, past_lines-pieces, past_lines-last, lines_of-append, lines_of-pieces}
 use Rattle.edit_lines.proofs.Carrying.{Carries-snoc, concat-snoc, Faults-from, stays_there}
 use Rattle.edit_lines.specs.declared.limits.TheConstants.{LINE_LIMIT, LINES_LIMIT}
-
-not_cut : (b : ℕ) → (b ≡ 10 → ⊥) → eqb b 10 ≡ false
-not_cut b ne = elim (cases_Bool (eqb b 10)) [ inl t ↦ absurd (ne (eqb-true b 10 t)) | inr f ↦ f ]
-
-one_line : (l : List ℕ) → 0 < length l → without_empty_last (l ∷ []) ≡ l ∷ []
-one_line [] h = absurd (omega arith)
-one_line (b ∷ l) h = refl
 
 at_end : (left : Option (List ℕ)) (more : List ℕ) → IsAtEnd left → left ≡ Some more → more ≡ []
 at_end left more end e = rw e at end
@@ -64,31 +56,25 @@ module _ (first : Session) (held : Option (List ℕ)) (bytes : List ℕ) (now : 
   enough : length r.done ≤ LINES_LIMIT
   enough = omega (arith, r.counted)
 
-  cut_beside : (b : ℕ) → (b ≡ 10 → ⊥) → pieces 10 (bytes ++ b ∷ []) ≡ r.done ++ (line ++ b ∷ []) ∷ []
-  cut_beside b ne = let f = not_cut b ne in let p = pieces-append 10 bytes (b ∷ []) r.done line r.cut in rw f at p
-
   -- the line goes on
   pub line_grows : (b : ℕ) → (b ≡ 10 → ⊥) → StandsAt first held (bytes ++ b ∷ []) now holds (line ++ b ∷ []) count
   line_grows b ne = record {
     done = r.done;
     replies = r.replies;
-    cut = cut_beside b ne;
+    cut = cut_beside bytes r.done line r.cut b ne;
     carried = r.carried;
     written = r.written;
     counted = r.counted;
   }
 
   -- the line ends
-  cut_here : pieces 10 (bytes ++ 10 ∷ []) ≡ (r.done ++ line ∷ []) ++ [] ∷ []
-  cut_here =
-      pieces-append 10 bytes (10 ∷ []) r.done line r.cut
-      ∙ ap (λ l. r.done ++ l ∷ [] ∷ []) (append-nil line)
-      ∙ sym (append_assoc r.done (line ∷ []) ([] ∷ []))
+  ends_here : pieces 10 (bytes ++ 10 ∷ []) ≡ (r.done ++ line ∷ []) ++ [] ∷ []
+  ends_here = cut_here bytes r.done line r.cut
 
   lines_here : (rest : List ℕ) → (others : List (List ℕ)) × (lines_of ((bytes ++ 10 ∷ []) ++ rest) ≡ r.done ++ line ∷ others)
   lines_here rest = let others = without_empty_last (first_piece 10 rest ∷ other_pieces 10 rest) in (
     others,
-    lines_of-append (bytes ++ 10 ∷ []) rest (r.done ++ line ∷ []) [] cut_here ∙ append_assoc r.done (line ∷ []) others,
+    lines_of-append (bytes ++ 10 ∷ []) rest (r.done ++ line ∷ []) [] ends_here ∙ append_assoc r.done (line ∷ []) others,
   )
 
   -- its command was carried out
@@ -97,7 +83,7 @@ module _ (first : Session) (held : Option (List ℕ)) (bytes : List ℕ) (now : 
   line_done t h₁ c is e w = record {
     done = r.done ++ line ∷ [];
     replies = r.replies ++ reply now c ∷ [];
-    cut = cut_here;
+    cut = ends_here;
     carried = rw e (Carries-snoc line c r.carried short is);
     written = rw (concat-snoc r.replies (reply now c)) (Appends-trans held holds h₁ (concat r.replies) (reply now c) r.written w);
     counted = omega (arith, r.counted, length-append r.done (line ∷ []));
@@ -111,7 +97,7 @@ module _ (first : Session) (held : Option (List ℕ)) (bytes : List ℕ) (now : 
       let here = lines_here rest in
       let past : past_lines (length r.done) whole ≡ line ++ (10 ∷ [] ++ rest) =
       ap (past_lines (length r.done)) (append_assoc bytes (10 ∷ []) rest) ∙ past_lines-pieces bytes (10 ∷ rest) r.done line r.cut in
-      let past' : past_lines (length (r.done ++ line ∷ [])) whole ≡ rest = past_lines-pieces (bytes ++ 10 ∷ []) rest (r.done ++ line ∷ []) [] cut_here in
+      let past' : past_lines (length (r.done ++ line ∷ [])) whole ≡ rest = past_lines-pieces (bytes ++ 10 ∷ []) rest (r.done ++ line ∷ []) [] ends_here in
       let e : length (r.done ++ line ∷ []) ≡ length r.done + 1 = omega (arith, length-append r.done (line ∷ [])) in
       Faults-from left first now t held holds h₁ whole line r.done r.replies r.carried r.written enough U (count + 1) f
       (omega (arith, r.counted)) short here.0 here.1
@@ -142,7 +128,7 @@ module _ (first : Session) (held : Option (List ℕ)) (bytes : List ℕ) (now : 
           left = without_empty_last (q ∷ qs);
           replies = r.replies;
           cut = ap lines_of (append_assoc (bytes ++ b ∷ []) rest more)
-              ∙ lines_of-append (bytes ++ b ∷ []) (rest ++ more) r.done (line ++ b ∷ []) (cut_beside b ne);
+              ∙ lines_of-append (bytes ++ b ∷ []) (rest ++ more) r.done (line ++ b ∷ []) (cut_beside bytes r.done line r.cut b ne);
           few = enough;
           carried = r.carried;
           written = refl;

@@ -4,6 +4,7 @@ pub mod ReportText
 pub mod Reports
 pub mod Replay
 pub mod Progress
+pub mod Effects
 pub mod FileLines
 pub mod Writing
 pub mod ChangedLines

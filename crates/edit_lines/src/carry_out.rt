@@ -1,7 +1,8 @@
-ghost use Rattle.std.specs.Prelude.{◌≡◌, ◌+◌, ◌^◌, ◌<◌, ◌≤◌, OnOk};
+ghost use Rattle.std.specs.Prelude.{◌≡◌, ℕ, ◌+◌, ◌^◌, ◌<◌, ◌≤◌, OnOk};
 ghost use Rattle.replay.specs.Cold.{cold};
-ghost use Rattle.replay.specs.RunnerView.{DropsOldest, rerun_start};
+ghost use Rattle.replay.specs.RunnerView.{DropsOldest, SameOptions, rerun_start};
 ghost use Rattle.replay.specs.Report.{reported_run, session_of};
+ghost use Rattle.edit_lines.specs.Effects.{CommandDid, LineDid};
 ghost use Rattle.edit_lines.specs.Progress.{CarriesOut, Does};
 ghost use Rattle.edit_lines.specs.ReportText.{head_text};
 ghost use Rattle.edit_lines.specs.Reports.{report_text};
@@ -28,7 +29,7 @@ fn write_reply<W: Writer>(writer: &mut W, text: &[u8]) -> Result<(), ReplayFault
     }
 }
 
-/// Carries out an edit and writes its reply.
+/// Carries out an edit and writes its reply. Exactly the checkpoints that it does not touch are left, and all where it is refused.
 fn carry_out_edit<W: Writer>(
     runner: &mut Runner,
     edit: Edit,
@@ -36,6 +37,8 @@ fn carry_out_edit<W: Writer>(
 ) -> Result<(), ReplayFault>
     requires { W.failures writer.old < 2 ^ 63 }
     ensures does { Does (Command.Edit edit) runner.old.session runner.new.session (W.holds writer.old) (W.holds writer.new) result }
+    ensures effect { (meter : ℕ) → CommandDid (Command.Edit edit) runner.old meter runner.new meter result }
+    ensures options { SameOptions runner.old runner.new }
     ensures fine { OnOk result (W.failures writer.new ≡ W.failures writer.old) }
     ensures failed { result ≡ Err ReplayFault.Write → W.failures writer.old < W.failures writer.new }
 {
@@ -55,6 +58,8 @@ fn drop_oldest<W: Writer>(
     requires { W.failures writer.old < 2 ^ 63 }
     ensures does { Does (Command.DropOldest count) runner.old.session runner.new.session (W.holds writer.old) (W.holds writer.new) result }
     ensures dropped { DropsOldest count runner.old runner.new }
+    ensures effect { (meter : ℕ) → CommandDid (Command.DropOldest count) runner.old meter runner.new meter result }
+    ensures options { SameOptions runner.old runner.new }
     ensures fine { OnOk result (W.failures writer.new ≡ W.failures writer.old) }
     ensures failed { result ≡ Err ReplayFault.Write → W.failures writer.old < W.failures writer.new }
 {
@@ -77,7 +82,8 @@ fn write_report<W: Writer>(report: &Report<'_>, head: &str, writer: &mut W) -> R
     write_piece(writer, b"end\n")
 }
 
-/// Runs the session, from where the runner begins a rerun, and writes its report.
+/// Runs the session, from where the runner begins a rerun, and writes its report. Only the steps from there on are added to the
+/// meter.
 fn run<W: Writer>(
     alloc: Global,
     runner: &mut Runner,
@@ -88,6 +94,8 @@ fn run<W: Writer>(
     requires meter { meter.old ≤ 2 ^ 63 }
     ensures does { Does Command.Run runner.old.session runner.new.session (W.holds writer.old) (W.holds writer.new) result }
     ensures from { OnOk result (meter.new + rerun_start runner.old ≡ meter.old + (cold runner.old.session).steps) }
+    ensures effect { CommandDid Command.Run runner.old meter.old runner.new meter.new result }
+    ensures options { SameOptions runner.old runner.new }
     ensures fine { OnOk result (W.failures writer.new ≡ W.failures writer.old) }
     ensures failed { result ≡ Err ReplayFault.Write → W.failures writer.old < W.failures writer.new }
     ensures meter { meter.new ≤ meter.old + STEP_LIMIT }
@@ -104,7 +112,8 @@ fn run<W: Writer>(
     }
 }
 
-/// Carries out a line by its number.
+/// Carries out a line by its number. Nothing else is done to the runner and the meter than what its command does, and nothing
+/// at all where it is malformed.
 pub fn carry_out<W: Writer>(
     alloc: Global,
     line: &[u8],
@@ -116,6 +125,8 @@ pub fn carry_out<W: Writer>(
     requires writer { W.failures writer.old < 2 ^ 63 }
     requires meter { meter.old ≤ 2 ^ 63 }
     ensures carries { CarriesOut number line.now runner.old.session runner.new.session (W.holds writer.old) (W.holds writer.new) result }
+    ensures effect { LineDid number line.now runner.old meter.old runner.new meter.new result }
+    ensures options { SameOptions runner.old runner.new }
     ensures fine { OnOk result (W.failures writer.new ≡ W.failures writer.old) }
     ensures failed { result ≡ Err ReplayFault.Write → W.failures writer.old < W.failures writer.new }
     ensures reads { result ≡ Err ReplayFault.Read → ⊥ }

@@ -1,8 +1,10 @@
 ghost use Rattle.std.specs.Prelude.{◌≡◌, ℕ, ◌+◌, ◌*◌, ◌^◌, ◌<◌, ◌≤◌, ◌⊎◌, List, Option, ◌∷◌, ◌++◌, [], length, IfOk, OnOk, IfErr, vec_len};
 ghost use Rattle.std.specs.Io.KnownBytes.{Appends, Consumes, IsAtEnd};
 ghost use Rattle.machine.specs.Views.{Session};
+ghost use Rattle.replay.specs.RunnerView.{RunnerView, SameOptions};
 ghost use Rattle.edit_lines.specs.declared.limits.TheConstants.{LINE_LIMIT, LINES_LIMIT};
 ghost use Rattle.edit_lines.specs.EditLine.{MayWantMemory};
+ghost use Rattle.edit_lines.specs.Effects.{Effects, EffectsAfter, EffectsAtEnd, EffectsAtFault, EffectsSoFar};
 ghost use Rattle.edit_lines.specs.Pieces.{lines_of};
 ghost use Rattle.edit_lines.specs.Replay.{End, Finished, Replays};
 ghost use Rattle.edit_lines.specs.Progress.{Faults, Finishes, Goes, StandsAt};
@@ -38,6 +40,10 @@ fn take_byte<W: Writer>(
     ensures goes { (first : Session) (held : Option (List ℕ)) (bytes rest : List ℕ)
         → StandsAt first held bytes runner.old.session (W.holds writer.old) place.old.line.items place.old.lines
         → Goes first held (bytes ++ byte ∷ []) rest runner.new.session (W.holds writer.new) place.new.line.items place.new.lines result }
+    ensures effects { (first : RunnerView) (begun : ℕ) (bytes rest : List ℕ)
+        → EffectsSoFar first begun bytes runner.old meter.old place.old.line.items place.old.lines
+        → EffectsAfter first begun (bytes ++ byte ∷ []) rest runner.new meter.new place.new.line.items place.new.lines result }
+    ensures options { SameOptions runner.old runner.new }
     ensures fine { OnOk result (W.failures writer.new ≡ W.failures writer.old) }
     ensures failed { result ≡ Err ReplayFault.Write → W.failures writer.old < W.failures writer.new }
     ensures reads { result ≡ Err ReplayFault.Read → ⊥ }
@@ -82,6 +88,10 @@ fn take_piece<W: Writer>(
     ensures goes { (first : Session) (held : Option (List ℕ)) (bytes : List ℕ)
         → StandsAt first held bytes runner.old.session (W.holds writer.old) place.old.line.items place.old.lines
         → Goes first held (bytes ++ piece.now) [] runner.new.session (W.holds writer.new) place.new.line.items place.new.lines result }
+    ensures effects { (first : RunnerView) (begun : ℕ) (bytes : List ℕ)
+        → EffectsSoFar first begun bytes runner.old meter.old place.old.line.items place.old.lines
+        → EffectsAfter first begun (bytes ++ piece.now) [] runner.new meter.new place.new.line.items place.new.lines result }
+    ensures options { SameOptions runner.old runner.new }
     ensures fine { OnOk result (W.failures writer.new ≡ W.failures writer.old) }
     ensures failed { result ≡ Err ReplayFault.Write → W.failures writer.old < W.failures writer.new }
     ensures reads { result ≡ Err ReplayFault.Read → ⊥ }
@@ -107,6 +117,10 @@ fn finish<W: Writer>(
     ensures ends { (first : Session) (held : Option (List ℕ)) (bytes : List ℕ)
         → StandsAt first held bytes runner.old.session (W.holds writer.old) place.line.items place.lines
         → Finishes first held bytes runner.new.session (W.holds writer.new) result }
+    ensures effects { (first : RunnerView) (begun : ℕ) (bytes : List ℕ)
+        → EffectsSoFar first begun bytes runner.old meter.old place.line.items place.lines
+        → EffectsAtEnd first begun bytes runner.new meter.new result }
+    ensures options { SameOptions runner.old runner.new }
     ensures memory { result ≡ Err ReplayFault.OutOfMemory → MayWantMemory place.line.items }
     ensures failed { result ≡ Err ReplayFault.Write → W.failures writer.old < W.failures writer.new }
     ensures reads { result ≡ Err ReplayFault.Read → ⊥ }
@@ -129,7 +143,9 @@ fn finish<W: Writer>(
 
 /// Replays the edit lines of the reader, and writes each reply as it comes. The meter is new. At the
 /// end or at a fault the runner has the session after the lines that were carried out, and the reader
-/// has given at most 131,072 bytes past them.
+/// has given at most 131,072 bytes past them. Each line has its effect on the runner's checkpoints and on
+/// the meter, one after the other, and nothing else is done to them: an edit leaves exactly the checkpoints
+/// that it does not touch, and a run adds no steps but those from the kept one where it begins. The options stay.
 pub fn replay<R: Reader, W: Writer>(
     alloc: Global,
     runner: &mut Runner,
@@ -143,9 +159,12 @@ pub fn replay<R: Reader, W: Writer>(
     ensures ok { IfOk result (λ e. (bytes : List ℕ) × (text : List ℕ)
         × Consumes (R.left reader.old) (R.left reader.new) bytes × IsAtEnd (R.left reader.new)
         × Appends (W.holds writer.old) (W.holds writer.new) text
-        × Replays runner.old.session (lines_of bytes) text runner.new.session (Finished e.lines)) }
+        × Replays runner.old.session (lines_of bytes) text runner.new.session (Finished e.lines)
+        × Effects runner.old meter.old (lines_of bytes) runner.new meter.new) }
     ensures fault { IfErr result (λ f. (bytes : List ℕ) × Consumes (R.left reader.old) (R.left reader.new) bytes
-        × Faults (R.left reader.new) runner.old.session (W.holds writer.old) bytes runner.new.session (W.holds writer.new) f) }
+        × Faults (R.left reader.new) runner.old.session (W.holds writer.old) bytes runner.new.session (W.holds writer.new) f
+        × EffectsAtFault runner.old meter.old bytes runner.new meter.new f) }
+    ensures options { SameOptions runner.old runner.new }
     ensures read { result ≡ Err ReplayFault.Read → R.failures reader.old < R.failures reader.new }
     ensures write { result ≡ Err ReplayFault.Write → W.failures writer.old < W.failures writer.new }
 {

@@ -1,5 +1,5 @@
 -- An edit that is accepted gives a session.
-use Rattle.std.proofs.Common.{◌≡◌, ℕ, ◌+◌, ◌-◌, Bool, true, false, cond, nat_lt, List, [], length, Option, Some, None, Result, Ok, Err, refl, arith}
+use Rattle.std.proofs.Common.{◌≡◌, ℕ, ◌+◌, ◌-◌, Bool, true, false, cond, nat_lt, List, [], length, Option, Some, None, Result, Ok, Err, refl}
 use Rattle.std.proofs.lemmas.Bool.{le-ltb}
 use Rattle.machine.specs.declared.session.TheConstants.{SCRIPT_LIMIT, STEP_LIMIT}
 use Rattle.machine.specs.Views.{Session}

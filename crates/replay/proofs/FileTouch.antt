@@ -1,10 +1,10 @@
 -- What the change of a host file touches.
-use Rattle.std.proofs.Common.{◌≡◌, ℕ, ◌≤◌, ◌<◌, Bool, true, false, ◌||◌, cond, List, length, Option, Some, None, inl, inr, refl, subst, sym, ap, ◌∙◌, arith, nat_lt}
-use Rattle.std.proofs.lemmas.Bool.{le-ltb, lt-ltb}
+use Rattle.std.proofs.Common.{◌≡◌, ℕ, ◌≤◌, ◌<◌, Bool, true, false, ◌||◌, cond, List, length, Option, Some, None, inl, inr, refl, subst, nat_lt}
+use Rattle.std.proofs.lemmas.Bool.{le-ltb}
 use Rattle.std.specs.Cmp.Lexicographic.{nat_list_cmp_total}
 use Rattle.std.specs.FinMap.{empty, get, insert, contains_key, len, len-empty}
 use Rattle.keymaps.proofs.Views.{same_key, get_here}
-use Rattle.hostfiles.specs.Hosts.{Key, Record, Host, has_room, refusal_of}
+use Rattle.hostfiles.specs.Hosts.{Key, Record, Host, refusal_of}
 use Rattle.file_steps.specs.declared.steps.FileSteps.{FileSteps}
 use Rattle.file_steps.specs.Touch.{with_file, IsFileTouch}
 use Rattle.machine.specs.Views.{Session}

@@ -14,6 +14,7 @@ pub mod OutcomeLemmas
 pub mod KeepingLemmas
 pub mod StepsLemmas
 pub mod CompleteLemmas
+pub mod RefusalLemmas
 pub mod EntryLemmas
 pub mod PlaceLemmas
 pub mod AskLemmas

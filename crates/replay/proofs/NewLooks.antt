@@ -1,6 +1,5 @@
 -- What is new of what was looked at, once a place and a question were taken out.
 use Rattle.std.proofs.Common.{◌≡◌, ℕ, Bool, true, false, ◌||◌, ◌&&◌, ◌==◌, not, drop, List, Option, Some, None, Result, Ok, Err, OnOk, IfSome, IfNone, refl, sym, ap, ◌∙◌, inl, inr}
-use Rattle.std.proofs.Math.Bool.{or-false}
 use Rattle.std.proofs.lemmas.Bool.Decides.{eqb_tells}
 use Rattle.i8080.specs.Memory.{is_among}
 use Rattle.bdos.specs.declared.places.Places.{Places}
@@ -10,7 +9,7 @@ use Rattle.hostfiles.specs.declared.looks.Looks.{Looks}
 use Rattle.hostfiles.specs.declared.looks.Ask.{Ask}
 use Rattle.machine.specs.Views.{Looked, Running}
 use Rattle.machine.specs.Machine.{Question, Cell, Script, OfHost, looked_at}
-use Rattle.replay.specs.FirstLooks.{Noted, step_of, or_else, mark, since, is_left, is_left_ask, is_new}
+use Rattle.replay.specs.FirstLooks.{since, is_left, is_left_ask, is_new}
 use Rattle.replay.proofs.AskLemmas.{TakesAsk}
 
 -- a place that was taken is one of those before

@@ -1,10 +1,9 @@
 -- What a splice of the script changes.
-use Rattle.std.proofs.Common.{◌≡◌, ℕ, ◌+◌, ◌-◌, ◌<◌, ◌≤◌, List, ◌++◌, length, take, drop, Option, Some, None, ◌⊎◌, inl, inr, refl, ap, sym, ◌∙◌, arith}
-use Rattle.std.specs.Prelude.{slice_get, slice_index_or}
+use Rattle.std.proofs.Common.{◌≡◌, ℕ, ◌+◌, ◌<◌, ◌≤◌, List, length, Option, Some, None, ◌⊎◌, inl, inr, refl, ap, sym, ◌∙◌, arith}
+use Rattle.std.specs.Prelude.{slice_index_or}
 use Rattle.std.proofs.lemmas.Bool.{cases_lt}
 use Rattle.std.proofs.lemmas.List.{get_or_past}
 use Rattle.machine.specs.Views.{Session}
-use Rattle.machine.specs.Session.{spliced}
 use Rattle.machine.specs.Machine.{Question, Cell, Script, OfHost, ask}
 use Rattle.replay.specs.FirstLooks.{Noted, step_of}
 use Rattle.replay.specs.Edits.{with_splice}

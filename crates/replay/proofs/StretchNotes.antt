@@ -1,13 +1,13 @@
 -- The looks of steps of which none but the last looks at anything new.
-use Rattle.std.proofs.Common.{◌≡◌, ℕ, zero, suc, ◌+◌, ◌-◌, ◌<◌, ◌≤◌, Bool, true, false, ◌||◌, List, length, Option, Some, None, Ok, ◌⊎◌, inl, inr, refl, ap, sym, ◌∙◌, subst, arith, add-one}
+use Rattle.std.proofs.Common.{◌≡◌, ℕ, zero, suc, ◌+◌, ◌-◌, ◌<◌, ◌≤◌, Bool, true, false, ◌||◌, List, length, Option, Some, None, Ok, ◌⊎◌, inl, inr, refl, ap, sym, ◌∙◌, subst, arith}
 use Rattle.std.proofs.lemmas.Bool.{cases_lt}
 use Rattle.std.proofs.Math.Nat.{eq-or-lt_of_le}
 use Rattle.interaction_trees.specs.Dependence as dependence
 use Rattle.machine.specs.Views.{Session, State, Looked}
-use Rattle.machine.specs.Machine.{Question, Answers, ask, after, is_in, looked_at, looks, looks_at, Extends}
+use Rattle.machine.specs.Machine.{Question, Answers, ask, after, is_in, looked_at, looks, looks_at}
 use Rattle.machine.specs.Stretch.{LooksAtNothingNew, Stretches}
 use Rattle.machine.proofs.AfterLemmas.{step_before}
-use Rattle.replay.specs.FirstLooks.{Noted, step_of, or_else, mark, first, IsFirstLooks, since, seen_to, AllNoted, NoPlaces, NoAsks, IsNoted, IsLeftBehind}
+use Rattle.replay.specs.FirstLooks.{Noted, or_else, mark, first, IsFirstLooks, since, seen_to, AllNoted, NoPlaces, NoAsks, IsNoted, IsLeftBehind}
 use Rattle.replay.proofs.FirstLemmas.{first-suc, looks_here}
 use Rattle.replay.proofs.LookLemmas.{Notes, looks_kept}
 

@@ -1,5 +1,5 @@
 -- For each question the first step that looked at it. (This project's own.)
-use Rattle.std.specs.Prelude.{◌≡◌, ℕ, zero, suc, ◌+◌, ◌==◌, ◌||◌, drop, List, Option, Some, None, Bool, true, false, if◌then◌else◌, slice_index_or}
+use Rattle.std.specs.Prelude.{◌≡◌, ℕ, zero, suc, ◌+◌, ◌==◌, ◌||◌, drop, List, Option, Some, None, Bool, true, false, slice_index_or}
 use Rattle.i8080.specs.Memory.{is_among}
 use Rattle.bdos.specs.declared.places.Places.{Places}
 use Rattle.bdos.specs.Places.{is_within}

@@ -6,6 +6,7 @@ pub mod FirstSteps
 pub mod Codes
 pub mod FirstLooks
 pub mod Ring
+pub mod RefusalCount
 pub mod Touch
 pub mod RunnerView
 pub mod Lending

@@ -7,6 +7,7 @@ use Rattle.machine.specs.Machine.{Answers, ask, after}
 use Rattle.machine.specs.Kept.{whole}
 use Rattle.replay.specs.declared.ring.Checkpoint.{Checkpoint as KeptCheckpoint}
 use Rattle.replay.specs.FirstLooks.{Noted, IsFirstLooks}
+use Rattle.replay.specs.RefusalCount.{CountsThisRun}
 use Rattle.replay.specs.Ring.{Each, Rising, RisingBy, Stands, AddsBy, AddsAllBy, start_by}
 use Rattle.replay.specs.Touch.{Untouched}
 
@@ -71,6 +72,10 @@ Reran old new upto =
 abbrev pub LeavesNoneOut : RunnerView → RunnerView → ℕ → Type 0
 LeavesNoneOut old new upto =
     new.refused ≡ 0 → AddsAllBy (λ k. k) (kept_steps old) (kept_steps new) old.slots (rerun_start old) upto upto old.spacing
+
+-- the count of refusals is of a rerun that reached this step, or was to reach it, alone
+abbrev pub CountsAnew : RunnerView → RunnerView → ℕ → Type 0
+CountsAnew old new upto = CountsThisRun (rerun_start old) upto old.spacing new.refused
 
 -- the steps of a run from this step on, up to some step that it reaches within the limit, are ticked, and no others
 abbrev pub TicksTo : Answers → ℕ → ℕ → ℕ → ℕ → Type 0

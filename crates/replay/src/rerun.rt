@@ -1,8 +1,9 @@
-ghost use Rattle.std.specs.Prelude.{◌≡◌, ℕ, ◌+◌, ◌^◌, ◌<◌, ◌≤◌, ◌⊎◌, [], Some, IfOk, IsSome, OnErr, OnOk, length, take, vec_len, true, false};
+ghost use Rattle.std.specs.Prelude.{◌≡◌, ℕ, ◌+◌, ◌^◌, ◌<◌, ◌≤◌, ◌⊎◌, [], Some, IfOk, IsSome, OnErr, OnOk, MatchResult, length, take, vec_len, true, false};
 ghost use Rattle.machine.specs.Machine.{NothingLooked, ask, after};
 ghost use Rattle.machine.specs.Kept.{kept_of};
 ghost use Rattle.replay.specs.Cold.{cold};
 ghost use Rattle.replay.specs.FirstLooks.{IsFirstLooks};
+ghost use Rattle.replay.specs.RefusalCount.{CountsThisRun};
 ghost use Rattle.replay.specs.Ring.{Each, Rising, Stands, Adds, AddsAll, SomeStep, start_step};
 ghost use Rattle.replay.specs.Fits.{kept_length};
 ghost use Rattle.replay.specs.Report.{left_by};
@@ -83,7 +84,8 @@ fn put_by(text: &mut Vec<u8>, running: Running, is_needed: bool) -> Kept
     kept
 }
 
-/// Runs a session from the greatest kept step that is not past its limit, and keeps the state in which the run ends.
+/// Runs a session from the greatest kept step that is not past its limit, and keeps the state in which the run ends. The count of
+/// refusals is begun anew.
 pub fn rerun(
     alloc: Global,
     last_run: &mut LastRun,
@@ -107,6 +109,9 @@ pub fn rerun(
     ensures adds { IfOk result (λ r. Adds ring.old.items ring.new.items ring.old.capacity (start_step last_run.old.session.limit ring.old.items) r.0 r.0 spacing) }
     ensures all { IfOk result (λ r. refusals.new ≡ 0 → AddsAll ring.old.items ring.new.items ring.old.capacity (start_step last_run.old.session.limit ring.old.items) r.0 r.0 spacing) }
     ensures adds_at_most { OnErr result (Adds ring.old.items ring.new.items ring.old.capacity (start_step last_run.old.session.limit ring.old.items) last_run.old.session.limit last_run.old.session.limit spacing) }
+    ensures counted { let start = start_step last_run.old.session.limit ring.old.items in
+        MatchResult result (λ r. CountsThisRun start r.0 spacing refusals.new)
+        (λ _. CountsThisRun start last_run.old.session.limit spacing refusals.new) }
     ensures capacity { ring.new.capacity ≡ ring.old.capacity }
 {
     let _ = ring.len();

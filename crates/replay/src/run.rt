@@ -1,8 +1,9 @@
-ghost use Rattle.std.specs.Prelude.{◌≡◌, ℕ, ◌+◌, ◌-◌, ◌^◌, ◌<◌, ◌≤◌, ◌⊎◌, Some, IfOk, OnOk, OnErr, MatchOption, length};
+ghost use Rattle.std.specs.Prelude.{◌≡◌, ℕ, ◌+◌, ◌-◌, ◌^◌, ◌<◌, ◌≤◌, ◌⊎◌, Some, IfOk, OnOk, OnErr, MatchOption, MatchResult, length};
 ghost use Rattle.interaction_trees.specs.Dependence.{Stop};
 ghost use Rattle.machine.specs.Machine.{Question, ask, after, outcome, looked_at};
 ghost use Rattle.replay.specs.Cold.{cold};
 ghost use Rattle.replay.specs.FirstLooks.{step_of, erased, or_else, mark, since, seen_to, AllNoted, NoPlaces, NoAsks, IsFirstLooks, IsNoted, IsLeftBehind};
+ghost use Rattle.replay.specs.RefusalCount.{CountsThisRun, RefusesLooksOnce};
 ghost use Rattle.replay.specs.Ring.{Each, Rising, IsValid, Adds, AddsAll, SomeStep};
 
 use crate::first_looks::FirstLooks;
@@ -115,6 +116,9 @@ fn advance(
     ensures looks { IfOk result (λ r. MatchOption r.1 (r.0 ≤ looks.new.seen → AllNoted looks.new running.new.looked) (λ _. Unit {0})) }
     ensures seen { (looks.old.seen ≤ looks.new.seen) × (looks.new.seen ≤ STEP_LIMIT) }
     ensures refused { (refusals.old ≤ refusals.new) × IfOk result (λ r. refusals.new + from ≤ refusals.old + r.0) }
+    ensures once { MatchResult result
+        (λ r. RefusesLooksOnce looks.old.seen from refusals.old looks.new.seen r.0 refusals.new)
+        (λ _. refusals.new ≤ refusals.old + 1) }
     ensures all { from ≤ looks.old.seen → refusals.new ≡ refusals.old → IfOk result (λ r. r.0 ≤ looks.new.seen) }
 {
     let mut n = from;
@@ -133,7 +137,8 @@ fn advance(
 }
 
 /// Runs on from the step `from` to the limit or a stop, and keeps a checkpoint at each due step above `newest`. Answers the
-/// count of steps and why the run ended. The state is then the last one that was reached, also at `Err`.
+/// count of steps and why the run ended. The state is then the last one that was reached, also at `Err`. Memory is refused once at
+/// most for each due step, and once for the first looks.
 pub fn resume(
     session: &Session,
     spacing: u64,
@@ -168,6 +173,8 @@ pub fn resume(
     ensures adds { IfOk result (λ r. Adds ring.old.items ring.new.items ring.old.capacity from r.0 r.0 spacing) }
     ensures adds_at_most { OnErr result (Adds ring.old.items ring.new.items ring.old.capacity from session.now.limit session.now.limit spacing) }
     ensures all { IfOk result (λ r. refusals.new ≡ 0 → AddsAll ring.old.items ring.new.items ring.old.capacity from r.0 r.0 spacing) }
+    ensures counted { MatchResult result (λ r. CountsThisRun from r.0 spacing refusals.new)
+        (λ _. CountsThisRun from session.now.limit spacing refusals.new) }
     ensures capacity { ring.new.capacity ≡ ring.old.capacity }
     ensures valid { Each (IsValid (ask session.now)) ring.new.items }
     ensures rising { Rising ring.new.items }

@@ -3,7 +3,7 @@ ghost use Rattle.std.specs.Borrow.{sem};
 ghost use Rattle.machine.specs.Machine.{PrefixDependence, ask};
 ghost use Rattle.replay.specs.Cold.{cold};
 ghost use Rattle.replay.specs.Edits.{AnswersEdit, TakesMemory, edited};
-ghost use Rattle.replay.specs.RunnerView.{DropsOldest, SameOptions, KeepsUntouched, AllStand, Reran, LeavesNoneOut, TicksTo, kept_steps, rerun_start};
+ghost use Rattle.replay.specs.RunnerView.{DropsOldest, SameOptions, KeepsUntouched, AllStand, Reran, LeavesNoneOut, CountsAnew, TicksTo, kept_steps, rerun_start};
 
 use crate::edit::{Edit, EditError};
 use crate::editing::{apply, refusal_of, touch_of};
@@ -93,7 +93,8 @@ impl Runner {
         }
     }
 
-    /// How often the last rerun was refused memory for a checkpoint, or for the first looks that one needs.
+    /// How often the last rerun was refused memory for a checkpoint, or for the first looks that one needs. Each rerun counts from 0
+    /// on, and nothing else changes the count.
     pub fn refusals(&self) -> u64
         ensures { result ≡ self.now.refused }
     {
@@ -114,11 +115,12 @@ impl Runner {
     }
 
     /// Carries out an edit, or refuses it by the first refusal that fits. A refusal changes nothing. Exactly the checkpoints
-    /// up to the first step are left that looks at what the edit changes.
+    /// up to the first step are left that looks at what the edit changes. The count of refusals stays.
     pub fn edit(&mut self, edit: Edit) -> Result<(), EditError>
         ensures answer { AnswersEdit (edited self.old.session edit) result self.new.session }
         ensures memory { result ≡ Err EditError.OutOfMemory → TakesMemory edit }
         ensures options { SameOptions self.old self.new }
+        ensures refusals { self.new.refused ≡ self.old.refused }
         ensures kept { OnOk result (KeepsUntouched (ask self.old.session) (ask self.new.session) self.old.checkpoints self.new.checkpoints) }
         ensures stand { AllStand self.new }
         ensures err { OnErr result (self.new ≡ self.old) }
@@ -141,11 +143,13 @@ impl Runner {
 
     /// Runs the session from the greatest kept step that is not past its limit, else from its start, and reports of it. Where no
     /// memory was refused, each due step that it reached has a checkpoint, of which the newest stay. `Err` where memory for the
-    /// run is refused: the session stays, and so do the checkpoints, but for new ones in a full ring.
+    /// run is refused: the session stays, and so do the checkpoints, but for new ones in a full ring. The count of refusals is of this
+    /// rerun alone.
     pub fn rerun(&mut self, meter: &mut Meter) -> Result<Report<'_>, AllocError>
         requires { meter.old ≤ 2 ^ 63 }
         ensures* ends { sem 𝓛 (EndsAs self.entry (λ n. (n.session ≡ self.old.session) × SameOptions self.old n × AllStand n
-            × MatchResult result (λ r. Reran self.old n (reported_run r).steps × LeavesNoneOut self.old n (reported_run r).steps) (λ _. Reran self.old n self.old.session.limit))) }
+            × MatchResult result (λ r. Reran self.old n (reported_run r).steps × LeavesNoneOut self.old n (reported_run r).steps × CountsAnew self.old n (reported_run r).steps)
+            (λ _. Reran self.old n self.old.session.limit × CountsAnew self.old n self.old.session.limit))) }
         ensures cold { IfOk result (λ r. reported_run r ≡ cold self.old.session) }
         ensures session { IfOk result (λ r. session_of r ≡ self.old.session) }
         ensures ticked { IfOk result (λ r. meter.new + rerun_start self.old ≡ meter.old + (reported_run r).steps) }

@@ -15,12 +15,12 @@ returns-in-Err-OutOfMemory-clause-fault g c = ([], c.args.session, Consumes-nil 
 pub returns-clause-ok : goal.returns-clause-ok
 returns-clause-ok g c =
     let same = ap (λ (r : RunnerView). r.session) c.in-Ok.ensures.ok in
-    writes_replay c.args.session c.in-Ok.runner.session c.replay.new.runner.session _ _ _ _ c.replay.result same c.replay.ensures.ok
+    writes_replay c.args.session c.in-Ok.runner c.replay.new.runner _ _ _ _ _ _ c.replay.result same c.replay.ensures.ok
 
 pub returns-clause-fault : goal.returns-clause-fault
 returns-clause-fault g c =
     let same = ap (λ (r : RunnerView). r.session) c.in-Ok.ensures.ok in
     IfErr-weaker c.replay.result _ _
-    (λ f h. let (bytes, consumed, faults) = h in
+    (λ f h. let (bytes, consumed, faults, effects) = h in
     (bytes, c.replay.new.runner.session, consumed, subst (λ (s : Session). Faults (g.R.Reader.left c.replay.new.reader) s (g.W.Writer.holds c.args.writer.now) bytes c.replay.new.runner.session (g.W.Writer.holds c.replay.new.writer) f) same faults))
     c.replay.ensures.fault

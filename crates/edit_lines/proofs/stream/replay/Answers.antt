@@ -3,27 +3,34 @@ use Rattle.std.proofs.lemmas.Result.{err_from_is_err_and}
 use Rattle.std.proofs.lemmas.List.{append-nil}
 use Rattle.std.proofs.KnownBytes.{Consumes-nil, Consumes-trans}
 use Rattle.edit_lines.specs.Progress.{Faults}
+use Rattle.edit_lines.specs.Effects.{EffectsAtFault}
 use Rattle.edit_lines.proofs.Stepping.{at_start}
+use Rattle.edit_lines.proofs.EffectLemmas.{no_effects, SameOptions-refl, SameOptions-trans}
 use Rattle.edit_lines.proofs.Answering.{no_more_bytes, answers_ok, answers_err}
 use Rattle.edit_lines.proofs.stream.replay.Goals as goal
 
 pub loop-count-init : goal.loop-count-init
-loop-count-init g c =
-    (([], Consumes-nil _, rw c.new.ensures.items (at_start _ _)), refl, refl, omega (arith, c.requires.meter))
+loop-count-init g c = (
+  ([], Consumes-nil _, rw c.new.ensures.items (at_start _ _), rw c.new.ensures.items (no_effects _ _)),
+  refl,
+  refl,
+  omega (arith, c.requires.meter),
+  SameOptions-refl _,
+)
 
 pub returns-then-count-eq0-clause-ok : goal.returns-then-count-eq0-clause-ok
 returns-then-count-eq0-clause-ok g c =
     let i = c.loop-count.invariant.0 in
     let b = c.in-Ok.ensures.bytes in
-    answers_ok _ _ _ _ _ _ i.0 (no_more_bytes _ _ _ i.0 _ _ c.if-count-eq0.true i.1 b.0) (b.1 c.if-count-eq0.true (search rules))
-    c.finish.result (c.finish.ensures.ends _ _ i.0 i.2)
+    answers_ok _ _ _ _ _ _ _ _ i.0 (no_more_bytes _ _ _ i.0 _ _ c.if-count-eq0.true i.1 b.0) (b.1 c.if-count-eq0.true (search rules))
+    c.finish.result (c.finish.ensures.ends _ _ i.0 i.2) (c.finish.ensures.effects _ _ i.0 i.3)
 
 pub returns-then-count-eq0-clause-fault : goal.returns-then-count-eq0-clause-fault
 returns-then-count-eq0-clause-fault g c =
     let i = c.loop-count.invariant.0 in
     let b = c.in-Ok.ensures.bytes in
-    answers_err _ _ _ _ _ _ i.0 (no_more_bytes _ _ _ i.0 _ _ c.if-count-eq0.true i.1 b.0) (b.1 c.if-count-eq0.true (search rules))
-    c.finish.result (c.finish.ensures.ends _ _ i.0 i.2)
+    answers_err _ _ _ _ _ _ _ _ i.0 (no_more_bytes _ _ _ i.0 _ _ c.if-count-eq0.true i.1 b.0) (b.1 c.if-count-eq0.true (search rules))
+    c.finish.result (c.finish.ensures.ends _ _ i.0 i.2) (c.finish.ensures.effects _ _ i.0 i.3)
 
 pub loop-count-preserved : goal.loop-count-preserved
 loop-count-preserved g c =
@@ -32,10 +39,12 @@ loop-count-preserved g c =
         i.0 ++ take c.in-Ok.count c.read.new.piece,
         Consumes-trans _ _ _ i.0 _ i.1 c.in-Ok.ensures.bytes.0,
         c.in_ok-take_piece.ensures.goes _ _ i.0 i.2,
+        c.in_ok-take_piece.ensures.effects _ _ i.0 i.3,
       ),
       c.in-Ok.ensures.ok ∙ c.loop-count.invariant.1,
       c.in_ok-take_piece.ensures.fine ∙ c.loop-count.invariant.2,
       c.in_ok-take_piece.ensures.meter,
+      SameOptions-trans _ _ _ c.loop-count.invariant.4 c.in_ok-take_piece.ensures.options,
     )
 
 pub returns-in_err-take_piece-clause-fault : goal.returns-in_err-take_piece-clause-fault
@@ -49,4 +58,12 @@ returns-in_err-take_piece-clause-fault g c =
       subst (λ x. Faults (g.R.Reader.left c.read.new.self) c.args.runner.now.session (g.W.Writer.holds c.args.writer.now) x
           c.take_piece.new.runner.session (g.W.Writer.holds c.take_piece.new.writer) c.in_err-take_piece.field-0.0)
           (append-nil bytes) (c.in_err-take_piece.ensures.goes _ _ i.0 i.2 _ (omega arith)),
+      subst (λ x. EffectsAtFault c.args.runner.now c.args.meter.now x c.take_piece.new.runner c.take_piece.new.meter c.in_err-take_piece.field-0.0)
+          (append-nil bytes) (c.in_err-take_piece.ensures.effects _ _ i.0 i.3),
     )
+
+pub returns-then-count-eq0-clause-options : goal.returns-then-count-eq0-clause-options
+returns-then-count-eq0-clause-options g c = SameOptions-trans _ _ _ c.loop-count.invariant.4 c.finish.ensures.options
+
+pub returns-in_err-take_piece-clause-options : goal.returns-in_err-take_piece-clause-options
+returns-in_err-take_piece-clause-options g c = SameOptions-trans _ _ _ c.loop-count.invariant.4 c.in_err-take_piece.ensures.options

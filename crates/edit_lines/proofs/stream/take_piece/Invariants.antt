@@ -1,6 +1,8 @@
 use Rattle.std.proofs.Common.{◌≡◌, ℕ, ◌+◌, ◌*◌, ◌≤◌, List, ◌++◌, Option, take, vec_len}
 use Rattle.machine.specs.Views.{Session}
 use Rattle.machine.specs.declared.session.TheConstants.{STEP_LIMIT}
+use Rattle.replay.specs.RunnerView.{RunnerView, SameOptions}
+use Rattle.edit_lines.specs.Effects.{EffectsSoFar}
 use Rattle.edit_lines.specs.Progress.{StandsAt}
 use Rattle.edit_lines.proofs.stream.take_piece.Given as goal
 
@@ -12,3 +14,7 @@ invariant-loop-byte g l =
     × (g.W.Writer.failures l.writer ≡ g.W.Writer.failures l.initial.writer)
     × (l.meter ≤ STEP_LIMIT * l.place.lines)
     × (65537 * l.initial.place.lines + vec_len l.initial.place.line + l.byte-index ≤ 65537 * l.place.lines + vec_len l.place.line)
+    × ((first : RunnerView) (begun : ℕ) (bytes : List ℕ)
+    → EffectsSoFar first begun bytes l.initial.runner l.initial.meter l.initial.place.line.items l.initial.place.lines
+    → EffectsSoFar first begun (bytes ++ take l.byte-index l.piece) l.runner l.meter l.place.line.items l.place.lines)
+    × SameOptions l.initial.runner l.runner

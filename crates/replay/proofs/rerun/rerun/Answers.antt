@@ -5,6 +5,8 @@ use Rattle.replay.specs.Ring.{start_step}
 use Rattle.replay.proofs.StartLemmas.{start_within, start_reached}
 use Rattle.replay.proofs.LookLemmas.{none_looked}
 use Rattle.replay.proofs.KeepingLemmas.{stands_valid, Left, left}
+use Rattle.replay.proofs.OutcomeLemmas.{match_err}
+use Rattle.replay.proofs.RefusalLemmas.{counts_none}
 use Rattle.replay.proofs.rerun.rerun.Goals as goal
 
 pub returns-in_err-from-clause-broken_off : goal.returns-in_err-from-clause-broken_off
@@ -74,3 +76,15 @@ returns-clause-cold c = rw c.put_by-kept.ensures.kept (rw (ended c).begins c.in_
 
 pub returns-clause-all : goal.returns-clause-all
 returns-clause-all c = rw c.in_ok-from.ensures.step at c.in_ok-steps.ensures.all
+
+pub returns-in_err-from-clause-counted : goal.returns-in_err-from-clause-counted
+returns-in_err-from-clause-counted c =
+    match_err c.from_residual.result _ _ c.from_residual.ensures.0
+    (counts_none _ _ _ _ c.requires.sound.spacing_in.0 (start_within c.args.last_run.now.session.limit c.args.ring.now.items) (omega arith))
+
+pub returns-in_err-steps-clause-counted : goal.returns-in_err-steps-clause-counted
+returns-in_err-steps-clause-counted c =
+    match_err c.from_residual-in_err-steps.result _ _ c.from_residual-in_err-steps.ensures.0 (rw c.in_ok-from.ensures.step at c.in_err-steps.ensures.counted)
+
+pub returns-clause-counted : goal.returns-clause-counted
+returns-clause-counted c = rw c.in_ok-from.ensures.step at c.in_ok-steps.ensures.counted

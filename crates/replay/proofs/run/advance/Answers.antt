@@ -1,4 +1,4 @@
-use Rattle.std.proofs.Common.{arith, inl, inr, ap, sym, ◌∙◌, Some, None, Ok, subst, ◌≡◌, ◌<◌, ◌≤◌, ℕ, Option}
+use Rattle.std.proofs.Common.{arith, inl, inr, ap, sym, ◌∙◌, Some, None, Ok, subst, ◌<◌, ◌≤◌, ℕ, Option}
 use Rattle.std.proofs.lemmas.Bool.Decides.{eqb_tells}
 use Rattle.bdos.specs.declared.cause.Cause.{Cause}
 use Rattle.machine.specs.Views.{State, Running}
@@ -6,6 +6,8 @@ use Rattle.machine.specs.Machine.{ask}
 use Rattle.machine.specs.Stretch.{LooksAtNothingNew, Stretches}
 use Rattle.replay.specs.FirstLooks.{Noted, IsFirstLooks}
 use Rattle.replay.proofs.StretchNotes.{stretch_kept, passed}
+use Rattle.replay.proofs.OutcomeLemmas.{match_err}
+use Rattle.replay.proofs.RefusalLemmas.{once_on, once_at_stop}
 use Rattle.replay.proofs.run.advance.Goals as goal
 
 pub loop-n-preserved : goal.loop-n-preserved
@@ -28,6 +30,7 @@ loop-n-preserved c =
       noted = notes.noted;
       seen_in = elim notes.within [ inl e ↦ omega (arith, e, i.seen_in) | inr e ↦ omega (arith, e, stretch.within, c.bound_of-bound.ensures.within, c.requires.order) ];
       counted = (omega (arith, notes.counted, i.counted), omega (arith, notes.counted, i.counted, more));
+      once = once_on _ _ _ _ _ c.loop-n.looks _ i.once i.low c.keep_looks.new.looks _ _ _ _ more (λ ne. ((other ne).0, (other ne).1)) c.keep_looks.ensures.here;
       all = λ low none. notes.all (omega (arith, none, notes.counted, i.counted)) (i.all low (omega (arith, none, notes.counted, i.counted)));
       grows = omega (arith, notes.grows, i.grows);
       low = omega (arith, more, i.low);
@@ -49,3 +52,14 @@ returns-in-Some-clause-noted c =
           (passed (ask c.args.session.now) c.loop-n.looks c.loop-n.running.looked i.noted (i.looks (omega (arith, e.1))) c.in_ok-reached.reached (omega (arith, e.1, stretch.within, same)) quiet)
       | inr ne ↦ subst (λ (t : Noted). IsFirstLooks (ask c.args.session.now) t) (sym (c.keep_seen.ensures.other ne.1)) i.noted
     ]
+
+pub returns-in-Some-clause-once : goal.returns-in-Some-clause-once
+returns-in-Some-clause-once c =
+    let i = c.loop-n.invariant in
+    let (x, stretched, metered, same) = c.in_ok-reached.ensures.stretches in
+    let stretch = subst (λ (o : Option Cause). Stretches c.args.session.now c.loop-n.n c.bound_of-bound.result c.loop-n.running.looked x (Ok o) c.run_from.new.running.state c.run_from.new.running.looked) c.in-Some.is stretched in
+    let low : c.loop-n.n ≤ c.in_ok-reached.reached = omega (arith, stretch.within, same) in
+    once_at_stop _ _ _ _ _ c.loop-n.looks _ i.once i.low c.keep_seen.new.looks low c.keep_seen.ensures.here c.keep_seen.ensures.other
+
+pub returns-in_err-reached-clause-once : goal.returns-in_err-reached-clause-once
+returns-in_err-reached-clause-once c = match_err c.from_residual.result _ _ c.from_residual.ensures.0 c.loop-n.invariant.once.once

@@ -2,6 +2,7 @@ use Rattle.std.proofs.Common.{◌≡◌, ◌+◌, ◌-◌, ◌≤◌, Some}
 use Rattle.machine.specs.declared.session.TheConstants.{STEP_LIMIT}
 use Rattle.machine.specs.Machine.{ask, after}
 use Rattle.replay.specs.FirstLooks.{AllNoted, IsFirstLooks}
+use Rattle.replay.specs.RefusalCount.{RefusesLooksOnce}
 use Rattle.replay.proofs.run.advance.Given as goal
 
 abbrev pub invariant-loop-n : goal.invariant-loop-n
@@ -11,6 +12,7 @@ invariant-loop-n l = record {
   noted : IsFirstLooks (ask l.session) l.looks;
   seen_in : l.looks.seen ≤ STEP_LIMIT;
   counted : (l.initial.refusals ≤ l.refusals) × (l.refusals + l.from ≤ l.initial.refusals + l.n);
+  once : RefusesLooksOnce l.initial.looks.seen l.from l.initial.refusals l.looks.seen l.n l.refusals;
   all : l.from ≤ l.initial.looks.seen → l.refusals ≡ l.initial.refusals → l.n ≤ l.looks.seen;
   grows : l.initial.looks.seen ≤ l.looks.seen;
   low : l.from ≤ l.n;

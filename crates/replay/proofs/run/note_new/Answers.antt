@@ -1,4 +1,4 @@
-use Rattle.std.proofs.Common.{◌≡◌, ap, ◌∙◌}
+use Rattle.std.proofs.Common.{ap, ◌∙◌}
 use Rattle.replay.specs.FirstLooks.{step_of, or_else, mark}
 use Rattle.replay.proofs.AskLemmas.{taken_from}
 use Rattle.replay.proofs.NewLooks.{noted_new, on_ok}

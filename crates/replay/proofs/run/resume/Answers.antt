@@ -5,6 +5,8 @@ use Rattle.replay.proofs.KeepingLemmas.{new_valid}
 use Rattle.replay.proofs.RingLemmas.{on_err, Each-weaken, widen_to, relast_adding, kept_adds, kept_capacity, kept_each, kept_known, kept_same, begins_below, none_made, adds_rising}
 use Rattle.replay.proofs.CompleteLemmas.{all_made, none_left_out, relast_all, all_on}
 use Rattle.replay.proofs.ColdLemmas.{cold_stop, cold_limit}
+use Rattle.replay.proofs.OutcomeLemmas.{match_err}
+use Rattle.replay.proofs.RefusalLemmas.{counts_at_start, counts_on, counts_at_end, counted_above, counts_cut_short}
 use Rattle.replay.proofs.run.resume.Goals as goal
 
 pub loop-n-init : goal.loop-n-init
@@ -22,6 +24,8 @@ loop-n-init c = record {
   adds = none_made _ _ _ _ _ _ (rw (← c.len.ensures.len) c.len.ensures.within.0) c.requires.newest c.requires.started;
   on = λ _. c.requires.seen.0;
   all = λ r. none_left_out _ _ _ _ _ _ (none_made _ _ _ _ _ _ (rw (← c.len.ensures.len) c.len.ensures.within.0) c.requires.newest c.requires.started);
+  due = λ _. counts_at_start _ _ _ _ c.requires.none_refused;
+  ended = omega (arith, c.requires.none_refused);
   few = omega (arith, c.requires.none_refused);
   spot = inl refl;
   last = let b = begins_below _ _ _ c.requires.started c.requires.newest in omega (arith, b);
@@ -120,6 +124,9 @@ loop-n-preserved c =
     let refused = c.keep_above-last_kept.ensures.refused in
     let counted = c.in_ok-reached.ensures.refused in
     let few : c.advance.new.refusals + c.loop-n.n ≤ c.loop-n.refusals + c.in_ok-reached.reached = counted.1 in
+    let once = c.in_ok-reached.ensures.once in
+    let kept = counted_above _ _ _ _ _ _ (rw c.seen.ensures at refused) in
+    let ends_later : c.loop-n.n < c.in_ok-reached.reached = omega (arith, ends, c.due_after-end.ensures.later) in
     record {
       at = rw c.keep_above-last_kept.ensures.running at;
       looks = rw c.keep_above-last_kept.ensures.running looks;
@@ -143,6 +150,11 @@ loop-n-preserved c =
             _ _ _ _ c.requires.there i.last e (c.in_ok-reached.ensures.all (i.on (omega (arith, counted.0, e, r))) (omega (arith, counted.0, e, r))) ring (rw c.seen.ensures at c.keep_above-last_kept.ensures.made))
         | inr e ↦ absurd (omega (arith, e.2, r))
       ];
+      due = λ left. elim marked [
+        | inl whole ↦ counts_on _ _ _ _ _ _ _ _ _ c.requires.spacing_in.0 low (i.due c.loop-n-test.true) once kept ends_later whole
+        | inr l ↦ absurd (omega (arith, l, left))
+      ];
+      ended = counts_at_end _ _ _ _ _ _ _ _ _ c.requires.spacing_in.0 low (i.due c.loop-n-test.true) once kept;
       few = elim refused [ inl e ↦ omega (arith, e, i.few, low, few) | inr e ↦ omega (arith, e.2, i.few, few, ends, c.due_after-end.ensures.later) ];
       spot = inr marked;
       last = omega (arith, newest, i.last, low);
@@ -175,3 +187,26 @@ returns-in-Some-clause-all c = λ r.
           _ _ _ _ c.requires.there i.last e (c.in_ok-reached.ensures.all (i.on (omega (arith, counted.0, e, r))) (omega (arith, counted.0, e, r))) ring (rw c.seen.ensures at c.keep_above-last_kept.ensures.made)) refl
       | inr e ↦ absurd (omega (arith, e.2, r))
     ]
+
+pub returns-in_err-reached-clause-counted : goal.returns-in_err-reached-clause-counted
+returns-in_err-reached-clause-counted c =
+    let i = c.loop-n.invariant in
+    match_err c.from_residual.result _ _ c.from_residual.ensures.0 (rw c.limit-limit.ensures.value at
+    (counts_cut_short _ _ _ _ _ _ _ c.requires.spacing_in.0 c.loop-n-test.true (i.due c.loop-n-test.true) i.few c.in_err-reached.ensures.once))
+
+pub returns-in-Some-clause-counted : goal.returns-in-Some-clause-counted
+returns-in-Some-clause-counted c =
+    let i = c.loop-n.invariant in
+    let a = c.in_ok-reached.ensures.at in
+    let low : c.loop-n.n ≤ c.in_ok-reached.reached = rw a.4 a.2 in
+    let refused = c.keep_above-last_kept.ensures.refused in
+    let counted = c.in_ok-reached.ensures.refused in
+    let few : c.advance.new.refusals + c.loop-n.n ≤ c.loop-n.refusals + c.in_ok-reached.reached = counted.1 in
+    let kept = counted_above _ _ _ _ _ _ (rw c.seen.ensures at refused) in
+    record {
+      by_due_steps = counts_at_end _ _ _ _ _ _ _ _ _ c.requires.spacing_in.0 low (i.due c.loop-n-test.true) c.in_ok-reached.ensures.once kept;
+      by_steps = elim refused [ inl e ↦ omega (arith, e, i.few, low, few) | inr e ↦ omega (arith, e.0, e.2, i.last, i.few, few, low) ];
+    }
+
+pub returns-clause-counted : goal.returns-clause-counted
+returns-clause-counted c = record { by_due_steps = c.loop-n.invariant.ended; by_steps = c.loop-n.invariant.few }

@@ -1,10 +1,11 @@
-use Rattle.std.proofs.Common.{◌≡◌, ◌+◌, ◌*◌, ◌-◌, ◌%◌, ◌<◌, ◌≤◌, ◌⊎◌, max, Some}
+use Rattle.std.proofs.Common.{◌≡◌, ◌+◌, ◌*◌, ◌-◌, ◌/◌, ◌%◌, ◌<◌, ◌≤◌, ◌⊎◌, max, Some}
 use Rattle.machine.specs.declared.session.TheConstants.{STEP_LIMIT}
 use Rattle.machine.specs.Machine.{ask, after}
 use Rattle.replay.specs.FirstLooks.{AllNoted, IsFirstLooks}
 use Rattle.replay.specs.Ring.{Each, IsValid}
 use Rattle.replay.proofs.RingLemmas.{Adding}
 use Rattle.replay.proofs.CompleteLemmas.{AddingAll}
+use Rattle.replay.proofs.RefusalLemmas.{CountsSoFar}
 use Rattle.replay.proofs.run.resume.Given as goal
 
 abbrev pub invariant-loop-n : goal.invariant-loop-n
@@ -22,6 +23,8 @@ invariant-loop-n l = record {
   adds : Adding l.initial.ring.items l.ring.items l.initial.ring.capacity l.from l.n l.limit l.spacing l.last_kept;
   on : l.refusals ≡ 0 → l.n ≤ l.looks.seen;
   all : l.refusals ≡ 0 → AddingAll l.initial.ring.items l.ring.items l.initial.ring.capacity l.from l.n l.limit l.spacing l.last_kept;
+  due : l.n < l.limit → CountsSoFar l.from l.n l.looks.seen l.spacing l.refusals;
+  ended : l.refusals + l.from / l.spacing ≤ l.n / l.spacing + 2;
   few : l.refusals + 2 * l.from ≤ 2 * l.n;
   spot : (l.n ≡ l.from) ⊎ ((l.n % l.spacing ≡ 0) ⊎ (l.n ≡ l.limit));
   last : l.last_kept ≡ max l.newest l.n;

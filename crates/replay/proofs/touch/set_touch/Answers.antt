@@ -1,5 +1,5 @@
-use Rattle.std.proofs.Common.{◌≡◌, List, Option, Some, option_copied, subst, sym, ap, ◌∙◌}
-use Rattle.std.specs.FinMap.{get, insert}
+use Rattle.std.proofs.Common.{◌≡◌, List, Option, Some, option_copied, subst, ap, ◌∙◌}
+use Rattle.std.specs.FinMap.{get}
 use Rattle.hostfiles.specs.Hosts.{Key, Record, Host, records_in}
 use Rattle.machine.specs.Machine.{ask}
 use Rattle.replay.specs.Edits.{with_host_file}

@@ -1,7 +1,6 @@
-use Rattle.std.proofs.Common.{◌≡◌, ℕ, ◌<◌, Option, Some, None, subst, sym, ap, ◌∙◌}
+use Rattle.std.proofs.Common.{◌<◌, Option, subst, sym, ap, ◌∙◌}
 use Rattle.hostfiles.specs.declared.looks.Ask.{Ask}
-use Rattle.machine.specs.Machine.{Question}
-use Rattle.replay.specs.FirstLooks.{step_of, erased, or_else, mark, is_ask_of, NoAsks}
+use Rattle.replay.specs.FirstLooks.{step_of, erased, or_else, mark, is_ask_of}
 use Rattle.replay.proofs.AskLemmas.{TakesAsk, left_asks, left_falls, one_noted_question, erased_mark, taken_from}
 use Rattle.replay.proofs.first_looks.FirstLooks.note_asks.Goals as goal
 

@@ -18,7 +18,10 @@ returns-in_err-steps c =
           c.rerun.ensures.session,
           record { spacing = refl; slots = c.rerun.ensures.capacity },
           all_stand _ _ _ c.rerun.ensures.sound.stands,
-          match_err c.from_residual.result _ _ c.from_residual.ensures.0 (reran text c.rerun.new.last_run.text.items ring c.rerun.new.ring.items _ _ _ _ c.rerun.ensures.sound.rising c.in_err-steps.ensures.adds_at_most),
+          match_err c.from_residual.result _ _ c.from_residual.ensures.0 (
+            reran text c.rerun.new.last_run.text.items ring c.rerun.new.ring.items _ _ _ _ c.rerun.ensures.sound.rising c.in_err-steps.ensures.adds_at_most,
+            c.in_err-steps.ensures.counted,
+          ),
         ),
       ),
       record {
@@ -48,6 +51,7 @@ returns c =
           (
             reran text c.rerun.new.last_run.text.items ring c.rerun.new.ring.items _ _ _ _ c.rerun.ensures.sound.rising c.in_ok-steps.ensures.adds,
             λ none. none_left text c.rerun.new.last_run.text.items ring c.rerun.new.ring.items _ _ _ _ (c.in_ok-steps.ensures.all none),
+            c.in_ok-steps.ensures.counted,
           ),
         ),
       ),

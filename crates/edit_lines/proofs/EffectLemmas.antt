@@ -1,0 +1,148 @@
+-- What one more line, one more byte and the end of the input do to a runner and a meter.
+use Rattle.std.proofs.Common.{◌≡◌, ℕ, ◌+◌, ◌-◌, ◌<◌, List, [], ◌∷◌, ◌++◌, length, refl, sym, ap, subst, ◌∙◌, arith, append_assoc, length-append, inl, inr, Result, Ok, Err}
+use Rattle.std.proofs.lemmas.List.{append-nil}
+use Rattle.replay.specs.Cold.{Cold, cold}
+use Rattle.replay.specs.RunnerView.{RunnerView, SameOptions, Reran, LeavesNoneOut, CountsAnew, rerun_start}
+use Rattle.edit_lines.specs.declared.line.Command.{Command}
+use Rattle.edit_lines.specs.declared.line.Command.TheVariants.{Run}
+use Rattle.edit_lines.specs.declared.ending.ReplayFault.{ReplayFault}
+use Rattle.edit_lines.specs.declared.ending.ReplayFault.TheVariants.{Malformed, LineTooLong, Read, Write, OutOfMemory}
+use Rattle.edit_lines.specs.EditLine.{EditLine}
+use Rattle.edit_lines.specs.Pieces.{first_piece, other_pieces, without_empty_last, lines_of}
+use Rattle.edit_lines.specs.Effects.{Effect, RunEffect, Effects, none, more, CommandDid, LineDid, EffectsSoFar, FirstEffects, EffectsAtFault}
+use Rattle.edit_lines.proofs.Cutting.{cut_beside, cut_here, one_line, lines_of-append, lines_of-pieces}
+
+-- one more line has its effect
+pub Effects-snoc : {r s t : RunnerView} {k m n : ℕ} {ls : List (List ℕ)} (l : List ℕ) (c : Command) → Effects r k ls s m → EditLine l c
+    → Effect c s m t n → Effects r k (ls ++ l ∷ []) t n
+Effects-snoc l c none is e = more c is e none
+Effects-snoc l c (more d is' e' rest) is e = more d is' e' (Effects-snoc l c rest is e)
+
+-- options that stay, stay
+pub SameOptions-refl : (r : RunnerView) → SameOptions r r
+SameOptions-refl r = record { spacing = refl; slots = refl }
+
+pub SameOptions-trans : (a b d : RunnerView) → SameOptions a b → SameOptions b d → SameOptions a d
+SameOptions-trans a b d p q = record { spacing = q.spacing ∙ p.spacing; slots = q.slots ∙ p.slots }
+
+-- a run had its effect, by what its report tells
+pub run_effect : (old : RunnerView) (meter : ℕ) (new : RunnerView) (metered : ℕ) (run : Cold) → run ≡ cold old.session → new.session ≡ old.session
+    → SameOptions old new → metered + rerun_start old ≡ meter + run.steps
+    → Reran old new run.steps × LeavesNoneOut old new run.steps × CountsAnew old new run.steps → RunEffect old meter new metered
+run_effect old meter new metered run is session options ticked made =
+    let steps : run.steps ≡ (cold old.session).steps = ap (λ (r : Cold). r.steps) is in
+    record {
+      session = session;
+      options = options;
+      ticked = rw steps at ticked;
+      reran = subst (λ (k : ℕ). Reran old new k) steps made.0;
+      complete = subst (λ (k : ℕ). LeavesNoneOut old new k) steps made.1;
+      counted = subst (λ (k : ℕ). CountsAnew old new k) steps made.2;
+    }
+
+-- what a line did, by what its command did
+pub line_did : (U : Type 0) (n : ℕ) (line : List ℕ) (c : Command) (old : RunnerView) (meter : ℕ) (new : RunnerView) (metered : ℕ) (r : Result U ReplayFault)
+    → EditLine line c → CommandDid c old meter new metered r → LineDid n line old meter new metered r
+line_did U n line c old meter new metered (Ok u) is h = (c, is, h)
+line_did U n line c old meter new metered (Err Write) is h = (c, is, h)
+line_did U n line c old meter new metered (Err OutOfMemory) is (inl h) = inl h
+line_did U n line c old meter new metered (Err OutOfMemory) is (inr h) = inr (subst (λ (d : Command). EditLine line d) h.0 is, h.1)
+line_did U n line c old meter new metered (Err (Malformed k)) is h = absurd h
+line_did U n line c old meter new metered (Err (LineTooLong k)) is h = absurd h
+line_did U n line c old meter new metered (Err Read) is h = absurd h
+
+-- nothing was read, and nothing done
+pub no_effects : (r : RunnerView) (m : ℕ) → EffectsSoFar r m [] r m [] 0
+no_effects r m = record { done = []; cut = refl; effects = none; counted = refl }
+
+module _ (first : RunnerView) (begun : ℕ) (bytes : List ℕ) (now : RunnerView) (meter : ℕ) (line : List ℕ) (count : ℕ)
+    (r : EffectsSoFar first begun bytes now meter line count) where
+  -- the line goes on
+  pub effects_grow : (b : ℕ) → (b ≡ 10 → ⊥) → EffectsSoFar first begun (bytes ++ b ∷ []) now meter (line ++ b ∷ []) count
+  effects_grow b ne = record { done = r.done; cut = cut_beside bytes r.done line r.cut b ne; effects = r.effects; counted = r.counted }
+
+  -- the line ends, and its command has its effect
+  pub effects_done : (t : RunnerView) (n : ℕ) (c : Command) → EditLine line c → Effect c now meter t n
+      → EffectsSoFar first begun (bytes ++ 10 ∷ []) t n [] (count + 1)
+  effects_done t n c is e = record {
+    done = r.done ++ line ∷ [];
+    cut = cut_here bytes r.done line r.cut;
+    effects = Effects-snoc line c r.effects is e;
+    counted = omega (arith, r.counted, length-append r.done (line ∷ []));
+  }
+
+  -- the first lines of a text that goes on so
+  so_far : (whole : List ℕ) (others : List (List ℕ)) → lines_of whole ≡ r.done ++ others → FirstEffects first begun whole count now meter
+  so_far whole others cut = record { done = r.done; others = others; cut = cut; counted = r.counted; effects = r.effects }
+
+  with_line : (whole : List ℕ) (others : List (List ℕ)) → lines_of whole ≡ r.done ++ line ∷ others → (t : RunnerView) (n : ℕ) (c : Command)
+      → EditLine line c → Effect c now meter t n → FirstEffects first begun whole (count + 1) t n
+  with_line whole others cut t n c is e = record {
+    done = r.done ++ line ∷ [];
+    others = others;
+    cut = cut ∙ sym (append_assoc r.done (line ∷ []) others);
+    counted = omega (arith, r.counted, length-append r.done (line ∷ []));
+    effects = Effects-snoc line c r.effects is e;
+  }
+
+  -- the next line of the text failed
+  failed : (whole : List ℕ) (others : List (List ℕ)) → lines_of whole ≡ r.done ++ line ∷ others → (U : Type 0) (t : RunnerView) (n : ℕ) (f : ReplayFault)
+      → LineDid {U = U} (count + 1) line now meter t n (Err f) → EffectsAtFault first begun whole t n f
+  failed whole others cut U t n (Malformed k) h =
+      let e : k - 1 ≡ count = omega (arith, h.0) in rw (e, h.1.0, h.1.1) (so_far whole (line ∷ others) cut)
+  failed whole others cut U t n (LineTooLong k) h = absurd h
+  failed whole others cut U t n Read h = absurd h
+  failed whole others cut U t n Write h = (count + 1, with_line whole others cut t n h.0 h.1 h.2)
+  failed whole others cut U t n OutOfMemory (inl h) = inl (count, rw (h.0, h.1) (so_far whole (line ∷ others) cut))
+  failed whole others cut U t n OutOfMemory (inr h) = elim h.1 [
+    | inl ran ↦ inl (count + 1, with_line whole others cut t n Run h.0 ran)
+    | inr part ↦ inr (record {
+      done = r.done;
+      line = line;
+      others = others;
+      cut = cut;
+      is_run = h.0;
+      before = now;
+      metered = meter;
+      effects = r.effects;
+      part = part;
+    })
+  ]
+
+  -- the line ends, and failed
+  pub effects_failing : (U : Type 0) (rest : List ℕ) (t : RunnerView) (n : ℕ) (f : ReplayFault) (given : List ℕ) → given ≡ line
+      → LineDid {U = U} (count + 1) given now meter t n (Err f) → EffectsAtFault first begun ((bytes ++ 10 ∷ []) ++ rest) t n f
+  effects_failing U rest t n f given same h =
+      let others = without_empty_last (first_piece 10 rest ∷ other_pieces 10 rest) in
+      failed ((bytes ++ 10 ∷ []) ++ rest) others
+      (lines_of-append (bytes ++ 10 ∷ []) rest (r.done ++ line ∷ []) [] (cut_here bytes r.done line r.cut) ∙ append_assoc r.done (line ∷ []) others)
+      U t n f (subst (λ x. LineDid {U = U} (count + 1) x now meter t n (Err f)) same h)
+
+  -- the line goes on with this byte and more, and is not carried out
+  pub effects_stay : (b : ℕ) (rest : List ℕ) → FirstEffects first begun ((bytes ++ b ∷ []) ++ rest) count now meter
+  effects_stay b rest = so_far ((bytes ++ b ∷ []) ++ rest) _
+      (ap lines_of (append_assoc bytes (b ∷ []) rest) ∙ lines_of-append bytes (b ∷ rest) r.done line r.cut)
+
+  pub effects_too_long : (b : ℕ) (rest : List ℕ) → FirstEffects first begun ((bytes ++ b ∷ []) ++ rest) (count + 1 - 1) now meter
+  effects_too_long b rest = let e : count + 1 - 1 ≡ count = omega arith in rw e (effects_stay b rest)
+
+  -- the input ends after a whole line
+  pub effects_whole : line ≡ [] → Effects first begun (lines_of bytes) now meter
+  effects_whole e =
+      let all : lines_of bytes ≡ r.done = rw (e, append-nil r.done) at (lines_of-pieces bytes r.done line r.cut) in
+      rw all r.effects
+
+  -- the input ends in a line
+  lines_there : 0 < length line → lines_of bytes ≡ r.done ++ line ∷ []
+  lines_there some = lines_of-pieces bytes r.done line r.cut ∙ ap (λ ls. r.done ++ ls) (one_line line some)
+
+  -- whose command had its effect
+  pub effects_ended : 0 < length line → (t : RunnerView) (n : ℕ) (c : Command) → EditLine line c → Effect c now meter t n
+      → Effects first begun (lines_of bytes) t n
+  effects_ended some t n c is e = rw (lines_there some) (Effects-snoc line c r.effects is e)
+
+  -- or failed
+  pub effects_broken : 0 < length line → (U : Type 0) (t : RunnerView) (n : ℕ) (f : ReplayFault) (given : List ℕ) → given ≡ line
+      → LineDid {U = U} (count + 1) given now meter t n (Err f) → EffectsAtFault first begun bytes t n f
+  effects_broken some U t n f given same h =
+      failed bytes [] (lines_there some) U t n f (subst (λ x. LineDid {U = U} (count + 1) x now meter t n (Err f)) same h)

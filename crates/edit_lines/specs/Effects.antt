@@ -1,0 +1,127 @@
+-- What the lines of an edit text do, one after the other, to a runner with its checkpoints and to the meter of its runs.
+use Rattle.std.specs.Prelude.{◌≡◌, ℕ, ◌+◌, ◌-◌, ◌⊎◌, List, [], ◌∷◌, ◌++◌, length, Result, Ok, Err}
+use Rattle.machine.specs.Views.{Session}
+use Rattle.machine.specs.Machine.{ask}
+use Rattle.replay.specs.Cold.{cold}
+use Rattle.replay.specs.Edits.{edited}
+use Rattle.replay.specs.RunnerView.{RunnerView, SameOptions, KeepsUntouched, DropsOldest, Reran, LeavesNoneOut, CountsAnew, TicksTo, rerun_start}
+use Rattle.edit_lines.specs.declared.line.Command.{Command}
+use Rattle.edit_lines.specs.declared.line.Command.TheVariants.{Edit, Run, DropOldest}
+use Rattle.edit_lines.specs.declared.ending.Ending.{Ending}
+use Rattle.edit_lines.specs.declared.ending.ReplayFault.{ReplayFault}
+use Rattle.edit_lines.specs.declared.ending.ReplayFault.TheVariants.{Malformed, LineTooLong, Read, Write, OutOfMemory}
+use Rattle.edit_lines.specs.EditLine.{EditLine}
+use Rattle.edit_lines.specs.Pieces.{pieces, lines_of}
+
+-- an edit that is carried out leaves exactly the checkpoints that it does not touch, and one that is refused changes nothing
+abbrev pub EditEffect : Result Session ℕ → RunnerView → RunnerView → Type 0
+EditEffect (Ok s) old new =
+    (new.session ≡ s) × SameOptions old new × (new.refused ≡ old.refused)
+    × KeepsUntouched (ask old.session) (ask new.session) old.checkpoints new.checkpoints
+EditEffect (Err n) old new = new ≡ old
+
+-- a run adds to the meter the steps from the kept one where it begins, and makes the checkpoints that are due
+pub record RunEffect (old : RunnerView) (meter : ℕ) (new : RunnerView) (metered : ℕ) : Type 0 where
+  pub session : new.session ≡ old.session
+  pub options : SameOptions old new
+  pub ticked : metered + rerun_start old ≡ meter + (cold old.session).steps
+  pub reran : Reran old new (cold old.session).steps
+  pub complete : LeavesNoneOut old new (cold old.session).steps
+  pub counted : CountsAnew old new (cold old.session).steps
+
+-- what a command does to a runner and a meter
+abbrev pub Effect : Command → RunnerView → ℕ → RunnerView → ℕ → Type 0
+Effect (Edit e) old meter new metered = EditEffect (edited old.session e) old new × (metered ≡ meter)
+Effect Run old meter new metered = RunEffect old meter new metered
+Effect (DropOldest n) old meter new metered = DropsOldest n old new × (metered ≡ meter)
+
+-- the lines' commands have their effects one after the other, and nothing else is done
+pub data Effects : RunnerView → ℕ → List (List ℕ) → RunnerView → ℕ → Type 0 where
+  none : {r : RunnerView} {m : ℕ} → Effects r m [] r m
+  more : {r s t : RunnerView} {k m n : ℕ} {l : List ℕ} {ls : List (List ℕ)} (c : Command) → EditLine l c
+      → Effect c r k s m → Effects s m ls t n → Effects r k (l ∷ ls) t n
+
+-- the runner and the meter are as they were
+abbrev pub IsUnchanged : RunnerView → ℕ → RunnerView → ℕ → Type 0
+IsUnchanged old meter new metered = (new ≡ old) × (metered ≡ meter)
+
+-- a run that wants memory on its way: the steps from where it begins up to some step are on the meter, and some due checkpoints
+-- were made
+pub record RunCutShort (old : RunnerView) (meter : ℕ) (new : RunnerView) (metered : ℕ) : Type 0 where
+  pub session : new.session ≡ old.session
+  pub options : SameOptions old new
+  pub ticked : TicksTo (ask old.session) old.session.limit (rerun_start old) meter metered
+  pub reran : Reran old new old.session.limit
+  pub counted : CountsAnew old new old.session.limit
+
+-- a run that was answered by want of memory: it was carried out, or cut short
+abbrev pub RunWithoutReport : RunnerView → ℕ → RunnerView → ℕ → Type 0
+RunWithoutReport old meter new metered = RunEffect old meter new metered ⊎ RunCutShort old meter new metered
+
+-- what a command did, by what carrying it out answered: where its reply could not be written it was carried out, and where
+-- memory was wanted nothing was done, or it is a run
+abbrev pub CommandDid : {U : Type 0} → Command → RunnerView → ℕ → RunnerView → ℕ → Result U ReplayFault → Type 0
+CommandDid c old meter new metered (Ok _) = Effect c old meter new metered
+CommandDid c old meter new metered (Err Write) = Effect c old meter new metered
+CommandDid c old meter new metered (Err OutOfMemory) =
+    IsUnchanged old meter new metered ⊎ ((c ≡ Run) × RunWithoutReport old meter new metered)
+CommandDid c old meter new metered (Err (Malformed k)) = ⊥
+CommandDid c old meter new metered (Err (LineTooLong k)) = ⊥
+CommandDid c old meter new metered (Err Read) = ⊥
+
+-- what line number n did
+abbrev pub LineDid : {U : Type 0} → ℕ → List ℕ → RunnerView → ℕ → RunnerView → ℕ → Result U ReplayFault → Type 0
+LineDid n line old meter new metered (Ok _) = (c : Command) × EditLine line c × Effect c old meter new metered
+LineDid n line old meter new metered (Err Write) = (c : Command) × EditLine line c × Effect c old meter new metered
+LineDid n line old meter new metered (Err OutOfMemory) =
+    IsUnchanged old meter new metered ⊎ (EditLine line Run × RunWithoutReport old meter new metered)
+LineDid n line old meter new metered (Err (Malformed k)) = (k ≡ n) × IsUnchanged old meter new metered
+LineDid n line old meter new metered (Err (LineTooLong k)) = ⊥
+LineDid n line old meter new metered (Err Read) = ⊥
+
+-- the bytes are whole lines, which had their effects, and the beginning of one more
+pub record EffectsSoFar (first : RunnerView) (begun : ℕ) (bytes : List ℕ) (now : RunnerView) (meter : ℕ) (line : List ℕ) (count : ℕ) : Type 0 where
+  pub done : List (List ℕ)
+  pub cut : pieces 10 bytes ≡ done ++ line ∷ []
+  pub effects : Effects first begun done now meter
+  pub counted : count ≡ length done
+
+-- the first lines of the bytes, so many, had their effects
+pub record FirstEffects (first : RunnerView) (begun : ℕ) (bytes : List ℕ) (count : ℕ) (now : RunnerView) (meter : ℕ) : Type 0 where
+  pub done : List (List ℕ)
+  pub others : List (List ℕ)
+  pub cut : lines_of bytes ≡ done ++ others
+  pub counted : count ≡ length done
+  pub effects : Effects first begun done now meter
+
+-- some first lines of the bytes had their effects, and the run of the next one was cut short
+pub record EffectsCutShort (first : RunnerView) (begun : ℕ) (bytes : List ℕ) (now : RunnerView) (meter : ℕ) : Type 0 where
+  pub done : List (List ℕ)
+  pub line : List ℕ
+  pub others : List (List ℕ)
+  pub cut : lines_of bytes ≡ done ++ line ∷ others
+  pub is_run : EditLine line Run
+  pub before : RunnerView
+  pub metered : ℕ
+  pub effects : Effects first begun done before metered
+  pub part : RunCutShort before metered now meter
+
+-- what was done where a fault ended the replay of the bytes
+abbrev pub EffectsAtFault : RunnerView → ℕ → List ℕ → RunnerView → ℕ → ReplayFault → Type 0
+EffectsAtFault first begun bytes now meter (Malformed k) = FirstEffects first begun bytes (k - 1) now meter
+EffectsAtFault first begun bytes now meter (LineTooLong k) = FirstEffects first begun bytes (k - 1) now meter
+EffectsAtFault first begun bytes now meter Read =
+    (line : List ℕ) × (count : ℕ) × EffectsSoFar first begun bytes now meter line count
+EffectsAtFault first begun bytes now meter Write = (count : ℕ) × FirstEffects first begun bytes count now meter
+EffectsAtFault first begun bytes now meter OutOfMemory =
+    ((count : ℕ) × FirstEffects first begun bytes count now meter) ⊎ EffectsCutShort first begun bytes now meter
+
+-- what a step over some bytes did, where the rest was read too
+abbrev pub EffectsAfter : {U : Type 0} → RunnerView → ℕ → List ℕ → List ℕ → RunnerView → ℕ → List ℕ → ℕ → Result U ReplayFault → Type 0
+EffectsAfter first begun bytes rest now meter line count (Ok _) = EffectsSoFar first begun bytes now meter line count
+EffectsAfter first begun bytes rest now meter line count (Err f) = EffectsAtFault first begun (bytes ++ rest) now meter f
+
+-- what was done at the end of the input
+abbrev pub EffectsAtEnd : RunnerView → ℕ → List ℕ → RunnerView → ℕ → Result Ending ReplayFault → Type 0
+EffectsAtEnd first begun bytes now meter (Ok e) = Effects first begun (lines_of bytes) now meter
+EffectsAtEnd first begun bytes now meter (Err f) = EffectsAtFault first begun bytes now meter f
