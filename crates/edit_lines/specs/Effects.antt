@@ -1,4 +1,4 @@
--- What the lines of an edit text do, one after the other, to a runner with its checkpoints and to the meter of its runs.
+-- What the lines of an edit text do, one after the other, to a runner with its checkpoints and to the meter of its runs. (This project's own.)
 use Rattle.std.specs.Prelude.{◌≡◌, ℕ, ◌+◌, ◌-◌, ◌⊎◌, List, [], ◌∷◌, ◌++◌, length, Result, Ok, Err}
 use Rattle.machine.specs.Views.{Session}
 use Rattle.machine.specs.Machine.{ask}

@@ -1,4 +1,4 @@
--- How often a run may be refused memory for its checkpoints.
+-- How often a run may be refused memory for its checkpoints. (This project's own.)
 use Rattle.std.specs.Prelude.{◌≡◌, ℕ, ◌+◌, ◌*◌, ◌/◌, ◌<◌, ◌≤◌}
 
 -- the count of a run from one step to another is of that run alone: one at most for each multiple of the spacing that it reached,
