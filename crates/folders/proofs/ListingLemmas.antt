@@ -191,9 +191,9 @@ module _ {Z : Type 0} (drive : ℕ) (folder : Path) (files : Map (String Z)) (tw
   further None items i item d now then lt is says on l h = tt
   further (Some stored) items i item d now then lt is says on l h =
       let whole : take (i + 1) (map string_bytes items) ≡ take i (map string_bytes items) ++ file ∷ [] =
-          take-map string_bytes (i + 1) items ∙ map_more string_bytes items i item lt
-          ∙ ap (λ xs. xs ++ string_bytes (get_or items i item) ∷ []) (sym (take-map string_bytes i items))
-          ∙ ap (λ x. take i (map string_bytes items) ++ x ∷ []) (ap string_bytes (sym is) ∙ sym says) in
+      take-map string_bytes (i + 1) items ∙ map_more string_bytes items i item lt
+      ∙ ap (λ xs. xs ++ string_bytes (get_or items i item) ∷ []) (sym (take-map string_bytes i items))
+      ∙ ap (λ x. take i (map string_bytes items) ++ x ∷ []) (ap string_bytes (sym is) ∙ sym says) in
       subst (λ names. Lists stored drive folder names now then) (sym whole)
       (subst (λ n. Lists stored n folder (take i (map string_bytes items) ++ file ∷ []) now then) on
       (h (take i (map string_bytes items)) (subst (λ n. Lists stored n folder (take i (map string_bytes items)) files twice) (sym on) l)))

@@ -1,5 +1,13 @@
 -- Records that are written one after another.
-use Rattle.std.proofs.Common.{◌≡◌, ℕ, zero, suc, ◌+◌, List, [], ◌∷◌, ◌++◌, Option, sym, ap, subst, ◌∙◌, arith}
+use Rattle.std.proofs.Common.{◌≡◌, ◌≢◌, ℕ, zero, suc, ◌+◌, Bool, true, false, cond, List, [], ◌∷◌, ◌++◌, length, length-append, Option, Some, None, Result, Ok, Err, OnOk, OnErr, refl, sym, ap, subst, ◌∙◌, codes, arith}
+use Rattle.std.specs.Ordering.{nat_cmp, eq_by_cmp}
+use Rattle.std.specs.Cmp.{eq_by_cmp_equiv}
+use Rattle.std.specs.Cmp.Lexicographic.{slice_cmp, nat_list_cmp_total}
+use Rattle.std.specs.FinMap.{get, insert, remove, get-remove}
+use Rattle.keymaps.proofs.Views.{same_key, key_of, get_here, get_apart}
+use Rattle.filenames.specs.Names.{Key}
+use Rattle.folders.specs.Entries.{file_text, needs_slash, path_text, temporary_text}
+use Rattle.folders.specs.FileSystem.{Path, Stored, Becomes, ChangesAt, PutsInPlace, moved, moved_to}
 use Rattle.std.specs.List.{flat_map, range_with_len}
 use Rattle.std.specs.Io.KnownBytes.{Appends}
 use Rattle.std.proofs.KnownBytes.{Appends-trans, Appends-nil}
@@ -32,3 +40,84 @@ one_more a b c f n p q = subst (Appends a c) (sym (flat_more f n)) (Appends-tran
 pub none_more : (a b : Option (List ℕ)) (f : ℕ → List ℕ) (n : ℕ) → Appends a b (flat_map f (range_with_len 0 n)) → f n ≡ []
     → Appends a b (flat_map f (range_with_len 0 (n + 1)))
 none_more a b f n p e = one_more a b b f n p (subst (Appends b b) (sym e) (Appends-nil b))
+
+-- ---- a file that is put in place
+
+pub unchanged : (path : Path) (files : Option Stored) → ChangesAt path files files
+unchanged path None = tt
+unchanged path (Some files) = (files, refl, λ p ne. refl)
+
+pub changes_twice : (path : Path) (a b c : Option Stored) → ChangesAt path a b → ChangesAt path b c → ChangesAt path a c
+changes_twice path None b c p q = tt
+changes_twice path (Some files) b c p q =
+    let second = subst (λ x. ChangesAt path x c) p.1 q in
+    (second.0, second.1, λ n ne. second.2 n ne ∙ p.2 n ne)
+
+removed_here : (files : Stored) (path : Path) → get (remove files path) path ≡ None
+removed_here files path = get-remove nat_list_cmp_total files path path ∙ ap (λ b. cond b None (get files path)) ((eq_by_cmp_equiv nat_list_cmp_total).refl path)
+
+removed_apart : (files : Stored) (path p : Path) → p ≢ path → get (remove files path) p ≡ get files p
+removed_apart files path p ne = get-remove nat_list_cmp_total files path p ∙ by_key (eq_by_cmp (slice_cmp nat_cmp) p path) (key_of same_key p path) where
+  by_key : (b : Bool) → (b ≡ true → p ≡ path) → cond b None (get files p) ≡ get files p
+  by_key true same = absurd (ne (same refl))
+  by_key false same = refl
+
+module _ (path temporary : Path) (bytes : List ℕ) where
+  -- an error after which only the file of the other path may be another
+  pub at_error : {E : Type 0} (before after : Option Stored) (e : E) → ChangesAt temporary before after → PutsInPlace before after path temporary bytes (Err e)
+  at_error None after e h = tt
+  at_error (Some files) after e h = h
+
+  -- what was removed, written and renamed is in place
+  placed : (E : Type 0) (before removed written after : Option Stored) (u : Unit {0}) → temporary ≢ path → ChangesAt temporary before removed
+      → Becomes removed written (λ stored. insert stored temporary bytes) → Becomes written after (moved temporary path)
+      → PutsInPlace {E = E} before after path temporary bytes (Ok u)
+  placed E None removed written after u apart r w m = tt
+  placed E (Some files) removed written after u apart r w m =
+      let w' = subst (λ x. Becomes x written (λ stored. insert stored temporary bytes)) r.1 w in
+      let first = insert r.0 temporary bytes in
+      let m' = subst (λ x. Becomes x after (moved temporary path)) w' m in
+      let here : get first temporary ≡ Some bytes = get_here nat_list_cmp_total same_key r.0 temporary bytes in
+      let rest = remove first temporary in (
+        insert rest path bytes,
+        m' ∙ ap (λ o. Some (moved_to path o rest)) here,
+        record {
+          there = get_here nat_list_cmp_total same_key rest path bytes;
+          gone = get_apart nat_list_cmp_total same_key rest path bytes temporary apart ∙ removed_here first temporary;
+          others = λ p ne nt. get_apart nat_list_cmp_total same_key rest path bytes p ne ∙ removed_apart first temporary p nt
+              ∙ get_apart nat_list_cmp_total same_key r.0 temporary bytes p nt ∙ r.2 p nt;
+        },
+      )
+
+  pub placed_or_not : {E : Type 0} (before removed written after : Option Stored) (r : Result (Unit {0}) E) → temporary ≢ path → ChangesAt temporary before removed
+      → Becomes removed written (λ stored. insert stored temporary bytes) → ChangesAt temporary removed written
+      → OnOk r (Becomes written after (moved temporary path)) → OnErr r (after ≡ written)
+      → PutsInPlace before after path temporary bytes r
+  placed_or_not {E = E} before removed written after (Ok u) apart h w c m e = placed E before removed written after u apart h w m
+  placed_or_not before removed written after (Err x) apart h w c m e =
+      at_error before after x (subst (ChangesAt temporary before) (sym e) (changes_twice temporary before removed written h c))
+
+  -- the same with another type of errors
+  pub ok_still : (E F : Type 0) (before after : Option Stored) (u v : Unit {0}) → PutsInPlace {E = E} before after path temporary bytes (Ok u)
+      → PutsInPlace {E = F} before after path temporary bytes (Ok v)
+  ok_still E F None after u v h = tt
+  ok_still E F (Some files) after u v h = h
+
+  pub err_further : {E F : Type 0} (before after last : Option Stored) (e : E) (f : F) → PutsInPlace before after path temporary bytes (Err e) → ChangesAt temporary after last
+      → PutsInPlace before last path temporary bytes (Err f)
+  err_further None after last e f h c = tt
+  err_further (Some files) after last e f h c = changes_twice temporary (Some files) after last h c
+
+longer : (front text before behind : List ℕ) → length before ≡ 1 → length behind ≡ 4 → length (front ++ (before ++ text ++ behind)) ≡ length (front ++ text) + 5
+longer front text before behind one four =
+    let a = length-append front (before ++ text ++ behind) in
+    let b = length-append (before ++ text) behind in
+    let d = length-append before text in
+    let e = length-append front text in
+    omega (arith, a, b, d, e, one, four)
+
+-- the two paths of a file in a folder are not the same
+pub paths_differ : (folder : Path) (name : Key) → path_text folder (temporary_text name) ≢ path_text folder (file_text name)
+paths_differ folder name e = no_longer _ (ap length e) (longer (folder ++ cond (needs_slash folder) (47 ∷ []) []) (file_text name) (codes ".") (codes ".new") refl refl) where
+  no_longer : {n : ℕ} (m : ℕ) → n ≡ m → n ≡ m + 5 → ⊥
+  no_longer m p q = let same : m ≡ m + 5 = sym p ∙ q in absurd (omega (arith, same))

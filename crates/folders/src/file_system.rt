@@ -1,7 +1,8 @@
 // The files of a machine, by their paths.
 
 ghost use Rattle.std.specs.Prelude.{◌≡◌, ℕ, List, [], Option, Some, None, IfOk, OnOk, OnErr, IfSome, map, string_bytes};
-ghost use Rattle.std.specs.FinMap.{contains_key, insert, remove};
+ghost use Rattle.std.specs.FinMap.{contains_key, insert};
+ghost use Rattle.std.specs.Io.KnownBytes.{Appends};
 ghost use Rattle.folders.specs.FileSystem.{Path, Stored, Opens, Becomes, ChangesAt, moved};
 
 use std::alloc::Global;
@@ -10,23 +11,27 @@ use std::io::{BufWriter, Read, Write};
 use std::rt::Files;
 use std::{fs, io};
 
+/// Bytes that can be written, as those of a file that is kept in parts.
+pub trait Contents {
+    /// All of them.
+    ghost bytes: { Self → List ℕ };
+
+    /// Writes them. An error is the writer's, which then has a part of them.
+    fn write_to<W: Write>(&self, writer: &mut W) -> io::Result<()>
+        ensures { OnOk result (Appends (W.contents writer.old) (W.contents writer.new) (bytes self.now)) };
+}
+
 /// Files by their paths. A contract sees the bytes of each regular file, where the file system tells them; that of an operating
 /// system tells nothing. Paths that differ are different files.
 pub trait FileSystem {
     /// An open file that is read.
     type Input: Read + Drop;
 
-    /// A new file that is written.
-    type Output: Write + Drop;
-
     /// The bytes of each regular file, where they are told.
     ghost files: { Self → Option Stored };
 
     /// The names of what stands in a folder, in the order in which it is listed, where the files are told.
     ghost names: { Self → Path → List Path };
-
-    /// The path of a new file.
-    ghost path_of: { Self.Output → Path };
 
     /// The allocator of what it makes, and of what is made of its files.
     fn alloc(&self) -> Global;
@@ -43,16 +48,10 @@ pub trait FileSystem {
     fn is_file(&self, path: &str) -> io::Result<bool>
         ensures { IfOk result (λ is. IfSome (files self.now) (λ stored. is ≡ contains_key stored path.now)) };
 
-    /// Makes a new file, where nothing stands at the path.
-    fn create(&mut self, path: &str) -> io::Result<Self::Output>
-        ensures empty { IfOk result (λ output. IfSome (files self.old) (λ _. Self.Output.contents output ≡ Some [])) }
-        ensures named { IfOk result (λ output. IfSome (files self.old) (λ _. path_of output ≡ path.now)) }
+    /// Writes a new file, where nothing stands at the path. An error may leave a part of it there.
+    fn write_new<C: Contents>(&mut self, path: &str, contents: &C) -> io::Result<()>
+        ensures written { OnOk result (Becomes (files self.old) (files self.new) (λ stored. insert stored path.now (C.bytes contents.now))) }
         ensures others { ChangesAt path.now (files self.old) (files self.new) };
-
-    /// Ends the writing of a new file, of which all bytes then stand at its path.
-    fn finish(&mut self, output: Self::Output) -> io::Result<()>
-        ensures written { OnOk result (IfSome (Self.Output.contents output) (λ bytes. Becomes (files self.old) (files self.new) (λ stored. insert stored (path_of output) bytes))) }
-        ensures others { IfSome (files self.old) (λ _. ChangesAt (path_of output) (files self.old) (files self.new)) };
 
     /// Puts the file of one path at another, in place of what stands there.
     fn rename(&mut self, from: &str, to: &str) -> io::Result<()>
@@ -62,6 +61,22 @@ pub trait FileSystem {
     /// Removes a file.
     fn remove(&mut self, path: &str) -> io::Result<()>
         ensures others { ChangesAt path.now (files self.old) (files self.new) };
+}
+
+// Writes contents to a writer, through a buffer, and gives the writer back.
+fn write_whole<W: Write + Drop, C: Contents>(
+    alloc: Global,
+    writer: W,
+    contents: &C,
+) -> io::Result<W>
+    ensures { IfOk result (λ written. Appends (W.contents writer) (W.contents written) (C.bytes contents.now)) }
+{
+    let mut buffered = BufWriter::new(alloc, writer)?;
+    contents.write_to(&mut buffered)?;
+    match buffered.into_inner() {
+        Ok(written) => Ok(written),
+        Err(error) => Err(error.into_error()),
+    }
 }
 
 /// The files of the operating system, which tells a contract nothing of them.
@@ -79,13 +94,9 @@ impl<'a, R> SystemFiles<'a, R> {
 impl<R: Files + AllocGlobal + Clone + Drop> FileSystem for SystemFiles<'_, R> {
     type Input = R::File;
 
-    type Output = BufWriter<R::File>;
-
     ghost files = { λ _. None };
 
     ghost names = { λ _ _. [] };
-
-    ghost path_of = { λ _. [] };
 
     fn alloc(&self) -> Global {
         self.rt.alloc()
@@ -107,16 +118,13 @@ impl<R: Files + AllocGlobal + Clone + Drop> FileSystem for SystemFiles<'_, R> {
         Ok(fs::symlink_metadata(self.rt, path)?.is_file())
     }
 
-    fn create(&mut self, path: &str) -> io::Result<BufWriter<R::File>> {
+    fn write_new<C: Contents>(&mut self, path: &str, contents: &C) -> io::Result<()> {
         let file = OpenOptions::new()
             .write(true)
             .create_new(true)
             .open(self.rt, path)?;
-        Ok(BufWriter::new(self.alloc(), file)?)
-    }
-
-    fn finish(&mut self, mut output: BufWriter<R::File>) -> io::Result<()> {
-        output.flush()
+        write_whole(self.alloc(), file, contents)?;
+        Ok(())
     }
 
     fn rename(&mut self, from: &str, to: &str) -> io::Result<()> {

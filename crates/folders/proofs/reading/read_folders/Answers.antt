@@ -30,8 +30,8 @@ loop-drive-preserved g c =
 pub returns : goal.returns
 returns g c = record {
   files =
-    let four : length c.args.folders.now ≡ 4 = search rules in
-    all_drives (g.S.FileSystem.files c.args.system.now) (g.S.FileSystem.names c.args.system.now) c.args.folders.now c.loop-drive.drive c.loop-drive.files four
-    c.loop-drive-test.false c.loop-drive.invariant;
+      let four : length c.args.folders.now ≡ 4 = search rules in
+      all_drives (g.S.FileSystem.files c.args.system.now) (g.S.FileSystem.names c.args.system.now) c.args.folders.now c.loop-drive.drive c.loop-drive.files four
+      c.loop-drive-test.false c.loop-drive.invariant;
   fault = tt;
 }
