@@ -62,51 +62,41 @@ removed_apart files path p ne = get-remove nat_list_cmp_total files path p ∙ b
   by_key true same = absurd (ne (same refl))
   by_key false same = refl
 
-module _ (path temporary : Path) (bytes : List ℕ) where
-  -- an error after which only the file of the other path may be another
-  pub at_error : {E : Type 0} (before after : Option Stored) (e : E) → ChangesAt temporary before after → PutsInPlace before after path temporary bytes (Err e)
-  at_error None after e h = tt
-  at_error (Some files) after e h = h
+-- what was removed, written and renamed is in place
+placed : (path temporary : Path) (bytes : List ℕ) (before removed written after : Option Stored) → temporary ≢ path → ChangesAt temporary before removed
+    → Becomes removed written (λ stored. insert stored temporary bytes) → Becomes written after (moved temporary path)
+    → PutsInPlace before after path temporary bytes
+placed path temporary bytes None removed written after apart r w m = tt
+placed path temporary bytes (Some files) removed written after apart r w m =
+    let w' = subst (λ x. Becomes x written (λ stored. insert stored temporary bytes)) r.1 w in
+    let first = insert r.0 temporary bytes in
+    let m' = subst (λ x. Becomes x after (moved temporary path)) w' m in
+    let here : get first temporary ≡ Some bytes = get_here nat_list_cmp_total same_key r.0 temporary bytes in
+    let rest = remove first temporary in (
+      insert rest path bytes,
+      m' ∙ ap (λ o. Some (moved_to path o rest)) here,
+      record {
+        there = get_here nat_list_cmp_total same_key rest path bytes;
+        gone = get_apart nat_list_cmp_total same_key rest path bytes temporary apart ∙ removed_here first temporary;
+        others = λ p ne nt. get_apart nat_list_cmp_total same_key rest path bytes p ne ∙ removed_apart first temporary p nt
+            ∙ get_apart nat_list_cmp_total same_key r.0 temporary bytes p nt ∙ r.2 p nt;
+      },
+    )
 
-  -- what was removed, written and renamed is in place
-  placed : (E : Type 0) (before removed written after : Option Stored) (u : Unit {0}) → temporary ≢ path → ChangesAt temporary before removed
-      → Becomes removed written (λ stored. insert stored temporary bytes) → Becomes written after (moved temporary path)
-      → PutsInPlace {E = E} before after path temporary bytes (Ok u)
-  placed E None removed written after u apart r w m = tt
-  placed E (Some files) removed written after u apart r w m =
-      let w' = subst (λ x. Becomes x written (λ stored. insert stored temporary bytes)) r.1 w in
-      let first = insert r.0 temporary bytes in
-      let m' = subst (λ x. Becomes x after (moved temporary path)) w' m in
-      let here : get first temporary ≡ Some bytes = get_here nat_list_cmp_total same_key r.0 temporary bytes in
-      let rest = remove first temporary in (
-        insert rest path bytes,
-        m' ∙ ap (λ o. Some (moved_to path o rest)) here,
-        record {
-          there = get_here nat_list_cmp_total same_key rest path bytes;
-          gone = get_apart nat_list_cmp_total same_key rest path bytes temporary apart ∙ removed_here first temporary;
-          others = λ p ne nt. get_apart nat_list_cmp_total same_key rest path bytes p ne ∙ removed_apart first temporary p nt
-              ∙ get_apart nat_list_cmp_total same_key r.0 temporary bytes p nt ∙ r.2 p nt;
-        },
-      )
+pub placed_at_ok : {E : Type 0} (path temporary : Path) (bytes : List ℕ) (before removed written after : Option Stored) (r : Result (Unit {0}) E) → temporary ≢ path
+    → ChangesAt temporary before removed → Becomes removed written (λ stored. insert stored temporary bytes) → OnOk r (Becomes written after (moved temporary path))
+    → OnOk r (PutsInPlace before after path temporary bytes)
+placed_at_ok path temporary bytes before removed written after (Ok u) apart h w m = placed path temporary bytes before removed written after apart h w m
+placed_at_ok path temporary bytes before removed written after (Err x) apart h w m = tt
 
-  pub placed_or_not : {E : Type 0} (before removed written after : Option Stored) (r : Result (Unit {0}) E) → temporary ≢ path → ChangesAt temporary before removed
-      → Becomes removed written (λ stored. insert stored temporary bytes) → ChangesAt temporary removed written
-      → OnOk r (Becomes written after (moved temporary path)) → OnErr r (after ≡ written)
-      → PutsInPlace before after path temporary bytes r
-  placed_or_not {E = E} before removed written after (Ok u) apart h w c m e = placed E before removed written after u apart h w m
-  placed_or_not before removed written after (Err x) apart h w c m e =
-      at_error before after x (subst (ChangesAt temporary before) (sym e) (changes_twice temporary before removed written h c))
+pub left_at_err : {E : Type 0} (temporary : Path) (before removed written after : Option Stored) (r : Result (Unit {0}) E) → ChangesAt temporary before removed
+    → ChangesAt temporary removed written → OnErr r (after ≡ written) → OnErr r (ChangesAt temporary before after)
+left_at_err temporary before removed written after (Ok u) h c e = tt
+left_at_err temporary before removed written after (Err x) h c e = subst (ChangesAt temporary before) (sym e) (changes_twice temporary before removed written h c)
 
-  -- the same with another type of errors
-  pub ok_still : (E F : Type 0) (before after : Option Stored) (u v : Unit {0}) → PutsInPlace {E = E} before after path temporary bytes (Ok u)
-      → PutsInPlace {E = F} before after path temporary bytes (Ok v)
-  ok_still E F None after u v h = tt
-  ok_still E F (Some files) after u v h = h
-
-  pub err_further : {E F : Type 0} (before after last : Option Stored) (e : E) (f : F) → PutsInPlace before after path temporary bytes (Err e) → ChangesAt temporary after last
-      → PutsInPlace before last path temporary bytes (Err f)
-  err_further None after last e f h c = tt
-  err_further (Some files) after last e f h c = changes_twice temporary (Some files) after last h c
+pub at_any_err : {T E : Type 0} {P : Type 0} (r : Result T E) → P → OnErr r P
+at_any_err (Ok x) p = tt
+at_any_err (Err e) p = p
 
 longer : (front text before behind : List ℕ) → length before ≡ 1 → length behind ≡ 4 → length (front ++ (before ++ text ++ behind)) ≡ length (front ++ text) + 5
 longer front text before behind one four =

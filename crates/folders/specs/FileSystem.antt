@@ -1,5 +1,5 @@
 -- What a file system holds, where it tells that: the bytes of each regular file by its path. (This project's own.)
-use Rattle.std.specs.Prelude.{◌≡◌, ◌≢◌, ℕ, List, take, Option, Some, None, Result, Ok, Err, IsSome, ⊤}
+use Rattle.std.specs.Prelude.{◌≡◌, ◌≢◌, ℕ, List, take, Option, Some, None, IsSome, ⊤}
 use Rattle.std.specs.Option.{option_and_then}
 use Rattle.std.specs.Ordering.{nat_cmp}
 use Rattle.std.specs.Cmp.Lexicographic.{slice_cmp}
@@ -52,9 +52,7 @@ pub record IsInPlace (before now : Stored) (path temporary : Path) (bytes : List
   pub gone : get now temporary ≡ None
   pub others : (p : Path) → p ≢ path → p ≢ temporary → get now p ≡ get before p
 
--- where the files are told, a file was put in place; at an error the file of its path, and every other, is as it was, and only under
--- the other path something may be left
-abbrev pub PutsInPlace : {E : Type 0} → Option Stored → Option Stored → Path → Path → List ℕ → Result (Unit {0}) E → Type 0
-PutsInPlace None after path temporary bytes r = ⊤
-PutsInPlace (Some files) after path temporary bytes (Ok _) = (now : Stored) × (after ≡ Some now) × IsInPlace files now path temporary bytes
-PutsInPlace (Some files) after path temporary bytes (Err _) = ChangesAt temporary (Some files) after
+-- the same, where the files are told
+abbrev pub PutsInPlace : Option Stored → Option Stored → Path → Path → List ℕ → Type 0
+PutsInPlace None after path temporary bytes = ⊤
+PutsInPlace (Some files) after path temporary bytes = (now : Stored) × (after ≡ Some now) × IsInPlace files now path temporary bytes

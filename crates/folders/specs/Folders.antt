@@ -10,7 +10,7 @@ use Rattle.hostfiles.specs.Hosts.{Host, Record, records_in}
 use Rattle.hostfiles.specs.declared.host.TheConstants.{FILE_LIMIT}
 use Rattle.folders.specs.Entries.{file_text, path_text, temporary_text}
 use Rattle.folders.specs.Faults.{Unwritten}
-use Rattle.folders.specs.FileSystem.{Path, Stored, PutsInPlace}
+use Rattle.folders.specs.FileSystem.{Path, Stored, ChangesAt, PutsInPlace}
 use Rattle.folders.specs.Listings.{AreTwo, IsHostFile}
 use Rattle.folders.specs.declared.fault.Fault.{Fault}
 use Rattle.folders.specs.declared.fault.Fault.TheVariants.{CannotRead, CannotWrite, TwoFiles, Refused, OutOfMemory}
@@ -81,7 +81,12 @@ FailsFolders files names folders fault =
 abbrev pub FailsToWrite : List (Option (Bor (List ℕ))) → Key → Fault → Type 0
 FailsToWrite folders name fault = (folder : List ℕ) × (folder_of folders (slice_index name 0) ≡ Some folder) × Unwritten (path_text folder (file_text name)) fault
 
--- what stands in the folder of a file's drive after the file was written there; a drive without a folder takes nothing
-abbrev pub WritesInto : {E : Type 0} → Option Path → Option Stored → Option Stored → Key → List ℕ → Result (Unit {0}) E → Type 0
-WritesInto None files after name bytes r = after ≡ files
-WritesInto (Some folder) files after name bytes r = PutsInPlace files after (path_text folder (file_text name)) (path_text folder (temporary_text name)) bytes r
+-- a file was written into the folder of its drive; a drive without a folder takes nothing
+abbrev pub WritesInto : Option Path → Option Stored → Option Stored → Key → List ℕ → Type 0
+WritesInto None files after name bytes = after ≡ files
+WritesInto (Some folder) files after name bytes = PutsInPlace files after (path_text folder (file_text name)) (path_text folder (temporary_text name)) bytes
+
+-- a file was not written there: each file is as it was, but for what may be left under the path where it is written first
+abbrev pub LeavesIn : Option Path → Option Stored → Option Stored → Key → Type 0
+LeavesIn None files after name = after ≡ files
+LeavesIn (Some folder) files after name = ChangesAt (path_text folder (temporary_text name)) files after

@@ -1,12 +1,11 @@
 // A changed file is written into a folder.
 
-ghost use Rattle.std.specs.Prelude.{◌≡◌, ◌≢◌, ◌<◌, true, OnOk, IfOk, IfErr, slice_index, string_bytes};
+ghost use Rattle.std.specs.Prelude.{◌≡◌, ◌≢◌, ◌<◌, Some, OnOk, OnErr, IfOk, IfErr, slice_index, string_bytes};
 ghost use Rattle.std.specs.Io.KnownBytes.{Appends};
-ghost use Rattle.hostfiles.specs.Files.{has};
 ghost use Rattle.folders.specs.Entries.{file_text, path_text, temporary_text};
 ghost use Rattle.folders.specs.Faults.{Unwritten};
-ghost use Rattle.folders.specs.FileSystem.{PutsInPlace};
-ghost use Rattle.folders.specs.Folders.{FailsToWrite, WritesInto, folder_of};
+ghost use Rattle.folders.specs.FileSystem.{ChangesAt, PutsInPlace};
+ghost use Rattle.folders.specs.Folders.{FailsToWrite, LeavesIn, WritesInto, folder_of};
 ghost use Rattle.folders.specs.Written.{bytes_of};
 
 use crate::entry::{file_name, path_in, temporary_name};
@@ -19,6 +18,7 @@ use std::io;
 use std::io::Write;
 
 /// A file as it is after changes: its records, one after another, and a hole as zeros.
+#[derive(Clone, Copy)]
 pub struct ChangedFile<'a> {
     /// The host files.
     pub host: &'a HostFiles,
@@ -67,7 +67,8 @@ fn write_and_rename<S: FileSystem, C: Contents>(
     path: &str,
 ) -> io::Result<()>
     requires { temporary.now ≢ path.now }
-    ensures { PutsInPlace (S.files system.old) (S.files system.new) path.now temporary.now (C.bytes contents.now) result }
+    ensures written { OnOk result (PutsInPlace (S.files system.old) (S.files system.new) path.now temporary.now (C.bytes contents.now)) }
+    ensures err { OnErr result (ChangesAt temporary.now (S.files system.old) (S.files system.new)) }
 {
     let _ = system.remove(temporary);
     system.write_new(temporary, contents)?;
@@ -83,8 +84,8 @@ pub fn write_file<S: FileSystem, C: Contents>(
     name: &Name,
     contents: &C,
 ) -> Result<(), Fault>
-    ensures writes { PutsInPlace (S.files system.old) (S.files system.new) (path_text folder.now (file_text name.now))
-        (path_text folder.now (temporary_text name.now)) (C.bytes contents.now) result }
+    ensures written { OnOk result (WritesInto (Some folder.now) (S.files system.old) (S.files system.new) name.now (C.bytes contents.now)) }
+    ensures err { OnErr result (LeavesIn (Some folder.now) (S.files system.old) (S.files system.new) name.now) }
     ensures fault { IfErr result (Unwritten (path_text folder.now (file_text name.now))) }
 {
     let Ok((path, temporary)) = paths(system.alloc(), folder, name) else {
@@ -127,7 +128,10 @@ pub fn write_to_drive<S: FileSystem, C: Contents>(
     name: &Name,
     contents: &C,
 ) -> Result<(), Fault>
-    ensures writes { WritesInto (folder_of folders.now (slice_index name.now 0)) (S.files system.old) (S.files system.new) name.now (C.bytes contents.now) result }
+    ensures written { OnOk result (WritesInto (folder_of folders.now (slice_index name.now 0))
+        (S.files system.old) (S.files system.new) name.now (C.bytes contents.now)) }
+    ensures err { OnErr result (LeavesIn (folder_of folders.now (slice_index name.now 0))
+        (S.files system.old) (S.files system.new) name.now) }
     ensures fault { IfErr result (FailsToWrite folders.now name.now) }
 {
     match folders[drive_of(name)] {
