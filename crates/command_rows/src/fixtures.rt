@@ -2,7 +2,7 @@
 
 ghost use Rattle.std.specs.Prelude.{None};
 
-use cpmrun::{Failed, Over, Writer, command};
+use cpmrun::{Failed, Over, SystemFiles, Writer, command};
 use std::alloc::{AllocError, Global};
 use std::fs::OpenFile;
 use std::process::{Abort, Process};
@@ -140,7 +140,7 @@ fn answer<R: Files + AllocGlobal + Clone + Drop + Abort>(
 ) {
     let mut out = Over::new(Vec::new(rt.alloc()));
     let mut err = Over::new(Vec::new(rt.alloc()));
-    let status = command(rt, words, &mut out, &mut err);
+    let status = command(&mut SystemFiles::new(rt), words, &mut out, &mut err);
     let out = out.into_inner();
     let err = err.into_inner();
     compare(rt, folder, (status, out.as_slice(), err.as_slice()), wanted);
@@ -155,7 +155,7 @@ fn find_no_room<R: Files + AllocGlobal + Clone + Drop + Abort>(
 ) {
     let mut out = Narrow { room, failures: 0 };
     let mut err = Over::new(Vec::new(rt.alloc()));
-    let status = command(rt, words, &mut out, &mut err);
+    let status = command(&mut SystemFiles::new(rt), words, &mut out, &mut err);
     let err = err.into_inner();
     compare(rt, folder, (status, b"".as_slice(), err.as_slice()), wanted);
 }
@@ -169,7 +169,7 @@ fn leave_untold<R: Files + AllocGlobal + Clone + Drop + Abort>(
 ) {
     let mut out = Over::new(Vec::new(rt.alloc()));
     let mut err = Narrow { room, failures: 0 };
-    let status = command(rt, words, &mut out, &mut err);
+    let status = command(&mut SystemFiles::new(rt), words, &mut out, &mut err);
     let out = out.into_inner();
     compare(rt, folder, (status, out.as_slice(), b"".as_slice()), wanted);
 }

@@ -2,3 +2,4 @@ pub mod Telling
 pub mod Refusing
 pub mod Choosing
 pub mod Writing
+pub mod Walking

@@ -1,3 +1,4 @@
+pub mod World
 pub mod Complaints
 pub mod Requests
 pub mod Loading

@@ -1,11 +1,17 @@
--- One run of a session: what it writes, its status, and what it leaves where it is broken off. (This project's own.)
-use Rattle.std.specs.Prelude.{◌≡◌, ℕ, ◌<◌, ◌⊎◌, ◌++◌, List, Option, codes, take}
+-- One run of a session: what it writes, its status, and what it leaves where it is broken off. (This project's profile.)
+use Rattle.std.specs.Prelude.{◌≡◌, ℕ, ◌<◌, ◌⊎◌, [], ◌∷◌, ◌++◌, List, Option, codes, filter, slice_index, take}
 use Rattle.std.specs.Borrow.{Bor}
 use Rattle.std.specs.Io.KnownBytes.{Appends}
 use Rattle.bdos.specs.declared.cause.Cause.{Cause}
 use Rattle.bdos.specs.declared.cause.Cause.TheVariants.{WarmBoot, Halt, Limit, Undefined, SystemArea, ConsoleExhausted, NoDollar, Unsupported, BadDrive}
 use Rattle.filenames.specs.Names.{Key}
-use Rattle.folders.specs.Folders.{FailsToWrite}
+use Rattle.hostfiles.specs.Hosts.{Host}
+use Rattle.hostfiles.specs.Files.{Own, has}
+use Rattle.changed_files.specs.Changed.{changed_keys}
+use Rattle.folders.specs.FileSystem.{Path, Stored}
+use Rattle.folders.specs.Folders.{FailsToWrite, LeavesIn, WritesInto, folder_of}
+use Rattle.folders.specs.Written.{bytes_of}
+use Rattle.cpmrun.specs.World.{World}
 use Rattle.machine.specs.Views.{Session}
 use Rattle.replay.specs.Cold.{cold}
 use Rattle.edit_lines.specs.ChangedLines.{gone_lines}
@@ -38,33 +44,82 @@ printed s = (cold s).state.core.desk.text
 abbrev pub telling : Session → List ℕ
 telling s = stop_line (cold s).cause ++ gone_lines s.files (cold s).state.own.files
 
--- the session was run once: what it prints was written, and then what it tells, or a part of that where writing failed
-pub record RunsOnce (s : Session) (status : ℕ) (held holds told tells : Option (List ℕ)) (stuck sticks : ℕ) : Type 0 where
+-- the folder of a file's drive, if it has one
+abbrev pub home : List (Option (Bor (List ℕ))) → Key → Option Path
+home folders key = folder_of folders (slice_index key 0)
+
+-- the changed files that are there at the stop, in the order of their names
+abbrev pub written_keys : Host → Own → List Key
+written_keys host own = filter (has host own) (changed_keys host own)
+
+-- a fault of the folder of a file's drive
+abbrev pub IsOfFolder : List (Option (Bor (List ℕ))) → Key → Fault → Type 0
+IsOfFolder folders name (Use text) = ⊥
+IsOfFolder folders name NotText = ⊥
+IsOfFolder folders name (CannotRead p) = ⊥
+IsOfFolder folders name CannotWrite = ⊥
+IsOfFolder folders name (Folders f) = FailsToWrite folders name f
+IsOfFolder folders name (Refused n) = ⊥
+IsOfFolder folders name (Malformed k) = ⊥
+IsOfFolder folders name (TooLong k) = ⊥
+IsOfFolder folders name OutOfMemory = ⊥
+
+-- files are written into the folders of their drives, one after another, and each whole
+abbrev pub WritesEach : List (Option (Bor (List ℕ))) → Host → Own → Option Stored → List Key → Option Stored → Type 0
+WritesEach folders host own before [] after = after ≡ before
+WritesEach folders host own before (key ∷ keys) after =
+    (next : Option Stored) × WritesInto (home folders key) before next key (bytes_of host own key) × WritesEach folders host own next keys after
+
+-- some first of them are, and then one of which this is true is not: what stood at its path stands there still
+abbrev pub StopsAt : (Key → Type 0) → List (Option (Bor (List ℕ))) → Host → Own → Option Stored → List Key → Option Stored → Type 0
+StopsAt Fails folders host own before [] after = ⊥
+StopsAt Fails folders host own before (key ∷ keys) after =
+    (Fails key × LeavesIn (home folders key) before after key)
+    ⊎ ((next : Option Stored) × WritesInto (home folders key) before next key (bytes_of host own key) × StopsAt Fails folders host own next keys after)
+
+-- all changed files that are there were written
+abbrev pub WritesAll : List (Option (Bor (List ℕ))) → Host → Own → Option Stored → Option Stored → Type 0
+WritesAll folders host own before after = WritesEach folders host own before (written_keys host own) after
+
+-- the changed files were not all written, and why: the folder of a drive does not take one, or memory was refused
+abbrev pub Unwritten : List (Option (Bor (List ℕ))) → Host → Own → Option Stored → Option Stored → Fault → Type 0
+Unwritten folders host own before after (Use text) = ⊥
+Unwritten folders host own before after NotText = ⊥
+Unwritten folders host own before after (CannotRead p) = ⊥
+Unwritten folders host own before after CannotWrite = ⊥
+Unwritten folders host own before after (Folders f) = StopsAt (λ name. FailsToWrite folders name f) folders host own before (written_keys host own) after
+Unwritten folders host own before after (Refused n) = ⊥
+Unwritten folders host own before after (Malformed k) = ⊥
+Unwritten folders host own before after (TooLong k) = ⊥
+Unwritten folders host own before after OutOfMemory = after ≡ before
+
+-- the same of the changed files of a session's run
+abbrev pub WritesFiles : List (Option (Bor (List ℕ))) → Session → Option Stored → Option Stored → Type 0
+WritesFiles folders s before after = WritesAll folders s.files (cold s).state.own.files before after
+
+abbrev pub FailsToWriteFiles : List (Option (Bor (List ℕ))) → Session → Option Stored → Option Stored → Fault → Type 0
+FailsToWriteFiles folders s before after fault = Unwritten folders s.files (cold s).state.own.files before after fault
+
+-- the session was run once: what it prints was written, then its changed files, and then what it tells, or a part of that where
+-- writing failed
+pub record RunsOnce (folders : List (Option (Bor (List ℕ)))) (s : Session) (status : ℕ) (before after : World) : Type 0 where
   pub exits : status ≡ stop_status (cold s).cause
-  pub written : Appends held holds (printed s)
-  pub telling : WritesOrFails told tells stuck sticks (telling s)
+  pub written : Appends before.out after.out (printed s)
+  pub files : WritesFiles folders s before.files after.files
+  pub telling : WritesOrFails before.err after.err before.err_failures after.err_failures (telling s)
 
--- why a changed file is not written: the folder of its drive does not take it, or memory was refused
-abbrev pub Unwritten : List (Option (Bor (List ℕ))) → Fault → Type 0
-Unwritten folders (Use text) = ⊥
-Unwritten folders NotText = ⊥
-Unwritten folders (CannotRead p) = ⊥
-Unwritten folders CannotWrite = ⊥
-Unwritten folders (Folders f) = (name : Key) × FailsToWrite folders name f
-Unwritten folders (Refused n) = ⊥
-Unwritten folders (Malformed k) = ⊥
-Unwritten folders (TooLong k) = ⊥
-Unwritten folders OutOfMemory = Unit {0}
-
--- what a fault leaves on the output that broke off the run of a session: a part of what it prints where writing that failed, all
--- of it where a changed file was not written, and nothing or all of it where memory was refused
-abbrev pub BreaksRun : List (Option (Bor (List ℕ))) → Session → Option (List ℕ) → Option (List ℕ) → ℕ → ℕ → Fault → Type 0
-BreaksRun folders s held holds failed fails (Use text) = ⊥
-BreaksRun folders s held holds failed fails NotText = ⊥
-BreaksRun folders s held holds failed fails (CannotRead p) = ⊥
-BreaksRun folders s held holds failed fails CannotWrite = (failed < fails) × ((n : ℕ) × Appends held holds (take n (printed s)))
-BreaksRun folders s held holds failed fails (Folders f) = Unwritten folders (Folders f) × Appends held holds (printed s)
-BreaksRun folders s held holds failed fails (Refused n) = ⊥
-BreaksRun folders s held holds failed fails (Malformed k) = ⊥
-BreaksRun folders s held holds failed fails (TooLong k) = ⊥
-BreaksRun folders s held holds failed fails OutOfMemory = (holds ≡ held) ⊎ Appends held holds (printed s)
+-- what a fault leaves that broke off the run of a session: a part of what it prints where writing that failed, all of it where a
+-- changed file was not written, and nothing or all of it where memory was refused
+abbrev pub BreaksRun : List (Option (Bor (List ℕ))) → Session → World → World → Fault → Type 0
+BreaksRun folders s before after (Use text) = ⊥
+BreaksRun folders s before after NotText = ⊥
+BreaksRun folders s before after (CannotRead p) = ⊥
+BreaksRun folders s before after CannotWrite =
+    (before.out_failures < after.out_failures) × ((n : ℕ) × Appends before.out after.out (take n (printed s))) × (after.files ≡ before.files)
+BreaksRun folders s before after (Folders f) = FailsToWriteFiles folders s before.files after.files (Folders f) × Appends before.out after.out (printed s)
+BreaksRun folders s before after (Refused n) = ⊥
+BreaksRun folders s before after (Malformed k) = ⊥
+BreaksRun folders s before after (TooLong k) = ⊥
+BreaksRun folders s before after OutOfMemory =
+    ((after.out ≡ before.out) × (after.files ≡ before.files))
+    ⊎ (Appends before.out after.out (printed s) × ((after.files ≡ before.files) ⊎ WritesFiles folders s before.files after.files))

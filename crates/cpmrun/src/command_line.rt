@@ -1,11 +1,11 @@
 // The whole of the program but for its `main`.
 
-ghost use Rattle.std.specs.Prelude.{◌≡◌, ◌⊎◌, ℕ, ◌^◌, ◌<◌, List, None, IfOk, IfErr, OnOk, OnErr, map, string_bytes};
-ghost use Rattle.std.specs.Io.KnownBytes.{Consumes, IsAtEnd};
+ghost use Rattle.std.specs.Prelude.{◌≡◌, ◌⊎◌, ◌^◌, ◌<◌, None, IfOk, IfErr, OnOk, OnErr, map, string_bytes};
 ghost use Rattle.machine.specs.Views.{Session};
 ghost use Rattle.replay.specs.Options.{refusal_of};
-ghost use Rattle.cpmrun.specs.Ends.{BreaksReplay, Ends, EndsByFault, FaultOf, Informs, WritesReplay};
-ghost use Rattle.edit_lines.specs.Progress.{Faults};
+ghost use Rattle.cpmrun.specs.Ends.{BreaksOffWith, BreaksReplay, Ends, EndsByFault, FaultOf, Informs, WritesReplay};
+ghost use Rattle.cpmrun.specs.World.{world};
+ghost use Rattle.folders.specs.FileSystem.{text_at};
 
 use crate::fault::{Fault, complain};
 use crate::loading::{load, open};
@@ -13,10 +13,10 @@ use crate::raw_run::run_once;
 use crate::request::{Request, read_request};
 use command_words::Words;
 use edit_lines::{Ending, Over, Reader, ReplayFault, Writer, replay, write_all};
+use folders::FileSystem;
 use machine::{Meter, Session};
 use replay::{Options, OptionsError, Runner};
 use std::alloc::Global;
-use std::rt::Files;
 
 /// How checkpoints are made, as the words say.
 fn options(words: &Words<'_>) -> Options
@@ -42,9 +42,8 @@ fn replay_session<R: Reader, W: Writer>(
     requires meter { meter.old ≡ 0 }
     requires reader { R.failures reader.old < 2 ^ 63 }
     requires writer { W.failures writer.old < 2 ^ 63 }
-    ensures ok { OnOk result (WritesReplay session (W.holds writer.old) (W.holds writer.new)) }
-    ensures fault { IfErr result (λ f. (bytes : List ℕ) × (last : Session) × Consumes (R.left reader.old) (R.left reader.new) bytes
-        × Faults (R.left reader.new) session (W.holds writer.old) bytes last (W.holds writer.new) f) }
+    ensures ok { OnOk result (WritesReplay (R.left reader.old) session (W.holds writer.old) (W.holds writer.new)) }
+    ensures fault { IfErr result (λ f. BreaksOffWith f (R.left reader.old) session (W.holds writer.old) (W.holds writer.new)) }
     ensures read { result ≡ Err ReplayFault.Read → R.failures reader.old < R.failures reader.new }
     ensures write { result ≡ Err ReplayFault.Write → W.failures writer.old < W.failures writer.new }
 {
@@ -57,8 +56,8 @@ fn replay_session<R: Reader, W: Writer>(
 }
 
 /// Replays the edit lines of the file of this path.
-fn replay_file<'a, R: Files + AllocGlobal, O: Writer>(
-    rt: &R,
+fn replay_file<'a, S: FileSystem, O: Writer>(
+    system: &S,
     path: &'a str,
     session: Session,
     options: Options,
@@ -68,11 +67,11 @@ fn replay_file<'a, R: Files + AllocGlobal, O: Writer>(
     requires options { refusal_of options ≡ None }
     requires meter { meter.old ≡ 0 }
     requires out { O.failures out.old < 2 ^ 63 }
-    ensures done { OnOk result (WritesReplay session (O.holds out.old) (O.holds out.new)) }
-    ensures fault { IfErr result (BreaksReplay path.now session (O.holds out.old) (O.holds out.new) (O.failures out.old) (O.failures out.new)) }
+    ensures done { OnOk result (WritesReplay (text_at (S.files system.now) path.now) session (O.holds out.old) (O.holds out.new)) }
+    ensures fault { IfErr result (BreaksReplay path.now (text_at (S.files system.now) path.now) session (O.holds out.old) (O.holds out.new) (O.failures out.old) (O.failures out.new)) }
 {
-    let mut edits = Over::new(open(rt, path)?);
-    match replay_session(rt.alloc(), session, options, meter, &mut edits, out) {
+    let mut edits = Over::new(open(system, path)?);
+    match replay_session(system.alloc(), session, options, meter, &mut edits, out) {
         Ok(_) => Ok(()),
         Err(ReplayFault::Malformed(line)) => Err(Fault::Malformed(line)),
         Err(ReplayFault::LineTooLong(line)) => Err(Fault::TooLong(line)),
@@ -95,52 +94,58 @@ fn inform<'a, O: Writer>(text: &str, out: &mut O) -> Result<(), Fault<'a>>
 }
 
 /// Does what the words ask for, and gives the exit status where no fault came.
-fn run<'a, R: Files + AllocGlobal + Clone + Drop, O: Writer, E: Writer>(
-    rt: &R,
+fn run<'a, S: FileSystem, O: Writer, E: Writer>(
+    system: &mut S,
     words: &'a [String],
     out: &mut O,
     err: &mut E,
 ) -> Result<u8, Fault<'a>>
     requires out { O.failures out.old < 2 ^ 63 }
     requires err { E.failures err.old < 2 ^ 63 }
-    ensures done { IfOk result (λ status. Ends (map string_bytes words.entry.now) status (O.holds out.old) (O.holds out.new) (E.holds err.old) (E.holds err.new) (E.failures err.old) (E.failures err.new)) }
-    ensures fault { IfErr result (FaultOf (map string_bytes words.entry.now) (O.holds out.old) (O.holds out.new) (O.failures out.old) (O.failures out.new)) }
+    ensures done { IfOk result (λ status. Ends (map string_bytes words.entry.now) status
+        (world (S.files system.old) (S.names system.old) (O.holds out.old) (O.failures out.old) (E.holds err.old) (E.failures err.old))
+        (world (S.files system.new) (S.names system.new) (O.holds out.new) (O.failures out.new) (E.holds err.new) (E.failures err.new))) }
+    ensures fault { IfErr result (FaultOf (map string_bytes words.entry.now)
+        (world (S.files system.old) (S.names system.old) (O.holds out.old) (O.failures out.old) (E.holds err.old) (E.failures err.old))
+        (world (S.files system.new) (S.names system.new) (O.holds out.new) (O.failures out.new) (E.holds err.new) (E.failures err.new))) }
     ensures untold { OnErr result (err.new ≡ err.old) }
 {
-    let words = match read_request(rt.alloc(), words)? {
+    let words = match read_request(system.alloc(), words)? {
         Request::Session(words) => words,
         Request::Information(text) => {
             inform(text.as_str(), out)?;
             return Ok(0);
         }
     };
-    let session = load(rt, &words)?;
+    let session = load(system, &words)?;
     let mut meter = Meter::new();
     let Some(path) = words.edits else {
-        return run_once(rt, &words.out, session, &mut meter, out, err);
+        return run_once(system, &words.out, session, &mut meter, out, err);
     };
-    replay_file(rt, path, session, options(&words), &mut meter, out)?;
+    replay_file(system, path, session, options(&words), &mut meter, out)?;
     Ok(0)
 }
 
-/// The whole of the program, for the words after its name: it gives the exit status. That is 0 where
-/// help was asked for, where the edit lines were replayed to their end, and their replies stand in
-/// `out`, and where the one run came to the warm start; 3 to 10 tell another stop of that run. Else it
-/// is 1, 2 or 12, and `err` tells what was wrong.
-pub fn command<R: Files + AllocGlobal + Clone + Drop, O: Writer, E: Writer>(
-    rt: &R,
+/// The whole of the program, for the words after its name, over the files of a file system: it gives the exit status. That is 0 where
+/// help was asked for, where the edit lines were replayed to their end, and their replies stand in `out`, and where the one run came to
+/// the warm start; 3 to 10 tell another stop of that run. Else it is 1, 2 or 12, and `err` tells what was wrong.
+pub fn command<S: FileSystem, O: Writer, E: Writer>(
+    system: &mut S,
     words: &[String],
     out: &mut O,
     err: &mut E,
 ) -> u8
     requires out { O.failures out.old < 2 ^ 63 }
     requires err { E.failures err.old < 2 ^ 63 }
-    ensures ends { Ends (map string_bytes words.now) result (O.holds out.old) (O.holds out.new) (E.holds err.old) (E.holds err.new) (E.failures err.old) (E.failures err.new)
-        ⊎ EndsByFault (map string_bytes words.now) result (O.holds out.old) (O.holds out.new) (O.failures out.old) (O.failures out.new) (E.holds err.old) (E.holds err.new) (E.failures err.old) (E.failures err.new) }
-    ensures done { result ≡ 0 → Ends (map string_bytes words.now) result (O.holds out.old) (O.holds out.new) (E.holds err.old) (E.holds err.new) (E.failures err.old) (E.failures err.new) }
+    ensures ends { let before = world (S.files system.old) (S.names system.old) (O.holds out.old) (O.failures out.old) (E.holds err.old) (E.failures err.old) in
+        let after = world (S.files system.new) (S.names system.new) (O.holds out.new) (O.failures out.new) (E.holds err.new) (E.failures err.new) in
+        Ends (map string_bytes words.now) result before after ⊎ EndsByFault (map string_bytes words.now) result before after }
+    ensures done { result ≡ 0 → Ends (map string_bytes words.now) result
+        (world (S.files system.old) (S.names system.old) (O.holds out.old) (O.failures out.old) (E.holds err.old) (E.failures err.old))
+        (world (S.files system.new) (S.names system.new) (O.holds out.new) (O.failures out.new) (E.holds err.new) (E.failures err.new)) }
 {
-    match run(rt, words, out, err) {
+    match run(system, words, out, err) {
         Ok(status) => status,
-        Err(fault) => complain(rt.alloc(), fault, err),
+        Err(fault) => complain(system.alloc(), fault, err),
     }
 }

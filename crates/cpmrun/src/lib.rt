@@ -14,3 +14,4 @@ pub use edit_lines::{
     replay,
 };
 pub use fault::{Fault, complain};
+pub use folders::{FileSystem, SystemFiles};

@@ -1,20 +1,20 @@
 // The session that the files of the command line give.
 
-ghost use Rattle.std.specs.Prelude.{◌≡◌, ◌+◌, [], None, IfOk, IfErr, IfSome, take};
+ghost use Rattle.std.specs.Prelude.{◌≡◌, ◌+◌, IfOk, IfErr, IfSome, take};
 ghost use Rattle.std.specs.IoError.{error_kind};
 ghost use Rattle.command_words.specs.CommandLine.{text_of};
+ghost use Rattle.folders.specs.FileSystem.{Opens, Reads};
 ghost use Rattle.machine.specs.Session.{made_of};
-ghost use Rattle.cpmrun.specs.Loading.{IsOf, MadeOrRefused, Unloaded, Unread, UnreadIfAny};
+ghost use Rattle.cpmrun.specs.Loading.{IsOf, IsScriptAt, MadeOrRefused, Unloaded, Unread, UnreadIfAny};
 
 use crate::fault::Fault;
 use command_words::Words;
-use folders::read_folders;
+use folders::{FileSystem, read_folders};
 use hostfiles::HostFiles;
 use machine::{PROGRAM_LIMIT, SCRIPT_LIMIT, Session};
 use std::alloc::Global;
+use std::io;
 use std::io::{ErrorKind, Read};
-use std::rt::Files;
-use std::{fs, io};
 
 /// The most bytes of a program that are read: one more than a session takes, so that a longer one
 /// is refused by the session and not read on.
@@ -37,10 +37,11 @@ fn unread<'a>(error: io::Error, path: &'a str) -> Fault<'a>
 }
 
 /// Opens a file to read it.
-pub fn open<'a, R: Files>(rt: &R, path: &'a str) -> Result<R::File, Fault<'a>>
-    ensures { IfErr result (Unread path.now) }
+pub fn open<'a, S: FileSystem>(system: &S, path: &'a str) -> Result<S::Input, Fault<'a>>
+    ensures opens { IfOk result (λ input. Opens (S.files system.now) path.now (S.Input.remaining input)) }
+    ensures fault { IfErr result (Unread path.now) }
 {
-    match fs::open(rt, path) {
+    match system.open(path) {
         Ok(file) => Ok(file),
         Err(error) => Err(unread(error, path)),
     }
@@ -65,27 +66,25 @@ fn read_script<T: Read + Drop>(alloc: Global, source: T) -> io::Result<Vec<u8>>
 }
 
 /// The program of this path.
-fn program_at<'a, R: Files + AllocGlobal>(rt: &R, path: &'a str) -> Result<Vec<u8>, Fault<'a>>
-    ensures { IfErr result (Unread path.now) }
+fn program_at<'a, S: FileSystem>(system: &S, path: &'a str) -> Result<Vec<u8>, Fault<'a>>
+    ensures program { IfOk result (λ program. Reads (S.files system.now) path.now (PROGRAM_LIMIT + 1) program.items) }
+    ensures fault { IfErr result (Unread path.now) }
 {
-    match read_program(rt.alloc(), open(rt, path)?) {
+    match read_program(system.alloc(), open(system, path)?) {
         Ok(program) => Ok(program),
         Err(error) => Err(unread(error, path)),
     }
 }
 
 /// The script of this path, which is empty where there is none.
-fn script_at<'a, R: Files + AllocGlobal>(
-    rt: &R,
-    path: Option<&'a str>,
-) -> Result<Vec<u8>, Fault<'a>>
-    ensures none { IfOk result (λ script. text_of path.entry ≡ None → script.items ≡ []) }
+fn script_at<'a, S: FileSystem>(system: &S, path: Option<&'a str>) -> Result<Vec<u8>, Fault<'a>>
+    ensures script { IfOk result (λ script. IsScriptAt (S.files system.now) (text_of path.entry) script.items) }
     ensures fault { IfErr result (UnreadIfAny (text_of path.entry)) }
 {
     let Some(path) = path else {
-        return Ok(Vec::new(rt.alloc()));
+        return Ok(Vec::new(system.alloc()));
     };
-    match read_script(rt.alloc(), open(rt, path)?) {
+    match read_script(system.alloc(), open(system, path)?) {
         Ok(script) => Ok(script),
         Err(error) => Err(unread(error, path)),
     }
@@ -111,19 +110,16 @@ fn session_of<'a>(
 }
 
 /// The session that the words say: the program, the folders of the drives A to D and the script are
-/// read in this order, and then the session is made. The first fault is told.
-pub fn load<'a, R: Files + AllocGlobal + Clone + Drop>(
-    rt: &R,
-    words: &Words<'a>,
-) -> Result<Session, Fault<'a>>
-    ensures session { IfOk result (IsOf words.now) }
-    ensures fault { IfErr result (Unloaded words.now) }
+/// read in this order, and then the session is made. A fault ends this.
+pub fn load<'a, S: FileSystem>(system: &S, words: &Words<'a>) -> Result<Session, Fault<'a>>
+    ensures session { IfOk result (IsOf (S.files system.now) (S.names system.now) words.now) }
+    ensures fault { IfErr result (Unloaded (S.files system.now) (S.names system.now) words.now) }
 {
-    let program = program_at(rt, words.program)?;
-    let files = match read_folders(rt, &words.files) {
+    let program = program_at(system, words.program)?;
+    let files = match read_folders(system, &words.files) {
         Ok(files) => files,
         Err(fault) => return Err(Fault::Folders(fault)),
     };
-    let script = script_at(rt, words.console)?;
-    session_of(rt.alloc(), words, program, files, script)
+    let script = script_at(system, words.console)?;
+    session_of(system.alloc(), words, program, files, script)
 }

@@ -1,21 +1,22 @@
 // One run of a session, without edits.
 
-ghost use Rattle.std.specs.Prelude.{◌≡◌, ◌^◌, ◌<◌, ◌≤◌, ◌++◌, true, IfOk, IfErr, OnOk, OnErr, string_bytes};
-ghost use Rattle.hostfiles.specs.Files.{has};
+ghost use Rattle.std.specs.Prelude.{◌≡◌, ◌^◌, ◌<◌, ◌≤◌, ◌++◌, IfOk, IfErr, OnOk, OnErr, string_bytes};
+ghost use Rattle.folders.specs.Folders.{LeavesIn, WritesInto};
+ghost use Rattle.folders.specs.Written.{bytes_of};
 ghost use Rattle.replay.specs.Cold.{cold};
 ghost use Rattle.replay.specs.Report.{reported_run, session_of};
 ghost use Rattle.edit_lines.specs.ChangedLines.{gone_lines};
 ghost use Rattle.edit_lines.specs.Writing.{Writes, WritesOrFails};
-ghost use Rattle.cpmrun.specs.RawRun.{BreaksRun, RunsOnce, Unwritten, stop_line, stop_status};
+ghost use Rattle.cpmrun.specs.RawRun.{BreaksRun, IsOfFolder, RunsOnce, Unwritten, WritesAll, home, stop_line, stop_status};
+ghost use Rattle.cpmrun.specs.World.{world};
 
 use crate::fault::Fault;
 use edit_lines::{Asked, Failed, Writer, cause_text, write_all, write_changed_files, write_piece};
-use folders::write_to_drive;
+use folders::{ChangedFile, FileSystem, write_to_drive};
 use hostfiles::{Changes, HostFiles, Journal, Name};
 use machine::{Cause, Meter, Session};
 use replay::{Options, OptionsError, Report, Runner};
 use std::alloc::{AllocError, Global};
-use std::rt::Files;
 
 /// The exit status after a run that stopped by this cause.
 fn stop_status(cause: Cause) -> u8
@@ -43,36 +44,46 @@ fn stop_line(alloc: Global, cause: Cause) -> Result<String, AllocError>
 }
 
 /// Writes a file as the run left it into the folder of its drive, where that has one.
-fn write_file<'a, R: Files + AllocGlobal>(
-    rt: &R,
+fn write_file<'a, S: FileSystem>(
+    system: &mut S,
     folders: &[Option<&'a str>; 4],
     host: &HostFiles,
     changes: &Changes,
     name: &Name,
 ) -> Result<(), Fault<'a>>
-    requires { has host.now changes.now.journal.entries name.now ≡ true }
-    ensures { IfErr result (Unwritten folders.now) }
+    ensures written { OnOk result (WritesInto (home folders.now name.now) (S.files system.old) (S.files system.new) name.now
+        (bytes_of host.now changes.now.journal.entries name.now)) }
+    ensures err { OnErr result (LeavesIn (home folders.now name.now) (S.files system.old) (S.files system.new) name.now) }
+    ensures fault { IfErr result (IsOfFolder folders.now name.now) }
 {
-    match write_to_drive(rt, folders, host, changes, name) {
+    let contents = ChangedFile {
+        host,
+        changes,
+        name,
+    };
+    match write_to_drive(system, folders, name, &contents) {
         Ok(()) => Ok(()),
         Err(fault) => Err(Fault::Folders(fault)),
     }
 }
 
 /// Writes each changed file of the run that is there at its stop, where these are the run's changes.
-fn write_each<'a, R: Files + AllocGlobal>(
-    rt: &R,
+fn write_each<'a, S: FileSystem>(
+    system: &mut S,
     folders: &[Option<&'a str>; 4],
     report: &Report<'_>,
     changes: &Changes,
 ) -> Result<(), Fault<'a>>
     requires { changes.now.journal.entries ≡ (reported_run report.now).state.own.files }
-    ensures { IfErr result (Unwritten folders.now) }
+    ensures written { OnOk result (WritesAll folders.now (session_of report.now).files changes.now.journal.entries
+        (S.files system.old) (S.files system.new)) }
+    ensures fault { IfErr result (Unwritten folders.now (session_of report.now).files changes.now.journal.entries
+        (S.files system.old) (S.files system.new)) }
 {
     let mut after: Option<Name> = None;
     while let Some(name) = report.next_changed(after.as_ref()) {
         if report.has(&name) {
-            write_file(rt, folders, report.files(), changes, &name)?;
+            write_file(system, folders, report.files(), changes, &name)?;
         }
         after = Some(name);
     }
@@ -81,17 +92,20 @@ fn write_each<'a, R: Files + AllocGlobal>(
 
 /// Writes the changed files of the run that are there at its stop into the folders of their drives, where these have any, in the
 /// order of their names.
-fn write_changed<'a, R: Files + AllocGlobal>(
-    rt: &R,
+fn write_changed<'a, S: FileSystem>(
+    system: &mut S,
     folders: &[Option<&'a str>; 4],
     report: &Report<'_>,
 ) -> Result<(), Fault<'a>>
-    ensures { IfErr result (Unwritten folders.now) }
+    ensures written { OnOk result (WritesAll folders.now (session_of report.now).files (reported_run report.now).state.own.files
+        (S.files system.old) (S.files system.new)) }
+    ensures fault { IfErr result (Unwritten folders.now (session_of report.now).files (reported_run report.now).state.own.files
+        (S.files system.old) (S.files system.new)) }
 {
-    let Ok(changes) = report.changes(rt.alloc()) else {
+    let Ok(changes) = report.changes(system.alloc()) else {
         return Err(Fault::OutOfMemory);
     };
-    write_each(rt, folders, report, &changes)
+    write_each(system, folders, report, &changes)
 }
 
 /// Writes a line, and then the lines of the changed files that are gone. Where the writer fails, some first part of this is written.
@@ -139,8 +153,8 @@ fn tell_stop<'a, E: Writer>(
 }
 
 /// Tells a run: what it printed, its changed files, and its stop. It gives the exit status for the stop.
-fn tell_run<'a, R: Files + AllocGlobal, O: Writer, E: Writer>(
-    rt: &R,
+fn tell_run<'a, S: FileSystem, O: Writer, E: Writer>(
+    system: &mut S,
     folders: &[Option<&'a str>; 4],
     report: &Report<'_>,
     out: &mut O,
@@ -149,21 +163,25 @@ fn tell_run<'a, R: Files + AllocGlobal, O: Writer, E: Writer>(
     requires cold { reported_run report.now ≡ cold (session_of report.now) }
     requires out { O.failures out.old < 2 ^ 63 }
     requires err { E.failures err.old < 2 ^ 63 }
-    ensures done { IfOk result (λ status. RunsOnce (session_of report.now) status (O.holds out.old) (O.holds out.new) (E.holds err.old) (E.holds err.new) (E.failures err.old) (E.failures err.new)) }
-    ensures fault { IfErr result (BreaksRun folders.now (session_of report.now) (O.holds out.old) (O.holds out.new) (O.failures out.old) (O.failures out.new)) }
+    ensures done { IfOk result (λ status. RunsOnce folders.now (session_of report.now) status
+        (world (S.files system.old) (S.names system.old) (O.holds out.old) (O.failures out.old) (E.holds err.old) (E.failures err.old))
+        (world (S.files system.new) (S.names system.new) (O.holds out.new) (O.failures out.new) (E.holds err.new) (E.failures err.new))) }
+    ensures fault { IfErr result (BreaksRun folders.now (session_of report.now)
+        (world (S.files system.old) (S.names system.old) (O.holds out.old) (O.failures out.old) (E.holds err.old) (E.failures err.old))
+        (world (S.files system.new) (S.names system.new) (O.holds out.new) (O.failures out.new) (E.holds err.new) (E.failures err.new))) }
     ensures untold { OnErr result (err.new ≡ err.old) }
 {
     let Ok(()) = write_all(out, report.text()) else {
         return Err(Fault::CannotWrite);
     };
-    write_changed(rt, folders, report)?;
-    tell_stop(rt.alloc(), report, err)?;
+    write_changed(system, folders, report)?;
+    tell_stop(system.alloc(), report, err)?;
     Ok(stop_status(report.cause()))
 }
 
 /// Runs the session of a runner, and tells the run.
-fn run_and_tell<'a, R: Files + AllocGlobal, O: Writer, E: Writer>(
-    rt: &R,
+fn run_and_tell<'a, S: FileSystem, O: Writer, E: Writer>(
+    system: &mut S,
     folders: &[Option<&'a str>; 4],
     runner: &mut Runner,
     meter: &mut Meter,
@@ -173,14 +191,18 @@ fn run_and_tell<'a, R: Files + AllocGlobal, O: Writer, E: Writer>(
     requires meter { meter.old ≤ 2 ^ 63 }
     requires out { O.failures out.old < 2 ^ 63 }
     requires err { E.failures err.old < 2 ^ 63 }
-    ensures done { IfOk result (λ status. RunsOnce runner.old.session status (O.holds out.old) (O.holds out.new) (E.holds err.old) (E.holds err.new) (E.failures err.old) (E.failures err.new)) }
-    ensures fault { IfErr result (BreaksRun folders.now runner.old.session (O.holds out.old) (O.holds out.new) (O.failures out.old) (O.failures out.new)) }
+    ensures done { IfOk result (λ status. RunsOnce folders.now runner.old.session status
+        (world (S.files system.old) (S.names system.old) (O.holds out.old) (O.failures out.old) (E.holds err.old) (E.failures err.old))
+        (world (S.files system.new) (S.names system.new) (O.holds out.new) (O.failures out.new) (E.holds err.new) (E.failures err.new))) }
+    ensures fault { IfErr result (BreaksRun folders.now runner.old.session
+        (world (S.files system.old) (S.names system.old) (O.holds out.old) (O.failures out.old) (E.holds err.old) (E.failures err.old))
+        (world (S.files system.new) (S.names system.new) (O.holds out.new) (O.failures out.new) (E.holds err.new) (E.failures err.new))) }
     ensures untold { OnErr result (err.new ≡ err.old) }
 {
     let Ok(report) = runner.rerun(meter) else {
         return Err(Fault::OutOfMemory);
     };
-    tell_run(rt, folders, &report, out, err)
+    tell_run(system, folders, &report, out, err)
 }
 
 /// Options for a run that is not run again: one checkpoint at most, in a run of up to 1,000,000,000 steps.
@@ -197,8 +219,8 @@ fn options() -> Options
 /// stop is written into the folder of its drive, where that has one, and then a line on `err` tells why the
 /// run stopped, and one more each changed file that is gone. It gives the exit status for the stop. A fault
 /// leaves `err` as it was.
-pub fn run_once<'a, R: Files + AllocGlobal, O: Writer, E: Writer>(
-    rt: &R,
+pub fn run_once<'a, S: FileSystem, O: Writer, E: Writer>(
+    system: &mut S,
     folders: &[Option<&'a str>; 4],
     session: Session,
     meter: &mut Meter,
@@ -208,14 +230,18 @@ pub fn run_once<'a, R: Files + AllocGlobal, O: Writer, E: Writer>(
     requires meter { meter.old ≤ 2 ^ 63 }
     requires out { O.failures out.old < 2 ^ 63 }
     requires err { E.failures err.old < 2 ^ 63 }
-    ensures done { IfOk result (λ status. RunsOnce session status (O.holds out.old) (O.holds out.new) (E.holds err.old) (E.holds err.new) (E.failures err.old) (E.failures err.new)) }
-    ensures fault { IfErr result (BreaksRun folders.now session (O.holds out.old) (O.holds out.new) (O.failures out.old) (O.failures out.new)) }
+    ensures done { IfOk result (λ status. RunsOnce folders.now session status
+        (world (S.files system.old) (S.names system.old) (O.holds out.old) (O.failures out.old) (E.holds err.old) (E.failures err.old))
+        (world (S.files system.new) (S.names system.new) (O.holds out.new) (O.failures out.new) (E.holds err.new) (E.failures err.new))) }
+    ensures fault { IfErr result (BreaksRun folders.now session
+        (world (S.files system.old) (S.names system.old) (O.holds out.old) (O.failures out.old) (E.holds err.old) (E.failures err.old))
+        (world (S.files system.new) (S.names system.new) (O.holds out.new) (O.failures out.new) (E.holds err.new) (E.failures err.new))) }
     ensures untold { OnErr result (err.new ≡ err.old) }
 {
-    let mut runner = match Runner::new(rt.alloc(), session, options()) {
+    let mut runner = match Runner::new(system.alloc(), session, options()) {
         Ok(runner) => runner,
         Err(OptionsError::OutOfMemory) => return Err(Fault::OutOfMemory),
         Err(_) => unreachable!(),
     };
-    run_and_tell(rt, folders, &mut runner, meter, out, err)
+    run_and_tell(system, folders, &mut runner, meter, out, err)
 }

@@ -1,7 +1,7 @@
 //! Runs a program of CP/M 2.2, or replays edits of its session.
 #![tactic(auto)]
 
-use cpmrun::{Fault, Over, command, complain};
+use cpmrun::{Fault, Over, SystemFiles, command, complain};
 use std::env;
 use std::io::ErrorKind;
 use std::process::ExitCode;
@@ -21,5 +21,11 @@ fn main(rt: HostRuntime) -> ExitCode {
     let Ok(words) = args.skip(1).collect::<Vec<String>>(alloc) else {
         return ExitCode::from(complain(alloc, Fault::OutOfMemory, &mut err));
     };
-    ExitCode::from(command(&rt, words.as_slice(), &mut out, &mut err))
+    let mut system = SystemFiles::new(&rt);
+    ExitCode::from(command(
+        &mut system,
+        words.as_slice(),
+        &mut out,
+        &mut err,
+    ))
 }

@@ -84,3 +84,21 @@ nameless drive kind = refl
 -- a name that begins with a `.` (46) is that of no host file
 pub dotted_key : (file : List ℕ) (drive : ℕ) → key_in drive (46 ∷ file) ≡ None
 dotted_key file drive = either_none (list_any is_colon (46 ∷ file)) (ok_or_none (plain_name drive (46 ∷ file))) (nameless drive (after_first is_dot (46 ∷ file)))
+
+drive_by : (a b c : Bool) (drive : ℕ) (rest key : List ℕ) → ok_or_none (cond a (Err 1) (cond b (Err 2) (cond c (Ok (drive ∷ rest)) (Err 3)))) ≡ Some key → slice_index key 0 ≡ drive
+drive_by true b c drive rest key e = cc
+drive_by false true c drive rest key e = cc
+drive_by false false false drive rest key e = cc
+drive_by false false true drive rest key e = let same : drive ∷ rest ≡ key = cc in ap (λ k. slice_index k 0) (sym same)
+
+named_drive : (drive : ℕ) (name kind : List ℕ) (key : Key) → ok_or_none (named drive name kind) ≡ Some key → slice_index key 0 ≡ drive
+unfolding named
+named_drive drive name kind key e = drive_by (length name == 0) (nat_lt 8 (length name) || nat_lt 3 (length kind)) (is_valid name && is_valid kind) drive _ key e
+
+some_named : (b : Bool) (r : Option Key) (key : Key) → cond b None r ≡ Some key → r ≡ Some key
+some_named true r key e = cc
+some_named false r key e = e
+
+-- the key of a file in the folder of a drive is one of the drive
+pub drive_in : (drive : ℕ) (file : List ℕ) (key : Key) → key_in drive file ≡ Some key → slice_index key 0 ≡ drive
+drive_in drive file key e = named_drive drive _ _ key (some_named (list_any is_colon file) (ok_or_none (plain_name drive file)) key e)

@@ -1,10 +1,17 @@
 -- Maps from keys into which a value is put.
-use Rattle.std.proofs.Common.{◌≡◌, ◌≢◌, Bool, true, false, cond, is_some, Option, Some, Result, Ok, Err, OnOk, OnErr, refl, sym, ap, subst, ◌∙◌}
-use Rattle.std.specs.Ordering.{nat_cmp, eq_by_cmp}
+use Rattle.std.proofs.Common.{◌≡◌, ◌≢◌, ℕ, ◌+◌, ◌<◌, ◌≤◌, Bool, true, false, cond, is_some, List, [], ◌∷◌, ◌++◌, Option, Some, None, Result, Ok, Err, IfSome, OnOk, OnErr, inl, inr, length, take, take_all, map, get_or, refl, sym, ap, subst, ◌∙◌, arith}
+use Rattle.std.specs.Prelude.{String, string_bytes}
+use Rattle.std.specs.Option.{option_map}
+use Rattle.std.specs.List.{Contains}
+use Rattle.std.proofs.lemmas.List.{append_assoc, take-map, map_more, length-map}
+use Rattle.std.proofs.lemmas.List.Elements.{Contains-append_left, Contains-push, Contains-push_cases}
+use Rattle.std.specs.Ordering.{nat_cmp, eq_by_cmp, is_lt}
 use Rattle.std.specs.Cmp.Lexicographic.{slice_cmp, nat_list_cmp_total}
 use Rattle.std.specs.FinMap.{FinMap, get, insert, empty, contains_key, get-empty, get-insert}
 use Rattle.keymaps.proofs.Views.{same_key, key_of, get_here, get_apart, there_still}
 use Rattle.filenames.specs.Names.{Key}
+use Rattle.folders.specs.FileSystem.{Path, Stored}
+use Rattle.folders.specs.Listings.{AreTwo, IsHostFile, Lists, least}
 
 abbrev pub Map : Type 0 → Type 0
 Map X = FinMap (slice_cmp nat_cmp) X
@@ -46,3 +53,160 @@ module _ {X : Type 0} where
   pub now_there : {E : Type 0} (m n : Map X) (key : Key) (v : X) (r : Result (Unit {0}) E) → OnOk r (n ≡ insert m key v) → OnOk r (contains_key n key ≡ true)
   now_there m n key v (Ok x) ok = ap (λ l. contains_key l key) ok ∙ ap is_some (get_here nat_list_cmp_total same_key m key v)
   now_there m n key v (Err x) ok = tt
+
+-- ---- the names of a folder, one after another
+
+some_at : {X : Type 0} (o : Option X) → is_some o ≡ true → (x : X) × (o ≡ Some x)
+some_at None e = cc
+some_at (Some x) e = (x, refl)
+
+module _ (stored : Stored) (drive : ℕ) (folder : Path) where
+  two_further : (names : List Path) (file : Path) (key : Key) → AreTwo stored drive folder names key → AreTwo stored drive folder (names ++ file ∷ []) key
+  two_further names file key t = record {
+    before = t.before;
+    name = t.name;
+    after = t.after ++ file ∷ [];
+    listed = ap (λ l. l ++ file ∷ []) t.listed ∙ append_assoc t.before (t.name ∷ t.after) (file ∷ []);
+    other = t.other;
+    earlier = t.earlier;
+    first = t.first;
+    second = t.second;
+  }
+
+  some_further : (names : List Path) (file : Path) (twice : Option Key) → IfSome twice (AreTwo stored drive folder names) → IfSome twice (AreTwo stored drive folder (names ++ file ∷ []))
+  some_further names file None t = tt
+  some_further names file (Some key) t = two_further names file key t
+
+  -- one key alone is given by a name
+  one_key : (file : Path) (a b : Key) → IsHostFile stored drive folder a file → IsHostFile stored drive folder b file → a ≡ b
+  one_key file a b p q = let same : Some a ≡ Some b = sym p.gives ∙ q.gives in cc
+
+  module _ {Z : Type 0} (names : List Path) (files : Map (String Z)) (twice : Option Key) (file : Path) (l : Lists stored drive folder names files twice) where
+    -- a name that is that of no host file
+    pub passed_over : ((key : Key) → IsHostFile stored drive folder key file → ⊥) → Lists stored drive folder (names ++ file ∷ []) files twice
+    passed_over none = record {
+      listed = λ key f e. let h = l.listed key f e in (Contains-append_left names (file ∷ []) (string_bytes f) h.0, h.1);
+      all = λ key name h is. elim (Contains-push_cases names file name h) [ inl r ↦ l.all key name r is | inr e ↦ absurd (none key (subst (IsHostFile stored drive folder key) (sym e) is)) ];
+      alone = λ one key name h is. elim (Contains-push_cases names file name h) [ inl r ↦ l.alone one key name r is | inr e ↦ absurd (none key (subst (IsHostFile stored drive folder key) (sym e) is)) ];
+      two = some_further names file twice l.two;
+    }
+
+    module _ (key : Key) (text : String Z) (says : string_bytes text ≡ file) (is : IsHostFile stored drive folder key file) where
+      by_key : (b : Bool) (k : Key) (f : String Z) → (b ≡ true → k ≡ key) → cond b (Some text) (get files k) ≡ Some f
+          → Contains (names ++ file ∷ []) (string_bytes f) × IsHostFile stored drive folder k (string_bytes f)
+      by_key true k f same e =
+          let one : text ≡ f = cc in
+          subst (λ g. Contains (names ++ file ∷ []) (string_bytes g) × IsHostFile stored drive folder k (string_bytes g)) one
+          (subst (λ n. Contains (names ++ file ∷ []) n × IsHostFile stored drive folder k n) (sym says)
+          (Contains-push names file, subst (λ j. IsHostFile stored drive folder j file) (sym (same refl)) is))
+      by_key false k f same e = let h = l.listed k f e in (Contains-append_left names (file ∷ []) (string_bytes f) h.0, h.1)
+
+      -- the name of a host file whose key no earlier one gave
+      pub added_once : contains_key files key ≡ false → Lists stored drive folder (names ++ file ∷ []) (insert files key text) twice
+      added_once new = record {
+        listed = λ k f e. by_key (eq_by_cmp (slice_cmp nat_cmp) k key) k f (key_of same_key k key) (sym (get-insert nat_list_cmp_total files key text k) ∙ e);
+        all = λ k name h at. elim (Contains-push_cases names file name h) [
+          | inl r ↦ there_still nat_list_cmp_total same_key files key text k (l.all k name r at)
+          | inr e ↦ ap (contains_key (insert files key text)) (one_key file k key (subst (IsHostFile stored drive folder k) (sym e) at) is)
+              ∙ ap is_some (get_here nat_list_cmp_total same_key files key text)
+        ];
+        alone = λ one k name h at. elim (Contains-push_cases names file name h) [
+          | inl r ↦ ap (option_map string_bytes) (get_apart nat_list_cmp_total same_key files key text k
+              (λ e. let bad : contains_key files key ≡ true = ap (contains_key files) (sym e) ∙ l.all k name r at in cc))
+              ∙ l.alone one k name r at
+          | inr e ↦ ap (λ j. option_map string_bytes (get (insert files key text) j)) (one_key file k key (subst (IsHostFile stored drive folder k) (sym e) at) is)
+              ∙ ap (option_map string_bytes) (get_here nat_list_cmp_total same_key files key text) ∙ ap Some (says ∙ e)
+        ];
+        two = some_further names file twice l.two;
+      }
+
+      now_two : contains_key files key ≡ true → AreTwo stored drive folder (names ++ file ∷ []) key
+      now_two old =
+          let first = some_at (get files key) old in
+          let h = l.listed key first.0 first.1 in
+          record { before = names; name = file; after = []; listed = refl; other = string_bytes first.0; earlier = h.0; first = h.1; second = is }
+
+      lesser_two : (b : Bool) (other : Key) → contains_key files key ≡ true → AreTwo stored drive folder names other → AreTwo stored drive folder (names ++ file ∷ []) (cond b other key)
+      lesser_two true other old t = two_further names file other t
+      lesser_two false other old t = now_two old
+
+      least_two : (o : Option Key) → contains_key files key ≡ true → IfSome o (AreTwo stored drive folder names) → AreTwo stored drive folder (names ++ file ∷ []) (least key o)
+      least_two None old t = now_two old
+      least_two (Some other) old t = lesser_two (is_lt (slice_cmp nat_cmp other key)) other old t
+
+      -- the name of a host file whose key an earlier one gave
+      pub added_again : contains_key files key ≡ true → Lists stored drive folder (names ++ file ∷ []) files (Some (least key twice))
+      added_again old = record {
+        listed = λ k f e. let h = l.listed k f e in (Contains-append_left names (file ∷ []) (string_bytes f) h.0, h.1);
+        all = λ k name h at. elim (Contains-push_cases names file name h) [
+          | inl r ↦ l.all k name r at
+          | inr e ↦ ap (contains_key files) (one_key file k key (subst (IsHostFile stored drive folder k) (sym e) at) is) ∙ old
+        ];
+        alone = λ one. cc;
+        two = least_two twice old l.two;
+      }
+
+      -- either
+      pub added : (now : Map (String Z)) (then : Option Key)
+          → (contains_key files key ≡ false → (now ≡ insert files key text) × (then ≡ twice))
+          → (contains_key files key ≡ true → (now ≡ files) × (then ≡ Some (least key twice)))
+          → Lists stored drive folder (names ++ file ∷ []) now then
+      added now then once again = by_old (contains_key files key) refl where
+        by_old : (b : Bool) → contains_key files key ≡ b → Lists stored drive folder (names ++ file ∷ []) now then
+        by_old true e = let a = again e in subst (λ m. Lists stored drive folder (names ++ file ∷ []) m then) (sym a.0) (subst (Lists stored drive folder (names ++ file ∷ []) files) (sym a.1) (added_again e))
+        by_old false e = let o = once e in subst (λ m. Lists stored drive folder (names ++ file ∷ []) m then) (sym o.0) (subst (Lists stored drive folder (names ++ file ∷ []) (insert files key text)) (sym o.1) (added_once e))
+
+  -- of no name
+  pub none_listed : {Z : Type 0} (files : Map (String Z)) (twice : Option Key) → files ≡ empty → twice ≡ None → Lists stored drive folder [] files twice
+  none_listed {Z} files twice e t = subst (λ m. Lists stored drive folder [] m twice) (sym e) (subst (Lists stored drive folder [] empty) (sym t) (record {
+    listed = λ key f h. absurd (none_there (String Z) key (ap is_some h));
+    all = λ key name h is. absurd (none_in h);
+    alone = λ one key name h is. absurd (none_in h);
+    two = tt;
+  })) where
+    none_in : {name : Path} → Contains [] name → ⊥
+    none_in h = absurd (omega (arith, h.1))
+
+-- the same, where the files are told
+module _ {Z : Type 0} (drive : ℕ) (folder : Path) (files : Map (String Z)) (twice : Option Key) (file : Path) where
+  pub added_if_told : (o : Option Stored) (key : Key) (text : String Z) → string_bytes text ≡ file → IfSome o (λ stored. IsHostFile stored drive folder key file)
+      → (now : Map (String Z)) (then : Option Key)
+      → (contains_key files key ≡ false → (now ≡ insert files key text) × (then ≡ twice))
+      → (contains_key files key ≡ true → (now ≡ files) × (then ≡ Some (least key twice)))
+      → IfSome o (λ stored. (names : List Path) → Lists stored drive folder names files twice → Lists stored drive folder (names ++ file ∷ []) now then)
+  added_if_told None key text says is now then once again = tt
+  added_if_told (Some stored) key text says is now then once again = λ names l. added stored drive folder names files twice file l key text says is now then once again
+
+  pub passed_over_if_told : (o : Option Stored) → IfSome o (λ stored. (key : Key) → IsHostFile stored drive folder key file → ⊥)
+      → IfSome o (λ stored. (names : List Path) → Lists stored drive folder names files twice → Lists stored drive folder (names ++ file ∷ []) files twice)
+  passed_over_if_told None none = tt
+  passed_over_if_told (Some stored) none = λ names l. passed_over stored drive folder names files twice file l none
+
+  -- one name more of those that are listed
+  pub further : (o : Option Stored) (items : List (String Z)) (i : ℕ) (item : String Z) (d : ℕ) (now : Map (String Z)) (then : Option Key)
+      → i < length items → item ≡ get_or items i item → file ≡ string_bytes item → d ≡ drive
+      → IfSome o (λ stored. Lists stored drive folder (take i (map string_bytes items)) files twice)
+      → IfSome o (λ stored. (names : List Path) → Lists stored d folder names files twice → Lists stored d folder (names ++ file ∷ []) now then)
+      → IfSome o (λ stored. Lists stored drive folder (take (i + 1) (map string_bytes items)) now then)
+  further None items i item d now then lt is says on l h = tt
+  further (Some stored) items i item d now then lt is says on l h =
+      let whole : take (i + 1) (map string_bytes items) ≡ take i (map string_bytes items) ++ file ∷ [] =
+      take-map string_bytes (i + 1) items ∙ map_more string_bytes items i item lt
+      ∙ ap (λ xs. xs ++ string_bytes (get_or items i item) ∷ []) (sym (take-map string_bytes i items))
+      ∙ ap (λ x. take i (map string_bytes items) ++ x ∷ []) (ap string_bytes (sym is) ∙ sym says) in
+      subst (λ names. Lists stored drive folder names now then) (sym whole)
+      (subst (λ n. Lists stored n folder (take i (map string_bytes items) ++ file ∷ []) now then) on
+      (h (take i (map string_bytes items)) (subst (λ n. Lists stored n folder (take i (map string_bytes items)) files twice) (sym on) l)))
+
+module _ {Z : Type 0} (drive : ℕ) (folder : Path) (files : Map (String Z)) (twice : Option Key) where
+  pub none_listed_if_told : (o : Option Stored) → files ≡ empty → twice ≡ None → IfSome o (λ stored. Lists stored drive folder [] files twice)
+  none_listed_if_told None e t = tt
+  none_listed_if_told (Some stored) e t = none_listed stored drive folder files twice e t
+
+  -- the names are all of them
+  pub all_listed : (o : Option Stored) (items : List (String Z)) (i : ℕ) (names : List Path) → length items ≤ i → IfSome o (λ _. map string_bytes items ≡ names)
+      → IfSome o (λ stored. Lists stored drive folder (take i (map string_bytes items)) files twice) → IfSome o (λ stored. Lists stored drive folder names files twice)
+  all_listed None items i names le e l = tt
+  all_listed (Some stored) items i names le e l =
+      let long = length-map items (string_bytes {Z = Z}) in
+      subst (λ n. Lists stored drive folder n files twice) (take_all i (map string_bytes items) (omega (arith, le, long)) ∙ e) l

@@ -1,4 +1,4 @@
--- Names of files in the folder of a drive: this project's profile.
+-- Names of files in the folder of a drive. (This project's profile.)
 use Rattle.std.specs.Prelude.{ℕ, ◌==◌, ◌-◌, ◌++◌, ◌∷◌, [], Bool, false, not, List, Option, Some, None, Result, Ok, Err, if◌then◌else◌, codes, slice_get, slice_set, length}
 use Rattle.std.specs.List.{list_any}
 use Rattle.std.specs.Option.{option_map_or}

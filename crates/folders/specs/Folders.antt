@@ -1,9 +1,17 @@
--- Host files that are read from folders, and why they are not; why a changed file is not written. (This project's own.)
-use Rattle.std.specs.Prelude.{◌≡◌, ℕ, ◌⊎◌, List, Option, Some, None, Result, Ok, Err, slice_index, get_or, option_map, string_bytes}
+-- Host files that are read from folders, and why they are not; why a changed file is not written. (This project's profile.)
+use Rattle.std.specs.Prelude.{◌≡◌, ◌+◌, ℕ, ◌⊎◌, List, Option, Some, None, Result, Ok, Err, IfSome, ⊤, true, is_some, slice_index, get_or, option_map, String, string_bytes, take}
+use Rattle.std.specs.List.{Contains}
 use Rattle.std.specs.Borrow.{Bor}
+use Rattle.std.specs.Ordering.{nat_cmp}
+use Rattle.std.specs.Cmp.Lexicographic.{slice_cmp}
+use Rattle.std.specs.FinMap.{FinMap, get, contains_key}
 use Rattle.filenames.specs.Names.{Key}
-use Rattle.folders.specs.Entries.{file_text, path_text}
+use Rattle.hostfiles.specs.Hosts.{Host, Record, records_in}
+use Rattle.hostfiles.specs.declared.host.TheConstants.{FILE_LIMIT}
+use Rattle.folders.specs.Entries.{file_text, path_text, temporary_text}
 use Rattle.folders.specs.Faults.{Unwritten}
+use Rattle.folders.specs.FileSystem.{Path, Stored, ChangesAt, PutsInPlace}
+use Rattle.folders.specs.Listings.{AreTwo, IsHostFile}
 use Rattle.folders.specs.declared.fault.Fault.{Fault}
 use Rattle.folders.specs.declared.fault.Fault.TheVariants.{CannotRead, CannotWrite, TwoFiles, Refused, OutOfMemory}
 
@@ -18,6 +26,21 @@ RefusesAs (Some n) name (Err f) = f ≡ Refused name n
 abbrev pub IsRefusal : ℕ → Type 0
 IsRefusal n = (n ≡ 1) ⊎ (n ≡ 2)
 
+-- a host file has the records of the file of a path: of its bytes at most one more is read than a host file has
+pub record IsRead (stored : Stored) (path : Path) (records : Option (List Record)) : Type 0 where
+  pub bytes : List ℕ
+  pub stands : get stored path ≡ Some bytes
+  pub read : records ≡ Some (records_in (take (FILE_LIMIT + 1) bytes))
+
+-- each file of a folder that stands under a key is read as the host file of that key
+abbrev pub IsReadAs : {Z : Type 0} → Option Stored → Path → Option (String Z) → Option (List Record) → Type 0
+IsReadAs files folder None records = ⊤
+IsReadAs None folder (Some file) records = is_some records ≡ true
+IsReadAs (Some stored) folder (Some file) records = IsRead stored (path_text folder (string_bytes file)) records
+
+abbrev pub AreRead : {Z : Type 0} → Option Stored → Path → FinMap (slice_cmp nat_cmp) (String Z) → Host → Type 0
+AreRead files folder listed host = (key : Key) → IsReadAs files folder (get listed key) (get host key)
+
 -- why a file of a folder is not read and set under a name
 abbrev pub FailsFile : List ℕ → List ℕ → Key → Fault → Type 0
 FailsFile folder file name (CannotRead p) = string_bytes p ≡ path_text folder file
@@ -26,22 +49,44 @@ FailsFile folder file name (TwoFiles other) = ⊥
 FailsFile folder file name (Refused other n) = (other ≡ name) × IsRefusal n
 FailsFile folder file name OutOfMemory = Unit {0}
 
--- why the folder of a drive is not read: the folder or a file in it can't be, or a name of the drive is that of two files or is refused
-abbrev pub FailsFolder : ℕ → List ℕ → Fault → Type 0
-FailsFolder drive folder (CannotRead p) = (string_bytes p ≡ folder) ⊎ ((file : List ℕ) × (string_bytes p ≡ path_text folder file))
-FailsFolder drive folder (CannotWrite p) = ⊥
-FailsFolder drive folder (TwoFiles name) = slice_index name 0 ≡ drive
-FailsFolder drive folder (Refused name n) = (slice_index name 0 ≡ drive) × IsRefusal n
-FailsFolder drive folder OutOfMemory = Unit {0}
+-- why the folder of a drive, with these names in it where the files are told, is not read: the folder or a file in it can't be, or a
+-- name of the drive is that of two of its files or is refused
+abbrev pub FailsFolder : Option Stored → List Path → ℕ → List ℕ → Fault → Type 0
+FailsFolder files names drive folder (CannotRead p) = (string_bytes p ≡ folder) ⊎ ((file : List ℕ) × (string_bytes p ≡ path_text folder file))
+FailsFolder files names drive folder (CannotWrite p) = ⊥
+FailsFolder files names drive folder (TwoFiles name) = (slice_index name 0 ≡ drive) × IfSome files (λ stored. AreTwo stored drive folder names name)
+FailsFolder files names drive folder (Refused name n) = (slice_index name 0 ≡ drive) × IsRefusal n
+FailsFolder files names drive folder OutOfMemory = Unit {0}
+
+-- the host files of a drive are those of its folder, which has these names: each of them with its records, and no other
+pub record AreOf (stored : Stored) (names : List Path) (drive : ℕ) (folder : Path) (host : Host) : Type 0 where
+  pub read : (key : Key) (name : Path) → Contains names name → IsHostFile stored drive folder key name → IsRead stored (path_text folder name) (get host key)
+  pub only : (key : Key) → slice_index key 0 ≡ drive → contains_key host key ≡ true → (name : Path) × Contains names name × IsHostFile stored drive folder key name
 
 -- the folder of a drive, if it has one
 abbrev pub folder_of : List (Option (Bor (List ℕ))) → ℕ → Option (List ℕ)
 folder_of folders drive = option_map (λ s. s.now) (get_or folders drive None)
 
+-- the host files of each drive are those of its folder, and a drive without a folder has none
+pub record AreFromFolders (files : Option Stored) (names : Path → List Path) (folders : List (Option (Bor (List ℕ)))) (host : Host) : Type 0 where
+  pub only : (key : Key) → contains_key host key ≡ true → is_some (folder_of folders (slice_index key 0)) ≡ true
+  pub all : IfSome files (λ stored. (drive : ℕ) (folder : Path) → folder_of folders drive ≡ Some folder → AreOf stored (names folder) drive folder host)
+
 -- why the folders of the drives are not read: that of one of them is not
-abbrev pub FailsFolders : List (Option (Bor (List ℕ))) → Fault → Type 0
-FailsFolders folders fault = (drive : ℕ) × (folder : List ℕ) × (folder_of folders drive ≡ Some folder) × FailsFolder drive folder fault
+abbrev pub FailsFolders : Option Stored → (Path → List Path) → List (Option (Bor (List ℕ))) → Fault → Type 0
+FailsFolders files names folders fault =
+    (drive : ℕ) × (folder : List ℕ) × (folder_of folders drive ≡ Some folder) × FailsFolder files (names folder) drive folder fault
 
 -- why a file is not written into the folder of its drive
 abbrev pub FailsToWrite : List (Option (Bor (List ℕ))) → Key → Fault → Type 0
 FailsToWrite folders name fault = (folder : List ℕ) × (folder_of folders (slice_index name 0) ≡ Some folder) × Unwritten (path_text folder (file_text name)) fault
+
+-- a file was written into the folder of its drive; a drive without a folder takes nothing
+abbrev pub WritesInto : Option Path → Option Stored → Option Stored → Key → List ℕ → Type 0
+WritesInto None files after name bytes = after ≡ files
+WritesInto (Some folder) files after name bytes = PutsInPlace files after (path_text folder (file_text name)) (path_text folder (temporary_text name)) bytes
+
+-- a file was not written there: each file is as it was, but for what may be left under the path where it is written first
+abbrev pub LeavesIn : Option Path → Option Stored → Option Stored → Key → Type 0
+LeavesIn None files after name = after ≡ files
+LeavesIn (Some folder) files after name = ChangesAt (path_text folder (temporary_text name)) files after

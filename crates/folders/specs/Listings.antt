@@ -1,10 +1,43 @@
--- The files of a folder by the names that they give. (This project's own.)
-use Rattle.std.specs.Prelude.{Option, Some, None, if◌then◌else◌}
+-- The files of a folder by the names that they give. (This project's profile.)
+use Rattle.std.specs.Prelude.{◌≡◌, ℕ, List, ◌∷◌, ◌++◌, Option, Some, None, true, if◌then◌else◌, IfSome, String, string_bytes}
+use Rattle.std.specs.List.{Contains}
+use Rattle.std.specs.Option.{option_map}
 use Rattle.std.specs.Ordering.{nat_cmp, is_lt}
 use Rattle.std.specs.Cmp.Lexicographic.{slice_cmp}
+use Rattle.std.specs.FinMap.{FinMap, get, contains_key}
 use Rattle.filenames.specs.Names.{Key}
+use Rattle.folders.specs.Entries.{key_in, path_text}
+use Rattle.folders.specs.FileSystem.{Path, Stored}
 
 -- the lesser of two keys, where there are two
 abbrev pub least : Key → Option Key → Key
 least key None = key
 least key (Some other) = if is_lt (slice_cmp nat_cmp other key) then other else key
+
+-- a name in the folder of a drive is that of the host file of a key: it gives the key, and a regular file stands there
+pub record IsHostFile (stored : Stored) (drive : ℕ) (folder : Path) (key : Key) (name : Path) : Type 0 where
+  pub gives : key_in drive name ≡ Some key
+  pub there : contains_key stored (path_text folder name) ≡ true
+
+-- of the names in the folder of a drive two are those of the host file of a key
+pub record AreTwo (stored : Stored) (drive : ℕ) (folder : Path) (names : List Path) (key : Key) : Type 0 where
+  pub before : List Path
+  pub name : Path
+  pub after : List Path
+  pub listed : names ≡ before ++ name ∷ after
+  pub other : Path
+  pub earlier : Contains before other
+  pub first : IsHostFile stored drive folder key other
+  pub second : IsHostFile stored drive folder key name
+
+-- a name in the folder of a drive is, or is not, that of a host file
+abbrev pub Finds : Stored → ℕ → Path → Path → Option Key → Type 0
+Finds stored drive folder name (Some key) = IsHostFile stored drive folder key name
+Finds stored drive folder name None = (key : Key) → IsHostFile stored drive folder key name → ⊥
+
+-- these are the names of the host files in the folder of a drive by their keys, and some key that two of them have, if there is one
+pub record Lists {Z : Type 0} (stored : Stored) (drive : ℕ) (folder : Path) (names : List Path) (files : FinMap (slice_cmp nat_cmp) (String Z)) (twice : Option Key) : Type 0 where
+  pub listed : (key : Key) (file : String Z) → get files key ≡ Some file → Contains names (string_bytes file) × IsHostFile stored drive folder key (string_bytes file)
+  pub all : (key : Key) (name : Path) → Contains names name → IsHostFile stored drive folder key name → contains_key files key ≡ true
+  pub alone : twice ≡ None → (key : Key) (name : Path) → Contains names name → IsHostFile stored drive folder key name → option_map string_bytes (get files key) ≡ Some name
+  pub two : IfSome twice (AreTwo stored drive folder names)

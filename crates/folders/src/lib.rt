@@ -4,12 +4,14 @@
 
 mod entry;
 mod fault;
+mod file_system;
 mod listing;
 mod reading;
 mod writing;
 
 pub use entry::{file_name, name_in_folder, path_in, temporary_name};
 pub use fault::Fault;
+pub use file_system::{Contents, FileSystem, SystemFiles};
 pub use listing::Listing;
 pub use reading::{read_folder, read_folders};
-pub use writing::{write_file, write_records, write_to_drive};
+pub use writing::{ChangedFile, write_file, write_records, write_to_drive};

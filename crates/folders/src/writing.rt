@@ -1,22 +1,40 @@
 // A changed file is written into a folder.
 
-ghost use Rattle.std.specs.Prelude.{◌≡◌, ◌<◌, true, OnOk, IfOk, IfErr, slice_index, string_bytes};
+ghost use Rattle.std.specs.Prelude.{◌≡◌, ◌≢◌, ◌<◌, Some, OnOk, OnErr, IfOk, IfErr, slice_index, string_bytes};
 ghost use Rattle.std.specs.Io.KnownBytes.{Appends};
-ghost use Rattle.hostfiles.specs.Files.{has};
 ghost use Rattle.folders.specs.Entries.{file_text, path_text, temporary_text};
 ghost use Rattle.folders.specs.Faults.{Unwritten};
-ghost use Rattle.folders.specs.Folders.{FailsToWrite};
+ghost use Rattle.folders.specs.FileSystem.{ChangesAt, PutsInPlace};
+ghost use Rattle.folders.specs.Folders.{FailsToWrite, LeavesIn, WritesInto, folder_of};
 ghost use Rattle.folders.specs.Written.{bytes_of};
 
 use crate::entry::{file_name, path_in, temporary_name};
 use crate::fault::{Fault, unwritten};
+use crate::file_system::{Contents, FileSystem};
 use filenames::Name;
 use hostfiles::{Changes, HostFiles};
 use std::alloc::{AllocError, Global};
-use std::fs::OpenOptions;
-use std::io::{BufWriter, Write};
-use std::rt::Files;
-use std::{fs, io};
+use std::io;
+use std::io::Write;
+
+/// A file as it is after changes: its records, one after another, and a hole as zeros.
+#[derive(Clone, Copy)]
+pub struct ChangedFile<'a> {
+    /// The host files.
+    pub host: &'a HostFiles,
+    /// What was done to them.
+    pub changes: &'a Changes,
+    /// The file's name.
+    pub name: &'a Name,
+}
+
+impl Contents for ChangedFile<'_> {
+    ghost bytes = { λ file. bytes_of file.host.now file.changes.now.journal.entries file.name.now };
+
+    fn write_to<W: Write>(&self, writer: &mut W) -> io::Result<()> {
+        write_records(self.host, self.changes, self.name, writer)
+    }
+}
 
 /// Writes the records of a file as it is after these changes, one after another; a hole as zeros. An error is the writer's, which then
 /// has a part of them.
@@ -42,45 +60,41 @@ pub fn write_records<W: Write>(
 
 // Writes a file under one path and renames it to another. What stands under the first path, as a file that was left there or a link,
 // is removed and not written into.
-fn write_and_rename<R: Files + AllocGlobal>(
-    rt: &R,
-    host: &HostFiles,
-    changes: &Changes,
-    name: &Name,
+fn write_and_rename<S: FileSystem, C: Contents>(
+    system: &mut S,
+    contents: &C,
     temporary: &str,
     path: &str,
-) -> io::Result<()> {
-    let _ = fs::remove_file(rt, temporary);
-    let file = OpenOptions::new()
-        .write(true)
-        .create_new(true)
-        .open(rt, temporary)?;
-    let mut writer = BufWriter::new(rt.alloc(), file)?;
-    write_records(host, changes, name, &mut writer)?;
-    writer.flush()?;
-    fs::rename(rt, temporary, path)
+) -> io::Result<()>
+    requires { temporary.now ≢ path.now }
+    ensures written { OnOk result (PutsInPlace (S.files system.old) (S.files system.new) path.now temporary.now (C.bytes contents.now)) }
+    ensures err { OnErr result (ChangesAt temporary.now (S.files system.old) (S.files system.new)) }
+{
+    let _ = system.remove(temporary);
+    system.write_new(temporary, contents)?;
+    system.rename(temporary, path)
 }
 
-/// Writes a file as it is after these changes into a folder, by its name without the letter and `:`, in place of a file of this name.
-/// It is written under another name in that folder, which no host file has, and then renamed: so a file that can't be written whole
-/// is not there, and one that stood there before still is. A fault is of the file's path, or want of memory.
-pub fn write_file<R: Files + AllocGlobal>(
-    rt: &R,
+/// Writes a file into a folder, by its name without the letter and `:`, in place of a file of this name. It is written under another
+/// name in that folder, which no host file has, and then renamed: so a file that can't be written whole is not there, and one that
+/// stood there before still is. A fault is of the file's path, or want of memory.
+pub fn write_file<S: FileSystem, C: Contents>(
+    system: &mut S,
     folder: &str,
-    host: &HostFiles,
-    changes: &Changes,
     name: &Name,
+    contents: &C,
 ) -> Result<(), Fault>
-    requires { has host.now changes.now.journal.entries name.now ≡ true }
-    ensures { IfErr result (Unwritten (path_text folder.now (file_text name.now))) }
+    ensures written { OnOk result (WritesInto (Some folder.now) (S.files system.old) (S.files system.new) name.now (C.bytes contents.now)) }
+    ensures err { OnErr result (LeavesIn (Some folder.now) (S.files system.old) (S.files system.new) name.now) }
+    ensures fault { IfErr result (Unwritten (path_text folder.now (file_text name.now))) }
 {
-    let Ok((path, temporary)) = paths(rt.alloc(), folder, name) else {
+    let Ok((path, temporary)) = paths(system.alloc(), folder, name) else {
         return Err(Fault::OutOfMemory);
     };
-    match write_and_rename(rt, host, changes, name, temporary.as_str(), path.as_str()) {
+    match write_and_rename(system, contents, temporary.as_str(), path.as_str()) {
         Ok(()) => Ok(()),
         Err(error) => {
-            let _ = fs::remove_file(rt, temporary.as_str());
+            let _ = system.remove(temporary.as_str());
             Err(unwritten(error, path))
         }
     }
@@ -107,20 +121,21 @@ fn drive_of(name: &Name) -> usize
     name.key()[0] as usize
 }
 
-/// Writes a file as it is after these changes into the folder of its drive, A to D, as `write_file` does, where that drive has a
-/// folder; else it is not written.
-pub fn write_to_drive<R: Files + AllocGlobal>(
-    rt: &R,
+/// Writes a file into the folder of its drive, A to D, as `write_file` does, where that drive has a folder; else it is not written.
+pub fn write_to_drive<S: FileSystem, C: Contents>(
+    system: &mut S,
     folders: &[Option<&str>; 4],
-    host: &HostFiles,
-    changes: &Changes,
     name: &Name,
+    contents: &C,
 ) -> Result<(), Fault>
-    requires { has host.now changes.now.journal.entries name.now ≡ true }
-    ensures { IfErr result (FailsToWrite folders.now name.now) }
+    ensures written { OnOk result (WritesInto (folder_of folders.now (slice_index name.now 0))
+        (S.files system.old) (S.files system.new) name.now (C.bytes contents.now)) }
+    ensures err { OnErr result (LeavesIn (folder_of folders.now (slice_index name.now 0))
+        (S.files system.old) (S.files system.new) name.now) }
+    ensures fault { IfErr result (FailsToWrite folders.now name.now) }
 {
     match folders[drive_of(name)] {
-        Some(folder) => write_file(rt, folder, host, changes, name),
+        Some(folder) => write_file(system, folder, name, contents),
         None => Ok(()),
     }
 }

@@ -9,7 +9,13 @@ use Rattle.edit_lines.proofs.Stepping.{at_once}
 use Rattle.cpmrun.proofs.command_line.replay_session.Goals as goal
 
 pub returns-in-Err-OutOfMemory-clause-fault : goal.returns-in-Err-OutOfMemory-clause-fault
-returns-in-Err-OutOfMemory-clause-fault g c = ([], c.args.session, Consumes-nil _, at_once _ c.args.session _)
+returns-in-Err-OutOfMemory-clause-fault g c = record {
+  left = g.R.Reader.left c.args.reader.now;
+  last = c.args.session;
+  bytes = [];
+  read = Consumes-nil _;
+  leaves = at_once _ c.args.session _;
+}
 
 -- a new runner has the session that it was given
 pub returns-clause-ok : goal.returns-clause-ok
@@ -21,6 +27,11 @@ pub returns-clause-fault : goal.returns-clause-fault
 returns-clause-fault g c =
     let same = ap (λ (r : RunnerView). r.session) c.in-Ok.ensures.ok in
     IfErr-weaker c.replay.result _ _
-    (λ f h. let (bytes, consumed, faults, effects) = h in
-    (bytes, c.replay.new.runner.session, consumed, subst (λ (s : Session). Faults (g.R.Reader.left c.replay.new.reader) s (g.W.Writer.holds c.args.writer.now) bytes c.replay.new.runner.session (g.W.Writer.holds c.replay.new.writer) f) same faults))
+    (λ f h. let (bytes, consumed, faults, effects) = h in record {
+      left = g.R.Reader.left c.replay.new.reader;
+      last = c.replay.new.runner.session;
+      bytes = bytes;
+      read = consumed;
+      leaves = subst (λ (s : Session). Faults (g.R.Reader.left c.replay.new.reader) s (g.W.Writer.holds c.args.writer.now) bytes c.replay.new.runner.session (g.W.Writer.holds c.replay.new.writer) f) same faults;
+    })
     c.replay.ensures.fault

@@ -2,10 +2,13 @@ use Rattle.std.proofs.Common.{length}
 use Rattle.changed_files.specs.Changed.{changed_names}
 use Rattle.changed_files.proofs.ChangedWalk.{keys_above}
 use Rattle.replay.specs.Report.{reported_run, session_of}
+use Rattle.cpmrun.proofs.Walking.{WritesOn}
 use Rattle.cpmrun.proofs.raw_run.write_each.Given as goal
 
+-- some first files were written, and those of the names above the last one are left
 abbrev pub invariant-loop-name : goal.invariant-loop-name
-invariant-loop-name g l = Unit {0}
+invariant-loop-name g l =
+    WritesOn l.folders (session_of l.report).files (reported_run l.report).state.own.files (g.S.FileSystem.files l.initial.system) l.after (g.S.FileSystem.files l.system)
 
 -- the changed names above the last one are left
 abbrev pub decreases-loop-name : goal.decreases-loop-name

@@ -1,5 +1,8 @@
-use Rattle.std.proofs.Common.{◌≡◌}
+use Rattle.std.proofs.Common.{◌≡◌, map, take, IfSome}
+use Rattle.std.specs.Prelude.{string_bytes}
+use Rattle.folders.specs.Listings.{Lists}
 use Rattle.folders.proofs.reading.list.Given as goal
 
-abbrev pub invariant-loop-entry : goal.invariant-loop-entry
-invariant-loop-entry g l = l.listing.drive ≡ l.drive
+abbrev pub invariant-loop-name : goal.invariant-loop-name
+invariant-loop-name g l = (l.listing.drive ≡ l.drive)
+    × IfSome (g.S.FileSystem.files l.system) (λ stored. Lists stored l.drive l.folder (take l.name-index (map string_bytes l.name-items)) l.listing.files l.listing.twice)

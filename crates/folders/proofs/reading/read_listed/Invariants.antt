@@ -1,9 +1,9 @@
 use Rattle.keymaps.specs.Order.{left}
-use Rattle.folders.proofs.ReadLemmas.{SetUpTo}
+use Rattle.folders.proofs.ReadLemmas.{SetUpTo, WantedOf}
 use Rattle.folders.proofs.reading.read_listed.Given as goal
 
 abbrev pub invariant-loop-key : goal.invariant-loop-key
-invariant-loop-key g l = SetUpTo l.listing.files l.fn.files l.after l.files
+invariant-loop-key g l = SetUpTo (WantedOf (g.S.FileSystem.files l.system) l.folder l.listing.files) l.listing.files l.fn.files l.after l.files
 
 abbrev pub decreases-loop-key : goal.decreases-loop-key
 decreases-loop-key g l = left l.listing.files l.after

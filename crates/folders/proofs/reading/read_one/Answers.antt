@@ -1,11 +1,24 @@
-use Rattle.folders.proofs.ListingLemmas.{other_stays, still_there, now_there}
+use Rattle.std.proofs.Common.{◌∙◌, ap, subst}
+use Rattle.std.proofs.lemmas.Result.{on_ok_weaker}
+use Rattle.hostfiles.specs.Hosts.{records_in}
+use Rattle.std.specs.FinMap.{insert}
+use Rattle.folders.specs.FileSystem.{Reads}
+use Rattle.folders.proofs.ListingLemmas.{other_stays, now_there}
+use Rattle.folders.proofs.ReadLemmas.{put_in}
 use Rattle.folders.proofs.reading.read_one.Goals as goal
 
 pub returns-in-Ok-read_file-clause-others : goal.returns-in-Ok-read_file-clause-others
 returns-in-Ok-read_file-clause-others g c = other_stays _ _ c.args.name _ c.set.result c.set.ensures.ok c.set.ensures.err
 
-pub returns-in-Ok-read_file-clause-kept : goal.returns-in-Ok-read_file-clause-kept
-returns-in-Ok-read_file-clause-kept g c = still_there _ _ c.args.name _ c.set.result c.set.ensures.ok c.set.ensures.err
-
 pub returns-in-Ok-read_file-clause-there : goal.returns-in-Ok-read_file-clause-there
 returns-in-Ok-read_file-clause-there g c = now_there _ _ c.args.name _ c.set.result c.set.ensures.ok
+
+pub returns-in-Ok-read_file-clause-read : goal.returns-in-Ok-read_file-clause-read
+returns-in-Ok-read_file-clause-read g c =
+    let files = g.S.FileSystem.files c.args.system.now in
+    let bytes = c.in-Ok-read_file.bytes.items in
+    on_ok_weaker c.set.result
+    (λ put. put_in files _ bytes c.args.files.now c.args.name c.set.new.files
+    (subst (λ p. Reads files p 8388609 bytes) (c.as_str.ensures.value ∙ c.in-Ok.ensures) c.in-Ok-read_file.ensures)
+    (put ∙ ap (λ b. insert c.args.files.now c.args.name (records_in b)) c.as_slice.ensures.value))
+    c.set.ensures.ok
