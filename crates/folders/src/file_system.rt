@@ -80,6 +80,7 @@ fn write_whole<W: Write + Drop, C: Contents>(
 }
 
 /// The files of the operating system, which tells a contract nothing of them.
+#[derive(Drop)]
 pub struct SystemFiles<'a, R> {
     rt: &'a R,
 }
