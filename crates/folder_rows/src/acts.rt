@@ -1,7 +1,7 @@
 // What is done in the folder of a test, and what is told of it then.
 
 use crate::listed::{Telling, told};
-use crate::written::{How, has_a_hole, wrote};
+use crate::written::{How, has_a_hole, holds, lacks, wrote};
 use std::alloc::{AllocError, Global};
 use std::os::unix::fs::symlink;
 use std::test::Fail;
@@ -33,11 +33,15 @@ pub enum Act<'a> {
     Writes(&'a str, &'a str, How, Text<'a>),
     /// The written file has two records, and zeros in the hole between them.
     HasAHole(&'a str),
+    /// A file has these bytes.
+    Holds(&'a str, &'a [u8]),
+    /// Nothing stands there.
+    Lacks(&'a str),
 }
 
 use Act::{
-    HasAHole, HasBoth, Link, MakeFolder, Put, PutMany, PutSparse, RemoveAll, RemoveFolder, Tells,
-    TellsBoth, Writes,
+    HasAHole, HasBoth, Holds, Lacks, Link, MakeFolder, Put, PutMany, PutSparse, RemoveAll,
+    RemoveFolder, Tells, TellsBoth, Writes,
 };
 
 /// What is to be told.
@@ -104,7 +108,7 @@ fn place_of(act: Act<'_>) -> &str {
         Put(place, _) | PutSparse(place, _) | PutMany(place, _) => place,
         MakeFolder(place) | RemoveFolder(place) | RemoveAll(place) | Link(place, _) => place,
         Tells(place, _, _) | TellsBoth(place, _, _) | HasBoth(place) => place,
-        Writes(place, _, _, _) | HasAHole(place) => place,
+        Writes(place, _, _, _) | HasAHole(place) | Holds(place, _) | Lacks(place) => place,
     }
 }
 
@@ -148,6 +152,8 @@ fn answers(rt: &HostRuntime, folder: &str, path: &str, act: Act<'_>) -> Result<b
         HasBoth(_) => has_both(rt, path),
         Writes(_, name, how, text) => writes(rt, folder, path, name, how, text),
         HasAHole(_) => has_a_hole(rt, path),
+        Holds(_, bytes) => holds(rt, path, bytes),
+        Lacks(_) => lacks(rt, path),
         _ => Ok(false),
     }
 }

@@ -1,10 +1,9 @@
 // What is told of folders that are read.
 
 use filenames::Name;
-use folders::{Fault, read_folders};
+use folders::{Fault, SystemFiles, read_folders};
 use hostfiles::HostFiles;
 use std::alloc::{AllocError, Global};
-use std::rt::Files;
 use std::test::Fail;
 
 /// What is told of host files.
@@ -17,12 +16,12 @@ pub enum Telling {
 }
 
 /// What is told of the host files of four folders, or of their fault.
-pub fn told<R: Files + AllocGlobal + Clone>(
-    rt: &R,
+pub fn told(
+    rt: &HostRuntime,
     folders: [Option<&str>; 4],
     telling: Telling,
 ) -> Result<String, Fail> {
-    match read_folders(rt, &folders) {
+    match read_folders(&SystemFiles::new(rt), &folders) {
         Ok(files) => tell(rt.alloc(), &files, telling),
         Err(fault) => Ok(text(rt.alloc(), &fault)?),
     }

@@ -1,6 +1,8 @@
 // Files that are written into a folder.
 
-use crate::acts::Act::{HasAHole, MakeFolder, Put, RemoveAll, RemoveFolder, Tells, Writes};
+use crate::acts::Act::{
+    HasAHole, Holds, Lacks, Link, MakeFolder, Put, RemoveAll, RemoveFolder, Tells, Writes,
+};
 use crate::acts::Text::{Around, Is};
 use crate::acts::{Act, play};
 use crate::written::How::{ToItsDrive, WithAHole};
@@ -13,10 +15,45 @@ fn records_are_written_with_holes_as_zeros(rt: HostRuntime) -> Result<(), Fail> 
         Put("H.DAT", b"as it was"),
         Writes("", "c:h.dat", WithAHole, Is("")),
         HasAHole("H.DAT"),
+        Lacks(".H.DAT.new"),
         Tells("", Some(0), Is(" H.DAT")),
         RemoveAll(""),
     ];
     play(&rt, "written", ACTS)
+}
+
+// A folder stands where the file is to be written first, so that nothing can be written there.
+#[test]
+fn an_older_file_stands_where_the_new_one_is_not_written(rt: HostRuntime) -> Result<(), Fail> {
+    const ACTS: &[Act<'_>] = &[
+        Put("H.DAT", b"as it was"),
+        MakeFolder(".H.DAT.new"),
+        Put(".H.DAT.new/x", b"x"),
+        Writes("", "h.dat", WithAHole, Around("cannot write ", "/H.DAT")),
+        Holds("H.DAT", b"as it was"),
+        Holds(".H.DAT.new/x", b"x"),
+        RemoveAll(""),
+    ];
+    play(&rt, "older", ACTS)
+}
+
+// What was left where the file is written first is no hindrance, and a link that was left is not followed.
+#[test]
+fn what_was_left_is_not_written_into(rt: HostRuntime) -> Result<(), Fail> {
+    const ACTS: &[Act<'_>] = &[
+        Put(".H.DAT.new", b"left"),
+        Writes("", "h.dat", WithAHole, Is("")),
+        HasAHole("H.DAT"),
+        Lacks(".H.DAT.new"),
+        Put("other", b"other"),
+        Link(".H.DAT.new", "other"),
+        Writes("", "h.dat", WithAHole, Is("")),
+        HasAHole("H.DAT"),
+        Lacks(".H.DAT.new"),
+        Holds("other", b"other"),
+        RemoveAll(""),
+    ];
+    play(&rt, "left", ACTS)
 }
 
 // No other file is left in the folder.

@@ -2,10 +2,13 @@
 
 use crate::listed::text;
 use filenames::Name;
-use folders::{Fault, name_in_folder, temporary_name, write_file, write_to_drive};
+use folders::{
+    ChangedFile, Fault, SystemFiles, name_in_folder, temporary_name, write_file, write_to_drive,
+};
 use hostfiles::{Changes, HostFiles};
 use std::alloc::{AllocError, Global};
 use std::fs;
+use std::io::ErrorKind;
 use std::test::Fail;
 
 /// What is written, and where.
@@ -60,9 +63,15 @@ fn write(
         return String::from_str(rt.alloc(), "no such file");
     }
     let folders = [None, Some(folder), None, Some("/none")];
+    let mut system = SystemFiles::new(rt);
+    let contents = ChangedFile {
+        host: &host,
+        changes,
+        name,
+    };
     let answer = match how {
-        How::WithAHole => write_file(rt, folder, &host, changes, name),
-        How::ToItsDrive => write_to_drive(rt, &folders, &host, changes, name),
+        How::WithAHole => write_file(&mut system, folder, name, &contents),
+        How::ToItsDrive => write_to_drive(&mut system, &folders, name, &contents),
     };
     text_of(rt.alloc(), answer)
 }
@@ -86,6 +95,21 @@ fn are_apart(bytes: &[u8]) -> bool {
     wanted[128..256].fill(0);
     wanted[256..].fill(3);
     bytes == wanted.as_slice()
+}
+
+/// Whether a file has these bytes.
+pub fn holds(rt: &HostRuntime, path: &str, wanted: &[u8]) -> Result<bool, Fail> {
+    let bytes = fs::read(rt, path)?;
+    Ok(bytes.as_slice() == wanted)
+}
+
+/// Whether nothing stands at a path, and no link either.
+pub fn lacks(rt: &HostRuntime, path: &str) -> Result<bool, Fail> {
+    match fs::symlink_metadata(rt, path) {
+        Ok(_) => Ok(false),
+        Err(error) if error.kind() == ErrorKind::NotFound => Ok(true),
+        Err(error) => Err(Fail::from(error)),
+    }
 }
 
 /// Whether a file is written under this name at first, which is passed over where a folder is read.
