@@ -22,10 +22,5 @@ fn main(rt: HostRuntime) -> ExitCode {
         return ExitCode::from(complain(alloc, Fault::OutOfMemory, &mut err));
     };
     let mut system = SystemFiles::new(&rt);
-    ExitCode::from(command(
-        &mut system,
-        words.as_slice(),
-        &mut out,
-        &mut err,
-    ))
+    ExitCode::from(command(&mut system, words.as_slice(), &mut out, &mut err))
 }
