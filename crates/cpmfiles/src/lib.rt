@@ -1,6 +1,7 @@
 //! Files of a program: names, control blocks, host files, what a run does to them, and both joined as a table.
 #![tactic(auto)]
 
+pub mod asking;
 pub mod laws;
 pub mod table;
 

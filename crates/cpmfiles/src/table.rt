@@ -2,18 +2,18 @@
 
 ghost use Rattle.std.specs.Prelude.{◌≡◌, ◌<◌, ◌≤◌, true, false, OnOk, OnErr, IfOk, Some, Ok, slice_index};
 ghost use Rattle.std.specs.Option.{option_map};
-ghost use Rattle.filenames.specs.Names.{is_sayable};
 ghost use Rattle.directory.specs.Entries.{next_entry, entry_bytes, position_in, count_at};
-ghost use Rattle.hostfiles.specs.Files.{has, records, length_at, place, place_of, entry_at, file_of, shape_of, extent_count, shapes, made, renamed, wrote, wrote_filled};
+ghost use Rattle.hostfiles.specs.Files.{has, records, length_at, place, place_of, entry_at, file_of, shape_of, shapes, made, renamed, wrote};
 ghost use Rattle.hostfiles.specs.Looks.{look_has, look_length, look_records, look_content, look_read, look_directory, Extends};
 ghost use Rattle.cpmfiles.specs.Tables.{can_make, can_rename, has_wildcard, look_made, look_renamed, count_deleted, look_deleted, Deletes, LooksWithin};
 
+use crate::asking;
 use directory::{Position, next_entry};
-use filenames::{Key, is_sayable};
+use filenames::Key;
 use hostfiles::changes::Changes;
 use hostfiles::host::HostFiles;
-use hostfiles::joined;
 use hostfiles::listed::{Listed, without_matches};
+use hostfiles::seen::SeenFile;
 use records::Record;
 use std::alloc::AllocError;
 
@@ -49,9 +49,7 @@ impl Table<'_> {
         ensures host { self.new.host.now ≡ self.old.host.now }
         ensures lender { self.new.changes.ghost_name ≡ self.old.changes.ghost_name }
     {
-        let base = self.changes.journal.base(key);
-        self.changes.looks.mark_has(base, key)?;
-        Ok(joined::has(self.host, &self.changes.journal, key))
+        asking::has(self.host, self.changes, key)
     }
 
     /// How many places the file of the key has, if there is one.
@@ -65,15 +63,11 @@ impl Table<'_> {
         ensures host { self.new.host.now ≡ self.old.host.now }
         ensures lender { self.new.changes.ghost_name ≡ self.old.changes.ghost_name }
     {
-        if !self.has(key)? {
-            return Ok(None);
-        }
-        Ok(Some(self.length(key)?))
+        asking::records(self.host, self.changes, key)
     }
 
     /// How many places the file of the key has; 0 where there is none. It asks for the length alone, so it is for a caller that knows whether the
     /// file is there.
-    #[tactic(auto, using(crate::proofs::LookLaws::extends_by_length, crate::proofs::LookLaws::extends_same))]
     pub fn length(&mut self, key: &Key) -> Result<u32, AllocError>
         ensures answer { IfOk result (λ n. n ≡ length_at self.old.host.now self.old.changes.now.journal.entries key.now) }
         ensures looks { OnOk result (self.new.changes.now.looks ≡ look_length self.old.changes.now.journal.entries key.now self.old.changes.now.looks) }
@@ -83,10 +77,7 @@ impl Table<'_> {
         ensures host { self.new.host.now ≡ self.old.host.now }
         ensures lender { self.new.changes.ghost_name ≡ self.old.changes.ghost_name }
     {
-        let base = self.changes.journal.base(key);
-        let grown = self.changes.journal.grown(key);
-        self.changes.looks.mark_length(base, grown, key)?;
-        Ok(joined::length(self.host, &self.changes.journal, key))
+        asking::length(self.host, self.changes, key)
     }
 
     /// Reads the record at a place. `false` where there is no file, or none that long, or a hole at the place: `bytes` then stay.
@@ -102,22 +93,15 @@ impl Table<'_> {
         ensures host { self.new.host.now ≡ self.old.host.now }
         ensures lender { self.new.changes.ghost_name ≡ self.old.changes.ghost_name }
     {
-        let Some(n) = self.records(key)? else {
+        let Some(record) = asking::read(self.host, self.changes, key, k)? else {
             return Ok(false);
         };
-        if k >= n {
-            return Ok(false);
-        }
-        let Some(content) = self.content(key, k)? else {
-            return Ok(false);
-        };
-        *bytes = content;
+        *bytes = record;
         Ok(true)
     }
 
     /// The record at a place below the length of a file that is there; none in a hole. It asks for the record alone, so it is for a caller that
     /// knows the length.
-    #[tactic(auto, using(crate::proofs::LookLaws::extends_by_record, crate::proofs::LookLaws::extends_same))]
     pub fn content(&mut self, key: &Key, k: u32) -> Result<Option<Record>, AllocError>
         ensures answer { IfOk result (λ r. r ≡ place_of self.old.host.now key.now (entry_at self.old.changes.now.journal.entries key.now) k) }
         ensures looks { OnOk result (self.new.changes.now.looks ≡ look_content self.old.changes.now.journal.entries key.now k self.old.changes.now.looks) }
@@ -127,8 +111,7 @@ impl Table<'_> {
         ensures host { self.new.host.now ≡ self.old.host.now }
         ensures lender { self.new.changes.ghost_name ≡ self.old.changes.ghost_name }
     {
-        self.mark_content(key, k)?;
-        Ok(joined::content(self.host, &self.changes.journal, key, k))
+        asking::content(self.host, self.changes, key, k)
     }
 
     /// The count of extent `e` of the file of a key: the greatest place of it that holds a record, plus one; 0 where none does. It asks nothing, so
@@ -137,30 +120,7 @@ impl Table<'_> {
         ensures count { result ≡ count_at (shape_of (file_of self.now.host.now key.now (entry_at self.now.changes.now.journal.entries key.now))) e }
         ensures within { result ≤ 128 }
     {
-        joined::count(self.host, &self.changes.journal, key, e)
-    }
-
-    // The record at a place below the length as a question, where it is the host file's.
-    #[tactic(auto, using(crate::proofs::LookLaws::extends_by_record, crate::proofs::LookLaws::extends_same))]
-    fn mark_content(&mut self, key: &Key, k: u32) -> Result<(), AllocError>
-        ensures looks { OnOk result (self.new.changes.now.looks ≡ look_content self.old.changes.now.journal.entries key.now k self.old.changes.now.looks) }
-        ensures extends { Extends self.old.changes.now.looks self.new.changes.now.looks }
-        ensures bound { OnErr result (LooksWithin (λ own. look_content own key.now k) self.old self.new) }
-        ensures stays { self.new.changes.now.journal ≡ self.old.changes.now.journal }
-        ensures host { self.new.host.now ≡ self.old.host.now }
-        ensures lender { self.new.changes.ghost_name ≡ self.old.changes.ghost_name }
-    {
-        if self.changes.journal.written(key, k).is_some() {
-            return Ok(());
-        }
-        if let Some(grown) = self.changes.journal.grown(key) {
-            if k >= grown.from {
-                return Ok(());
-            }
-        }
-        let base = self.changes.journal.base(key);
-        self.changes.looks.mark_record(base, key, k)?;
-        Ok(())
+        SeenFile::find(self.host, &self.changes.journal, key).count(e)
     }
 
     /// Writes a record, if there is a file: a write past the end leaves holes between.
@@ -179,49 +139,11 @@ impl Table<'_> {
         let Some(n) = self.records(key)? else {
             return Ok(false);
         };
-        self.changes.journal.write(key, n, k, bytes)?;
+        self.changes.journal.write(key, n, k, bytes, false)?;
         Ok(true)
     }
 
-    /// Writes a record, if there is a file: a write past the end fills the places between with zeros. Older holes stay.
-    pub fn write_filled(&mut self, key: &Key, k: u32, bytes: &Record) -> Result<bool, AllocError>
-        requires { k < 65536 }
-        ensures answer { IfOk result (λ b. b ≡ has self.old.host.now self.old.changes.now.journal.entries key.now) }
-        ensures looks { OnOk result (self.new.changes.now.looks ≡ look_records self.old.host.now self.old.changes.now.journal.entries key.now self.old.changes.now.looks) }
-        ensures extends { Extends self.old.changes.now.looks self.new.changes.now.looks }
-        ensures bound { OnErr result (LooksWithin (λ own. look_records self.old.host.now own key.now) self.old self.new) }
-        ensures done { IfOk result (λ b. b ≡ true → self.new.changes.now.journal.entries ≡ wrote_filled (length_at self.old.host.now self.old.changes.now.journal.entries key.now) self.old.changes.now.journal.entries key.now k bytes.now) }
-        ensures absent { IfOk result (λ b. b ≡ false → self.new.changes.now.journal.entries ≡ self.old.changes.now.journal.entries) }
-        ensures err { OnErr result (self.new.changes.now.journal.entries ≡ self.old.changes.now.journal.entries) }
-        ensures host { self.new.host.now ≡ self.old.host.now }
-        ensures lender { self.new.changes.ghost_name ≡ self.old.changes.ghost_name }
-    {
-        let Some(n) = self.records(key)? else {
-            return Ok(false);
-        };
-        self.changes.journal.write_filled(key, n, k, bytes)?;
-        Ok(true)
-    }
-
-    /// The count of extent `e` of a file, if it is there: the greatest place of it that holds a record, plus one; 0 where none does.
-    pub fn extent(&mut self, key: &Key, e: u32) -> Result<Option<u8>, AllocError>
-        ensures answer { IfOk result (λ n. n ≡ extent_count self.old.host.now self.old.changes.now.journal.entries key.now e) }
-        ensures looks { OnOk result (self.new.changes.now.looks ≡ look_records self.old.host.now self.old.changes.now.journal.entries key.now self.old.changes.now.looks) }
-        ensures extends { Extends self.old.changes.now.looks self.new.changes.now.looks }
-        ensures bound { OnErr result (LooksWithin (λ own. look_records self.old.host.now own key.now) self.old self.new) }
-        ensures stays { self.new.changes.now.journal ≡ self.old.changes.now.journal }
-        ensures host { self.new.host.now ≡ self.old.host.now }
-        ensures lender { self.new.changes.ghost_name ≡ self.old.changes.ghost_name }
-    {
-        let Some(_) = self.records(key)? else {
-            return Ok(None);
-        };
-        Ok(Some(self.count(key, e)))
-    }
-
-    /// The first entry of the directory that matches a pattern, after the entry given if there is one, in the files as they are now. The
-    /// pattern's drive is matched exactly; its name and its `ex` byte may have a `?`. Never an `Err`.
-    #[tactic(auto, using(crate::proofs::LookLaws::extends_by_directory))]
+    /// The same as `search`, as a `Result`. Never an `Err`.
     pub fn next_entry(
         &mut self,
         pattern: &Key,
@@ -229,6 +151,21 @@ impl Table<'_> {
         after: Option<[u8; 32]>,
     ) -> Result<Option<[u8; 32]>, AllocError>
         ensures answer { result ≡ Ok (option_map entry_bytes (next_entry pattern.now ex (option_map (position_in (slice_index pattern.now 0)) after) (shapes self.old.host.now self.old.changes.now.journal.entries))) }
+        ensures looks { self.new.changes.now.looks ≡ look_directory (slice_index pattern.now 0) self.old.changes.now.looks }
+        ensures drive { slice_index pattern.now 0 < 256 }
+        ensures extends { Extends self.old.changes.now.looks self.new.changes.now.looks }
+        ensures stays { self.new.changes.now.journal ≡ self.old.changes.now.journal }
+        ensures host { self.new.host.now ≡ self.old.host.now }
+        ensures lender { self.new.changes.ghost_name ≡ self.old.changes.ghost_name }
+    {
+        Ok(self.search(pattern, ex, after))
+    }
+
+    /// The first entry of the directory that matches a pattern, after the entry given if there is one, in the files as they are now. The
+    /// pattern's drive is matched exactly; its name and its `ex` byte may have a `?`. Takes no memory.
+    #[tactic(auto, using(crate::proofs::LookLaws::extends_by_directory))]
+    pub fn search(&mut self, pattern: &Key, ex: u8, after: Option<[u8; 32]>) -> Option<[u8; 32]>
+        ensures answer { result ≡ option_map entry_bytes (next_entry pattern.now ex (option_map (position_in (slice_index pattern.now 0)) after) (shapes self.old.host.now self.old.changes.now.journal.entries)) }
         ensures looks { self.new.changes.now.looks ≡ look_directory (slice_index pattern.now 0) self.old.changes.now.looks }
         ensures drive { slice_index pattern.now 0 < 256 }
         ensures extends { Extends self.old.changes.now.looks self.new.changes.now.looks }
@@ -244,8 +181,8 @@ impl Table<'_> {
             journal: &self.changes.journal,
         };
         match next_entry(&listed, pattern, ex, last) {
-            Some(entry) => Ok(Some(entry.to_bytes())),
-            None => Ok(None),
+            Some(entry) => Some(entry.to_bytes()),
+            None => None,
         }
     }
 
@@ -262,10 +199,7 @@ impl Table<'_> {
         ensures host { self.new.host.now ≡ self.old.host.now }
         ensures lender { self.new.changes.ghost_name ≡ self.old.changes.ghost_name }
     {
-        if !is_sayable(key) {
-            return Ok(false);
-        }
-        if self.has(key)? {
+        if !asking::can_make(self.host, self.changes, key)? {
             return Ok(false);
         }
         self.changes.journal.make(key)?;
@@ -341,18 +275,7 @@ impl Table<'_> {
         ensures host { self.new.host.now ≡ self.old.host.now }
         ensures lender { self.new.changes.ghost_name ≡ self.old.changes.ghost_name }
     {
-        if has_wildcard(old) {
-            return Ok(false);
-        }
-        if !is_sayable(new) {
-            return Ok(false);
-        }
-        let there = self.has(old)?;
-        let taken = self.has(new)?;
-        if !there {
-            return Ok(false);
-        }
-        if taken {
+        if !asking::can_rename(self.host, self.changes, old, new)? {
             return Ok(false);
         }
         self.changes.journal.rename(old, new)?;

@@ -90,14 +90,13 @@ fn search(table: &mut Table<'_>, pattern: &Key, extent: u8, after: Option<[u8; 3
     ensures drive { slice_index pattern.now 0 < 256 }
     ensures apart { IsApart result }
 {
-    match table.next_entry(pattern, extent, after) {
-        Ok(Some(last)) => Finding::FirstEntry(Search {
+    match table.search(pattern, extent, after) {
+        Some(last) => Finding::FirstEntry(Search {
             pattern: *pattern,
             extent,
             last,
         }),
-        Ok(None) => Finding::NoEntry,
-        Err(_) => unreachable!(), // it takes no memory
+        None => Finding::NoEntry,
     }
 }
 

@@ -168,10 +168,23 @@ fn ask(table: &mut Table<'_>, act: Act<'_>) -> Result<bool, AllocError> {
     Ok(match act {
         Has(key, there) => table.has(&key)? == there,
         Records(key, count) => table.records(&key)? == count,
-        Extent(key, e, count) => table.extent(&key, e)? == count,
+        Extent(key, e, count) => counts(table, &key, e, count)?,
         Read(key, place, byte) => reads(table, &key, place, byte)?,
         _ => false,
     })
+}
+
+// Whether an extent has this count, where there is a file.
+fn counts(
+    table: &mut Table<'_>,
+    key: &Key,
+    e: u32,
+    wanted: Option<u8>,
+) -> Result<bool, AllocError> {
+    match table.records(key)? {
+        Some(_) => Ok(Some(table.count(key, e)) == wanted),
+        None => Ok(wanted == None),
+    }
 }
 
 // Whether a record is read so: where it can't be read, what was there before stays.
@@ -214,7 +227,14 @@ fn fills(
     byte: u8,
     done: bool,
 ) -> Result<bool, AllocError> {
-    Ok(place < 65_536 && table.write_filled(key, place, &filled(byte))? == done)
+    match table.records(key)? {
+        Some(length) if place < 65_536 => {
+            let journal = &mut table.changes.journal;
+            journal.write(key, length, place, &filled(byte), true)?;
+            Ok(done)
+        }
+        _ => Ok(!done),
+    }
 }
 
 fn search(table: &mut Table<'_>, act: Act<'_>) -> Result<bool, AllocError> {

@@ -164,6 +164,9 @@ fn fill_gap(
     table: &mut Table<'_>,
 ) -> io::Result<()> {
     watch.skip(rt)?;
-    table.write_filled(&KEY, 65_535, &[1; 128])?;
+    table
+        .changes
+        .journal
+        .write(&KEY, 0, 65_535, &[1; 128], true)?;
     watch.lap(rt, "fill-gap", 1)
 }

@@ -1,5 +1,5 @@
 -- The count of an extent.
-use Rattle.std.proofs.Common.{◌≡◌, ◌<◌, ◌≤◌, ◌+◌, ◌*◌, ℕ, zero, suc, true, false, cond, is_some, List, [], ◌∷◌, length, map, take, drop, get_or, nat_lt, Option, None, Some, option_map, rules, refl, ap, ◌∙◌, arith, inl, inr}
+use Rattle.std.proofs.Common.{◌≡◌, ◌<◌, ◌≤◌, ◌+◌, ◌*◌, ℕ, zero, suc, true, false, cond, is_some, List, [], ◌∷◌, length, map, take, drop, get_or, nat_lt, Option, None, Some, option_map, option_copied, Bor, rules, refl, ap, ◌∙◌, arith, inl, inr}
 use Rattle.std.proofs.lemmas.Bool.{cases_lt}
 use Rattle.std.proofs.lemmas.List.{get_or-take, get_or-drop, get_or_past, get_or-map}
 use Rattle.std.proofs.lemmas.List.FromFn.{get_or-map-range_with_len, length-map-range_with_len}
@@ -62,6 +62,11 @@ place_shape f n p h =
     let count = length-map-range_with_len f 0 n in
     let at : 0 + p ≡ p = omega arith in
     get_or-map is_some (map f (range_with_len 0 n)) p None false (omega arith) ∙ ap is_some (get_or-map-range_with_len f 0 n p p None h at)
+
+-- whether there is a record, or a reference to one
+pub some_copied : (r : Option (Bor (List ℕ))) (o : Option (List ℕ)) → option_copied r ≡ o → is_some r ≡ is_some o
+some_copied None o e = ap is_some e
+some_copied (Some r) o e = ap is_some e
 
 pub past_shape : (f : ℕ → Option (List ℕ)) (n p : ℕ) → n ≤ p → get_or (map is_some (map f (range_with_len 0 n))) p false ≡ false
 past_shape f n p h =

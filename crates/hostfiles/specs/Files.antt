@@ -30,6 +30,10 @@ stands_on key Gone = None
 stands_on key New = None
 stands_on key (Moved old) = Some old
 
+abbrev pub host_file : Host → Option Key → Option (List Record)
+host_file host None = None
+host_file host (Some key) = get host key
+
 abbrev pub records_of : Host → Option Key → List Record
 records_of host None = []
 records_of host (Some key) = unwrap_or (get host key) []

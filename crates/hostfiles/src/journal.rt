@@ -1,8 +1,8 @@
 // What a run did to the files.
 
-ghost use Rattle.std.specs.Prelude.{◌≡◌, ◌≢◌, ◌<◌, ℕ, true, IfOk, OnOk, OnErr, option_copied};
+ghost use Rattle.std.specs.Prelude.{◌≡◌, ◌≢◌, ◌<◌, ℕ, true, if◌then◌else◌, IfOk, OnOk, OnErr};
 ghost use Rattle.std.specs.FinMap as finmap;
-ghost use Rattle.hostfiles.specs.Files.{untouched, nothing, fresh, wrote_entry, wrote_filled_entry, grown_by, entry_at, moved, wrote, wrote_filled, made, deleted, renamed};
+ghost use Rattle.hostfiles.specs.Files.{untouched, nothing, fresh, wrote_entry, wrote_filled_entry, grown_by, moved, wrote, wrote_filled, made, deleted, renamed};
 
 use filenames::Key;
 use keymaps::KeyMap;
@@ -96,29 +96,20 @@ impl Entry {
         }
     }
 
-    /// Writes a record of a file of `n` places, and leaves holes between its end and the record. An `Err` changes nothing.
-    pub fn write(&mut self, n: u32, k: u32, bytes: &Record) -> Result<(), AllocError>
+    /// Writes a record of a file of `n` places. Between its end and the record it leaves holes, or fills the places with zeros. An `Err`
+    /// changes nothing.
+    pub fn write(&mut self, n: u32, k: u32, bytes: &Record, filled: bool) -> Result<(), AllocError>
         requires { k < 65536 }
-        ensures ok { OnOk result (self.new ≡ wrote_entry n k bytes.now self.old) }
+        ensures ok { OnOk result (self.new ≡ (if filled then wrote_filled_entry n k bytes.now self.old else wrote_entry n k bytes.now self.old)) }
         ensures err { OnErr result (self.new ≡ self.old) }
     {
-        self.records.put(k, bytes)?;
-        self.grow(n, k);
-        Ok(())
-    }
-
-    /// The same with zeros between the file's end and the record. An `Err` changes nothing.
-    pub fn write_filled(&mut self, n: u32, k: u32, bytes: &Record) -> Result<(), AllocError>
-        requires { k < 65536 }
-        ensures ok { OnOk result (self.new ≡ wrote_filled_entry n k bytes.now self.old) }
-        ensures err { OnErr result (self.new ≡ self.old) }
-    {
-        if k <= n {
-            return self.write(n, k, bytes);
+        if filled && k > n {
+            let mut records = self.records.with_zeros(n, k)?;
+            records.put(k, bytes)?;
+            self.records = records;
+        } else {
+            self.records.put(k, bytes)?;
         }
-        let mut records = self.records.with_zeros(n, k)?;
-        records.put(k, bytes)?;
-        self.records = records;
         self.grow(n, k);
         Ok(())
     }
@@ -174,36 +165,6 @@ impl Journal {
         })
     }
 
-    /// What the file of a key stands on.
-    pub fn base(&self, key: &Key) -> Base
-        ensures { result ≡ (entry_at self.now.entries key.now).base }
-    {
-        match self.entries.get(key) {
-            Some(entry) => entry.base,
-            None => Base::Same,
-        }
-    }
-
-    /// How the file of a key has grown.
-    pub fn grown(&self, key: &Key) -> Option<Grown>
-        ensures { result ≡ (entry_at self.now.entries key.now).grown }
-    {
-        match self.entries.get(key) {
-            Some(entry) => entry.grown,
-            None => None,
-        }
-    }
-
-    /// The record that was written at a place.
-    pub fn written(&self, key: &Key, k: u32) -> Option<&Record>
-        ensures { option_copied result ≡ finmap.get (entry_at self.now.entries key.now).records k }
-    {
-        match self.entries.get(key) {
-            Some(entry) => entry.records.get(k),
-            None => None,
-        }
-    }
-
     /// Makes an empty file. An `Err` changes nothing.
     pub fn make(&mut self, key: &Key) -> Result<(), AllocError>
         ensures ok { OnOk result (self.new.entries ≡ made self.old.entries key.now) }
@@ -220,45 +181,27 @@ impl Journal {
         self.entries.insert(*key, Entry::nothing(self.alloc))
     }
 
-    /// Writes a record of a file of `n` places, and leaves holes between its end and the record. An `Err` changes nothing.
-    pub fn write(&mut self, key: &Key, n: u32, k: u32, bytes: &Record) -> Result<(), AllocError>
-        requires { k < 65536 }
-        ensures ok { OnOk result (self.new.entries ≡ wrote n self.old.entries key.now k bytes.now) }
-        ensures err { OnErr result (self.new.entries ≡ self.old.entries) }
-    {
-        let alloc = self.alloc;
-        let Some(mut entry) = self.entries.replace(key, Entry::nothing(alloc)) else {
-            let mut entry = Entry::untouched(alloc);
-            entry.write(n, k, bytes)?;
-            return self.entries.insert(*key, entry);
-        };
-        if let Err(refused) = entry.write(n, k, bytes) {
-            self.entries.put(key, entry);
-            return Err(refused);
-        }
-        self.entries.put(key, entry);
-        Ok(())
-    }
-
-    /// The same with zeros between the file's end and the record. An `Err` changes nothing.
-    pub fn write_filled(
+    /// Writes a record of a file of `n` places. Between its end and the record it leaves holes, or fills the places with zeros. An `Err`
+    /// changes nothing.
+    pub fn write(
         &mut self,
         key: &Key,
         n: u32,
         k: u32,
         bytes: &Record,
+        filled: bool,
     ) -> Result<(), AllocError>
         requires { k < 65536 }
-        ensures ok { OnOk result (self.new.entries ≡ wrote_filled n self.old.entries key.now k bytes.now) }
+        ensures ok { OnOk result (self.new.entries ≡ (if filled then wrote_filled n self.old.entries key.now k bytes.now else wrote n self.old.entries key.now k bytes.now)) }
         ensures err { OnErr result (self.new.entries ≡ self.old.entries) }
     {
         let alloc = self.alloc;
         let Some(mut entry) = self.entries.replace(key, Entry::nothing(alloc)) else {
             let mut entry = Entry::untouched(alloc);
-            entry.write_filled(n, k, bytes)?;
+            entry.write(n, k, bytes, filled)?;
             return self.entries.insert(*key, entry);
         };
-        if let Err(refused) = entry.write_filled(n, k, bytes) {
+        if let Err(refused) = entry.write(n, k, bytes, filled) {
             self.entries.put(key, entry);
             return Err(refused);
         }

@@ -8,6 +8,7 @@ pub mod journal;
 pub mod laid;
 pub mod listed;
 pub mod looks;
+pub mod seen;
 
 pub use changes::Changes;
 pub use filenames::{Fcb, Key, Name, NameError};
@@ -16,3 +17,4 @@ pub use journal::{Base, Entry, Grown, Journal};
 pub use laid::{files_are_laid, files_end};
 pub use looks::{Ask, Looks};
 pub use records::{Record, Records};
+pub use seen::SeenFile;

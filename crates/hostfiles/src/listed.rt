@@ -12,6 +12,7 @@ ghost use Rattle.hostfiles.specs.Files.{has, is_listed, nothing, shape_at, shape
 use crate::host::HostFiles;
 use crate::joined;
 use crate::journal::Journal;
+use crate::seen::SeenFile;
 use directory::{Files, is_match};
 use filenames::{Key, Name, is_sayable};
 use keymaps::next_of_both;
@@ -68,13 +69,14 @@ fn extents_of(host: &HostFiles, journal: &Journal, key: &Key) -> u32
 fn entry_count(host: &HostFiles, journal: &Journal, key: &Key, extent: u32) -> Option<u8>
     ensures { result ≡ count_by (shape_at host.now journal.now.entries key.now) extent }
 {
-    if !joined::has(host, journal, key) {
+    let file = SeenFile::find(host, journal, key);
+    if !file.is_there() {
         return None;
     }
-    if joined::length(host, journal, key) == 0 {
+    if file.length() == 0 {
         return if extent == 0 { Some(0) } else { None };
     }
-    let count = joined::count(host, journal, key, extent);
+    let count = file.count(extent);
     if count == 0 {
         return None;
     }

@@ -189,10 +189,7 @@ fn write_record(table: &mut Table<'_>, write: &Write, bytes: &[u8; 128]) -> Resu
 {
     let journal = &mut table.changes.journal;
     let place = write.place as u32;
-    if write.filled {
-        return journal.write_filled(&write.key, write.length, place, bytes);
-    }
-    journal.write(&write.key, write.length, place, bytes)
+    journal.write(&write.key, write.length, place, bytes, write.filled)
 }
 
 // Makes an empty file, and clears the bytes of the control block from 13 to 31.

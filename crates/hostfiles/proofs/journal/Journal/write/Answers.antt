@@ -1,7 +1,8 @@
 use Rattle.std.proofs.Common.{Some, ap, sym, refl, ◌∙◌, unwrap_or}
 use Rattle.std.specs.FinMap.{insert}
 use Rattle.std.specs.Cmp.Lexicographic.{nat_list_cmp_total}
-use Rattle.hostfiles.specs.Files.{untouched, wrote_entry}
+use Rattle.hostfiles.specs.Files.{untouched}
+use Rattle.hostfiles.proofs.JournalLemmas.{written_entry, wrote_one}
 use Rattle.keymaps.proofs.Views.{insert_twice, insert_back, there_now, same_key}
 use Rattle.hostfiles.proofs.journal.Journal.write.Goals as goal
 
@@ -20,4 +21,5 @@ pub returns-clause-ok : goal.returns-clause-ok
 returns-clause-ok c =
     c.put-2.ensures ∙ ap (λ m. insert m c.args.key.now c.write-2.new.self) (c.in-Some.ensures.some refl)
     ∙ insert_twice nat_list_cmp_total same_key _ _ _ _
-    ∙ ap (insert _ c.args.key.now) (c.in_default-write.ensures.ok ∙ ap (λ e. wrote_entry c.args.n c.args.k c.args.bytes.now (unwrap_or e untouched)) c.in-Some.ensures.value)
+    ∙ ap (insert _ c.args.key.now) (c.in_default-write.ensures.ok ∙ ap (λ e. written_entry c.args.filled c.args.n c.args.k c.args.bytes.now (unwrap_or e untouched)) c.in-Some.ensures.value)
+    ∙ wrote_one c.args.filled _ _ _ _ _
