@@ -1,5 +1,5 @@
-use changed_files::{is_changed, next_changed};
 use cpmfiles::{Changes, HostFiles, Key, Name, Record, Table};
+use hostfiles::{is_changed, next_changed};
 use std::alloc::{AllocError, Global};
 use std::process::Abort;
 use std::test::Fail;

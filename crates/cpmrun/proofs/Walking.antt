@@ -1,8 +1,8 @@
 -- The changed files of a run, written one after another.
 use Rattle.std.proofs.Common.{◌≡◌, ℕ, true, false, cond, List, [], ◌∷◌, inl, inr, refl, sym, ap, subst, ◌∙◌, Option, Some, None, filter}
 use Rattle.std.specs.Borrow.{Bor}
-use Rattle.changed_files.specs.Changed.{changed_names}
-use Rattle.changed_files.proofs.ChangedWalk.{keys_above, keys_above_none}
+use Rattle.hostfiles.specs.Changed.{changed_names}
+use Rattle.hostfiles.proofs.ChangedWalk.{keys_above, keys_above_none}
 use Rattle.filenames.specs.Names.{Key}
 use Rattle.hostfiles.specs.Hosts.{Host}
 use Rattle.hostfiles.specs.Files.{Own, has}

@@ -7,7 +7,7 @@ use Rattle.bdos.specs.declared.cause.Cause.TheVariants.{WarmBoot, Halt, Limit, U
 use Rattle.filenames.specs.Names.{Key}
 use Rattle.hostfiles.specs.Hosts.{Host}
 use Rattle.hostfiles.specs.Files.{Own, has}
-use Rattle.changed_files.specs.Changed.{changed_keys}
+use Rattle.hostfiles.specs.Changed.{changed_keys}
 use Rattle.folders.specs.FileSystem.{Path, Stored}
 use Rattle.folders.specs.Folders.{FailsToWrite, LeavesIn, WritesInto, folder_of}
 use Rattle.folders.specs.Written.{bytes_of}

@@ -13,7 +13,7 @@ ghost use Rattle.cpmrun.specs.World.{world};
 use crate::fault::Fault;
 use edit_lines::{Asked, Failed, Writer, cause_text, write_all, write_changed_files, write_piece};
 use folders::{ChangedFile, FileSystem, write_to_drive};
-use hostfiles::{Changes, HostFiles, Journal, Name};
+use hostfiles::{HostFiles, Journal, Name};
 use machine::{Cause, Meter, Session};
 use replay::{Options, OptionsError, Report, Runner};
 use std::alloc::{AllocError, Global};
@@ -48,46 +48,23 @@ fn write_file<'a, S: FileSystem>(
     system: &mut S,
     folders: &[Option<&'a str>; 4],
     host: &HostFiles,
-    changes: &Changes,
+    journal: &Journal,
     name: &Name,
 ) -> Result<(), Fault<'a>>
     ensures written { OnOk result (WritesInto (home folders.now name.now) (S.files system.old) (S.files system.new) name.now
-        (bytes_of host.now changes.now.journal.entries name.now)) }
+        (bytes_of host.now journal.now.entries name.now)) }
     ensures err { OnErr result (LeavesIn (home folders.now name.now) (S.files system.old) (S.files system.new) name.now) }
     ensures fault { IfErr result (IsOfFolder folders.now name.now) }
 {
     let contents = ChangedFile {
         host,
-        changes,
+        journal,
         name,
     };
     match write_to_drive(system, folders, name, &contents) {
         Ok(()) => Ok(()),
         Err(fault) => Err(Fault::Folders(fault)),
     }
-}
-
-/// Writes each changed file of the run that is there at its stop, where these are the run's changes.
-fn write_each<'a, S: FileSystem>(
-    system: &mut S,
-    folders: &[Option<&'a str>; 4],
-    report: &Report<'_>,
-    changes: &Changes,
-) -> Result<(), Fault<'a>>
-    requires { changes.now.journal.entries ≡ (reported_run report.now).state.own.files }
-    ensures written { OnOk result (WritesAll folders.now (session_of report.now).files changes.now.journal.entries
-        (S.files system.old) (S.files system.new)) }
-    ensures fault { IfErr result (Unwritten folders.now (session_of report.now).files changes.now.journal.entries
-        (S.files system.old) (S.files system.new)) }
-{
-    let mut after: Option<Name> = None;
-    while let Some(name) = report.next_changed(after.as_ref()) {
-        if report.has(&name) {
-            write_file(system, folders, report.files(), changes, &name)?;
-        }
-        after = Some(name);
-    }
-    Ok(())
 }
 
 /// Writes the changed files of the run that are there at its stop into the folders of their drives, where these have any, in the
@@ -102,10 +79,14 @@ fn write_changed<'a, S: FileSystem>(
     ensures fault { IfErr result (Unwritten folders.now (session_of report.now).files (reported_run report.now).state.own.files
         (S.files system.old) (S.files system.new)) }
 {
-    let Ok(changes) = report.changes(system.alloc()) else {
-        return Err(Fault::OutOfMemory);
-    };
-    write_each(system, folders, report, &changes)
+    let mut after: Option<Name> = None;
+    while let Some(name) = report.next_changed(after.as_ref()) {
+        if report.has(&name) {
+            write_file(system, folders, report.files(), report.journal(), &name)?;
+        }
+        after = Some(name);
+    }
+    Ok(())
 }
 
 /// Writes a line, and then the lines of the changed files that are gone. Where the writer fails, some first part of this is written.

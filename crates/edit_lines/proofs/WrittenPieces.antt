@@ -8,9 +8,9 @@ use Rattle.std.proofs.KnownBytes.{Appends-trans}
 use Rattle.std.specs.List.{concat, slice_get}
 use Rattle.std.specs.Option.{option_map, option_and_then}
 use Rattle.std.proofs.lemmas.Option.{get_or_from_slice_get, slice_get_past, slice_get-get_or}
-use Rattle.hostfiles.specs.Files.{Own}
-use Rattle.changed_files.specs.Changed.{told, changed_names, changed_keys}
-use Rattle.changed_files.proofs.ChangedWalk.{keys_above, keys_above_none}
+use Rattle.hostfiles.specs.Files.{Own, told}
+use Rattle.hostfiles.specs.Changed.{changed_names, changed_keys}
+use Rattle.hostfiles.proofs.ChangedWalk.{keys_above, keys_above_none}
 use Rattle.edit_lines.specs.ReportText.{line}
 use Rattle.hex.specs.Hex.{encode_with, encode_lower, lower_digits}
 use Rattle.filenames.specs.Names.{Key, printed, type_text}

@@ -4,8 +4,8 @@ use Rattle.std.specs.List.{concat}
 use Rattle.hex.specs.Hex.{encode_lower}
 use Rattle.filenames.specs.Names.{Key, printed}
 use Rattle.hostfiles.specs.Hosts.{Record, Host}
-use Rattle.hostfiles.specs.Files.{Own}
-use Rattle.changed_files.specs.Changed.{told, changed_keys}
+use Rattle.hostfiles.specs.Files.{Own, told}
+use Rattle.hostfiles.specs.Changed.{changed_keys}
 use Rattle.edit_lines.specs.ReportText.{line}
 use Rattle.edit_lines.specs.declared.changed_lines.Asked.{Asked}
 use Rattle.edit_lines.specs.declared.changed_lines.Asked.TheVariants.{All, GoneAlone}

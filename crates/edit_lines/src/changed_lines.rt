@@ -4,14 +4,13 @@ ghost use Rattle.std.specs.Prelude.{◌≡◌, ◌^◌, ◌<◌, ◌++◌, [], l
 ghost use Rattle.std.specs.List.{before_first};
 ghost use Rattle.hex.specs.Hex.{encode_lower};
 ghost use Rattle.filenames.specs.Names.{drive_text, is_blank, printed, type_text};
-ghost use Rattle.changed_files.specs.Changed.{told};
+ghost use Rattle.hostfiles.specs.Files.{told};
 ghost use Rattle.edit_lines.specs.ChangedLines.{records_text, changed_line, gone_line, line_of_file, lines_of_files};
 ghost use Rattle.edit_lines.specs.Writing.{Writes};
 
 use crate::ends::{Failed, Writer, write_all};
-use changed_files::{next_changed, told_count, told_record};
 use filenames::first;
-use hostfiles::{HostFiles, Journal, Key, Name, Record};
+use hostfiles::{HostFiles, Journal, Key, Name, Record, next_changed, told_count, told_record};
 
 /// Which changed files are told.
 #[derive(Clone, Copy, Debug, PartialEq, Eq)]

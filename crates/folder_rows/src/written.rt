@@ -5,7 +5,7 @@ use filenames::Name;
 use folders::{
     ChangedFile, Fault, SystemFiles, name_in_folder, temporary_name, write_file, write_to_drive,
 };
-use hostfiles::{Changes, HostFiles};
+use hostfiles::{HostFiles, Journal, told_count};
 use std::alloc::{AllocError, Global};
 use std::fs;
 use std::io::ErrorKind;
@@ -23,50 +23,50 @@ pub enum How {
 /// Writes a file that a run made, and gives what is told of a fault; nothing where there is none.
 pub fn wrote(rt: &HostRuntime, folder: &str, name: &str, how: How) -> Result<String, Fail> {
     let name = Name::parse(name)?;
-    let mut changes = Changes::new(rt.alloc());
-    made_and_wrote(rt, folder, &mut changes, &name, how)
+    let mut journal = Journal::new(rt.alloc());
+    made_and_wrote(rt, folder, &mut journal, &name, how)
 }
 
 fn made_and_wrote(
     rt: &HostRuntime,
     folder: &str,
-    changes: &mut Changes,
+    journal: &mut Journal,
     name: &Name,
     how: How,
 ) -> Result<String, Fail> {
-    make(changes, name, how)?;
-    Ok(write(rt, folder, changes, name, how)?)
+    make(journal, name, how)?;
+    Ok(write(rt, folder, journal, name, how)?)
 }
 
-fn make(changes: &mut Changes, name: &Name, how: How) -> Result<(), AllocError> {
-    changes.journal.make(&name.key())?;
+fn make(journal: &mut Journal, name: &Name, how: How) -> Result<(), AllocError> {
+    journal.make(&name.key())?;
     match how {
-        How::WithAHole => write_apart(changes, name),
+        How::WithAHole => write_apart(journal, name),
         How::ToItsDrive => Ok(()),
     }
 }
 
-fn write_apart(changes: &mut Changes, name: &Name) -> Result<(), AllocError> {
-    changes.journal.write(&name.key(), 0, 0, &[1; 128])?;
-    changes.journal.write(&name.key(), 1, 2, &[3; 128])
+fn write_apart(journal: &mut Journal, name: &Name) -> Result<(), AllocError> {
+    journal.write(&name.key(), 0, 0, &[1; 128])?;
+    journal.write(&name.key(), 1, 2, &[3; 128])
 }
 
 fn write(
     rt: &HostRuntime,
     folder: &str,
-    changes: &Changes,
+    journal: &Journal,
     name: &Name,
     how: How,
 ) -> Result<String, AllocError> {
     let host = HostFiles::new(rt.alloc());
-    if host.records_with(changes, name).is_none() {
+    if told_count(&host, journal, &name.key()).is_none() {
         return String::from_str(rt.alloc(), "no such file");
     }
     let folders = [None, Some(folder), None, Some("/none")];
     let mut system = SystemFiles::new(rt);
     let contents = ChangedFile {
         host: &host,
-        changes,
+        journal,
         name,
     };
     let answer = match how {

@@ -1,5 +1,5 @@
 -- Records that are written one after another.
-use Rattle.std.proofs.Common.{◌≡◌, ◌≢◌, ℕ, zero, suc, ◌+◌, Bool, true, false, cond, List, [], ◌∷◌, ◌++◌, length, length-append, Option, Some, None, Result, Ok, Err, OnOk, OnErr, refl, sym, ap, subst, ◌∙◌, codes, arith}
+use Rattle.std.proofs.Common.{◌≡◌, ◌≢◌, ◌<◌, ◌≤◌, ℕ, ◌+◌, Bool, true, false, cond, List, [], ◌∷◌, ◌++◌, length, length-append, take, take-suc, add-one, append-nil, append_assoc, zero-le, Option, Some, None, unwrap_or, Result, Ok, Err, OnOk, OnErr, refl, sym, ap, subst, ◌∙◌, codes, arith}
 use Rattle.std.specs.Ordering.{nat_cmp, eq_by_cmp}
 use Rattle.std.specs.Cmp.{eq_by_cmp_equiv}
 use Rattle.std.specs.Cmp.Lexicographic.{slice_cmp, nat_list_cmp_total}
@@ -8,38 +8,46 @@ use Rattle.keymaps.proofs.Views.{same_key, key_of, get_here, get_apart}
 use Rattle.filenames.specs.Names.{Key}
 use Rattle.folders.specs.Entries.{file_text, needs_slash, path_text, temporary_text}
 use Rattle.folders.specs.FileSystem.{Path, Stored, Becomes, ChangesAt, PutsInPlace, moved, moved_to}
-use Rattle.std.specs.List.{flat_map, range_with_len}
+use Rattle.std.specs.List.{concat, slice_get}
+use Rattle.std.specs.Option.{option_map, option_and_then}
 use Rattle.std.specs.Io.KnownBytes.{Appends}
 use Rattle.std.proofs.KnownBytes.{Appends-trans, Appends-nil}
-use Rattle.std.proofs.lemmas.List.{append-nil}
-use Rattle.std.proofs.lemmas.Grind.{flat_map-append}
+use Rattle.std.proofs.lemmas.List.{take_all}
+use Rattle.std.proofs.lemmas.Option.{get_or_from_slice_get, slice_get_past, slice_get_within, slice_get-get_or}
 
--- one number more, from a on
-range_more : (a n : ℕ) → range_with_len a (suc n) ≡ range_with_len a n ++ (a + n) ∷ []
-range_more a zero = let same : a ≡ a + 0 = omega arith in ap (λ x. x ∷ []) same
-range_more a (suc n) =
-    let same : a + 1 + n ≡ a + suc n = omega arith in
-    ap (λ xs. a ∷ xs) (range_more (a + 1) n) ∙ ap (λ x. a ∷ (range_with_len (a + 1) n ++ x ∷ [])) same
+-- the records of a file that is told, if there is one
+record_of : (t : Option (List (List ℕ))) (k : ℕ) → option_and_then (λ f. slice_get f k) t ≡ slice_get (unwrap_or t []) k
+record_of None k = sym (slice_get_past [] k zero-le)
+record_of (Some f) k = refl
 
--- what one more of them gives stands behind the others
-flat_more : (f : ℕ → List ℕ) (n : ℕ) → flat_map f (range_with_len 0 (n + 1)) ≡ flat_map f (range_with_len 0 n) ++ f n
-flat_more f n =
-    let next : n + 1 ≡ suc n = omega arith in
-    let here : 0 + n ≡ n = omega arith in
-    ap (λ m. flat_map f (range_with_len 0 m)) next ∙ ap (flat_map f) (range_more 0 n)
-    ∙ flat_map-append f (range_with_len 0 n) ((0 + n) ∷ [])
-    ∙ ap (λ m. flat_map f (range_with_len 0 n) ++ (f m ++ [])) here
-    ∙ ap (λ xs. flat_map f (range_with_len 0 n) ++ xs) (append-nil (f n))
+concat_push : (rs : List (List ℕ)) (r : List ℕ) → concat (rs ++ r ∷ []) ≡ concat rs ++ r
+concat_push [] r = append-nil r
+concat_push (q ∷ rs) r = ap (λ t. q ++ t) (concat_push rs r) ∙ sym (append_assoc q (concat rs) r)
 
 -- the next one was written
-pub one_more : (a b c : Option (List ℕ)) (f : ℕ → List ℕ) (n : ℕ) → Appends a b (flat_map f (range_with_len 0 n)) → Appends b c (f n)
-    → Appends a c (flat_map f (range_with_len 0 (n + 1)))
-one_more a b c f n p q = subst (Appends a c) (sym (flat_more f n)) (Appends-trans a b c (flat_map f (range_with_len 0 n)) (f n) p q)
+pub one_more : (a b c : Option (List ℕ)) (t : Option (List (List ℕ))) (n : ℕ) (r : List ℕ) → Some r ≡ option_and_then (λ f. slice_get f n) t
+    → Appends a b (concat (take n (unwrap_or t []))) → Appends b c r → Appends a c (concat (take (n + 1) (unwrap_or t [])))
+one_more a b c t n r h p q =
+    let rs = unwrap_or t [] in
+    let here : slice_get rs n ≡ Some r = sym (h ∙ record_of t n) in
+    let one : take (n + 1) rs ≡ take n rs ++ r ∷ [] = rw add-one (take-suc rs n r (slice_get_within rs n r here)) ∙ ap (λ x. take n rs ++ x ∷ []) (get_or_from_slice_get rs n r r here) in
+    subst (Appends a c) (sym (ap concat one ∙ concat_push (take n rs) r)) (Appends-trans a b c (concat (take n rs)) r p q)
 
--- the next one is empty
-pub none_more : (a b : Option (List ℕ)) (f : ℕ → List ℕ) (n : ℕ) → Appends a b (flat_map f (range_with_len 0 n)) → f n ≡ []
-    → Appends a b (flat_map f (range_with_len 0 (n + 1)))
-none_more a b f n p e = one_more a b b f n p (subst (Appends b b) (sym e) (Appends-nil b))
+-- below the count there is one
+pub not_none : (t : Option (List (List ℕ))) (count n : ℕ) → Some count ≡ option_map length t → n < count → None ≡ option_and_then (λ f. slice_get f n) t → ⊥
+not_none None count n some h none = cc
+not_none (Some f) count n some h none = let there = slice_get-get_or f n [] (let same : count ≡ length f = cc in omega (arith, same)) in cc
+
+-- all of them were written
+pub all_written : (a b : Option (List ℕ)) (t : Option (List (List ℕ))) (count n : ℕ) → Some count ≡ option_map length t → count ≤ n
+    → Appends a b (concat (take n (unwrap_or t []))) → Appends a b (concat (unwrap_or t []))
+all_written a b None count n some h p = cc
+all_written a b (Some f) count n some h p = subst (λ x. Appends a b (concat x)) (take_all n f (let same : count ≡ length f = cc in omega (arith, same))) p
+
+-- there is no file
+pub none_written : (a : Option (List ℕ)) (t : Option (List (List ℕ))) → None ≡ option_map length t → Appends a a (concat (unwrap_or t []))
+none_written a None h = Appends-nil a
+none_written a (Some f) h = cc
 
 -- ---- a file that is put in place
 

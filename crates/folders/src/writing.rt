@@ -12,46 +12,46 @@ use crate::entry::{file_name, path_in, temporary_name};
 use crate::fault::{Fault, unwritten};
 use crate::file_system::{Contents, FileSystem};
 use filenames::Name;
-use hostfiles::{Changes, HostFiles};
+use hostfiles::{HostFiles, Journal, told_count, told_record};
 use std::alloc::{AllocError, Global};
 use std::io;
 use std::io::Write;
 
-/// A file as it is after changes: its records, one after another, and a hole as zeros.
+/// A file as it is after what was done to it: its records, one after another, and a hole as zeros.
 #[derive(Clone, Copy)]
 pub struct ChangedFile<'a> {
     /// The host files.
     pub host: &'a HostFiles,
     /// What was done to them.
-    pub changes: &'a Changes,
+    pub journal: &'a Journal,
     /// The file's name.
     pub name: &'a Name,
 }
 
 impl Contents for ChangedFile<'_> {
-    ghost bytes = { λ file. bytes_of file.host.now file.changes.now.journal.entries file.name.now };
+    ghost bytes = { λ file. bytes_of file.host.now file.journal.now.entries file.name.now };
 
     fn write_to<W: Write>(&self, writer: &mut W) -> io::Result<()> {
-        write_records(self.host, self.changes, self.name, writer)
+        write_records(self.host, self.journal, self.name, writer)
     }
 }
 
-/// Writes the records of a file as it is after these changes, one after another; a hole as zeros. An error is the writer's, which then
-/// has a part of them.
+/// Writes the records of a file as it is after what was done to it, one after another; a hole as zeros. An error is the writer's, which
+/// then has a part of them.
 pub fn write_records<W: Write>(
     host: &HostFiles,
-    changes: &Changes,
+    journal: &Journal,
     name: &Name,
     writer: &mut W,
 ) -> io::Result<()>
-    ensures { OnOk result (Appends (W.contents writer.old) (W.contents writer.new) (bytes_of host.now changes.now.journal.entries name.now)) }
+    ensures { OnOk result (Appends (W.contents writer.old) (W.contents writer.new) (bytes_of host.now journal.now.entries name.now)) }
 {
-    let count = match host.records_with(changes, name) {
-        Some(count) => count,
-        None => 0,
+    let key = name.key();
+    let Some(count) = told_count(host, journal, &key) else {
+        return Ok(());
     };
     for place in 0..count {
-        if let Some(record) = host.record_with(changes, name, place) {
+        if let Some(record) = told_record(host, journal, &key, place) {
             writer.write_all(record.as_slice())?;
         }
     }

@@ -8,3 +8,6 @@ pub mod NameWalk
 pub mod LaidLemmas
 pub mod EndLemmas
 pub mod FilledLemmas
+pub mod Differences
+pub mod ChangedWalk
+pub mod ToldLemmas

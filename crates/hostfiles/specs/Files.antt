@@ -155,12 +155,13 @@ records host own key = if has host own key then Some (length_at host own key) el
 abbrev pub place : Host → Own → Key → ℕ → Option Record
 place host own key k = if has host own key then place_at host own key k else None
 
--- the same as it is told: a hole as zeros
-abbrev pub told_record : Host → Own → Key → ℕ → Option Record
-told_record host own key k =
-    if has host own key
-    then (if nat_lt k (length_at host own key) then Some (unwrap_or (place_of host key (entry_at own key) k) zeros) else None)
-    else None
+-- the records of a file as they are told, in order: a hole as zeros
+abbrev pub told_records : File → List Record
+told_records file = map (λ place. unwrap_or place zeros) file
+
+-- the file of a key as it is told, if there is one
+abbrev pub told : Host → Own → Key → Option (List Record)
+told host own key = option_map told_records (file_at host own key)
 
 -- whether there is a file of the key, and it is that of a name
 abbrev pub is_listed : Host → Own → Key → Bool

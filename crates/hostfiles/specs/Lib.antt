@@ -3,3 +3,4 @@ pub mod FilesError
 pub mod Files
 pub mod Looks
 pub mod Laid
+pub mod Changed

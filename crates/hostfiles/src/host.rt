@@ -7,12 +7,13 @@ ghost use Rattle.std.specs.FinMap as finmap;
 ghost use Rattle.std.specs.Ordering.{nat_cmp};
 ghost use Rattle.std.specs.Cmp.Lexicographic.{slice_cmp};
 ghost use Rattle.keymaps.specs.Order.{is_above};
-ghost use Rattle.hostfiles.specs.Files.{records, told_record, is_listed};
+ghost use Rattle.hostfiles.specs.Files.{told, is_listed};
 ghost use Rattle.hostfiles.specs.Hosts.{records_in, record_in, filled_up, refusal_of, has_room, IsHost};
 
 use crate::changes::Changes;
-use crate::joined;
 use crate::listed::next_name;
+use crate::names::key_if_any;
+use crate::told::{told_count, told_record};
 use filenames::{Key, Name};
 use keymaps::KeyMap;
 use records::Record;
@@ -109,7 +110,6 @@ impl Model for HostFiles {
     ghost use Rattle.std.specs.Cmp.Lexicographic.{slice_cmp};
     ghost use Rattle.std.specs.FinMap as finmap;
     ghost use Rattle.std.specs.Coded.{coded_ℕ, coded_list};
-    ghost use Rattle.hostfiles.specs.Files.{records, told_record, is_listed};
     ghost use Rattle.hostfiles.specs.Hosts.{IsHost};
 
     ghost Value = { finmap.FinMap (slice_cmp nat_cmp) (List (List ℕ)) };
@@ -150,6 +150,17 @@ impl FilesError {
     }
 }
 
+impl From<AllocError> for FilesError {
+    ghost use Rattle.std.specs.Prelude.{◌≡◌};
+    ghost use Rattle.hostfiles.specs.declared.host.FilesError.TheVariants.{OutOfMemory};
+
+    ghost from_gives = { λ _ refusal. refusal ≡ OutOfMemory };
+
+    fn from(_: AllocError) -> Self {
+        Self::OutOfMemory
+    }
+}
+
 impl HostFiles {
     ghost use Rattle.hostfiles.specs.FilesError.{RefusedAs};
 
@@ -176,10 +187,8 @@ impl HostFiles {
         if !self.has_room(&key) {
             return Err(FilesError::TooManyFiles);
         }
-        match self.put(&name, bytes) {
-            Ok(()) => Ok(()),
-            Err(AllocError) => Err(FilesError::OutOfMemory),
-        }
+        self.put(&name, bytes)?;
+        Ok(())
     }
 
     // Whether a file of the key may be set.
@@ -246,11 +255,7 @@ impl HostFiles {
         ensures least { IfSome result (λ k. (x : List ℕ) → is_above (option_copied after.entry) x ≡ true → slice_cmp nat_cmp x k ≡ Less → finmap.get self.now x ≡ None) }
         ensures none { IfNone result ((x : List ℕ) → is_above (option_copied after.entry) x ≡ true → finmap.get self.now x ≡ None) }
     {
-        let low = match after {
-            Some(name) => Some(name.key()),
-            None => None,
-        };
-        let Some(key) = self.files.next_key(low) else {
+        let Some(key) = self.files.next_key(key_if_any(after)) else {
             return None;
         };
         match Name::from_key(&key) {
@@ -261,26 +266,16 @@ impl HostFiles {
 
     /// How many records a file has after these changes, if it is there. No look is marked.
     pub fn records_with(&self, changes: &Changes, name: &Name) -> Option<u32>
-        ensures { result ≡ records self.now changes.now.journal.entries name.now }
+        ensures { result ≡ option_map length (told self.now changes.now.journal.entries name.now) }
     {
-        joined::records(self, &changes.journal, &name.key())
+        told_count(self, &changes.journal, &name.key())
     }
 
     /// A record of a file after these changes, zeros in a hole; none where the file is not there or has fewer. No look is marked.
     pub fn record_with(&self, changes: &Changes, name: &Name, place: u32) -> Option<Record>
-        ensures { result ≡ told_record self.now changes.now.journal.entries name.now place }
+        ensures { result ≡ option_and_then (λ records. slice_get records place) (told self.now changes.now.journal.entries name.now) }
     {
-        let key = name.key();
-        if !joined::has(self, &changes.journal, &key) {
-            return None;
-        }
-        if place >= joined::length(self, &changes.journal, &key) {
-            return None;
-        }
-        match joined::content(self, &changes.journal, &key, place) {
-            Some(content) => Some(content),
-            None => Some([0; 128]),
-        }
+        told_record(self, &changes.journal, &name.key(), place)
     }
 
     /// The least name of a file after these changes, by key, after the one given if there is one. No look is marked.
@@ -290,11 +285,7 @@ impl HostFiles {
         ensures least { IfSome result (λ k. (x : List ℕ) → is_above (option_copied after.entry) x ≡ true → slice_cmp nat_cmp x k ≡ Less → is_listed self.now changes.now.journal.entries x ≡ false) }
         ensures none { IfNone result ((x : List ℕ) → is_above (option_copied after.entry) x ≡ true → is_listed self.now changes.now.journal.entries x ≡ false) }
     {
-        let low = match after {
-            Some(name) => Some(name.key()),
-            None => None,
-        };
-        next_name(self, &changes.journal, low)
+        next_name(self, &changes.journal, key_if_any(after))
     }
 
     /// The file of a key.

@@ -1,6 +1,7 @@
 -- What always holds of a runner's parts, through edits and drops.
-use Rattle.std.proofs.Common.{◌≡◌, ℕ, zero, suc, ◌-◌, ◌<◌, ◌≤◌, List, [], ◌∷◌, length, map, Option, Some, None, sym, ◌∙◌, refl, ap, arith}
+use Rattle.std.proofs.Common.{◌≡◌, ◌==◌, ◌||◌, Bool, true, false, cond, nat_lt, ℕ, zero, suc, ◌-◌, ◌<◌, ◌≤◌, List, [], ◌∷◌, length, map, Option, Some, None, sym, ◌∙◌, refl, ap, arith}
 use Rattle.std.specs.Prelude.{slice_get, slice_index_or}
+use Rattle.std.proofs.lemmas.Bool.{eqb-false, ltb-false}
 use Rattle.circular_buffer.specs.Buffer.{Buffer, buffer, keep_last}
 use Rattle.machine.specs.Views.{Session}
 use Rattle.hostfiles.specs.declared.looks.Ask.{Ask}
@@ -8,6 +9,8 @@ use Rattle.file_steps.specs.Steps.{step_of_ask}
 use Rattle.machine.specs.Machine.{Question, Cell, Script, OfHost, Answers, ask, looks}
 use Rattle.replay.specs.declared.ring.Checkpoint.{Checkpoint as KeptCheckpoint}
 use Rattle.replay.specs.FirstLooks.{Noted, step_of, first, erased, IsFirstLooks}
+use Rattle.replay.specs.declared.options.Options.{Options}
+use Rattle.replay.specs.Options.{refusal_of}
 use Rattle.replay.specs.Ring.{Each, Stands, KeptUpTo}
 use Rattle.replay.specs.Touch.{IsNotedTouch}
 use Rattle.replay.specs.RunnerView.{IsSound, IsAt, KeepsUntouched, seen_with}
@@ -34,6 +37,19 @@ nothing_noted f looks e = record { entry = λ q. empty q ∙ ap (first f q) (sym
     empty (Cell a) = ap (λ (steps : List (Option ℕ)). slice_index_or steps a None) e.cells
     empty (Script k) = ap (λ (steps : List (Option ℕ)). slice_index_or steps k None) e.places
     empty (OfHost a) = e.files a
+
+-- options that are not refused have a spacing within its range
+pub spacing_within : (o : Options) → refusal_of o ≡ None → (0 < o.spacing) × (o.spacing ≤ 1000000000)
+spacing_within o h =
+    let tests = by_tests (o.spacing == 0) (nat_lt 1000000000 o.spacing) (o.slots == 0 || nat_lt 4096 o.slots) h in
+    let some = eqb-false o.spacing 0 tests.0 in
+    let most = ltb-false 1000000000 o.spacing tests.1 in
+    (omega (arith, some), most)
+  where
+    by_tests : (a b c : Bool) → cond {A = Option ℕ} (a || b) (Some 1) (cond c (Some 2) None) ≡ None → (a ≡ false) × (b ≡ false)
+    by_tests true b c h = cc
+    by_tests false true c h = cc
+    by_tests false false c h = (refl, refl)
 
 pub sound_start : (s : Session) (text : List ℕ) (spacing : ℕ) (ring : Buffer KeptCheckpoint) (looks : Noted) → ring.items ≡ [] → IsEmpty looks → 0 < spacing → spacing ≤ 1000000000 → IsSound s text spacing ring looks
 sound_start s text spacing ring looks e k b h = record {

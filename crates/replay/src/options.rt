@@ -1,5 +1,6 @@
 ghost use Rattle.std.specs.Prelude.{◌≡◌};
 
+use std::alloc::AllocError;
 use thiserror::Error;
 
 /// How checkpoints are made.
@@ -23,6 +24,16 @@ pub enum OptionsError {
     /// A growth was refused.
     #[error("out of memory")]
     OutOfMemory,
+}
+
+impl From<AllocError> for OptionsError {
+    ghost use Rattle.replay.specs.declared.options.OptionsError.TheVariants.{OutOfMemory};
+
+    ghost from_gives = { λ _ refusal. refusal ≡ OutOfMemory };
+
+    fn from(_: AllocError) -> Self {
+        Self::OutOfMemory
+    }
 }
 
 impl OptionsError {

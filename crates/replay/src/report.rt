@@ -1,18 +1,15 @@
-ghost use Rattle.std.specs.Prelude.{◌≡◌, ◌≤◌, ℕ, List, true, false, IfOk, IfSome, IfNone, IsSome, length, slice_get, option_copied};
+ghost use Rattle.std.specs.Prelude.{◌≡◌, ◌≤◌, ℕ, List, true, false, IfSome, IfNone, IsSome, length, slice_get, option_copied};
 ghost use Rattle.std.specs.Option.{option_map, option_and_then};
 ghost use Rattle.std.specs.declared.cmp.Ordering.TheVariants.{Less};
 ghost use Rattle.std.specs.Ordering.{nat_cmp};
 ghost use Rattle.std.specs.Cmp.Lexicographic.{slice_cmp};
 ghost use Rattle.keymaps.specs.Order.{is_above};
-ghost use Rattle.hostfiles.specs.Files.{has};
-ghost use Rattle.hostfiles.specs.Looks.{no_looks};
-ghost use Rattle.changed_files.specs.Changed.{is_changed_name, told};
+ghost use Rattle.hostfiles.specs.Files.{has, told};
+ghost use Rattle.hostfiles.specs.Changed.{is_changed_name};
 ghost use Rattle.replay.specs.Fits.{kept_length};
 
-use changed_files::{next_changed, told_count, told_record};
-use hostfiles::{Record, joined};
-use machine::{Cause, Changes, HostFiles, Journal, Kept, Name, Regs, Session};
-use std::alloc::{AllocError, Global};
+use hostfiles::{Record, joined, next_changed, told_count, told_record};
+use machine::{Cause, HostFiles, Journal, Kept, Name, Regs, Session};
 
 /// A session, the console text of its runs, and what is kept of the state in which the last run ended, until the next one begins.
 #[derive(Drop)]
@@ -116,18 +113,6 @@ impl Report<'_> {
         ensures { result.now ≡ (session_of self.now).files }
     {
         self.last_run.session.files()
-    }
-
-    /// What the run did to the files, again, with nothing asked of the host files, as files are written from it. `Err` where memory
-    /// is refused.
-    pub fn changes(&self, alloc: Global) -> Result<Changes, AllocError>
-        ensures files { IfOk result (λ c. c.journal.entries ≡ (reported_run self.now).state.own.files) }
-        ensures looks { IfOk result (λ c. c.looks ≡ no_looks) }
-    {
-        match &self.last_run.end {
-            Some(kept) => kept.changes(alloc),
-            None => unreachable!(),
-        }
     }
 
     /// What the run did to the files.

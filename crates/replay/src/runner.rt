@@ -60,9 +60,15 @@ impl Runner {
         if options.slots == 0 || options.slots > 4096 {
             return Err(OptionsError::Slots);
         }
-        let Ok(ring) = HeapCircularBuffer::with_capacity(alloc, options.slots) else {
-            return Err(OptionsError::OutOfMemory);
-        };
+        Ok(Runner::within(alloc, session, options)?)
+    }
+
+    /// The same with options that are known to be within their ranges. `Err` where memory is refused.
+    pub fn within(alloc: Global, session: Session, options: Options) -> Result<Runner, AllocError>
+        requires { refusal_of options ≡ None }
+        ensures { IfOk result (λ r. r ≡ record { session = session; spacing = options.spacing; slots = options.slots; checkpoints = []; refused = 0 }) }
+    {
+        let ring = HeapCircularBuffer::with_capacity(alloc, options.slots)?;
         Ok(Runner {
             last_run: LastRun {
                 session,

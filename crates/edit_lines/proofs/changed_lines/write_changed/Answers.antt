@@ -1,6 +1,6 @@
 use Rattle.std.proofs.Common.{◌++◌, ◌∷◌, [], codes, unwrap_or}
 use Rattle.filenames.specs.Names.{printed}
-use Rattle.changed_files.specs.Changed.{told}
+use Rattle.hostfiles.specs.Files.{told}
 use Rattle.edit_lines.specs.ChangedLines.{records_text, changed_line}
 use Rattle.edit_lines.proofs.WrittenPieces.{all_then, part_then, part_more, writes_part, writes_then, writes_same, gone, there, gone_line, file_line}
 use Rattle.edit_lines.proofs.changed_lines.write_changed.Goals as goal

@@ -1,7 +1,7 @@
 use Rattle.std.proofs.Common.{◌++◌, [], Some, refl, subst}
 use Rattle.std.proofs.KnownBytes.{Appends-nil}
 use Rattle.std.specs.Io.KnownBytes.{Appends}
-use Rattle.changed_files.proofs.ChangedWalk.{changed_next, changed_none}
+use Rattle.hostfiles.proofs.ChangedWalk.{changed_next, changed_none}
 use Rattle.edit_lines.specs.ChangedLines.{line_of_file, lines_of_files}
 use Rattle.edit_lines.proofs.WrittenPieces.{all_then, part_then, part_more, writes_part, writes_same, parts_above, parts_begin, parts_next, parts_end, fewer_keys}
 use Rattle.edit_lines.proofs.changed_lines.write_changed_files.Goals as goal

@@ -1,8 +1,8 @@
 use Rattle.std.proofs.Common.{◌≡◌, ◌++◌, ℕ, List, length, map}
 use Rattle.std.specs.List.{concat}
 use Rattle.std.specs.Io.KnownBytes.{Appends}
-use Rattle.changed_files.specs.Changed.{changed_names}
-use Rattle.changed_files.proofs.ChangedWalk.{keys_above}
+use Rattle.hostfiles.specs.Changed.{changed_names}
+use Rattle.hostfiles.proofs.ChangedWalk.{keys_above}
 use Rattle.edit_lines.specs.ChangedLines.{line_of_file, lines_of_files}
 use Rattle.edit_lines.proofs.changed_lines.write_changed_files.Given as goal
 

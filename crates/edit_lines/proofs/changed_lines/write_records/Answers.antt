@@ -2,7 +2,7 @@ use Rattle.std.proofs.Common.{◌≡◌, ◌++◌, Some, slice_get, ◌+◌, [],
 use Rattle.std.specs.List.{concat}
 use Rattle.std.proofs.KnownBytes.{Appends-nil}
 use Rattle.hex.specs.Hex.{encode_lower}
-use Rattle.changed_files.specs.Changed.{told}
+use Rattle.hostfiles.specs.Files.{told}
 use Rattle.edit_lines.specs.ChangedLines.{records_text}
 use Rattle.edit_lines.proofs.WrittenPieces.{all_then, part_then, part_more, writes_part, writes_same, no_digits, more_digits, split_digits, record_here, no_record}
 use Rattle.edit_lines.proofs.changed_lines.write_records.Goals as goal

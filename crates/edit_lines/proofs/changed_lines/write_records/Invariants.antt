@@ -2,7 +2,7 @@ use Rattle.std.proofs.Common.{◌≡◌, [], take, unwrap_or}
 use Rattle.std.specs.List.{concat}
 use Rattle.std.specs.Io.KnownBytes.{Appends}
 use Rattle.hex.specs.Hex.{encode_lower}
-use Rattle.changed_files.specs.Changed.{told}
+use Rattle.hostfiles.specs.Files.{told}
 use Rattle.edit_lines.proofs.changed_lines.write_records.Given as goal
 
 abbrev pub invariant-loop-place : goal.invariant-loop-place

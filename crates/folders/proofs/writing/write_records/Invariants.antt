@@ -1,8 +1,9 @@
-use Rattle.std.specs.List.{flat_map, range_with_len}
+use Rattle.std.proofs.Common.{[], take, unwrap_or}
+use Rattle.std.specs.List.{concat}
 use Rattle.std.specs.Io.KnownBytes.{Appends}
-use Rattle.folders.specs.Written.{record_bytes}
+use Rattle.hostfiles.specs.Files.{told}
 use Rattle.folders.proofs.writing.write_records.Given as goal
 
 abbrev pub invariant-loop-place : goal.invariant-loop-place
 invariant-loop-place g l =
-    Appends (g.W.Write.contents l.fn.writer) (g.W.Write.contents l.writer) (flat_map (record_bytes l.host l.changes.journal.entries l.name) (range_with_len 0 l.place))
+    Appends (g.W.Write.contents l.fn.writer) (g.W.Write.contents l.writer) (concat (take l.place (unwrap_or (told l.host l.journal.entries l.key) [])))

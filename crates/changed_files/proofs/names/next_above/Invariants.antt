@@ -1,9 +1,0 @@
-use Rattle.keymaps.specs.Order.{left}
-use Rattle.changed_files.proofs.ChangedWalk.{Passed}
-use Rattle.changed_files.proofs.names.next_above.Given as goal
-
-abbrev pub invariant-loop-key : goal.invariant-loop-key
-invariant-loop-key l = Passed l.host l.journal.entries l.fn.after l.low
-
-abbrev pub decreases-loop-key : goal.decreases-loop-key
-decreases-loop-key l = left l.journal.entries l.low

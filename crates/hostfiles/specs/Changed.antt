@@ -1,0 +1,42 @@
+-- Which files a run left otherwise than the host files have them: this project's profile. Records alone are compared: where a file was
+-- deleted and made again with the same records, it is not changed.
+use Rattle.std.specs.Prelude.{◌≡◌, Bool, true, false, not, ◌&&◌, List, Option, Some, None}
+use Rattle.std.specs.Str.{bytes_eq}
+use Rattle.std.specs.Ordering.{nat_cmp}
+use Rattle.std.specs.Cmp.Lexicographic.{pointwise, slice_cmp}
+use Rattle.std.specs.FinMap.{FinMap, get, contains_key, keys, retain_keys}
+use Rattle.filenames.specs.Names.{is_sayable}
+use Rattle.hostfiles.specs.Hosts.{Key, Record, Host}
+use Rattle.hostfiles.specs.Files.{Own, told}
+use Rattle.hostfiles.specs.declared.journal.Entry.{Entry}
+
+-- both are lacking, or both have the same records
+abbrev pub is_same : Option (List Record) → Option (List Record) → Bool
+is_same None None = true
+is_same None (Some b) = false
+is_same (Some a) None = false
+is_same (Some a) (Some b) = pointwise bytes_eq a b
+
+-- whether the file of a key is told otherwise than the host files have it
+abbrev pub is_changed : Host → Own → Key → Bool
+is_changed host own key = not (is_same (told host own key) (get host key))
+
+-- whether a key is that of a name, and its file is changed
+abbrev pub is_changed_name : Host → Own → Key → Bool
+is_changed_name host own key = is_changed host own key && is_sayable key
+
+-- the files to which something was done and that are changed, by the keys of their names
+abbrev pub changed_names : Host → Own → FinMap (slice_cmp nat_cmp) Entry
+changed_names host own = retain_keys own (is_changed_name host own)
+
+-- the keys of the changed names, in order
+abbrev pub changed_keys : Host → Own → List Key
+changed_keys host own = keys (changed_names host own)
+
+-- these are all of them: a file to which nothing was done is not changed
+abbrev pub AreAllChanged : Type 0
+AreAllChanged = (host : Host) (own : Own) (key : Key) → contains_key (changed_names host own) key ≡ is_changed_name host own key
+
+-- a file is changed exactly where it is told otherwise than the host files have it
+abbrev pub ChangedIsOther : Type 0
+ChangedIsOther = (host : Host) (own : Own) (key : Key) → (is_changed host own key ≡ false → told host own key ≡ get host key) × (told host own key ≡ get host key → is_changed host own key ≡ false)

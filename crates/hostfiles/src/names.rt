@@ -1,0 +1,68 @@
+// The names of changed files, in order.
+
+ghost use Rattle.std.specs.Prelude.{◌≡◌, List, ℕ, true, false, IfSome, IfNone, option_copied};
+ghost use Rattle.std.specs.declared.cmp.Ordering.TheVariants.{Less};
+ghost use Rattle.std.specs.Ordering.{nat_cmp};
+ghost use Rattle.std.specs.Cmp.Lexicographic.{slice_cmp};
+ghost use Rattle.keymaps.specs.Order.{is_above};
+ghost use Rattle.hostfiles.specs.Changed.{is_changed_name, AreAllChanged};
+
+use crate::changed::is_changed;
+use crate::host::HostFiles;
+use crate::journal::Journal;
+use filenames::{Key, Name};
+
+/// The least name of a changed file by key, after the one given if there is one. Only files are looked at to which something was done.
+/// A file whose key is that of no name is passed over.
+pub fn next_changed(host: &HostFiles, journal: &Journal, after: Option<&Name>) -> Option<Name>
+    ensures above { IfSome result (λ k. is_above (option_copied after.entry) k ≡ true) }
+    ensures changed { IfSome result (λ k. is_changed_name host.now journal.now.entries k ≡ true) }
+    ensures least { IfSome result (λ k. (x : List ℕ) → is_above (option_copied after.entry) x ≡ true → slice_cmp nat_cmp x k ≡ Less → is_changed_name host.now journal.now.entries x ≡ false) }
+    ensures none { IfNone result ((x : List ℕ) → is_above (option_copied after.entry) x ≡ true → is_changed_name host.now journal.now.entries x ≡ false) }
+{
+    next_above(host, journal, key_if_any(after))
+}
+
+// The key of a name, if there is one.
+pub(crate) fn key_if_any(name: Option<&Name>) -> Option<Key>
+    ensures { result ≡ option_copied name.entry }
+{
+    match name {
+        Some(name) => Some(name.key()),
+        None => None,
+    }
+}
+
+// The same after a key.
+fn next_above(host: &HostFiles, journal: &Journal, after: Option<Key>) -> Option<Name>
+    ensures above { IfSome result (λ k. is_above after k ≡ true) }
+    ensures changed { IfSome result (λ k. is_changed_name host.now journal.now.entries k ≡ true) }
+    ensures least { IfSome result (λ k. (x : List ℕ) → is_above after x ≡ true → slice_cmp nat_cmp x k ≡ Less → is_changed_name host.now journal.now.entries x ≡ false) }
+    ensures none { IfNone result ((x : List ℕ) → is_above after x ≡ true → is_changed_name host.now journal.now.entries x ≡ false) }
+{
+    let mut low = after;
+    while let Some(key) = journal.entries.next_key(low) {
+        if let Some(name) = changed_name(host, journal, &key) {
+            return Some(name);
+        }
+        low = Some(key);
+    }
+    None
+}
+
+// The name of a key, where its file is changed.
+fn changed_name(host: &HostFiles, journal: &Journal, key: &Key) -> Option<Name>
+    ensures some { IfSome result (λ name. (name ≡ key.now) × (is_changed_name host.now journal.now.entries key.now ≡ true)) }
+    ensures none { IfNone result (is_changed_name host.now journal.now.entries key.now ≡ false) }
+{
+    let name = Name::from_key(key)?;
+    if !is_changed(host, journal, key) {
+        return None;
+    }
+    Some(name)
+}
+
+/// Carries the law that each changed name is that of a file to which something was done.
+pub fn changed_names_are_all()
+    ensures { AreAllChanged }
+{}

@@ -1,0 +1,43 @@
+// Files as they are told: a hole is read as zeros.
+
+ghost use Rattle.std.specs.Prelude.{◌≡◌, length, slice_get, unwrap_or};
+ghost use Rattle.std.specs.Option.{option_map, option_and_then};
+ghost use Rattle.records.specs.Extents.{zeros};
+ghost use Rattle.hostfiles.specs.Files.{entry_at, place_of, told};
+
+use crate::host::HostFiles;
+use crate::joined;
+use crate::journal::Journal;
+use filenames::Key;
+use records::Record;
+
+/// How many records the file of a key is told with, if there is one.
+#[tactic(auto, using(crate::proofs::ToldLemmas::told_length))]
+pub fn told_count(host: &HostFiles, journal: &Journal, key: &Key) -> Option<u32>
+    ensures { result ≡ option_map length (told host.now journal.now.entries key.now) }
+{
+    joined::records(host, journal, key)
+}
+
+/// A record of the file of a key as it is told, zeros in a hole; none where there is no such file or it has fewer.
+pub fn told_record(host: &HostFiles, journal: &Journal, key: &Key, place: u32) -> Option<Record>
+    ensures { result ≡ option_and_then (λ records. slice_get records place) (told host.now journal.now.entries key.now) }
+{
+    if !joined::has(host, journal, key) {
+        return None;
+    }
+    if place >= joined::length(host, journal, key) {
+        return None;
+    }
+    Some(told_content(host, journal, key, place))
+}
+
+// The record at a place below the length, zeros in a hole.
+pub(crate) fn told_content(host: &HostFiles, journal: &Journal, key: &Key, place: u32) -> Record
+    ensures { result ≡ unwrap_or (place_of host.now key.now (entry_at journal.now.entries key.now) place) zeros }
+{
+    match joined::content(host, journal, key, place) {
+        Some(content) => content,
+        None => [0; 128],
+    }
+}
