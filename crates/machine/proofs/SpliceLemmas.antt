@@ -1,6 +1,6 @@
 -- A splice is an insertion or a removal, and what is written over the rest.
 use Rattle.std.proofs.Common.{◌≡◌, ℕ, ◌+◌, ◌-◌, ◌<◌, ◌≤◌, List, [], ◌++◌, length, take, drop, refl, sym, ◌∙◌, ap, subst, arith, append_assoc, take-append-drop, length-append}
-use Rattle.std.proofs.lemmas.List.{take_at, drop_at, length-take-le, length-drop, append-nil}
+use Rattle.std.proofs.lemmas.List.{take_all, take_at, drop_at, length-take-le, length-drop, append-nil}
 use Rattle.machine.specs.Session.{spliced, written_over}
 
 -- a splice of a middle
@@ -11,7 +11,7 @@ at_seams first middle last bytes at removed e m =
     ap (λ (l : List ℕ). l ++ bytes ++ drop (at + removed) (first ++ middle ++ last)) before ∙ ap (λ (l : List ℕ). first ++ bytes ++ l) behind
 
 -- more bytes than are removed: those past the removed ones are put in first
-pub grown : (list bytes : List ℕ) (at removed : ℕ) → at + removed ≤ length list → removed < length bytes
+grown : (list bytes : List ℕ) (at removed : ℕ) → at + removed ≤ length list → removed < length bytes
     → written_over (spliced list (at + removed) 0 (drop removed bytes)) at (take removed bytes) ≡ spliced list at removed bytes
 grown list bytes at removed inside more =
     let first : List ℕ = take at list in
@@ -55,3 +55,10 @@ shrunk list bytes at removed inside fewer =
     let over : written_over (first ++ middle ++ last) at bytes ≡ first ++ bytes ++ last = at_seams first middle last bytes at (length bytes) count long in
     let as_one : first ++ (middle ++ gone) ++ last ≡ list = ap (λ (l : List ℕ). l ++ last) (sym (append_assoc first middle gone)) ∙ whole in
     ap (λ (l : List ℕ). written_over l at bytes) taken ∙ over ∙ sym (ap (λ (l : List ℕ). spliced l at removed bytes) (sym as_one) ∙ at_seams first (middle ++ gone) last bytes at removed count removed_all)
+
+-- the same, where those past the removed ones are counted
+pub grown_by : (list bytes : List ℕ) (at removed : ℕ) → at + removed ≤ length list → removed < length bytes
+    → written_over (spliced list (at + removed) 0 (take (length bytes - removed) (drop removed bytes))) at (take removed bytes) ≡ spliced list at removed bytes
+grown_by list bytes at removed inside more =
+    let all : take (length bytes - removed) (drop removed bytes) ≡ drop removed bytes = take_all (length bytes - removed) (drop removed bytes) (omega (arith, length-drop removed bytes)) in
+    ap (λ (l : List ℕ). written_over (spliced list (at + removed) 0 l) at (take removed bytes)) all ∙ grown list bytes at removed inside more
