@@ -47,8 +47,9 @@ impl Model for HostFile {
 }
 
 impl HostFile {
-    /// The records of these bytes, the last filled up with 1AH. No bytes give no record.
-    fn new(alloc: Global, bytes: &[u8]) -> Result<HostFile, AllocError>
+    /// The records of these bytes, at most 8,388,608, the last filled up with 1AH to 128 bytes. No bytes give no record. `Err` where
+    /// memory is refused.
+    pub fn new(alloc: Global, bytes: &[u8]) -> Result<HostFile, AllocError>
         requires { length bytes.now ≤ 8388608 }
         ensures { IfOk result (λ file. file ≡ records_in bytes.now) }
     {
@@ -187,12 +188,13 @@ impl HostFiles {
         if !self.has_room(&key) {
             return Err(FilesError::TooManyFiles);
         }
-        self.put(&name, bytes)?;
+        let file = HostFile::new(self.alloc, bytes)?;
+        self.put(name, file)?;
         Ok(())
     }
 
-    // Whether a file of the key may be set.
-    fn has_room(&self, key: &Key) -> bool
+    /// Whether a file of the key may be set: it is there, or there are fewer than 512.
+    pub fn has_room(&self, key: &Key) -> bool
         ensures { result ≡ has_room self.now key.now }
     {
         if self.files.contains_key(key) {
@@ -201,14 +203,13 @@ impl HostFiles {
         self.files.len() < COUNT_LIMIT
     }
 
-    // Sets a file for which there is room.
-    fn put(&mut self, name: &Name, bytes: &[u8]) -> Result<(), AllocError>
-        requires few { length bytes.now ≤ 8388608 }
-        requires room { has_room self.old name.now ≡ true }
-        ensures ok { OnOk result (self.new ≡ finmap.insert self.old name.now (records_in bytes.now)) }
+    /// Sets or exchanges a file for which there is room. `Err` where memory is refused: nothing changes.
+    pub fn put(&mut self, name: Name, file: HostFile) -> Result<(), AllocError>
+        requires { has_room self.old name ≡ true }
+        ensures ok { OnOk result (self.new ≡ finmap.insert self.old name file) }
         ensures err { OnErr result (self.new ≡ self.old) }
     {
-        let file = HostFile::new(self.alloc, bytes)?;
+        let _ = &file.records; // at most 65,536
         self.files.insert(name.key(), file)
     }
 

@@ -6,7 +6,7 @@ use Rattle.bdos.specs.declared.cause.Cause.{Cause}
 use Rattle.machine.specs.Views.{State}
 use Rattle.machine.specs.Machine.{Answers, next, part, made, start, outcome, after}
 
-abbrev then_step : Answers → Option State → Option State
+abbrev pub then_step : Answers → Option State → Option State
 then_step = dependence.then_step part (λ (st : State). st.own) (λ (st : State). next st.core) made start
 
 -- a state was reached by a step from one before

@@ -8,3 +8,4 @@ pub mod TidyFiles
 pub mod WholeFiles
 pub mod WholeLemmas
 pub mod TextLemmas
+pub mod SpliceLemmas

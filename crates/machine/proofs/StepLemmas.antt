@@ -6,6 +6,7 @@ use Rattle.std.proofs.lemmas.Bool.Decides.{eqb_tells}
 use Rattle.std.proofs.lemmas.List.{append-nil}
 use Rattle.std.specs.FinMap as finmap
 use Rattle.std.specs.Borrow.{GName}
+use Rattle.std.specs.Result.{IsErr}
 use Rattle.std.specs.declared.result.Result.{Result}
 use Rattle.std.specs.declared.result.Result.TheVariants.{Ok, Err}
 use Rattle.std.specs.declared.alloc.AllocError.{AllocError}
@@ -55,16 +56,20 @@ use Rattle.system_calls.proofs.Trees.{result-reading, cells-reading, places-read
 use Rattle.host_questions.specs.Passing.{IsSound}
 use Rattle.host_questions.specs.Passing as passing
 use Rattle.host_questions.proofs.Answering.{answers_are}
-use Rattle.machine.specs.Views.{Session, Own, Looked}
+use Rattle.machine.specs.Views.{Session, Own, Looked, Running}
 use Rattle.machine.specs.declared.session.TheConstants.{SCRIPT_LIMIT}
 use Rattle.machine.specs.Session.{image_of}
 use Rattle.machine.specs.Machine.{Question, Cell, Script, OfHost, Answers, ask, same_question, is_in, Reached, Went, Stopped, reached, reached_with, reached_by_call, script_limit, script_limit-is, next, own_or_ask, asking_host, part, laid, desk_with, made, outcome, looks_at, looked_at, IsBounded}
 use Rattle.machine.specs.WrittenCells.{written_cells, Devices, devices_of, state_with}
 use Rattle.machine.specs.Stops.{stop_of_instruction, stop_of_call}
-use Rattle.machine.specs.Steps.{told, seen, drives_in, looked_in, TakesStep}
+use Rattle.machine.specs.Steps.{told, seen, drives_in, looked_in, running_with, TakesStep}
 use Rattle.machine.proofs.WrittenCellLemmas.{InCells, in_cells, get_written, cells_written}
 use Rattle.machine.proofs.HostLemmas.{HaveMarks, have_marks, result_of-asking_host, no_cell, no_place, mark_one, drives_stay}
 use Rattle.machine.proofs.FitLemmas.{IsStill, call_fits}
+
+-- a step, by registers, devices and an overlay
+abbrev pub Takes : Session → Regs → Devices → Overlay → Result (Option Cause) AllocError → Regs → Devices → Overlay → Type 0
+Takes s r d o result r' d' o' = TakesStep s (running_with r d o) result (running_with r' d' o')
 
 -- ---- the state's answers are the bytes of the memory, the script, and the files
 
@@ -277,7 +282,7 @@ pub record Carried (s : Session) (t : SystemTree Reached) (r : Regs) (d : Device
   pub extends : file_looks.Extends d.asks d'.asks
 
 carried : (s : Session) (r r' : Regs) (d d' : Devices) (o o' : Overlay) (t : SystemTree Reached) → IsSound s.files d.files → Carried s t r d o r' d' o'
-    → TakesStep s r d o (Ok (stop_of (result_of (memory_answers s (own_of o) d.files) t))) r' d' o'
+    → Takes s r d o (Ok (stop_of (result_of (memory_answers s (own_of o) d.files) t))) r' d' o'
 carried s r r' d d' o o' t sound w = record {
   outcome = outcome_of s r d (own_of o) (within o) sound t w.at ∙ made_told r r' d d' (own_of o) (own_of o') (within o) (within o') (result_of (memory_answers s (own_of o) d.files) t) w.leaves;
   stays = made_stays r r' d d' (own_of o) (own_of o') (within o) (within o') (result_of (memory_answers s (own_of o) d.files) t) w.leaves;
@@ -298,7 +303,7 @@ broken_off : (s : Session) (r r' : Regs) (d d' : Devices) (o o' : Overlay) (t : 
     → memory.Extends (looks_of o') (look_all (own_of o) (addresses (state_questions (asked (memory_answers s (own_of o) d.files) t))) (looks_of o))
     → ((k : ℕ) → is_within d'.places k ≡ is_within d.places k) → file_looks.Extends d.asks d'.asks
     → file_looks.Extends d'.asks (look_for_all d.files (file_questions (asked (memory_answers s (own_of o) d.files) t)) d.asks)
-    → TakesStep s r d o (Err e) r' d' o'
+    → Takes s r d o (Err e) r' d' o'
 broken_off s r r' d d' o o' t e sound at marks regs desk own done extends bound places asks bound_asks = record {
   outcome = tt;
   stays = tt;
@@ -334,7 +339,7 @@ module _ (s : Session) (r r' : Regs) (d : Devices) (o o' : Overlay) (sound : IsS
   abbrev ends_with : end.End → SystemTree Reached
   ends_with e = Return (reached d.desk.spot e)
 
-  pub instructed : (did : Did) → end.Performs (instruction r) r (seen s o) (Ok did) r' (seen s o') → TakesStep s r d o (Ok (stop_of_instruction did)) r' d o'
+  pub instructed : (did : Did) → end.Performs (instruction r) r (seen s o) (Ok did) r' (seen s o') → Takes s r d o (Ok (stop_of_instruction did)) r' d o'
   instructed did p =
       let t = reading_first (instruction r) ends_with in
       let ends : result_of answers_here t ≡ reached d.desk.spot (reading.end_of (instruction r) (over (own_of o) (image_of s))) = result-reading answers_here ends_with (instruction r) in
@@ -350,9 +355,9 @@ module _ (s : Session) (r r' : Regs) (d : Devices) (o o' : Overlay) (sound : IsS
         asks = ap (λ qs. look_for_all d.files qs d.asks) (sym files);
         extends = extends_same d.asks d.asks refl;
       }) in
-      subst (λ (x : Option Cause). TakesStep s r d o (Ok x) r' d o') (ap stop_of ends ∙ end_stops d.desk _ ∙ ap stop_of_instruction (sym p.did)) all
+      subst (λ (x : Option Cause). Takes s r d o (Ok x) r' d o') (ap stop_of ends ∙ end_stops d.desk _ ∙ ap stop_of_instruction (sym p.did)) all
 
-  pub instruction_fails : (e : AllocError) → end.Performs (instruction r) r (seen s o) (Err e) r' (seen s o') → TakesStep s r d o (Err e) r' d o'
+  pub instruction_fails : (e : AllocError) → end.Performs (instruction r) r (seen s o) (Err e) r' (seen s o') → Takes s r d o (Err e) r' d o'
   instruction_fails e p =
       let t = reading_first (instruction r) ends_with in
       let asks : addresses (state_questions (asked answers_here t)) ≡ reading.asked (instruction r) (over (own_of o) (image_of s)) = cells-reading answers_here ends_with (instruction r) ∙ append-nil _ in
@@ -385,7 +390,7 @@ module _ (s : Session) (r r' : Regs) (d d' : Watched) (c c' : Changes) (o o' : O
   tree = call script_limit r d.desk.spot
 
   pub called : (served : Served) → length c.looks.directories ≡ 256 → AsksDrives tree
-      → Serves script_limit s.script r (seen s o) d (drives_in s c g) (Ok served) r' (seen s o') d' (drives_in s c' g) → TakesStep s r (devices_of d c) o (Ok (stop_of_call served)) r' (devices_of d' c') o'
+      → Serves script_limit s.script r (seen s o) d (drives_in s c g) (Ok served) r' (seen s o') d' (drives_in s c' g) → Takes s r (devices_of d c) o (Ok (stop_of_call served)) r' (devices_of d' c') o'
   called served whole drives p =
       let ends : result_of answers_called (returning reached_by_call tree) ≡ reached_by_call (result_of answers_called tree) = result_of-returning answers_called reached_by_call tree in
       let asks : asked answers_called (returning reached_by_call tree) ≡ asked answers_called tree = asked-returning answers_called reached_by_call tree in
@@ -399,10 +404,10 @@ module _ (s : Session) (r r' : Regs) (d d' : Watched) (c c' : Changes) (o o' : O
         asks = p.asks ∙ ap (λ qs. look_for_all c.journal.entries (file_questions qs) c.looks) (sym asks);
         extends = p.extends;
       }) in
-      subst (λ (x : Option Cause). TakesStep s r (devices_of d c) o (Ok x) r' (devices_of d' c') o') (ap stop_of ends ∙ call_stops _ ∙ ap stop_of_call (sym p.served)) all
+      subst (λ (x : Option Cause). Takes s r (devices_of d c) o (Ok x) r' (devices_of d' c') o') (ap stop_of ends ∙ call_stops _ ∙ ap stop_of_call (sym p.served)) all
 
   pub call_fails : (e : AllocError) → length c.looks.directories ≡ 256 → AsksDrives tree
-      → Serves script_limit s.script r (seen s o) d (drives_in s c g) (Err e) r' (seen s o') d' (drives_in s c' g) → TakesStep s r (devices_of d c) o (Err e) r' (devices_of d' c') o'
+      → Serves script_limit s.script r (seen s o) d (drives_in s c g) (Err e) r' (seen s o') d' (drives_in s c' g) → Takes s r (devices_of d c) o (Err e) r' (devices_of d' c') o'
   call_fails e whole drives p =
       let asks : asked answers_called (returning reached_by_call tree) ≡ asked answers_called tree = asked-returning answers_called reached_by_call tree in
       broken_off s r r' (devices_of d c) (devices_of d' c') o o' (returning reached_by_call tree) e sound (at_call r d.desk at)
@@ -413,7 +418,7 @@ module _ (s : Session) (r r' : Regs) (d d' : Watched) (c c' : Changes) (o o' : O
 
 -- ---- a stop that asks nothing
 
-pub stopped : (s : Session) (r : Regs) (d : Devices) (o : Overlay) (cause : Cause) → IsSound s.files d.files → next (record { regs = r; desk = d.desk }) ≡ Return (Stopped cause) → TakesStep s r d o (Ok (Some cause)) r d o
+pub stopped : (s : Session) (r : Regs) (d : Devices) (o : Overlay) (cause : Cause) → IsSound s.files d.files → next (record { regs = r; desk = d.desk }) ≡ Return (Stopped cause) → Takes s r d o (Ok (Some cause)) r d o
 stopped s r d o cause sound e = carried s r r d d o o (Return (Stopped cause)) sound (record {
   at = e;
   marks = tt;
@@ -431,6 +436,11 @@ next_warm r d e = rw e refl
 pub next_system : (r : Regs) (d : Desk) → r.pc ≢ 0xff03 → r.pc ≢ 0xfe06 → 0xfe00 ≤ r.pc → next (record { regs = r; desk = d }) ≡ Return (Stopped (SystemArea r.pc))
 unfolding next
 next_system r d w b h = rw (ne_eqb r.pc 0xff03 w, ne_eqb r.pc 0xfe06 b, le-leb 0xfe00 r.pc h) refl
+
+-- a failure, whatever it carries
+pub fails_as : {s : Session} {old new : Running} (e : AllocError) (result : Result (Option Cause) AllocError) → IsErr result → TakesStep s old (Err e) new → TakesStep s old result new
+fails_as e (Ok x) h w = absurd (cc)
+fails_as e (Err e') h w = record { outcome = tt; stays = tt; failed = w.failed; looked = tt; extends = w.extends; bounded = w.bounded }
 
 -- ---- a call over a view and a table, at the greatest script
 

@@ -1,9 +1,10 @@
 -- Steps one after another of which none but the last looks at anything new.
-use Rattle.std.proofs.Common.{inl, inr, ◌≡◌, ℕ, ◌<◌, ◌≤◌, ◌+◌, ◌-◌, ◌||◌, ◌⊎◌, Bool, true, false, List, length, take, Option, Some, None, Ok, Err, refl, sym, ◌∙◌, ap, subst, arith, ◌≢◌}
+use Rattle.std.proofs.Common.{inl, inr, ◌≡◌, ℕ, ◌<◌, ◌≤◌, ◌+◌, ◌-◌, ◌||◌, ◌⊎◌, Bool, true, false, List, length, take, Option, Some, None, Ok, Err, refl, sym, ◌∙◌, ap, subst, arith, add-one, IfOk, IfNone, IfSome, OnErr, ◌≢◌}
 use Rattle.std.proofs.lemmas.Bool.Decides.{eqb_tells}
 use Rattle.std.proofs.Math.Bool.{or-false}
 use Rattle.std.proofs.lemmas.List.{take_all}
 use Rattle.std.specs.declared.alloc.AllocError.{AllocError}
+use Rattle.std.specs.Result.{IsErr}
 use Rattle.interaction_trees.specs.Dependence.{Stop}
 use Rattle.interaction_trees.specs.Dependence as dependence
 use Rattle.i8080.specs.declared.registers.Regs.{Regs}
@@ -14,7 +15,7 @@ use Rattle.hostfiles.proofs.LookLemmas.{extends_same}
 use Rattle.host_questions.specs.Passing.{IsSound}
 use Rattle.pagemem.specs.declared.overlay.Overlay.{Overlay}
 use Rattle.pagemem.specs.Overlay.{own_of, looks_of}
-use Rattle.machine.specs.Views.{Session, State, Looked}
+use Rattle.machine.specs.Views.{Session, State, Looked, Running}
 use Rattle.std.specs.Borrow.{GName}
 use Rattle.std.specs.declared.result.Result.{Result}
 use Rattle.i8080.specs.declared.outcome.Did.{Did}
@@ -23,12 +24,12 @@ use Rattle.i8080.specs.Instruction.{instruction}
 use Rattle.i8080.specs.Memory as memory
 use Rattle.machine.specs.Session.{image_of}
 use Rattle.machine.specs.Stops.{stop_of_instruction}
-use Rattle.machine.proofs.StepLemmas.{instructed, instruction_fails}
-use Rattle.machine.specs.Machine.{Question, Answers, ask, next, part, made, start, after, outcome, looks, looks_at, looked_at, is_in, Extends}
+use Rattle.machine.proofs.StepLemmas.{Takes, instructed, instruction_fails}
+use Rattle.machine.specs.Machine.{Question, Answers, ask, next, part, made, start, after, outcome, looks, looks_at, looked_at, is_in, LooksAlso, Extends, IsBounded}
 use Rattle.machine.specs.WrittenCells.{Devices, state_with}
-use Rattle.machine.specs.Steps.{seen, looked_in, TakesStep}
-use Rattle.machine.specs.Stretch.{LooksAtNothingNew, Stretches}
-use Rattle.machine.proofs.AfterLemmas.{after_step}
+use Rattle.machine.specs.Steps.{seen, looked_in, running_with, TakesStep}
+use Rattle.machine.specs.Stretch.{LooksAtNothingNew, Stretches, ended_of, RunsTo}
+use Rattle.machine.proofs.AfterLemmas.{then_step, step_before, after_step}
 
 -- the looks at the state that was reached
 looks_here : (f : Answers) (n : ℕ) (st : State) → after f n ≡ Some st → looks f n ≡ looks_at f st
@@ -46,60 +47,66 @@ nothing_new_more f looked from n quiet here i low high q h = elim (eqb_tells i n
   | inr other ↦ quiet i low (let apart : i ≢ n = other.1 in omega arith) q h
 ]
 
-module _ (s : Session) (from end n : ℕ) (r r' : Regs) (d d' : Devices) (o o' : Overlay) (looked : Looked) (low : from ≤ n) (same : looked_in o d ≡ looked)
-    (at : after (ask s) n ≡ Some (state_with r d (own_of o))) (quiet : LooksAtNothingNew (ask s) looked from n) where
+module _ (s : Session) (from end n : ℕ) (old new : Running) (looked : Looked) (low : from ≤ n) (same : old.looked ≡ looked)
+    (at : after (ask s) n ≡ Some old.state) (quiet : LooksAtNothingNew (ask s) looked from n) where
   before : LooksAtNothingNew (ask s) looked from (n - 1)
   before i l h q = quiet i l (omega arith) q
 
   -- what was looked at after the step
-  looked_after : TakesStep s r d o (Ok None) r' d' o' → (q : Question) → looked_at (looked_in o' d') q ≡ (looked_at looked q || is_in q (looks (ask s) n))
+  looked_after : {result : Option Cause} → TakesStep s old (Ok result) new → LooksAlso looked (looks (ask s) n) new.looked
   looked_after w q =
       w.looked q
-      ∙ ap (λ (l : Looked). looked_at l q || is_in q (looks_at (ask s) (state_with r d (own_of o)))) same
-      ∙ ap (λ (qs : List Question). looked_at looked q || is_in q qs) (sym (looks_here (ask s) n (state_with r d (own_of o)) at))
+      ∙ ap (λ (l : Looked). looked_at l q || is_in q (looks_at (ask s) old.state)) same
+      ∙ ap (λ (qs : List Question). looked_at looked q || is_in q qs) (sym (looks_here (ask s) n old.state at))
 
   -- a stretch that ends with the step n
-  pub ends_by_step : n < end → TakesStep s r d o (Ok None) r' d' o' → Stretches s from end looked (n + 1) (Ok None) (state_with r' d' (own_of o')) (looked_in o' d')
+  pub ends_by_step : n < end → TakesStep s old (Ok None) new → Stretches s from end looked (n + 1) (Ok None) new
   ends_by_step high w = record {
     within = (omega arith, omega arith);
-    at = after_step (ask s) n (state_with r d (own_of o)) _ at w.outcome;
+    at = after_step (ask s) n old.state _ at w.outcome;
     stopped = tt;
+    failed = tt;
     before_last = λ i l h q. quiet i l (omega arith) q;
     before_stop = tt;
     before_failure = tt;
     last = λ past q. looked_after w q ∙ ap (λ (k : ℕ). looked_at looked q || is_in q (looks (ask s) k)) (omega arith);
-    extends = subst (λ (l : Looked). Extends l (looked_in o' d')) same w.extends;
+    at_stop = tt;
+    extends = subst (λ (l : Looked). Extends l new.looked) same w.extends;
     bounded = tt;
   }
 
   -- one that ends before the step n, which stops
-  pub ends_by_stop : (cause : Cause) → n < end → TakesStep s r d o (Ok (Some cause)) r' d' o' → Stretches s from end looked n (Ok (Some cause)) (state_with r' d' (own_of o')) (looked_in o' d')
+  pub ends_by_stop : (cause : Cause) → n < end → TakesStep s old (Ok (Some cause)) new → Stretches s from end looked n (Ok (Some cause)) new
   ends_by_stop cause high w = record {
     within = (low, omega arith);
     at = at ∙ ap (λ (st : State). Some st) (sym w.stays);
     stopped = (high, ap (outcome (ask s)) w.stays ∙ w.outcome);
+    failed = tt;
     before_last = before;
     before_stop = quiet;
     before_failure = tt;
     last = tt;
-    extends = subst (λ (l : Looked). Extends l (looked_in o' d')) same w.extends;
+    at_stop = looked_after w;
+    extends = subst (λ (l : Looked). Extends l new.looked) same w.extends;
     bounded = tt;
   }
 
   -- one that ends before the step n, which fails
-  pub ends_by_failure : (e : AllocError) → n < end → TakesStep s r d o (Err e) r' d' o' → Stretches s from end looked n (Err e) (state_with r' d' (own_of o')) (looked_in o' d')
+  pub ends_by_failure : (e : AllocError) → n < end → TakesStep s old (Err e) new → Stretches s from end looked n (Err e) new
   ends_by_failure e high w = record {
     within = (low, omega arith);
     at = at ∙ ap (λ (st : State). Some st) (sym w.failed);
     stopped = tt;
+    failed = high;
     before_last = before;
     before_stop = tt;
     before_failure = quiet;
     last = tt;
-    extends = subst (λ (l : Looked). Extends l (looked_in o' d')) same w.extends;
+    at_stop = tt;
+    extends = subst (λ (l : Looked). Extends l new.looked) same w.extends;
     bounded = λ q h.
         ap (λ (l : Looked). looked_at l q || is_in q (looks (ask s) n)) (sym same)
-        ∙ ap (λ (qs : List Question). looked_at (looked_in o d) q || is_in q qs) (looks_here (ask s) n (state_with r d (own_of o)) at)
+        ∙ ap (λ (qs : List Question). looked_at old.looked q || is_in q qs) (looks_here (ask s) n old.state at)
         ∙ w.bounded q h;
   }
 
@@ -111,18 +118,98 @@ module _ (s : Session) (from end n : ℕ) (r r' : Regs) (d d' : Devices) (o o' :
     absorbs false e = e
   looked_before q false h = sym (or-false (looked_at looked q))
 
-  pub ends_here : n ≤ end → Stretches s from end looked n (Ok None) (state_with r d (own_of o)) (looked_in o d)
+  pub ends_here : n ≤ end → Stretches s from end looked n (Ok None) old
   ends_here high = record {
     within = (low, high);
     at = at;
     stopped = tt;
+    failed = tt;
     before_last = before;
     before_stop = tt;
     before_failure = tt;
     last = λ past q. ap (λ (l : Looked). looked_at l q) same ∙ looked_before q (is_in q (looks (ask s) (n - 1))) (quiet (n - 1) (omega arith) (omega arith) q);
-    extends = subst (λ (l : Looked). Extends l (looked_in o d)) same (record { cells = extends_itself (looks_of o); places = λ k h. h; files = extends_same d.asks d.asks refl });
+    at_stop = tt;
+    extends = subst (λ (l : Looked). Extends l old.looked) same (record { cells = extends_itself old.looked.cells; places = λ k h. h; files = extends_same old.looked.files old.looked.files refl });
     bounded = tt;
   }
+
+-- ---- a stretch of at most one step is a step
+
+one_state : (f : Answers) (n : ℕ) (st st' : State) → after f n ≡ Some st → after f n ≡ Some st' → st' ≡ st
+one_state f n st st' e e' = let same : Some st' ≡ Some st = sym e' ∙ e in cc
+
+then_after : (f : Answers) (k : ℕ) (st : State) → after f (k + 1) ≡ Some st → then_step f (after f k) ≡ Some st
+unfolding dependence.after
+then_after f k st e = ap (then_step f) refl ∙ (let same : after f (k + 1) ≡ then_step f (after f k) = rw add-one refl in sym same ∙ e)
+
+module _ (s : Session) (n : ℕ) (old new : Running) (at : after (ask s) n ≡ Some old.state) where
+  went_one : (m : ℕ) → n < m → Stretches s n (n + 1) old.looked m (Ok None) new → TakesStep s old (Ok None) new
+  went_one m more w =
+      let to : m ≡ n + 1 = omega (arith, w.within) in
+      let b = step_before (ask s) (after (ask s) n) new.state (then_after (ask s) n new.state (ap (after (ask s)) (sym to) ∙ w.at)) in
+      let here : b.0 ≡ old.state = one_state (ask s) n old.state b.0 at b.1 in
+      record {
+        outcome = ap (outcome (ask s)) (sym here) ∙ b.2;
+        stays = tt;
+        failed = tt;
+        looked = λ q. w.last more q ∙ ap (λ (k : ℕ). looked_at old.looked q || is_in q (looks (ask s) k)) (omega arith) ∙ ap (λ (qs : List Question). looked_at old.looked q || is_in q qs) (looks_here (ask s) n old.state at);
+        extends = w.extends;
+        bounded = tt;
+      }
+
+  stopped_one : (m : ℕ) (cause : Cause) → Stretches s n (n + 1) old.looked m (Ok (Some cause)) new → TakesStep s old (Ok (Some cause)) new
+  stopped_one m cause w =
+      let to : m ≡ n = omega (arith, w.within, w.stopped.0) in
+      let here : new.state ≡ old.state = one_state (ask s) n old.state new.state at (ap (after (ask s)) (sym to) ∙ w.at) in
+      record {
+        outcome = ap (outcome (ask s)) (sym here) ∙ w.stopped.1;
+        stays = here;
+        failed = tt;
+        looked = λ q. w.at_stop q ∙ ap (λ (k : ℕ). looked_at old.looked q || is_in q (looks (ask s) k)) to ∙ ap (λ (qs : List Question). looked_at old.looked q || is_in q qs) (looks_here (ask s) n old.state at);
+        extends = w.extends;
+        bounded = tt;
+      }
+
+  failed_one : (m : ℕ) (e : AllocError) → Stretches s n (n + 1) old.looked m (Err e) new → TakesStep s old (Err e) new
+  failed_one m e w =
+      let to : m ≡ n = omega (arith, w.within, w.failed) in
+      record {
+        outcome = tt;
+        stays = tt;
+        failed = one_state (ask s) n old.state new.state at (ap (after (ask s)) (sym to) ∙ w.at);
+        looked = tt;
+        extends = w.extends;
+        bounded = subst (λ (qs : List Question). IsBounded old.looked qs new.looked) (ap (looks (ask s)) to ∙ looks_here (ask s) n old.state at) w.bounded;
+      }
+
+  pub is_step : (k : ℕ) (result : Result (Option Cause) AllocError) → Stretches s n (n + 1) old.looked (n + k) result new → IfOk result (λ stop. IfNone stop (0 < k)) → TakesStep s old result new
+  is_step k (Ok None) w more = went_one (n + k) (omega (arith, more)) w
+  is_step k (Ok (Some cause)) w more = stopped_one (n + k) cause w
+  is_step k (Err e) w more = failed_one (n + k) e w
+
+  -- where it goes on, the meter counts one; where it does not, it stays
+  pub counts : (k metered metered' : ℕ) (result : Result (Option Cause) AllocError) → Stretches s n (n + 1) old.looked (n + k) result new → IfOk result (λ stop. IfNone stop (0 < k))
+      → metered' ≡ metered + k → IfOk result (λ stop. IfNone stop (metered' ≡ metered + 1)) × IfOk result (λ stop. IfSome stop (λ _. metered' ≡ metered)) × OnErr result (metered' ≡ metered)
+  counts k metered metered' (Ok None) w more e = (omega (arith, w.within, more), tt, tt)
+  counts k metered metered' (Ok (Some cause)) w more e = (tt, omega (arith, w.stopped.0), tt)
+  counts k metered metered' (Err x) w more e = (tt, tt, omega (arith, w.failed))
+
+-- ---- a run from a step on
+
+pub fails_too : (answer : Result (ℕ × Option Cause) AllocError) (e : AllocError) → IsErr answer → Err e ≡ ended_of answer
+fails_too (Ok x) e h = absurd (cc)
+fails_too (Err e') e h = refl
+
+pub runs_to : (s : Session) (from end k metered metered' : ℕ) (old new : Running) (result : Result (Option Cause) AllocError) (answer : Result (ℕ × Option Cause) AllocError)
+    → result ≡ ended_of answer → IfOk answer (λ r. r.0 ≡ from + k) → from < end → Stretches s from (from + (end - from)) old.looked (from + k) result new → metered' ≡ metered + k
+    → RunsTo s from end (old, metered) answer (new, metered')
+runs_to s from end k metered metered' old new result answer same at order w e =
+    let whole : from + (end - from) ≡ end = omega (arith, order) in (
+      from + k,
+      subst (λ (to : ℕ). Stretches s from to old.looked (from + k) (ended_of answer) new) whole (subst (λ (x : Result (Option Cause) AllocError). Stretches s from (from + (end - from)) old.looked (from + k) x new) same w),
+      omega (arith, e),
+      at,
+    )
 
 -- the same looks, where there are no more
 pub same_cells : (old new : List ℕ) → memory.Extends old new → length new ≡ length old → new ≡ old
@@ -132,7 +219,7 @@ same_looks : (o o' : Overlay) (d : Devices) → Extends (looked_in o d) (looked_
 same_looks o o' d e count = same_cells (looks_of o) (looks_of o') e.cells count
 
 module _ (s : Session) (from n : ℕ) (r r' : Regs) (o o' : Overlay) (d : Devices) (looked : Looked) (same : looked_in o d ≡ looked)
-    (at : after (ask s) n ≡ Some (state_with r d (own_of o))) (w : TakesStep s r d o (Ok None) r' d o') where
+    (at : after (ask s) n ≡ Some (state_with r d (own_of o))) (w : Takes s r d o (Ok None) r' d o') where
   pub goes_to : after (ask s) (n + 1) ≡ Some (state_with r' d (own_of o'))
   goes_to = after_step (ask s) n (state_with r d (own_of o)) _ at w.outcome
 
@@ -165,10 +252,10 @@ module _ (s : Session) (r r' : Regs) (o o' : Overlay) (beneath beneath' : ℕ �
         lender = refl;
       }
 
-  pub viewed : (d : Devices) (sound : IsSound s.files d.files) (did told : Did) → told ≡ did → r.pc < 0xfe00 → Viewed (Ok told) → TakesStep s r d o (Ok (stop_of_instruction did)) r' d o'
+  pub viewed : (d : Devices) (sound : IsSound s.files d.files) (did told : Did) → told ≡ did → r.pc < 0xfe00 → Viewed (Ok told) → Takes s r d o (Ok (stop_of_instruction did)) r' d o'
   viewed d sound did told same low p = instructed s r r' d o o' sound low did (seen_through (Ok did) (subst (λ (x : Did). Viewed (Ok x)) same p))
 
-  pub viewed_failure : (d : Devices) (sound : IsSound s.files d.files) (e : AllocError) → r.pc < 0xfe00 → Viewed (Err e) → TakesStep s r d o (Err e) r' d o'
+  pub viewed_failure : (d : Devices) (sound : IsSound s.files d.files) (e : AllocError) → r.pc < 0xfe00 → Viewed (Err e) → Takes s r d o (Err e) r' d o'
   viewed_failure d sound e low p = instruction_fails s r r' d o o' sound low e (seen_through (Err e) p)
 
 -- the looks after it extend those before

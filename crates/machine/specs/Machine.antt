@@ -196,6 +196,10 @@ pub record NothingLooked (looked : Looked) : Type 0 where
   pub places : (k : ℕ) → is_within looked.places k ≡ false
   pub files : (a : Ask) → is_looked looked.files a ≡ false
 
+-- exactly these were looked at, beside what was before
+abbrev pub LooksAlso : Looked → List Question → Looked → Type 0
+LooksAlso old qs new = (q : Question) → looked_at new q ≡ (looked_at old q || is_in q qs)
+
 -- nothing more was looked at than before and among these
 abbrev pub IsBounded : Looked → List Question → Looked → Type 0
 IsBounded old qs new = (q : Question) → looked_at new q ≡ true → (looked_at old q || is_in q qs) ≡ true

@@ -1,5 +1,5 @@
 -- A step over pages. (This project's own.)
-use Rattle.std.specs.Prelude.{◌≡◌, ◌||◌, Option, Some, None, IfOk, OnOk, OnErr, IfSome}
+use Rattle.std.specs.Prelude.{◌≡◌, Option, Some, None, IfOk, OnOk, OnErr, IfSome}
 use Rattle.std.specs.declared.result.Result.{Result}
 use Rattle.std.specs.declared.alloc.AllocError.{AllocError}
 use Rattle.interaction_trees.specs.Dependence.{Outcome, Step, Stop}
@@ -11,9 +11,9 @@ use Rattle.bdos.specs.declared.cause.Cause.{Cause}
 use Rattle.std.specs.Borrow.{GName}
 use Rattle.hostfiles.specs.declared.changes.Changes.{Changes}
 use Rattle.file_calls.specs.Questions.{Drives}
-use Rattle.machine.specs.Views.{Session, State, Looked}
+use Rattle.machine.specs.Views.{Session, State, Looked, Running}
 use Rattle.machine.specs.Session.{image_of}
-use Rattle.machine.specs.Machine.{Question, ask, outcome, looks_at, looked_at, is_in, Extends, IsBounded}
+use Rattle.machine.specs.Machine.{ask, outcome, looks_at, LooksAlso, Extends, IsBounded}
 use Rattle.machine.specs.WrittenCells.{Devices, state_with}
 
 -- the host files of a session with what was done to them, whatever reference lends the latter
@@ -33,11 +33,15 @@ told (Some cause) st = Stop cause
 abbrev pub looked_in : Overlay → Devices → Looked
 looked_in o d = record { cells = looks_of o; places = d.places; files = d.asks }
 
--- what a call leaves that takes a step: what follows the state, and what was looked at. A stop and a failure leave the state
-pub record TakesStep (s : Session) (r : Regs) (d : Devices) (o : Overlay) (result : Result (Option Cause) AllocError) (r' : Regs) (d' : Devices) (o' : Overlay) : Type 0 where
-  pub outcome : IfOk result (λ stop. outcome (ask s) (state_with r d (own_of o)) ≡ told stop (state_with r' d' (own_of o')))
-  pub stays : IfOk result (λ stop. IfSome stop (λ cause. state_with r' d' (own_of o') ≡ state_with r d (own_of o)))
-  pub failed : OnErr result (state_with r' d' (own_of o') ≡ state_with r d (own_of o))
-  pub looked : OnOk result ((q : Question) → looked_at (looked_in o' d') q ≡ looked_at (looked_in o d) q || is_in q (looks_at (ask s) (state_with r d (own_of o))))
-  pub extends : Extends (looked_in o d) (looked_in o' d')
-  pub bounded : OnErr result (IsBounded (looked_in o d) (looks_at (ask s) (state_with r d (own_of o))) (looked_in o' d'))
+-- a state with what was looked at, by registers, devices and an overlay
+abbrev pub running_with : Regs → Devices → Overlay → Running
+running_with r d o = record { state = state_with r d (own_of o); looked = looked_in o d }
+
+-- what is left by one step: what follows the state, and what was looked at. A stop and a failure leave the state
+pub record TakesStep (s : Session) (old : Running) (result : Result (Option Cause) AllocError) (new : Running) : Type 0 where
+  pub outcome : IfOk result (λ stop. outcome (ask s) old.state ≡ told stop new.state)
+  pub stays : IfOk result (λ stop. IfSome stop (λ cause. new.state ≡ old.state))
+  pub failed : OnErr result (new.state ≡ old.state)
+  pub looked : OnOk result (LooksAlso old.looked (looks_at (ask s) old.state) new.looked)
+  pub extends : Extends old.looked new.looked
+  pub bounded : OnErr result (IsBounded old.looked (looks_at (ask s) old.state) new.looked)

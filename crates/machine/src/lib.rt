@@ -3,10 +3,11 @@
 
 mod bytes;
 mod kept;
+mod laws;
 mod meter;
 mod running;
 mod session;
-mod steps;
+mod system_area;
 mod stretch;
 
 pub use bdos::{Cause, Desk, Spot};
@@ -18,5 +19,5 @@ pub use kept::Kept;
 pub use meter::Meter;
 pub use running::Running;
 pub use session::{PROGRAM_LIMIT, SCRIPT_LIMIT, STEP_LIMIT, Session, SessionError, limits};
-pub use steps::{step, whole_is_laid};
-pub use stretch::run_from;
+pub use laws::whole_is_laid;
+pub use stretch::{run_from, step};

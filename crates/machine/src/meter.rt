@@ -45,6 +45,6 @@ impl Meter {
         requires { self.old + 1 < 2 ^ 64 }
         ensures { self.new ≡ self.old + 1 }
     {
-        self.count += 1;
+        self.count_on(1);
     }
 }

@@ -1,12 +1,12 @@
-ghost use Rattle.std.specs.Prelude.{[], None, vec_len, OnOk, OnErr, ◌≡◌, ◌+◌, ◌-◌, ◌≤◌, length};
+ghost use Rattle.std.specs.Prelude.{[], None, vec_len, true, OnOk, OnErr, ◌≡◌, ◌+◌, ◌-◌, ◌<◌, ◌≤◌, length};
 ghost use Rattle.std.specs.List.{list_all};
 ghost use Rattle.std.specs.FinMap as finmap;
 ghost use Rattle.pagemem.specs.ImageView.{cells_of};
-ghost use Rattle.hostfiles.specs.Hosts.{refusal_of, records_in};
+ghost use Rattle.hostfiles.specs.Hosts.{has_room};
 ghost use Rattle.machine.specs.Session.{is_tail_byte, image_of, made_of, spliced, written_over};
 
 use command_tail::{TAIL_LIMIT, page_zero};
-use hostfiles::{FilesError, HostFiles, Name};
+use hostfiles::{HostFile, HostFiles, Name};
 use pagemem::Image;
 use std::alloc::AllocError;
 use std::marker::Model;
@@ -176,50 +176,30 @@ impl Session {
         requires { at + length bytes.now ≤ length self.old.program }
         ensures { self.new ≡ record self.old { program = written_over self.old.program at bytes.now } }
     {
-        let place = &mut self.program[at..at + bytes.len()];
-        place.copy_from_slice(bytes);
+        overwrite(&mut self.program, at, bytes);
     }
 
-    /// Puts bytes into the script before a place. `Err` where memory is refused: the session is as it was.
-    pub fn insert_script(&mut self, at: usize, bytes: &[u8]) -> Result<(), AllocError>
-        requires inside { at ≤ length self.old.script }
-        requires room { length self.old.script + length bytes.now ≤ SCRIPT_LIMIT }
-        ensures ok { OnOk result (self.new ≡ record self.old { script = spliced self.old.script at 0 bytes.now }) }
+    /// Exchanges so many bytes of the script from a place on for others. It takes memory only where these are more. `Err` where
+    /// memory is refused: the session is as it was.
+    pub fn splice_script(&mut self, at: usize, removed: usize, bytes: &[u8]) -> Result<(), AllocError>
+        requires inside { at + removed ≤ length self.old.script }
+        requires room { length self.old.script + length bytes.now ≤ SCRIPT_LIMIT + removed }
+        ensures ok { OnOk result (self.new ≡ record self.old { script = spliced self.old.script at removed bytes.now }) }
+        ensures err { OnErr result (self.new ≡ self.old) }
+        ensures memory { OnErr result (removed < length bytes.now) }
+    {
+        splice(&mut self.script, at, removed, bytes)
+    }
+
+    /// Sets or exchanges a host file for which there is room. `Err` where memory is refused: the session is as it was.
+    pub fn set_file(&mut self, name: Name, file: HostFile) -> Result<(), AllocError>
+        requires { has_room self.old.files name ≡ true }
+        ensures ok { OnOk result (self.new ≡ record self.old { files = finmap.insert self.old.files name file }) }
         ensures err { OnErr result (self.new ≡ self.old) }
     {
-        insert(&mut self.script, at, bytes)
-    }
-
-    /// Replaces the script's bytes from a place on.
-    pub fn replace_script(&mut self, at: usize, bytes: &[u8])
-        requires { at + length bytes.now ≤ length self.old.script }
-        ensures { self.new ≡ record self.old { script = spliced self.old.script at (length bytes.now) bytes.now } }
-    {
-        let place = &mut self.script[at..at + bytes.len()];
-        place.copy_from_slice(bytes);
-    }
-
-    /// Removes so many bytes of the script from a place on.
-    pub fn remove_script(&mut self, at: usize, count: usize)
-        requires { at + count ≤ length self.old.script }
-        ensures { self.new ≡ record self.old { script = spliced self.old.script at count [] } }
-    {
-        remove(&mut self.script, at, count);
-    }
-
-    /// Sets or exchanges a host file. `Err` where memory is refused: the session is as it was.
-    pub fn set_file(&mut self, name: Name, bytes: &[u8]) -> Result<(), AllocError>
-        requires { refusal_of self.old.files name bytes.now ≡ None }
-        ensures ok { OnOk result (self.new ≡ record self.old { files = finmap.insert self.old.files name (records_in bytes.now) }) }
-        ensures err { OnErr result (self.new ≡ self.old) }
-    {
-        let set = self.files.set(name, bytes);
+        let set = self.files.put(name, file);
         let _ = self.files.len(); // there are at most 512, none too long
-        match set {
-            Ok(()) => Ok(()),
-            Err(FilesError::OutOfMemory) => Err(AllocError),
-            Err(_) => unreachable!(), // it fits
-        }
+        set
     }
 
     /// Takes a host file out. It takes no memory.
@@ -237,6 +217,24 @@ impl Session {
     {
         self.limit = limit;
     }
+}
+
+// Exchanges so many bytes from a place on for others.
+#[tactic(auto, using(crate::proofs::SpliceLemmas::shrunk))]
+fn splice(list: &mut Vec<u8>, at: usize, removed: usize, bytes: &[u8]) -> Result<(), AllocError>
+    requires { at + removed ≤ vec_len list.old }
+    ensures ok { OnOk result (list.new.items ≡ spliced list.old.items at removed bytes.now) }
+    ensures err { OnErr result (list.new.items ≡ list.old.items) }
+    ensures memory { OnErr result (removed < length bytes.now) }
+{
+    if removed < bytes.len() {
+        insert(list, at + removed, &bytes[removed..])?;
+        overwrite(list, at, &bytes[..removed]);
+        return Ok(());
+    }
+    remove(list, at + bytes.len(), removed - bytes.len());
+    overwrite(list, at, bytes);
+    Ok(())
 }
 
 // Puts bytes before a place.
@@ -257,6 +255,15 @@ fn remove(list: &mut Vec<u8>, at: usize, count: usize)
 {
     list[at..].rotate_left(count);
     list.truncate(list.len() - count);
+}
+
+// Writes bytes over those from a place on.
+fn overwrite(list: &mut Vec<u8>, at: usize, bytes: &[u8])
+    requires { at + length bytes.now ≤ vec_len list.old }
+    ensures { list.new.items ≡ written_over list.old.items at bytes.now }
+{
+    let place = &mut list[at..at + bytes.len()];
+    place.copy_from_slice(bytes);
 }
 
 // Whether a byte may stand in a command tail.

@@ -1,40 +1,35 @@
-ghost use Rattle.std.specs.Prelude.{◌≡◌, ◌+◌, ◌-◌, ◌^◌, ◌<◌, ◌≤◌, ℕ, Some, IfOk, IfNone};
-ghost use Rattle.pagemem.specs.Overlay.{own_of};
-ghost use Rattle.pagemem.specs.ViewParts.{overlay_in, image_in, loan_of};
-ghost use Rattle.machine.specs.Views.{Session as SessionView};
-ghost use Rattle.machine.specs.Session.{image_of};
-ghost use Rattle.machine.specs.Machine.{ask, after};
-ghost use Rattle.machine.specs.WrittenCells.{Devices, devices_of, state_with};
-ghost use Rattle.machine.specs.Steps.{looked_in};
-ghost use Rattle.machine.specs.Stretch.{Stretches, ended_of};
+// Steps one after another.
+
+ghost use Rattle.std.specs.Prelude.{◌≡◌, ◌+◌, ◌-◌, ◌^◌, ◌<◌, ◌≤◌, Some, IfOk, IfNone, IfSome, OnErr};
+ghost use Rattle.pagemem.specs.ViewParts.{loan_of};
+ghost use Rattle.machine.specs.Machine.{ask, after, IsReached};
+ghost use Rattle.machine.specs.Steps.{TakesStep};
+ghost use Rattle.machine.specs.Stretch.{GoesOn, InstructionsGoOn, RunsTo};
 
 use crate::meter::Meter;
 use crate::running::Running;
 use crate::session::Session;
-use crate::steps::{SYSTEM_AREA, enter_system};
-use bdos::{Cause, Desk};
-use hostfiles::Changes;
+use crate::system_area::{SYSTEM_AREA, enter_system};
+use bdos::Cause;
 use i8080::{Did, Regs, execute};
-use pagemem::{Overlay, View};
+use pagemem::View;
 use std::alloc::AllocError;
 
-// Instructions, from the step `from` on: up to the step `end`, to the system's area, to one that looks at something new, or to
-// a stop. Answers the step that was reached, and how it ended.
+// Instructions: at most so many, up to the system's area, to one that looks at something new, or to a stop. Answers how many
+// were carried out, and how it ended.
 #[inline(always)]
 fn instructions_over(
     regs: &mut Regs,
     view: &mut View<'_>,
-    from: u64,
-    end: u64,
+    steps: u64,
 ) -> (u64, Result<Option<Cause>, AllocError>)
-    requires { from ≤ end }
-    ensures stretches { (s : SessionView) (d : Devices) → image_in view.old ≡ image_of s → after (ask s) from ≡ Some (state_with regs.old d (own_of (overlay_in view.old))) → Stretches s from end (looked_in (overlay_in view.old) d) result.0 result.1 (state_with regs.new d (own_of (overlay_in view.new))) (looked_in (overlay_in view.new) d) }
-    ensures progress { regs.old.pc < 0xfe00 → from < end → IfOk result.1 (λ stop. IfNone stop (from < result.0)) }
+    ensures goes { InstructionsGoOn steps regs.old view.old result regs.new view.new }
+    ensures progress { regs.old.pc < 0xfe00 → 0 < steps → IfOk result.1 (λ stop. IfNone stop (0 < result.0)) }
     ensures loan { loan_of view.new ≡ loan_of view.old }
 {
     let looks = view.look_count();
-    let mut n = from;
-    while n < end && regs.pc < SYSTEM_AREA {
+    let mut n = 0;
+    while n < steps && regs.pc < SYSTEM_AREA {
         match execute(regs, view) {
             Ok(Did::Went) => {}
             Ok(Did::Halt) => return (n, Ok(Some(Cause::Halt))),
@@ -52,43 +47,37 @@ fn instructions_over(
 // The same, over a session's image.
 #[inline(never)]
 fn instructions(
-    regs: &mut Regs,
-    overlay: &mut Overlay,
+    running: &mut Running,
     session: &Session,
-    from: u64,
-    end: u64,
+    steps: u64,
 ) -> (u64, Result<Option<Cause>, AllocError>)
-    requires { from ≤ end }
-    ensures stretches { (d : Devices) → after (ask session.now) from ≡ Some (state_with regs.old d (own_of overlay.old)) → Stretches session.now from end (looked_in overlay.old d) result.0 result.1 (state_with regs.new d (own_of overlay.new)) (looked_in overlay.new d) }
-    ensures progress { regs.old.pc < 0xfe00 → from < end → IfOk result.1 (λ stop. IfNone stop (from < result.0)) }
+    ensures goes { GoesOn session.now steps running.old result running.new }
+    ensures progress { running.old.state.core.regs.pc < 0xfe00 → 0 < steps → IfOk result.1 (λ stop. IfNone stop (0 < result.0)) }
 {
-    let mut view = View::new(session.image(), overlay);
-    instructions_over(regs, &mut view, from, end)
+    let mut view = View::new(session.image(), &mut running.overlay);
+    instructions_over(&mut running.regs, &mut view, steps)
 }
 
-// Steps from `from` on: a step in the system's area, or instructions.
+// At most so many steps: one in the system's area, or instructions. Answers how many were carried out, and how it ended.
 #[inline(always)]
-fn proceed_along(
-    regs: &mut Regs,
-    overlay: &mut Overlay,
-    desk: &mut Desk,
-    changes: &mut Changes,
+fn go_on(
+    running: &mut Running,
     session: &Session,
-    from: u64,
-    end: u64,
+    steps: u64,
 ) -> (u64, Result<Option<Cause>, AllocError>)
-    requires order { from < end }
-    requires at { after (ask session.now) from ≡ Some (state_with regs.old (devices_of desk.old changes.old) (own_of overlay.old)) }
-    ensures stretches { Stretches session.now from end (looked_in overlay.old (devices_of desk.old changes.old)) result.0 result.1 (state_with regs.new (devices_of desk.new changes.new) (own_of overlay.new)) (looked_in overlay.new (devices_of desk.new changes.new)) }
-    ensures progress { IfOk result.1 (λ stop. IfNone stop (from < result.0)) }
+    requires some { 0 < steps }
+    requires at { IsReached (ask session.now) running.old.state }
+    ensures goes { GoesOn session.now steps running.old result running.new }
+    ensures progress { IfOk result.1 (λ stop. IfNone stop (0 < result.0)) }
+    ensures within { result.0 ≤ steps }
 {
-    if regs.pc < SYSTEM_AREA {
-        return instructions(regs, overlay, session, from, end);
+    if running.regs.pc < SYSTEM_AREA {
+        return instructions(running, session, steps);
     }
-    match enter_system(regs, overlay, desk, changes, session) {
-        Ok(None) => (from + 1, Ok(None)),
-        Ok(Some(cause)) => (from, Ok(Some(cause))),
-        Err(AllocError) => (from, Err(AllocError)),
+    match enter_system(running, session) {
+        Ok(None) => (1, Ok(None)),
+        Ok(Some(cause)) => (0, Ok(Some(cause))),
+        Err(AllocError) => (0, Err(AllocError)),
     }
 }
 
@@ -106,22 +95,30 @@ pub fn run_from(
     requires order { from < end }
     requires at { after (ask session.now) from ≡ Some running.old.state }
     requires room { meter.old + (end - from) < 2 ^ 64 }
-    ensures stretches { (n : ℕ) × Stretches session.now from end running.old.looked n (ended_of result) running.new.state running.new.looked × (meter.new + from ≡ meter.old + n) × IfOk result (λ r. r.0 ≡ n) }
+    ensures runs { RunsTo session.now from end (running.old, meter.old) result (running.new, meter.new) }
     ensures progress { IfOk result (λ r. IfNone r.1 (from < r.0)) }
 {
-    let (n, ended) = proceed_along(
-        &mut running.regs,
-        &mut running.overlay,
-        &mut running.desk,
-        &mut running.changes,
-        session,
-        from,
-        end,
-    );
-    meter.count_on(n - from);
-    let stop = match ended {
-        Ok(stop) => stop,
-        Err(AllocError) => return Err(AllocError),
-    };
-    Ok((n, stop))
+    let (steps, stop) = go_on(running, session, end - from);
+    meter.count_on(steps);
+    Ok((from + steps, stop?))
+}
+
+/// One step, or the cause of a stop: a stretch of at most one step. A stop or `Err` leaves the state, but for what was looked at;
+/// and at an `Err` each cell, script place and question of the host files that is looked at afterwards was looked at before, or is
+/// among those of the step.
+pub fn step(
+    running: &mut Running,
+    session: &Session,
+    meter: &mut Meter,
+) -> Result<Option<Cause>, AllocError>
+    requires at { IsReached (ask session.now) running.old.state }
+    requires room { meter.old + 1 < 2 ^ 64 }
+    ensures step { TakesStep session.now running.old result running.new }
+    ensures ticked { IfOk result (λ r. IfNone r (meter.new ≡ meter.old + 1)) }
+    ensures stopped { IfOk result (λ r. IfSome r (λ _. meter.new ≡ meter.old)) }
+    ensures failed { OnErr result (meter.new ≡ meter.old) }
+{
+    let (count, stop) = go_on(running, session, 1);
+    meter.count_on(count);
+    stop
 }

@@ -50,7 +50,7 @@ pub record NotesStretch (f : Answers) (old new : Noted) (n m : ℕ) (looked : Lo
   pub counted : (refused ≤ refuses) × (refuses ≤ refused + 1)
   pub all : refuses ≡ refused → n ≤ old.seen → m ≤ new.seen
 
-module _ (s : Session) (end n m : ℕ) (old new : Noted) (refused refuses : ℕ) (st : State) (looked after_step left : Looked) (stretch : Stretches s n end looked m (Ok None) st after_step) (more : n < m)
+module _ (s : Session) (end n m : ℕ) (old new : Noted) (refused refuses : ℕ) (st : State) (looked after_step left : Looked) (stretch : Stretches s n end looked m (Ok None) (record { state = st; looked = after_step })) (more : n < m)
     (known : IsFirstLooks (ask s) old) (all : n ≤ old.seen → AllNoted old looked) (seen : n < old.seen → m ≤ old.seen) (same_cells : left.cells ≡ after_step.cells) where
   -- the state before the last step
   before_last_step : (b : State) × (after (ask s) (m - 1) ≡ Some b)

@@ -46,10 +46,6 @@ with_set_file s key bytes =
     else if has_room s.files key then Ok (with_host_file s key (Some (records_in bytes)))
     else Err 5
 
--- a file that is set is refused by this number
-abbrev pub OnSet : Host → Key → List ℕ → ℕ → Type 0
-OnSet host key bytes number = (if nat_lt 8388608 (length bytes) then Some 4 else if has_room host key then None else Some 5) ≡ Some number
-
 -- the session after an edit, or the number of its refusal
 abbrev pub edited : Session → Edit → Result Session ℕ
 edited s (Insert at bytes) =
@@ -63,22 +59,15 @@ edited s (SetFile name bytes) = with_set_file s name bytes
 edited s (RemoveFile name) = if contains_key s.files name then Ok (with_host_file s name None) else Err 3
 edited s (SetLimit n) = if nat_lt STEP_LIMIT n then Err 7 else Ok (record s { limit = n })
 
--- the edits that can be carried out: within the script, with no script that is too long; within the program; with a file that is
--- not too long and has room, or that is there; and a limit that is not too large
-abbrev pub IsAccepted : Session → Edit → Type 0
-IsAccepted s (Insert at bytes) = (at ≤ length s.script) × (length s.script + length bytes ≤ SCRIPT_LIMIT)
-IsAccepted s (Replace at bytes) = at + length bytes ≤ length s.script
-IsAccepted s (Remove at count) = at + count ≤ length s.script
-IsAccepted s (Poke at bytes) = (256 ≤ at) × (at + length bytes ≤ 256 + length s.program)
-IsAccepted s (SetFile name bytes) = refusal_of s.files name bytes ≡ None
-IsAccepted s (RemoveFile name) = contains_key s.files name ≡ true
-IsAccepted s (SetLimit n) = n ≤ STEP_LIMIT
+-- why an edit is refused; memory is wanted only for one that is not refused otherwise
+abbrev pub Refuses : Result Session ℕ → EditError → Type 0
+Refuses wanted OutOfMemory = (t : Session) × (wanted ≡ Ok t)
+Refuses wanted e = wanted ≡ Err (number_of e)
 
--- what a call of edit answered, and the session after it; memory is wanted only for an edit that is not refused
+-- what a call of edit answered, and the session after it
 abbrev pub AnswersEdit : {U : Type 0} → Result Session ℕ → Result U EditError → Session → Type 0
 AnswersEdit wanted (Ok _) after = wanted ≡ Ok after
-AnswersEdit wanted (Err OutOfMemory) after = (t : Session) × (wanted ≡ Ok t)
-AnswersEdit wanted (Err e) after = wanted ≡ Err (number_of e)
+AnswersEdit wanted (Err e) after = Refuses wanted e
 
 -- the edits that may want memory: insertions and files that are set
 abbrev pub TakesMemory : Edit → Type 0

@@ -1,6 +1,7 @@
 pub mod Fits
 pub mod Options
 pub mod Edits
+pub mod Changes
 pub mod Cold
 pub mod FirstSteps
 pub mod Codes

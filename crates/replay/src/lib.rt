@@ -1,8 +1,8 @@
 //! Edits and reruns of a session: each rerun gives what a cold run of the session, as it then is, would give.
 #![tactic(auto)]
 
+mod change;
 mod edit;
-mod editing;
 mod first_looks;
 mod first_steps;
 mod keeping;

@@ -5,8 +5,8 @@ ghost use Rattle.replay.specs.Cold.{cold};
 ghost use Rattle.replay.specs.Edits.{AnswersEdit, TakesMemory, edited};
 ghost use Rattle.replay.specs.RunnerView.{DropsOldest, SameOptions, KeepsUntouched, AllStand, Reran, LeavesNoneOut, CountsAnew, TicksTo, kept_steps, rerun_start};
 
+use crate::change::{accept, carry_out, touch_of};
 use crate::edit::{Edit, EditError};
-use crate::editing::{apply, refusal_of, touch_of};
 use crate::first_looks::FirstLooks;
 use crate::keeping::Refusals;
 use crate::options::{Options, OptionsError};
@@ -131,17 +131,12 @@ impl Runner {
         ensures stand { AllStand self.new }
         ensures err { OnErr result (self.new ≡ self.old) }
     {
-        if let Some(refusal) = refusal_of(&self.last_run.session, &edit) {
-            return Err(refusal);
-        }
         let alloc = *self.last_run.text.allocator();
-        let Ok(touch) = touch_of(alloc, &self.looks, &self.last_run.session, &edit) else {
+        let change = accept(alloc, &self.last_run.session, edit)?;
+        let touch = touch_of(&self.looks, &self.last_run.session, &change);
+        let Ok(()) = carry_out(&mut self.last_run.session, change) else {
             return Err(EditError::OutOfMemory);
         };
-        match apply(&mut self.last_run.session, &edit) {
-            Ok(()) => {}
-            Err(AllocError) => return Err(EditError::OutOfMemory),
-        }
         keep_up_to(&mut self.ring, touch);
         self.looks.cut(touch);
         Ok(())

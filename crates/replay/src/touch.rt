@@ -1,16 +1,14 @@
-ghost use Rattle.std.specs.Prelude.{◌≡◌, ◌==◌, ◌+◌, ◌<◌, ◌≤◌, IsTrue, ◌↔◌, Some, IfOk, option_copied, length, slice_get, if◌then◌else◌};
+ghost use Rattle.std.specs.Prelude.{◌≡◌, ◌==◌, ◌+◌, ◌<◌, ◌≤◌, IsTrue, ◌↔◌, option_copied, length, slice_get, if◌then◌else◌};
 ghost use Rattle.file_steps.specs.Steps.{lesser};
 ghost use Rattle.machine.specs.Machine.{ask, Cell, Script};
 ghost use Rattle.machine.specs.Session.{spliced};
 ghost use Rattle.replay.specs.FirstLooks.{IsFirstLooks, step_of};
 ghost use Rattle.replay.specs.Edits.{with_host_file, with_poke, with_splice};
-ghost use Rattle.hostfiles.specs.Hosts.{records_in};
 ghost use Rattle.replay.specs.Touch.{IsNotedTouch};
 
 use crate::first_looks::FirstLooks;
-use hostfiles::{FilesError, Key};
-use machine::{HostFile, HostFiles, Name, PROGRAM_LIMIT, Session};
-use std::alloc::{AllocError, Global};
+use hostfiles::Key;
+use machine::{HostFile, PROGRAM_LIMIT, Session};
 
 /// The least noted step that looked at a byte which a poke changes, or the step below which all looks are noted. The place
 /// counts from the program's first byte.
@@ -68,28 +66,6 @@ pub fn file_touch(looks: &FirstLooks, session: &Session, key: &Key, new: Option<
     looks
         .files()
         .touch_of_change(looks.seen(), session.files(), key, new)
-}
-
-/// The same, for a file that is set to these bytes. `Err` where memory is refused.
-#[tactic(auto, using(crate::proofs::FileTouch::room_alone))]
-pub fn set_touch(
-    alloc: Global,
-    looks: &FirstLooks,
-    session: &Session,
-    name: &Name,
-    bytes: &[u8],
-) -> Result<u64, AllocError>
-    requires { length bytes.now ≤ 8388608 }
-    ensures { IfOk result (λ touch. IsNotedTouch (ask session.now) (ask (with_host_file session.now name.now (Some (records_in bytes.now)))) looks.now touch) }
-{
-    let mut files = HostFiles::new(alloc);
-    match files.set(*name, bytes) {
-        Ok(()) => {}
-        Err(FilesError::OutOfMemory) => return Err(AllocError),
-        Err(_) => unreachable!(), // it is the only file, and not too long
-    }
-    let key = name.key();
-    Ok(file_touch(looks, session, &key, files.file(&key)))
 }
 
 // Whether a place has the same byte, or none, before and after.

@@ -1,4 +1,4 @@
-use Rattle.std.proofs.Common.{◌≡◌, ◌-◌, ◌≤◌, ◌<◌, ◌⊎◌, Some}
+use Rattle.std.proofs.Common.{◌≡◌, ◌+◌, ◌-◌, ◌≤◌, ◌<◌, ◌⊎◌, Some, ℕ}
 use Rattle.pagemem.specs.Overlay.{own_of, looks_of}
 use Rattle.pagemem.specs.ViewParts.{overlay_in, image_in, loan_of}
 use Rattle.machine.specs.Views.{Session}
@@ -11,14 +11,14 @@ use Rattle.machine.proofs.stretch.instructions_over.Given as goal
 
 abbrev pub invariant-loop-n : goal.invariant-loop-n
 invariant-loop-n l = record {
-  within : (l.from ≤ l.n) × (l.n ≤ l.end);
-  first : (l.from < l.n) ⊎ (l.regs ≡ l.fn.regs);
+  within : l.n ≤ l.steps;
+  first : (0 < l.n) ⊎ (l.regs ≡ l.fn.regs);
   image : image_in l.view ≡ image_in l.fn.view;
   loan : loan_of l.view ≡ loan_of l.fn.view;
   same : looks_of (overlay_in l.view) ≡ looks_of (overlay_in l.fn.view);
-  at : (s : Session) (d : Devices) → image_in l.fn.view ≡ image_of s → after (ask s) l.from ≡ Some (state_with l.fn.regs d (own_of (overlay_in l.fn.view))) → after (ask s) l.n ≡ Some (state_with l.regs d (own_of (overlay_in l.view)));
-  quiet : (s : Session) (d : Devices) → image_in l.fn.view ≡ image_of s → after (ask s) l.from ≡ Some (state_with l.fn.regs d (own_of (overlay_in l.fn.view))) → LooksAtNothingNew (ask s) (looked_in (overlay_in l.fn.view) d) l.from l.n;
+  at : (s : Session) (d : Devices) → image_in l.fn.view ≡ image_of s → (from : ℕ) → after (ask s) from ≡ Some (state_with l.fn.regs d (own_of (overlay_in l.fn.view))) → after (ask s) (from + l.n) ≡ Some (state_with l.regs d (own_of (overlay_in l.view)));
+  quiet : (s : Session) (d : Devices) → image_in l.fn.view ≡ image_of s → (from : ℕ) → after (ask s) from ≡ Some (state_with l.fn.regs d (own_of (overlay_in l.fn.view))) → LooksAtNothingNew (ask s) (looked_in (overlay_in l.fn.view) d) from (from + l.n);
 }
 
 abbrev pub decreases-loop-n : goal.decreases-loop-n
-decreases-loop-n l = l.end - l.n
+decreases-loop-n l = l.steps - l.n

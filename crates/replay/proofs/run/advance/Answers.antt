@@ -14,10 +14,10 @@ pub loop-n-preserved : goal.loop-n-preserved
 loop-n-preserved c =
     let i = c.loop-n.invariant in
     let reached = c.in_ok-reached.reached in
-    let (x, stretched, metered, same) = c.in_ok-reached.ensures.stretches in
-    let stretch : Stretches c.args.session.now c.loop-n.n c.bound_of-bound.result c.loop-n.running.looked reached (Ok None) c.run_from.new.running.state c.run_from.new.running.looked =
-    subst (λ (k : ℕ). Stretches c.args.session.now c.loop-n.n c.bound_of-bound.result c.loop-n.running.looked k (Ok None) c.run_from.new.running.state c.run_from.new.running.looked) (sym same)
-    (subst (λ (o : Option Cause). Stretches c.args.session.now c.loop-n.n c.bound_of-bound.result c.loop-n.running.looked x (Ok o) c.run_from.new.running.state c.run_from.new.running.looked) c.in_default.is stretched) in
+    let (x, stretched, metered, same) = c.in_ok-reached.ensures.runs in
+    let stretch : Stretches c.args.session.now c.loop-n.n c.bound_of-bound.result c.loop-n.running.looked reached (Ok None) c.run_from.new.running =
+    subst (λ (k : ℕ). Stretches c.args.session.now c.loop-n.n c.bound_of-bound.result c.loop-n.running.looked k (Ok None) c.run_from.new.running) (sym same)
+    (subst (λ (o : Option Cause). Stretches c.args.session.now c.loop-n.n c.bound_of-bound.result c.loop-n.running.looked x (Ok o) c.run_from.new.running) c.in_default.is stretched) in
     let more : c.loop-n.n < reached = rw c.in_default.is at c.in_ok-reached.ensures.progress in
     let seen : c.loop-n.n < c.loop-n.looks.seen → reached ≤ c.loop-n.looks.seen = λ low. omega (arith, stretch.within, c.seen.ensures, c.bound_of-bound.ensures.seen (omega (arith, low, c.seen.ensures))) in
     let other = c.keep_looks.ensures.other in
@@ -41,8 +41,8 @@ loop-n-preserved c =
 pub returns-in-Some-clause-noted : goal.returns-in-Some-clause-noted
 returns-in-Some-clause-noted c =
     let i = c.loop-n.invariant in
-    let (x, stretched, metered, same) = c.in_ok-reached.ensures.stretches in
-    let stretch = subst (λ (o : Option Cause). Stretches c.args.session.now c.loop-n.n c.bound_of-bound.result c.loop-n.running.looked x (Ok o) c.run_from.new.running.state c.run_from.new.running.looked) c.in-Some.is stretched in
+    let (x, stretched, metered, same) = c.in_ok-reached.ensures.runs in
+    let stretch = subst (λ (o : Option Cause). Stretches c.args.session.now c.loop-n.n c.bound_of-bound.result c.loop-n.running.looked x (Ok o) c.run_from.new.running) c.in-Some.is stretched in
     elim (eqb_tells c.loop-n.n c.loop-n.looks.seen) [
       | inl e ↦
           let quiet : LooksAtNothingNew (ask c.args.session.now) c.loop-n.running.looked c.loop-n.looks.seen c.in_ok-reached.reached =
@@ -56,8 +56,8 @@ returns-in-Some-clause-noted c =
 pub returns-in-Some-clause-once : goal.returns-in-Some-clause-once
 returns-in-Some-clause-once c =
     let i = c.loop-n.invariant in
-    let (x, stretched, metered, same) = c.in_ok-reached.ensures.stretches in
-    let stretch = subst (λ (o : Option Cause). Stretches c.args.session.now c.loop-n.n c.bound_of-bound.result c.loop-n.running.looked x (Ok o) c.run_from.new.running.state c.run_from.new.running.looked) c.in-Some.is stretched in
+    let (x, stretched, metered, same) = c.in_ok-reached.ensures.runs in
+    let stretch = subst (λ (o : Option Cause). Stretches c.args.session.now c.loop-n.n c.bound_of-bound.result c.loop-n.running.looked x (Ok o) c.run_from.new.running) c.in-Some.is stretched in
     let low : c.loop-n.n ≤ c.in_ok-reached.reached = omega (arith, stretch.within, same) in
     once_at_stop _ _ _ _ _ c.loop-n.looks _ i.once i.low c.keep_seen.new.looks low c.keep_seen.ensures.here c.keep_seen.ensures.other
 

@@ -1,6 +1,6 @@
 use Rattle.std.proofs.Common.{rules}
 use Rattle.machine.proofs.StepLemmas.{at_limit}
-use Rattle.machine.proofs.steps.serve.Goals as goal
+use Rattle.machine.proofs.system_area.serve.Goals as goal
 
 pub returns-clause-serves : goal.returns-clause-serves
 returns-clause-serves c g =

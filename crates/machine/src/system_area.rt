@@ -1,0 +1,87 @@
+// A step in the system's area.
+
+ghost use Rattle.std.specs.Prelude.{◌≡◌, ◌≤◌, length};
+ghost use Rattle.std.specs.Borrow.{GName};
+ghost use Rattle.host_questions.specs.Passing.{IsSound};
+ghost use Rattle.system_calls.specs.Calls.{Serves, call};
+ghost use Rattle.system_calls.specs.Drives.{AsksDrives};
+ghost use Rattle.machine.specs.Machine.{script_limit};
+ghost use Rattle.machine.specs.Steps.{seen, drives_in, TakesStep};
+ghost use Rattle.machine.specs.Stops.{stop_of_call};
+
+use crate::running::Running;
+use crate::session::Session;
+use bdos::{Cause, Desk, Served};
+use cpmfiles::Table;
+use hostfiles::Changes;
+use i8080::Regs;
+use pagemem::{Overlay, View};
+use std::alloc::AllocError;
+use system_calls::call;
+
+/// Where a jump goes to the warm start.
+const WARM_START: u16 = 0xff03;
+
+/// Where a call goes to the BDOS.
+const BDOS_ENTRY: u16 = 0xfe06;
+
+/// The first cell of the system's area.
+pub(crate) const SYSTEM_AREA: u16 = 0xfe00;
+
+// The call whose number is in C, over a session's image and its files.
+fn serve(
+    regs: &mut Regs,
+    overlay: &mut Overlay,
+    desk: &mut Desk,
+    changes: &mut Changes,
+    session: &Session,
+) -> Result<Served, AllocError>
+    ensures serves { (g : GName) → Serves script_limit session.now.script regs.old (seen session.now overlay.old) desk.old (drives_in session.now changes.old g) result regs.new (seen session.now overlay.new) desk.new (drives_in session.now changes.new g) }
+    ensures drives { AsksDrives (call script_limit regs.old desk.old.desk.spot) }
+    ensures marks { length changes.old.looks.directories ≡ 256 }
+{
+    // Each drive that a byte tells has a mark of its own.
+    if changes.looks.drive_count() != 256 {
+        unreachable!();
+    }
+    let mut view = View::new(session.image(), overlay);
+    let mut table = Table::new(session.files(), changes);
+    call(regs, &mut view, &mut table, desk, session.script())
+}
+
+// The stop that a call tells.
+fn stop_of_call(served: Served) -> Option<Cause>
+    ensures { result ≡ stop_of_call served }
+{
+    match served {
+        Served::Went => None,
+        Served::Stop(cause) => Some(cause),
+    }
+}
+
+// What follows where PC is in the system's area: the call at the BDOS's entry, and a stop elsewhere.
+#[cold]
+#[inline(never)]
+pub(crate) fn enter_system(
+    running: &mut Running,
+    session: &Session,
+) -> Result<Option<Cause>, AllocError>
+    requires area { 0xfe00 ≤ running.old.state.core.regs.pc }
+    requires sound { IsSound session.now.files running.old.state.own.files }
+    ensures { TakesStep session.now running.old result running.new }
+{
+    let Running {
+        regs,
+        overlay,
+        desk,
+        changes,
+    } = running;
+    if regs.pc == WARM_START {
+        return Ok(Some(Cause::WarmBoot));
+    }
+    if regs.pc != BDOS_ENTRY {
+        return Ok(Some(Cause::SystemArea(regs.pc)));
+    }
+    let served = serve(regs, overlay, desk, changes, session)?;
+    Ok(stop_of_call(served))
+}

@@ -1,0 +1,165 @@
+// Edits that fit the session.
+
+ghost use Rattle.std.specs.Prelude.{◌≡◌, ◌+◌, nat_lt, Err, IfOk, IfErr, OnOk, OnErr};
+ghost use Rattle.machine.specs.Machine.{ask};
+ghost use Rattle.replay.specs.FirstLooks.{IsFirstLooks};
+ghost use Rattle.replay.specs.declared.edit.Edit.TheVariants as of_edit;
+ghost use Rattle.replay.specs.Edits.{TakesMemory, Refuses, edited, number_of};
+ghost use Rattle.replay.specs.Changes.{IsAllowed, Makes, MayTakeMemory, changed};
+ghost use Rattle.replay.specs.Touch.{IsNotedTouch};
+
+use crate::edit::{Edit, EditError};
+use crate::first_looks::FirstLooks;
+use crate::touch::{file_touch, poke_touch, splice_touch};
+use hostfiles::host::FILE_LIMIT;
+use machine::{Bytes, HostFile, Name, SCRIPT_LIMIT, STEP_LIMIT, Session};
+use std::alloc::{AllocError, Global};
+
+/// The address of a program's first byte.
+const PROGRAM_START: usize = 0x0100;
+
+/// What an edit that fits the session is to change.
+#[derive(Drop)]
+pub enum Change {
+    /// So many bytes of the script, from a place on, are exchanged for others: `Splice(place, removed, bytes)`.
+    Splice(usize, usize, Bytes),
+    /// The program's bytes from a place on are replaced; the place counts from the program's first byte.
+    Poke(usize, Bytes),
+    /// The host file of a name is set to these records.
+    SetFile(Name, HostFile),
+    /// The host file of a name is removed.
+    RemoveFile(Name),
+    /// The limit becomes this many steps.
+    Limit(u64),
+}
+
+// Whether so many bytes from a place on end past a length.
+fn is_past(at: u64, count: u64, length: u64) -> bool
+    ensures { result ≡ nat_lt length (at + count) }
+{
+    at > length || count > length - at
+}
+
+/// What an edit is to change, or its first refusal that fits.
+pub fn accept(alloc: Global, session: &Session, edit: Edit) -> Result<Change, EditError>
+    ensures makes { IfOk result (Makes session.now edit) }
+    ensures allowed { IfOk result (IsAllowed session.now) }
+    ensures memory { IfOk result (λ change. MayTakeMemory change → TakesMemory edit) }
+    ensures refused { IfErr result (Refuses (edited session.now edit)) }
+    ensures want { result ≡ Err EditError.OutOfMemory → TakesMemory edit }
+{
+    let script = session.script().len() as u64;
+    match edit {
+        Edit::Insert(at, bytes) => {
+            if at > script {
+                return Err(EditError::PastEnd);
+            }
+            if bytes.as_slice().len() as u64 > SCRIPT_LIMIT as u64 - script {
+                return Err(EditError::ScriptTooLong);
+            }
+            Ok(Change::Splice(at as usize, 0, bytes))
+        }
+        Edit::Replace(at, bytes) => {
+            let removed = bytes.as_slice().len();
+            if is_past(at, removed as u64, script) {
+                return Err(EditError::PastEnd);
+            }
+            Ok(Change::Splice(at as usize, removed, bytes))
+        }
+        Edit::Remove(at, count) => {
+            if is_past(at, count, script) {
+                return Err(EditError::PastEnd);
+            }
+            Ok(Change::Splice(at as usize, count as usize, Bytes::new(Vec::new(alloc))))
+        }
+        Edit::Poke(at, bytes) => accept_poke(session, at, bytes),
+        Edit::SetFile(name, bytes) => accept_file(alloc, session, name, &bytes),
+        Edit::RemoveFile(name) => {
+            if !session.files().has(&name.key()) {
+                return Err(EditError::NoSuchFile);
+            }
+            Ok(Change::RemoveFile(name))
+        }
+        Edit::SetLimit(limit) => {
+            if limit > STEP_LIMIT {
+                return Err(EditError::LimitTooLarge);
+            }
+            Ok(Change::Limit(limit))
+        }
+    }
+}
+
+// The same for the bytes of a program from an address on.
+fn accept_poke(session: &Session, at: u16, bytes: Bytes) -> Result<Change, EditError>
+    ensures makes { IfOk result (Makes session.now (of_edit.Poke at bytes)) }
+    ensures allowed { IfOk result (IsAllowed session.now) }
+    ensures memory { IfOk result (λ change. MayTakeMemory change → ⊥) }
+    ensures refused { IfErr result (λ e. edited session.now (of_edit.Poke at bytes) ≡ Err (number_of e)) }
+    ensures want { result ≡ Err EditError.OutOfMemory → ⊥ }
+{
+    let at = usize::from(at);
+    let end = PROGRAM_START + session.program().len();
+    if at < PROGRAM_START || end < at + bytes.as_slice().len() {
+        return Err(EditError::OutsideProgram);
+    }
+    Ok(Change::Poke(at - PROGRAM_START, bytes))
+}
+
+// The same for a host file that is to be set, whose records are made here.
+fn accept_file(
+    alloc: Global,
+    session: &Session,
+    name: Name,
+    bytes: &Bytes,
+) -> Result<Change, EditError>
+    ensures makes { IfOk result (Makes session.now (of_edit.SetFile name bytes.now)) }
+    ensures allowed { IfOk result (IsAllowed session.now) }
+    ensures refused { IfErr result (Refuses (edited session.now (of_edit.SetFile name bytes.now))) }
+{
+    if bytes.as_slice().len() > FILE_LIMIT {
+        return Err(EditError::FileTooLong);
+    }
+    if !session.files().has_room(&name.key()) {
+        return Err(EditError::TooManyFiles);
+    }
+    match HostFile::new(alloc, bytes.as_slice()) {
+        Ok(file) => Ok(Change::SetFile(name, file)),
+        Err(AllocError) => Err(EditError::OutOfMemory),
+    }
+}
+
+/// The least noted step that looked at what is changed, or the step below which all looks are noted.
+pub fn touch_of(looks: &FirstLooks, session: &Session, change: &Change) -> u64
+    requires noted { IsFirstLooks (ask session.now) looks.now }
+    requires allowed { IsAllowed session.now change.now }
+    ensures { IsNotedTouch (ask session.now) (ask (changed session.now change.now)) looks.now result }
+{
+    match change {
+        Change::Splice(at, removed, bytes) => {
+            splice_touch(looks, session, *at, *removed, bytes.as_slice())
+        }
+        Change::Poke(at, bytes) => poke_touch(looks, session, *at, bytes.as_slice()),
+        Change::SetFile(name, file) => file_touch(looks, session, &name.key(), Some(file)),
+        Change::RemoveFile(name) => file_touch(looks, session, &name.key(), None),
+        Change::Limit(_) => looks.seen(),
+    }
+}
+
+/// Changes the session. At `Err` it is as it was.
+pub fn carry_out(session: &mut Session, change: Change) -> Result<(), AllocError>
+    requires { IsAllowed session.old change }
+    ensures ok { OnOk result (session.new ≡ changed session.old change) }
+    ensures err { OnErr result (session.new ≡ session.old) }
+    ensures memory { OnErr result (MayTakeMemory change) }
+{
+    match change {
+        Change::Splice(at, removed, bytes) => {
+            session.splice_script(at, removed, bytes.as_slice())?;
+        }
+        Change::Poke(at, bytes) => session.poke(at, bytes.as_slice()),
+        Change::SetFile(name, file) => session.set_file(name, file)?,
+        Change::RemoveFile(name) => session.remove_file(&name),
+        Change::Limit(limit) => session.set_limit(limit),
+    }
+    Ok(())
+}
