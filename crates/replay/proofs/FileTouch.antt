@@ -31,14 +31,3 @@ module _ (s : Session) (key : Key) (file : Option (List Record)) (k : Noted) (t 
       touched (subst (λ (n : ℕ). IsFileTouch s.files (with_file s.files key file) k.files n t) same_least
       (subst (λ (f : FileSteps). IsFileTouch s.files (with_file s.files key file) f least t) same_steps
       (subst (λ (h : Host). IsFileTouch h (with_file h key file) steps least t) same_host w)))
-
--- there is room for one file that is not too long
-pub room_alone : (host : Host) (key : Key) (bytes : List ℕ) → host ≡ empty → length bytes ≤ 8388608 → refusal_of host key bytes ≡ None
-room_alone host key bytes none short = rw (le-ltb 8388608 (length bytes) short) (by (contains_key host key) (nat_lt (len host) 512) (rw (none, len-empty) refl)) where
-  by : (there few : Bool) → few ≡ true → cond {A = Option ℕ} (there || few) None (Some 2) ≡ None
-  by true few e = refl
-  by false true e = refl
-  by false false e = absurd (cc)
-
-pub file_alone : (host : Host) (key : Key) (records : List Record) → get (insert host key records) key ≡ Some records
-file_alone host key records = get_here nat_list_cmp_total same_key host key records

@@ -4,7 +4,6 @@ pub mod RingLemmas
 pub mod StartLemmas
 pub mod TouchLemmas
 pub mod LeastLemmas
-pub mod EditLemmas
 pub mod PokeLemmas
 pub mod SpliceLemmas
 pub mod RunnerLemmas
