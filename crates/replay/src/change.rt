@@ -122,10 +122,8 @@ fn accept_file(
     if !session.files().has_room(&name.key()) {
         return Err(EditError::TooManyFiles);
     }
-    match HostFile::new(alloc, bytes.as_slice()) {
-        Ok(file) => Ok(Change::SetFile(name, file)),
-        Err(AllocError) => Err(EditError::OutOfMemory),
-    }
+    let file = HostFile::new(alloc, bytes.as_slice())?;
+    Ok(Change::SetFile(name, file))
 }
 
 /// The least noted step that looked at what is changed, or the step below which all looks are noted.

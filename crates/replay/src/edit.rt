@@ -1,6 +1,7 @@
 ghost use Rattle.std.specs.Prelude.{◌≡◌};
 
 use machine::{Bytes, Name};
+use std::alloc::AllocError;
 use thiserror::Error;
 
 /// A change of the session.
@@ -49,6 +50,16 @@ pub enum EditError {
     /// A growth was refused. Only insertions and files that are set are refused so.
     #[error("out of memory")]
     OutOfMemory,
+}
+
+impl From<AllocError> for EditError {
+    ghost use Rattle.replay.specs.declared.edit.EditError.TheVariants.{OutOfMemory};
+
+    ghost from_gives = { λ _ refusal. refusal ≡ OutOfMemory };
+
+    fn from(_: AllocError) -> Self {
+        Self::OutOfMemory
+    }
 }
 
 impl EditError {

@@ -134,9 +134,7 @@ impl Runner {
         let alloc = *self.last_run.text.allocator();
         let change = accept(alloc, &self.last_run.session, edit)?;
         let touch = touch_of(&self.looks, &self.last_run.session, &change);
-        let Ok(()) = carry_out(&mut self.last_run.session, change) else {
-            return Err(EditError::OutOfMemory);
-        };
+        carry_out(&mut self.last_run.session, change)?;
         keep_up_to(&mut self.ring, touch);
         self.looks.cut(touch);
         Ok(())
