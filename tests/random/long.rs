@@ -17,7 +17,7 @@ use std::process::{exit, Command as Process, Output, Stdio};
 use std::sync::atomic::{AtomicU64, Ordering};
 use std::sync::Mutex;
 
-const USAGE: &str = "tests/long PROGRAM COUNT [SEED] [--jobs N]";
+const USAGE: &str = "tests/random/long PROGRAM COUNT [SEED] [--jobs N]";
 // The option and the folder of the host files of each drive, and those of the files that a run without edits changes.
 const FOLDERS: [(&str, &str); 4] = [("--files", "a"), ("--files-b", "b"), ("--files-c", "c"), ("--files-d", "d")];
 const WRITTEN: [(&str, &str); 4] = [("--out", "out-a"), ("--out-b", "out-b"), ("--out-c", "out-c"), ("--out-d", "out-d")];
