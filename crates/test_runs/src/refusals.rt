@@ -1,11 +1,14 @@
 // Sessions that are refused, and what is handed to one that is made.
 
-use crate::fixtures::zeros;
 use hostfiles::{HostFiles, Name};
 use machine::Session;
 use std::alloc::{AllocError, Global};
 use std::process::Abort;
 use std::test::Fail;
+
+fn zeros(alloc: Global, count: usize) -> Result<Vec<u8>, AllocError> {
+    Ok(vec![in alloc; 0; count]?)
+}
 
 // What is handed to a session: the tail is so many blanks and then these bytes.
 #[derive(Clone, Copy, Debug)]

@@ -2,7 +2,6 @@ ghost use Rattle.std.specs.Prelude.{◌≡◌, vec_len, IfOk};
 
 use i8080::{Flags, Regs, word_of};
 use pagemem::PlainMemory;
-use replay::Runner;
 use std::alloc::{AllocError, Global};
 
 /// A program that prints `Hi` by call 9 and returns.
@@ -30,8 +29,7 @@ pub const WARM_BOOT: Regs = Regs {
     },
 };
 
-/// So many zeros.
-pub fn zeros(alloc: Global, count: usize) -> Result<Vec<u8>, AllocError>
+fn zeros(alloc: Global, count: usize) -> Result<Vec<u8>, AllocError>
     ensures { IfOk result (λ v. vec_len v ≡ count) }
 {
     Ok(vec![in alloc; 0; count]?)
@@ -40,16 +38,6 @@ pub fn zeros(alloc: Global, count: usize) -> Result<Vec<u8>, AllocError>
 /// A plain memory of zeros.
 pub fn blank(alloc: Global) -> Result<PlainMemory, AllocError> {
     Ok(PlainMemory::new(zeros(alloc, 65_536)?))
-}
-
-/// Whether exactly these checkpoints stand.
-pub fn stand(runner: &Runner, kept: &[u64]) -> bool {
-    for i in 0..kept.len() {
-        if runner.kept(i) != Some(kept[i]) {
-            return false;
-        }
-    }
-    runner.kept(kept.len()).is_none()
 }
 
 /// A and the flag byte, BC, DE, HL, SP and PC.

@@ -1,11 +1,10 @@
 // Tests of what a program finds of its command tail.
 
-use crate::acts::Act::{Insert, Limit, Poke, Session, Tells};
-use crate::acts::Fact::{Accumulator, Cells, Text};
-use crate::acts::Play::Acts;
-use crate::acts::{ALONE, Case, Given};
-use crate::playing::{play, play_all};
-use std::test::Fail;
+use machine::{Cause, Regs};
+use test_sessions::Act::{Edit, Hold, Leave, Run};
+use test_sessions::Change::{Insert, Limit, Poke};
+use test_sessions::Left::Cells;
+use test_sessions::{Case, EMPTY, Given, RETURNED, Trouble, Wanted, play, play_all};
 
 /// A name that is not there.
 const NO_NAME: &[u8; 11] = b"           ";
@@ -17,15 +16,15 @@ macro_rules! gives {
             given: Given {
                 tail: $tail,
                 limit: 0,
-                ..ALONE
+                ..EMPTY
             },
-            play: Acts(&[
-                Tells(&[Cells(0x005c, &[$first_drive])]),
-                Tells(&[Cells(0x005d, $first_name)]),
-                Tells(&[Cells(0x0068, &[0, 0, 0, 0, $second_drive])]),
-                Tells(&[Cells(0x006d, $second_name)]),
-                Tells(&[Cells(0x0078, &[0, 0, 0, 0, 0, 0, 0, 0])]),
-            ]),
+            acts: &[Leave(&[
+                Cells(0x005c, &[$first_drive]),
+                Cells(0x005d, $first_name),
+                Cells(0x0068, &[0, 0, 0, 0, $second_drive]),
+                Cells(0x006d, $second_name),
+                Cells(0x0078, &[0, 0, 0, 0, 0, 0, 0, 0]),
+            ])],
         }
     };
 }
@@ -38,12 +37,12 @@ macro_rules! stands {
                 program: &[0x76],
                 tail: $tail,
                 limit: 0,
-                ..ALONE
+                ..EMPTY
             },
-            play: Acts(&[
-                Tells(&[Cells($first, $first_cells)]),
-                Tells(&[Cells($second, $second_cells)]),
-            ]),
+            acts: &[Leave(&[
+                Cells($first, $first_cells),
+                Cells($second, $second_cells),
+            ])],
         }
     };
 }
@@ -58,8 +57,8 @@ const TWO_WORDS: &[Case<'_>] = &[
 ];
 
 #[test]
-fn two_words_give_two_names(rt: HostRuntime) -> Result<(), Fail> {
-    play_all(&rt, rt.alloc(), TWO_WORDS)
+fn two_words_give_two_names(rt: HostRuntime) -> Result<(), Trouble> {
+    play_all(rt.alloc(), TWO_WORDS)
 }
 
 const DRIVES: &[Case<'_>] = &[
@@ -79,8 +78,8 @@ const DRIVES: &[Case<'_>] = &[
 ];
 
 #[test]
-fn a_word_gives_a_drive(rt: HostRuntime) -> Result<(), Fail> {
-    play_all(&rt, rt.alloc(), DRIVES)
+fn a_word_gives_a_drive(rt: HostRuntime) -> Result<(), Trouble> {
+    play_all(rt.alloc(), DRIVES)
 }
 
 const NAMES: &[Case<'_>] = &[
@@ -99,8 +98,8 @@ const NAMES: &[Case<'_>] = &[
 ];
 
 #[test]
-fn a_word_gives_a_name_and_a_type(rt: HostRuntime) -> Result<(), Fail> {
-    play_all(&rt, rt.alloc(), NAMES)
+fn a_word_gives_a_name_and_a_type(rt: HostRuntime) -> Result<(), Trouble> {
+    play_all(rt.alloc(), NAMES)
 }
 
 const LONGEST: &[u8; 126] = &[b'z'; 126];
@@ -128,8 +127,8 @@ const LENGTHS: &[Case<'_>] = &[
 ];
 
 #[test]
-fn the_tail_stands_behind_its_length(rt: HostRuntime) -> Result<(), Fail> {
-    play_all(&rt, rt.alloc(), LENGTHS)
+fn the_tail_stands_behind_its_length(rt: HostRuntime) -> Result<(), Trouble> {
+    play_all(rt.alloc(), LENGTHS)
 }
 
 const JUMPS: &[u8; 10] = &[0xc3, 0x03, 0xff, 0, 0, 0xc3, 0x06, 0xfe, 0, 0];
@@ -140,35 +139,51 @@ const BEFORE_TAILS: &[Case<'_>] = &[
 ];
 
 #[test]
-fn the_jumps_stand_before_every_tail(rt: HostRuntime) -> Result<(), Fail> {
-    play_all(&rt, rt.alloc(), BEFORE_TAILS)
+fn the_jumps_stand_before_every_tail(rt: HostRuntime) -> Result<(), Trouble> {
+    play_all(rt.alloc(), BEFORE_TAILS)
 }
 
-// LDA 005DH; RET: the run reads a byte of the first name. An edit leaves the tail as it was handed in.
+// The run reads a byte of the first name, and after the edit the drive.
+const READS_NAME: Wanted<'_> = Wanted {
+    cause: Cause::WarmBoot,
+    steps: 3,
+    regs: Regs {
+        a: b'N',
+        ..RETURNED
+    },
+    text: b"",
+};
+
+const READS_DRIVE: Wanted<'_> = Wanted {
+    regs: Regs { a: 3, ..RETURNED },
+    ..READS_NAME
+};
+
+// LDA 005DH; RET. An edit leaves the tail as it was handed in.
 const READING: Case<'_> = Case {
     given: Given {
         program: &[0x3a, 0x5d, 0x00, 0xc9],
         tail: b"c:note",
         limit: 100,
-        ..ALONE
+        ..EMPTY
     },
-    play: Acts(&[
-        Tells(&[Text(b""), Accumulator(b'N')]),
-        Poke(0x0101, &[0x5c], 0),
-        Insert(0, b"x", 0),
-        Limit(50, 0),
-        Tells(&[Text(b""), Accumulator(3)]),
-        Session(&Given {
+    acts: &[
+        Run(3, READS_NAME),
+        Edit(Poke(0x0101, &[0x5c])),
+        Edit(Insert(0, b"x")),
+        Edit(Limit(50)),
+        Run(3, READS_DRIVE),
+        Hold(&Given {
             program: &[0x3a, 0x5c, 0x00, 0xc9],
             tail: b"c:note",
             script: b"x",
             limit: 50,
-            ..ALONE
+            ..EMPTY
         }),
-    ]),
+    ],
 };
 
 #[test]
-fn a_run_reads_the_tail(rt: HostRuntime) -> Result<(), Fail> {
-    play(&rt, rt.alloc(), &READING)
+fn a_run_reads_the_tail(rt: HostRuntime) -> Result<(), Trouble> {
+    play(rt.alloc(), 0, &READING)
 }

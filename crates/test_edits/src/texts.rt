@@ -2,9 +2,7 @@
 
 ghost use Rattle.std.specs.Prelude.{vec_len};
 
-use crate::acts::Play::{ReplaySteps, Replays};
-use crate::acts::{Case, PRINTS, Replay};
-use crate::playing::{play, play_all};
+use crate::replaying::{Replay, replays, takes_steps};
 use edit_lines::ReplayFault;
 use std::alloc::Global;
 use std::process::Abort;
@@ -38,11 +36,9 @@ fn whole<'a>(text: &'a [u8], replies: &'a [u8], answer: Result<u64, ReplayFault>
 }
 
 fn replayed(rt: &impl Abort, alloc: Global, replay: &Replay<'_>) -> Result<(), Fail> {
-    let case = Case {
-        given: PRINTS,
-        play: Replays(replay),
-    };
-    play(rt, alloc, &case)
+    let (text, longest) = (replay.text, replay.longest);
+    assert!(rt; replays(alloc, replay)?, "{text:?} by {longest}");
+    Ok(())
 }
 
 // Each row is an edit text, its replies, and the count of its lines or the fault.
@@ -83,28 +79,20 @@ fn edit_texts_have_their_replies(rt: HostRuntime) -> Result<(), Fail> {
     Ok(())
 }
 
-const AGAIN: &[Case<'_>] = &[
-    Case {
-        given: PRINTS,
-        play: ReplaySteps(b"run\npoke 010A 6F\nrun\n", 10),
-    },
-    Case {
-        given: PRINTS,
-        play: ReplaySteps(b"run\nrun\n", 7),
-    },
-    Case {
-        given: PRINTS,
-        play: ReplaySteps(b"run\ndrop 1\nrun\n", 7),
-    },
-    Case {
-        given: PRINTS,
-        play: ReplaySteps(b"run\ndrop 2\nrun\n", 14),
-    },
+// Edit texts, and how many steps their replays carry out.
+const AGAIN: [(&[u8], u64); 4] = [
+    (b"run\npoke 010A 6F\nrun\n", 10),
+    (b"run\nrun\n", 7),
+    (b"run\ndrop 1\nrun\n", 7),
+    (b"run\ndrop 2\nrun\n", 14),
 ];
 
 #[test]
 fn a_replay_runs_again_what_an_edit_touches(rt: HostRuntime) -> Result<(), Fail> {
-    play_all(&rt, rt.alloc(), AGAIN)
+    for (text, steps) in AGAIN {
+        assert!(rt; takes_steps(rt.alloc(), text, steps)?, "{text:?}");
+    }
+    Ok(())
 }
 
 #[test]

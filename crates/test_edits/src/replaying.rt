@@ -2,11 +2,27 @@
 
 ghost use Rattle.std.specs.Prelude.{None, vec_len, ◌≤◌};
 
-use crate::acts::Replay;
-use edit_lines::{Failed, Over, Reader, Writer, replay};
+use edit_lines::{Failed, Over, Reader, ReplayFault, Writer, replay};
 use machine::Meter;
 use replay::Runner;
 use std::alloc::Global;
+use test_sessions::worked::PRINTS;
+use test_sessions::{Trouble, make};
+
+/// A replay of an edit text over the program that prints `Hi`, and what is wanted of it.
+#[derive(Clone, Copy)]
+pub struct Replay<'a> {
+    pub text: &'a [u8],
+    /// The most bytes that are read at once.
+    pub longest: usize,
+    /// Whether the reader fails where the text ends.
+    pub fails: bool,
+    /// How many bytes can be written.
+    pub room: usize,
+    pub replies: &'a [u8],
+    /// The count of lines, or the fault.
+    pub answer: Result<u64, ReplayFault>,
+}
 
 // The bytes of an edit text in pieces. Where they end, it may fail.
 #[derive(Drop)]
@@ -60,8 +76,7 @@ impl Writer for Screen {
     }
 }
 
-/// Whether a replay answers and writes what is wanted.
-pub fn replays(alloc: Global, runner: &mut Runner, wanted: &Replay<'_>) -> bool {
+fn replays_over(alloc: Global, runner: &mut Runner, wanted: &Replay<'_>) -> bool {
     let mut reader = Pieces {
         rest: wanted.text,
         longest: wanted.longest,
@@ -78,11 +93,22 @@ pub fn replays(alloc: Global, runner: &mut Runner, wanted: &Replay<'_>) -> bool 
     answer.map(|ending| ending.lines) == wanted.answer && screen.text.as_slice() == wanted.replies
 }
 
-/// Whether a replay ends without a fault, after so many steps.
-pub fn takes_steps(alloc: Global, runner: &mut Runner, text: &[u8], steps: u64) -> bool {
+/// Whether a replay answers and writes what is wanted.
+pub fn replays(alloc: Global, wanted: &Replay<'_>) -> Result<bool, Trouble> {
+    let mut runner = make(alloc, &PRINTS)?;
+    Ok(replays_over(alloc, &mut runner, wanted))
+}
+
+fn takes_steps_over(alloc: Global, runner: &mut Runner, text: &[u8], steps: u64) -> bool {
     let mut meter = Meter::new();
     let mut reader = Over::new(text);
     let mut writer = Over::new(Vec::new(alloc));
     let answer = replay(alloc, runner, &mut meter, &mut reader, &mut writer);
     answer.is_ok() && meter.count() == steps
+}
+
+/// Whether a replay of an edit text over the program that prints `Hi` ends without a fault, after so many steps.
+pub fn takes_steps(alloc: Global, text: &[u8], steps: u64) -> Result<bool, Trouble> {
+    let mut runner = make(alloc, &PRINTS)?;
+    Ok(takes_steps_over(alloc, &mut runner, text, steps))
 }
