@@ -1,0 +1,12 @@
+//! Which checkpoints stand after edits and runs, and how many steps each run carries out; and edit texts with their replies.
+//! Expected values are worked out by hand.
+#![tactic(auto)]
+
+#[cfg(test)]
+mod checkpoints;
+#[cfg(test)]
+mod due_steps;
+#[cfg(test)]
+mod replaying;
+#[cfg(test)]
+mod texts;

@@ -1,0 +1,114 @@
+// Replays of edit texts, with readers and writers that may fail.
+
+ghost use Rattle.std.specs.Prelude.{None, vec_len, ◌≤◌};
+
+use edit_lines::{Failed, Over, Reader, ReplayFault, Writer, replay};
+use machine::Meter;
+use replay::Runner;
+use std::alloc::Global;
+use test_sessions::worked::PRINTS;
+use test_sessions::{Trouble, make};
+
+/// A replay of an edit text over the program that prints `Hi`, and what is wanted of it.
+#[derive(Clone, Copy)]
+pub struct Replay<'a> {
+    pub text: &'a [u8],
+    /// The most bytes that are read at once.
+    pub longest: usize,
+    /// Whether the reader fails where the text ends.
+    pub fails: bool,
+    /// How many bytes can be written.
+    pub room: usize,
+    pub replies: &'a [u8],
+    /// The count of lines, or the fault.
+    pub answer: Result<u64, ReplayFault>,
+}
+
+// The bytes of an edit text in pieces. Where they end, it may fail.
+#[derive(Drop)]
+struct Pieces<'a> {
+    rest: &'a [u8],
+    longest: usize,
+    fails: bool,
+    failures: u64,
+}
+
+impl Reader for Pieces<'_> {
+    ghost left = { λ _. None };
+
+    ghost failures = { λ p. p.failures };
+
+    fn read(&mut self, piece: &mut [u8]) -> Result<usize, Failed> {
+        if self.rest.is_empty() && self.fails {
+            self.failures += 1;
+            return Err(Failed);
+        }
+        let count = self.longest.min(piece.len()).min(self.rest.len());
+        let (first, rest) = self.rest.split_at(count);
+        piece[..count].copy_from_slice(first);
+        self.rest = rest;
+        Ok(count)
+    }
+}
+
+// What was written, until there is no more room.
+#[derive(Drop)]
+struct Screen {
+    text: Vec<u8>,
+    room: usize,
+    failures: u64,
+}
+
+impl Writer for Screen {
+    ghost holds = { λ _. None };
+
+    ghost failures = { λ s. s.failures };
+
+    fn write(&mut self, piece: &[u8]) -> Result<usize, Failed> {
+        let count = piece.len().min(self.room);
+        let taken = self.text.extend_from_slice(&piece[..count]);
+        if taken.is_err() || count == 0 && !piece.is_empty() {
+            self.failures += 1;
+            return Err(Failed);
+        }
+        self.room -= count;
+        Ok(count)
+    }
+}
+
+fn replays_over(alloc: Global, runner: &mut Runner, wanted: &Replay<'_>) -> bool {
+    let mut reader = Pieces {
+        rest: wanted.text,
+        longest: wanted.longest,
+        fails: wanted.fails,
+        failures: 0,
+    };
+    let mut screen = Screen {
+        text: Vec::new(alloc),
+        room: wanted.room,
+        failures: 0,
+    };
+    let mut meter = Meter::new();
+    let answer = replay(alloc, runner, &mut meter, &mut reader, &mut screen);
+    answer.map(|ending| ending.lines) == wanted.answer && screen.text.as_slice() == wanted.replies
+}
+
+/// Whether a replay answers and writes what is wanted.
+pub fn replays(alloc: Global, wanted: &Replay<'_>) -> Result<bool, Trouble> {
+    let mut runner = make(alloc, &PRINTS)?;
+    Ok(replays_over(alloc, &mut runner, wanted))
+}
+
+fn takes_steps_over(alloc: Global, runner: &mut Runner, text: &[u8], steps: u64) -> bool {
+    let mut meter = Meter::new();
+    let mut reader = Over::new(text);
+    let mut writer = Over::new(Vec::new(alloc));
+    let answer = replay(alloc, runner, &mut meter, &mut reader, &mut writer);
+    answer.is_ok() && meter.count() == steps
+}
+
+/// Whether a replay of an edit text over the program that prints `Hi` ends without a fault, after so many steps.
+pub fn takes_steps(alloc: Global, text: &[u8], steps: u64) -> Result<bool, Trouble> {
+    let mut runner = make(alloc, &PRINTS)?;
+    Ok(takes_steps_over(alloc, &mut runner, text, steps))
+}

@@ -1,0 +1,12 @@
+//! What a run stands on: the 8080's instructions by the manual's examples and by second ways, the pages of memory that a run wrote
+//! and looked at, and the calls of the console and of drives over a plain memory.
+#![tactic(auto)]
+
+#[cfg(test)]
+mod calls;
+#[cfg(test)]
+mod fixtures;
+#[cfg(test)]
+mod instructions;
+#[cfg(test)]
+mod pages;

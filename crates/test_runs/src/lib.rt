@@ -1,0 +1,20 @@
+//! What the runs of a session come to: programs of a few instructions, the console, the command tail, files and the directory, and
+//! the same after edits. Expected values are worked out by hand from the two manuals and this project's profile of them.
+#![tactic(auto)]
+
+#[cfg(test)]
+mod console;
+#[cfg(test)]
+mod contents;
+#[cfg(test)]
+mod directories;
+#[cfg(test)]
+mod holes;
+#[cfg(test)]
+mod programs;
+#[cfg(test)]
+mod refusals;
+#[cfg(test)]
+mod sessions;
+#[cfg(test)]
+mod tails;

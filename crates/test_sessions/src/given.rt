@@ -1,0 +1,36 @@
+// What a session is made of.
+
+use replay::Options;
+
+/// A host file: its name and its bytes.
+pub type Host<'a> = (&'a str, &'a [u8]);
+
+/// What a session is made of, and how its checkpoints are made.
+#[derive(Clone, Copy)]
+pub struct Given<'a> {
+    pub program: &'a [u8],
+    pub tail: &'a [u8],
+    pub hosts: &'a [Host<'a>],
+    pub script: &'a [u8],
+    /// The most steps of a run.
+    pub limit: u64,
+    pub options: Options,
+}
+
+/// No program, with a limit of a million steps and a checkpoint each four steps.
+pub const EMPTY: Given<'_> = Given {
+    program: b"",
+    tail: b"",
+    hosts: &[],
+    script: b"",
+    limit: 1_000_000,
+    options: Options {
+        spacing: 4,
+        slots: 64,
+    },
+};
+
+/// A program, and nothing else that is not as in `EMPTY`.
+pub fn alone(program: &[u8]) -> Given<'_> {
+    Given { program, ..EMPTY }
+}
