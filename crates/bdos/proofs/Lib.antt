@@ -1,9 +1,6 @@
-pub mod Scanning
-mod Looking
 pub mod Trees
-mod Carried
-mod Strings
-mod Numbers
-mod Leaves
-mod Typing
-mod Lines
+pub mod Chains
+pub mod Parts
+pub mod Runs
+pub mod Numbers
+pub mod DriveLemmas

@@ -1,206 +1,53 @@
--- The BDOS calls: what each asks of the state, and what it then does. (CP/M 2.2 Interface Guide, functions 0 to 2, 6 to 14 and 24
--- to 26; what stops a call, and in which order it asks: this project's profile.)
-use Rattle.std.specs.Prelude.{◌≡◌, ℕ, ◌==◌, ◌+◌, ◌||◌, Bool, is_some, if◌then◌else◌, nat_lt, List, [], ◌∷◌, ◌++◌, Option, Some, None, IfOk, OnOk, OnErr, suc, length, reverse}
+-- The calls by their numbers. (CP/M 2.2 Interface Guide; function 40 is its "write random with zero fill"; which of its calls are
+-- there: this project's profile.)
+use Rattle.std.specs.Prelude.{ℕ, ◌==◌, List, if◌then◌else◌}
 use Rattle.std.specs.declared.result.Result.{Result}
 use Rattle.std.specs.declared.alloc.AllocError.{AllocError}
-use Rattle.interaction_trees.specs.Tree.{Return, Query, result_of, asked}
+use Rattle.interaction_trees.specs.Tree.{Return}
 use Rattle.i8080.specs.declared.registers.Regs.{Regs}
-use Rattle.i8080.specs.Memory.{Memory, Own, Extends, is_among, bytes, look_all, write_all}
-use Rattle.i8080.specs.Reading.{Done, Cell}
-use Rattle.i8080.specs.Registers.{word, high, low, onward}
-use Rattle.i8080.specs.Instruction.{word_at}
-use Rattle.i8080.specs.End.{cells_from}
-use Rattle.bdos.specs.declared.cause.Cause.{Cause}
-use Rattle.bdos.specs.declared.cause.Cause.TheVariants.{WarmBoot, ConsoleExhausted, NoDollar, Unsupported, BadDrive}
-use Rattle.bdos.specs.declared.served.Served.{Served}
-use Rattle.bdos.specs.declared.served.Served.TheVariants as served
-use Rattle.bdos.specs.declared.desk.Spot.{Spot}
-use Rattle.bdos.specs.declared.function.Function.{Function}
-use Rattle.bdos.specs.declared.function.Function.TheVariants.{SystemReset, ConsoleInput, ConsoleOutput, DirectConsole, GetIoByte, SetIoByte, PrintString, ReadConsoleBuffer, ConsoleStatus, VersionNumber, ResetDisks, SelectDisk, LoginVector, CurrentDisk, SetBufferAddress}
-use Rattle.bdos.specs.Functions.{function_of}
-use Rattle.bdos.specs.Desk.{Desk, printed, echoed, printed_all, spot_showing, column_after_all}
-use Rattle.bdos.specs.Places.{Watched, is_within}
-use Rattle.bdos.specs.Questions.{Input, StateTree, reads, followed_by, answers, addresses, script_places}
-use Rattle.bdos.specs.Strings.{string_at}
-use Rattle.bdos.specs.Line.{LineEnd, Ended, Booted, Short, no_line, typing}
+use Rattle.i8080.specs.Memory.{Memory}
+use Rattle.console_calls.specs.declared.served.Served.{Served}
+use Rattle.console_calls.specs.declared.desk.Spot.{Spot}
+use Rattle.console_calls.specs.Places.{Watched}
+use Rattle.console_calls.specs.Calls as desk_calls
+use Rattle.file_calls.specs.declared.function.FileFunction.TheVariants.{Open, Close, SearchFirst, ReadSequential, WriteSequential, Make, Rename, ReadRandom, WriteRandom, FileSize, SetRandomRecord, WriteRandomZeroFill}
+use Rattle.file_calls.specs.Questions.{Drives}
+use Rattle.file_calls.specs.Changes.{Unchanged}
+use Rattle.bdos.specs.declared.function.SystemFunction.{SystemFunction}
+use Rattle.bdos.specs.declared.function.SystemFunction.TheVariants.{OfFile, SearchNext, DeleteFile, OfDesk}
+use Rattle.bdos.specs.Questions.{SystemTree, asking_state}
+use Rattle.bdos.specs.FileCalls.{SystemEnd, file_call, delete_call, search_next_call}
+use Rattle.bdos.specs.Fulfils.{Fulfils}
 
--- what a call wrote: bytes of cells, in order
-pub record Written : Type 0 where
-  pub cells : List (ℕ × ℕ)
+abbrev pub system_function : ℕ → SystemFunction
+system_function number =
+    if number == 15 then OfFile Open
+    else if number == 16 then OfFile Close
+    else if number == 17 then OfFile SearchFirst
+    else if number == 18 then SearchNext
+    else if number == 19 then DeleteFile
+    else if number == 20 then OfFile ReadSequential
+    else if number == 21 then OfFile WriteSequential
+    else if number == 22 then OfFile Make
+    else if number == 23 then OfFile Rename
+    else if number == 33 then OfFile ReadRandom
+    else if number == 34 then OfFile WriteRandom
+    else if number == 35 then OfFile FileSize
+    else if number == 36 then OfFile SetRandomRecord
+    else if number == 40 then OfFile WriteRandomZeroFill
+    else OfDesk
 
-abbrev pub nothing : Written
-nothing = record { cells = [] }
+-- a call, over a script of at most n bytes; those of the desk are told by their numbers there
+abbrev pub called : ℕ → SystemFunction → Regs → Spot → SystemTree SystemEnd
+called n (OfFile f) r spot = file_call f r spot
+called n SearchNext r spot = search_next_call r spot
+called n DeleteFile r spot = delete_call r spot
+called n OfDesk r spot = asking_state (desk_calls.call n r spot) (λ e. Return (e, Unchanged))
 
--- it went back to its caller with these registers and this spot, after it sent these bytes and wrote that; or it stopped, and
--- changed nothing
-pub data CallEnd : Type 0 where
-  Completed : Regs → Spot → List ℕ → Written → CallEnd
-  Stopped : Cause → CallEnd
-
--- the registers back at the caller, at an address, with a value: HL is the value, A is L and B is H, and the stack is popped
--- (CP/M 2.2 Interface Guide)
-abbrev pub at_caller : ℕ → ℕ → Regs → Regs
-at_caller value to r = record r { a = low value; b = high value; h = high value; l = low value; sp = onward r.sp 2; pc = to }
-
--- the return address is read, and the call is completed with a value, this spot, these bytes sent and this written
-abbrev pub completing : ℕ → Regs → Spot → List ℕ → Written → StateTree CallEnd
-completing value r spot bytes written = reads (word_at r.sp Done) (λ to. Return (Completed (at_caller value to r) spot bytes written))
-
--- function 1 takes the script byte at the cursor, prints it, and gives it; the end of the script stops (CP/M 2.2 Interface
--- Guide, function 1)
-abbrev pub taking : Regs → Spot → Option ℕ → StateTree CallEnd
-taking r spot None = Return (Stopped ConsoleExhausted)
-taking r spot (Some byte) = let s = echoed spot.column byte in completing byte r (record spot { cursor = spot.cursor + 1; column = s.column }) s.bytes nothing
-
-abbrev pub console_input : Regs → Spot → StateTree CallEnd
-console_input r spot = Query (Input spot.cursor) (taking r spot)
-
--- function 6: with 0FFH in E it takes the script byte at the cursor and gives it, or 0 where none is left; else it sends E, and
--- the column stays (CP/M 2.2 Interface Guide, function 6)
-abbrev pub given : Regs → Spot → Option ℕ → StateTree CallEnd
-given r spot None = completing 0 r spot [] nothing
-given r spot (Some byte) = completing byte r (record spot { cursor = spot.cursor + 1 }) [] nothing
-
-abbrev pub direct_input : Regs → Spot → StateTree CallEnd
-direct_input r spot = Query (Input spot.cursor) (given r spot)
-
-abbrev pub direct_output : Regs → Spot → StateTree CallEnd
-direct_output r spot = completing 0 r spot (r.e ∷ []) nothing
-
-abbrev pub direct_console : Regs → Spot → StateTree CallEnd
-direct_console r spot = if r.e == 0xff then direct_input r spot else direct_output r spot
-
--- function 11 tells whether a script byte is left (CP/M 2.2 Interface Guide, function 11)
-abbrev pub console_status : Regs → Spot → StateTree CallEnd
-console_status r spot = Query (Input spot.cursor) (λ answer. completing (if is_some answer then 0xff else 0) r spot [] nothing)
-
--- function 10: the capacity at DE is read first, then the line is taken from the script, then the return address is read. The
--- count goes to the next cell, the text to those after it; a warm boot and the end of the script stop (CP/M 2.2 Interface
--- Guide, function 10)
-abbrev pub line_cells : ℕ → List ℕ → List (ℕ × ℕ)
-line_cells at text = (onward at 1, length text) ∷ cells_from (onward at 2) text
-
-abbrev pub line_ended : Regs → Spot → LineEnd → StateTree CallEnd
-line_ended r spot Short = Return (Stopped ConsoleExhausted)
-line_ended r spot Booted = Return (Stopped WarmBoot)
-line_ended r spot (Ended l k) = completing 0 r (record spot { cursor = k; column = column_after_all spot.column l.sends }) l.sends (record { cells = line_cells (word r.e r.d) (reverse l.stored) })
-
-abbrev pub line_input : ℕ → Regs → Spot → StateTree CallEnd
-line_input n r spot = reads (Cell (word r.e r.d) Done) (λ capacity. followed_by (typing (suc n) capacity spot.cursor no_line) (line_ended r spot))
-
--- function 2 prints E (CP/M 2.2 Interface Guide, function 2)
-abbrev pub console_output : Regs → Spot → StateTree CallEnd
-console_output r spot = let s = printed spot.column r.e in completing 0 r (spot_showing spot s) s.bytes nothing
-
--- function 9 prints the string at DE, which is read after the return address; a string with no `$` stops (CP/M 2.2 Interface
--- Guide, function 9)
-abbrev pub printing : Regs → Spot → ℕ → Option (List ℕ) → CallEnd
-printing r spot to None = Stopped NoDollar
-printing r spot to (Some string) = let s = printed_all spot.column string in Completed (at_caller 0 to r) (spot_showing spot s) s.bytes nothing
-
-abbrev pub string_output : Regs → Spot → StateTree CallEnd
-string_output r spot = reads (word_at r.sp Done) (λ to. reads (string_at 65536 (word r.e r.d)) (λ string. Return (printing r spot to string)))
-
--- functions 7 and 8 give and set the I/O byte, at 0003H (CP/M 2.2 Interface Guide, functions 7 and 8)
-abbrev pub io_byte : ℕ
-io_byte = 0x0003
-
-abbrev pub get_io_byte : Regs → Spot → StateTree CallEnd
-get_io_byte r spot = reads (Cell io_byte Done) (λ byte. completing byte r spot [] nothing)
-
-abbrev pub set_io_byte : Regs → Spot → StateTree CallEnd
-set_io_byte r spot = completing 0 r spot [] (record { cells = (io_byte, r.e) ∷ [] })
-
--- function 12 gives the version, 2.2 (CP/M 2.2 Interface Guide, function 12)
-abbrev pub version_number : Regs → Spot → StateTree CallEnd
-version_number r spot = completing 0x0022 r spot [] nothing
-
--- function 13 goes back to the first drive and to the buffer in page zero (CP/M 2.2 Interface Guide, function 13)
-abbrev pub reset_disks : Regs → Spot → StateTree CallEnd
-reset_disks r spot = completing 0 r (record spot { buffer = 0x80; drive = 0 }) [] nothing
-
--- function 14 sets the current drive, 0 to 3 for A to D; another stops (CP/M 2.2 Interface Guide, function 14; the stop is this
--- project's profile)
-abbrev pub select_disk : Regs → Spot → StateTree CallEnd
-select_disk r spot = if nat_lt r.e 4 then completing 0 r (record spot { drive = r.e }) [] nothing else Return (Stopped (BadDrive r.e))
-
--- function 24 gives a bit for each drive, from A on (CP/M 2.2 Interface Guide, function 24)
-abbrev pub login_vector : Regs → Spot → StateTree CallEnd
-login_vector r spot = completing 0x000f r spot [] nothing
-
--- function 25 gives the current drive (CP/M 2.2 Interface Guide, function 25)
-abbrev pub current_disk : Regs → Spot → StateTree CallEnd
-current_disk r spot = completing spot.drive r spot [] nothing
-
--- function 26 sets the buffer address to DE (CP/M 2.2 Interface Guide, function 26)
-abbrev pub set_buffer_address : Regs → Spot → StateTree CallEnd
-set_buffer_address r spot = completing 0 r (record spot { buffer = word r.e r.d }) [] nothing
-
--- a function that is carried out, over a script of at most n bytes
-abbrev pub carried_out : ℕ → Function → Regs → Spot → StateTree CallEnd
-carried_out n SystemReset r spot = Return (Stopped WarmBoot)
-carried_out n ConsoleInput r spot = console_input r spot
-carried_out n ConsoleOutput r spot = console_output r spot
-carried_out n DirectConsole r spot = direct_console r spot
-carried_out n GetIoByte r spot = get_io_byte r spot
-carried_out n SetIoByte r spot = set_io_byte r spot
-carried_out n PrintString r spot = string_output r spot
-carried_out n ReadConsoleBuffer r spot = line_input n r spot
-carried_out n ConsoleStatus r spot = console_status r spot
-carried_out n VersionNumber r spot = version_number r spot
-carried_out n ResetDisks r spot = reset_disks r spot
-carried_out n SelectDisk r spot = select_disk r spot
-carried_out n LoginVector r spot = login_vector r spot
-carried_out n CurrentDisk r spot = current_disk r spot
-carried_out n SetBufferAddress r spot = set_buffer_address r spot
-
-abbrev pub called : ℕ → Option Function → Regs → Spot → StateTree CallEnd
-called n None r spot = Return (Stopped (Unsupported r.c))
-called n (Some f) r spot = carried_out n f r spot
-
--- the call whose number is in C, over a script of at most n bytes; other numbers stop (CP/M 2.2 Interface Guide)
-unfoldable pub call : ℕ → Regs → Spot → StateTree CallEnd
-call n r spot = called n (function_of r.c) r spot
-
-abbrev pub served_of : CallEnd → Served
-served_of (Completed r spot bytes written) = served.Went
-served_of (Stopped cause) = served.Stop cause
-
-abbrev pub regs_after : CallEnd → Regs → Regs
-regs_after (Completed r spot bytes written) old = r
-regs_after (Stopped cause) old = old
-
-abbrev pub desk_after : CallEnd → Desk → Desk
-desk_after (Completed r spot bytes written) old = record { spot = spot; text = old.text ++ bytes }
-desk_after (Stopped cause) old = old
-
-abbrev pub own_after : CallEnd → Own → Own
-own_after (Completed r spot bytes written) own = write_all own written.cells
-own_after (Stopped cause) own = own
-
--- what a call leaves that carries out a tree of questions and its end
-pub record FulfilsBy (t : StateTree CallEnd) (script : List ℕ) (r : Regs) (m : Memory) (d : Desk) (was : ℕ → Bool) (result : Result Served AllocError) (r' : Regs) (m' : Memory) (d' : Desk) (is : ℕ → Bool) : Type 0 where
-  pub served : IfOk result (λ s. s ≡ served_of (result_of (answers (bytes m) script) t))
-  pub regs : OnOk result (r' ≡ regs_after (result_of (answers (bytes m) script) t) r)
-  pub desk : OnOk result (d' ≡ desk_after (result_of (answers (bytes m) script) t) d)
-  pub own : OnOk result (m'.own ≡ own_after (result_of (answers (bytes m) script) t) m.own)
-  pub looks : OnOk result (m'.looks ≡ look_all m.own (addresses (asked (answers (bytes m) script) t)) m.looks)
-  -- the script places that were looked at are the old ones and those that were asked
-  pub places : OnOk result ((k : ℕ) → is k ≡ (was k || is_among k (script_places (asked (answers (bytes m) script) t))))
-  -- at a failure: the looks before, and some of those of the whole call
-  pub err_looks : OnErr result (Extends m.looks m'.looks)
-  pub err_bound : OnErr result (Extends m'.looks (look_all m.own (addresses (asked (answers (bytes m) script) t)) m.looks))
-  pub err_regs : OnErr result (r' ≡ r)
-  pub err_desk : OnErr result (d' ≡ d)
-  pub err_own : OnErr result (m'.own ≡ m.own)
-  pub err_places : OnErr result ((k : ℕ) → is k ≡ was k)
-  pub beneath : m'.beneath ≡ m.beneath
-  pub lender : m'.lender ≡ m.lender
-
--- a tree of a call, carried out at a desk whose looked-at places are kept
-abbrev pub Fulfils : StateTree CallEnd → List ℕ → Regs → Memory → Watched → Result Served AllocError → Regs → Memory → Watched → Type 0
-Fulfils t script r m d result r' m' d' = FulfilsBy t script r m d.desk (is_within d.places) result r' m' d'.desk (is_within d'.places)
+-- the call whose number is in C
+unfoldable pub call : ℕ → Regs → Spot → SystemTree SystemEnd
+call n r spot = called n (system_function r.c) r spot
 
 -- what a call leaves, over a script of at most n bytes
-abbrev pub Serves : ℕ → List ℕ → Regs → Memory → Watched → Result Served AllocError → Regs → Memory → Watched → Type 0
-Serves n script r m d result r' m' d' = Fulfils (call n r d.desk.spot) script r m d result r' m' d'
+abbrev pub Serves : ℕ → List ℕ → Regs → Memory → Watched → Drives → Result Served AllocError → Regs → Memory → Watched → Drives → Type 0
+Serves n script r m d v result r' m' d' v' = Fulfils (call n r d.desk.spot) script r m d v result r' m' d' v'

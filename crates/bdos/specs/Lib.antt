@@ -1,9 +1,5 @@
-pub mod Desk
-pub mod Places
 pub mod Questions
-pub mod Strings
-pub mod Line
-pub mod Types
-pub mod Printing
-pub mod Functions
+pub mod FileCalls
+pub mod Fulfils
 pub mod Calls
+pub mod Drives

@@ -1,48 +1,54 @@
--- What a step asks of memory and of the console script: the byte of a cell, and the byte at a place or that there is none. What
--- it asks of files is defined in the crate `file_calls`. (This project's own.)
-use Rattle.std.specs.Prelude.{ℕ, Option, List, [], ◌∷◌, slice_get}
+-- What a call asks of the state: memory and the console script, and the files. (This project's own.)
+use Rattle.std.specs.Prelude.{ℕ, List, [], ◌∷◌}
+use Rattle.interaction_trees.specs.Tree.{Tree, Return, Query}
 use Rattle.i8080.specs.Reading.{Reading, Done}
 use Rattle.i8080.specs.Reading as reading
-use Rattle.interaction_trees.specs.Tree.{Tree, Return, Query}
+use Rattle.console_calls.specs.Questions.{StateQuestion, Byte, StateAnswer, StateTree, answers}
+use Rattle.hostfiles.specs.Hosts.{Host}
+use Rattle.hostfiles.specs.Files.{Own}
+use Rattle.file_calls.specs.Questions.{FileQuestion, FileAnswer, FileTree, file_answers}
 
--- the byte of a cell; the script byte at a place, or that there is none
-pub data StateQuestion : Type 0 where
-  Byte : ℕ → StateQuestion
-  Input : ℕ → StateQuestion
+pub data SystemQuestion : Type 0 where
+  OfState : StateQuestion → SystemQuestion
+  OfFiles : FileQuestion → SystemQuestion
 
-abbrev pub StateAnswer : StateQuestion → Type 0
-StateAnswer (Byte a) = ℕ
-StateAnswer (Input k) = Option ℕ
+abbrev pub SystemAnswer : SystemQuestion → Type 0
+SystemAnswer (OfState q) = StateAnswer q
+SystemAnswer (OfFiles q) = FileAnswer q
 
-abbrev pub StateAnswers : Type 0
-StateAnswers = (q : StateQuestion) → StateAnswer q
+abbrev pub SystemAnswers : Type 0
+SystemAnswers = (q : SystemQuestion) → SystemAnswer q
 
-abbrev pub StateTree : Type 0 → Type 0
-StateTree E = Tree StateQuestion StateAnswer E
+abbrev pub SystemTree : Type 0 → Type 0
+SystemTree E = Tree SystemQuestion SystemAnswer E
 
--- reads of memory as questions, and what follows them
-abbrev pub reads : {E F : Type 0} → Reading E → (E → StateTree F) → StateTree F
-reads (Done e) k = k e
-reads (reading.Cell a t) k = Query (Byte a) (λ v. reads (t v) k)
+-- reads of memory, and what follows them
+abbrev pub reading_first : {E F : Type 0} → Reading E → (E → SystemTree F) → SystemTree F
+reading_first (Done e) k = k e
+reading_first (reading.Cell a t) k = Query (OfState (Byte a)) (λ v. reading_first (t v) k)
 
--- one tree, and what follows its end
-abbrev pub followed_by : {E F : Type 0} → StateTree E → (E → StateTree F) → StateTree F
-followed_by (Return e) k = k e
-followed_by (Query q t) k = Query q (λ a. followed_by (t a) k)
+-- what is asked of memory and the script, and what follows it
+abbrev pub asking_state : {E F : Type 0} → StateTree E → (E → SystemTree F) → SystemTree F
+asking_state (Return e) k = k e
+asking_state (Query q t) k = Query (OfState q) (λ a. asking_state (t a) k)
 
--- the addresses among the questions
-abbrev pub addresses : List StateQuestion → List ℕ
-addresses [] = []
-addresses (Byte a ∷ rest) = a ∷ addresses rest
-addresses (Input k ∷ rest) = addresses rest
+-- what is asked of the files, and what follows it
+abbrev pub asking_files : {E F : Type 0} → FileTree E → (E → SystemTree F) → SystemTree F
+asking_files (Return e) k = k e
+asking_files (Query q t) k = Query (OfFiles q) (λ a. asking_files (t a) k)
 
--- the script places among the questions
-abbrev pub script_places : List StateQuestion → List ℕ
-script_places [] = []
-script_places (Byte a ∷ rest) = script_places rest
-script_places (Input k ∷ rest) = k ∷ script_places rest
+-- those of the one kind, and those of the other
+abbrev pub state_questions : List SystemQuestion → List StateQuestion
+state_questions [] = []
+state_questions (OfState q ∷ rest) = q ∷ state_questions rest
+state_questions (OfFiles q ∷ rest) = state_questions rest
 
--- what a memory and a script answer
-abbrev pub answers : (ℕ → ℕ) → List ℕ → StateAnswers
-answers byte script (Byte a) = byte a
-answers byte script (Input k) = slice_get script k
+abbrev pub file_questions : List SystemQuestion → List FileQuestion
+file_questions [] = []
+file_questions (OfState q ∷ rest) = file_questions rest
+file_questions (OfFiles q ∷ rest) = q ∷ file_questions rest
+
+-- what a memory, a script, and files answer
+abbrev pub system_answers : (ℕ → ℕ) → List ℕ → Host → Own → SystemAnswers
+system_answers byte script host own (OfState q) = answers byte script q
+system_answers byte script host own (OfFiles q) = file_answers host own q

@@ -1,316 +1,134 @@
-ghost use Rattle.std.specs.Prelude.{◌≡◌, ◌≤◌, ◌<◌, ◌+◌, ◌∷◌, [], ℕ, List, length, slice_get, is_some, IsSome, IsTrue, OnOk, if◌then◌else◌, Ok};
-ghost use Rattle.i8080.specs.Memory.{write_all};
-ghost use Rattle.i8080.specs.Registers.{onward};
-ghost use Rattle.bdos.specs.Calls as calls;
-ghost use Rattle.bdos.specs.Calls.{Serves, Fulfils, at_caller, line_cells};
-ghost use Rattle.bdos.specs.Printing.{Prints, Scans};
+ghost use Rattle.std.specs.Prelude.{◌≡◌, ◌≤◌, ◌<◌, List, ℕ, Ok, IfSome, length, slice_index, if◌then◌else◌};
+ghost use Rattle.file_calls.specs.Questions.{drives_of};
+ghost use Rattle.i8080.specs.End.{Reads};
+ghost use Rattle.bdos.specs.FileCalls.{file_call, delete_call, search_next_call, drive_named, block_read};
+ghost use Rattle.bdos.specs.Calls.{Serves, call};
+ghost use Rattle.bdos.specs.Drives.{AsksDrives};
+ghost use Rattle.bdos.specs.Fulfils.{Fulfils};
 
-use crate::cause::Cause;
-use crate::desk::Desk;
-use crate::disks::{current_disk, login_vector, reset_disks, select_disk, set_buffer_address};
-use crate::function::Function;
-use crate::line::{LineEnd, take_line};
-use crate::served::Served;
-use i8080::{Bus, Regs, fetch, fetch_word, ready_cells, word_of, write_cells};
+use crate::carry_on::carry_on;
+use crate::cells::fetch_cells;
+use crate::function::SystemFunction;
+use console_calls::{Cause, Desk, Served, give_back};
+use cpmfiles::{Fcb, Table};
+use file_calls::{Block, FileFunction, delete_files, search_next};
+use i8080::{Bus, Regs, fetch, fetch_word, word_of};
 use std::alloc::AllocError;
 
-/// Where the I/O byte stands.
-const IO_BYTE: u16 = 0x0003;
-
-/// CP/M 2.2.
-const VERSION: u16 = 0x0022;
-
-/// Carries out the call whose number is in C. A call that stops, and an `Err` (a want of memory), leave the registers, the
-/// written cells and the desk as they were; a call that stops has looked at cells and script places. (CP/M 2.2 Interface Guide.)
+/// Carries out the call whose number is in C. A call that stops, and an `Err` (a want of memory), leave the registers, the written cells, the desk
+/// and the files as they were; what was looked at may have grown, by what the whole call looks at. (CP/M 2.2 Interface Guide.)
 #[tactic(auto, unfolding(crate::specs::Calls::call))]
 pub fn call<B: Bus>(
     regs: &mut Regs,
     bus: &mut B,
+    table: &mut Table<'_>,
     desk: &mut Desk,
     script: &[u8],
 ) -> Result<Served, AllocError>
-    ensures { (n : ℕ) → length script.now ≤ n → Serves n script.now regs.old (B.memory bus.old) desk.old result regs.new (B.memory bus.new) desk.new }
+    ensures serves { (n : ℕ) → length script.now ≤ n → Serves n script.now regs.old (B.memory bus.old) desk.old (drives_of table.old) result regs.new (B.memory bus.new) desk.new (drives_of table.new) }
+    ensures drives { (n : ℕ) → AsksDrives (call n regs.old desk.old.desk.spot) }
 {
-    let Some(function) = Function::decode(regs.c) else {
-        return Ok(Served::Stop(Cause::Unsupported(regs.c)));
-    };
-    match function {
-        Function::SystemReset => Ok(Served::Stop(Cause::WarmBoot)),
-        Function::ConsoleInput => console_input(regs, bus, desk, script),
-        Function::ConsoleOutput => console_output(regs, bus, desk),
-        Function::DirectConsole => direct_console(regs, bus, desk, script),
-        Function::GetIoByte => Ok(get_io_byte(regs, bus, desk)),
-        Function::SetIoByte => set_io_byte(regs, bus, desk),
-        Function::PrintString => string_output(regs, bus, desk),
-        Function::ReadConsoleBuffer => line_input(regs, bus, desk, script),
-        Function::ConsoleStatus => Ok(console_status(regs, bus, desk, script)),
-        Function::VersionNumber => Ok(version_number(regs, bus, desk)),
-        Function::ResetDisks => Ok(reset_disks(regs, bus, desk)),
-        Function::SelectDisk => Ok(select_disk(regs, bus, desk)),
-        Function::LoginVector => Ok(login_vector(regs, bus, desk)),
-        Function::CurrentDisk => Ok(current_disk(regs, bus, desk)),
-        Function::SetBufferAddress => Ok(set_buffer_address(regs, bus, desk)),
+    match SystemFunction::decode(regs.c) {
+        SystemFunction::OfFile(function) => file_call(regs, bus, table, desk, function),
+        SystemFunction::SearchNext => search_next_call(regs, bus, table, desk),
+        SystemFunction::DeleteFile => delete_call(regs, bus, table, desk),
+        SystemFunction::OfDesk => console_calls::call(regs, bus, desk, script),
     }
 }
 
-// Function 1, which takes a byte of the script.
-#[tactic(auto, using(crate::proofs::Looking::by_two, crate::proofs::Looking::past_two, crate::proofs::Looking::here, crate::proofs::Looking::more, crate::proofs::Looking::all))]
-fn console_input<B: Bus>(
+// A call that names a file by a control block.
+fn file_call<B: Bus>(
     regs: &mut Regs,
     bus: &mut B,
+    table: &mut Table<'_>,
     desk: &mut Desk,
-    script: &[u8],
+    function: FileFunction,
 ) -> Result<Served, AllocError>
-    ensures { Fulfils (calls.console_input regs.old desk.old.desk.spot) script.now regs.old (B.memory bus.old) desk.old result regs.new (B.memory bus.new) desk.new }
-{
-    let Some(byte) = byte_at(script, desk.cursor()) else {
-        desk.look(1);
-        return Ok(Served::Stop(Cause::ConsoleExhausted));
-    };
-    let to = fetch_word(bus, regs.sp);
-    desk.echo(byte)?;
-    desk.take(1);
-    give_back(regs, byte as u16, to);
-    Ok(Served::Went)
-}
-
-// Function 6, by E.
-fn direct_console<B: Bus>(
-    regs: &mut Regs,
-    bus: &mut B,
-    desk: &mut Desk,
-    script: &[u8],
-) -> Result<Served, AllocError>
-    ensures { Fulfils (calls.direct_console regs.old desk.old.desk.spot) script.now regs.old (B.memory bus.old) desk.old result regs.new (B.memory bus.new) desk.new }
-{
-    if regs.e == 0xff {
-        return Ok(direct_input(regs, bus, desk, script));
-    }
-    direct_output(regs, bus, desk)
-}
-
-// Function 6 with FFH in E, which takes a byte of the script where one is left.
-fn direct_input<B: Bus>(regs: &mut Regs, bus: &mut B, desk: &mut Desk, script: &[u8]) -> Served
-    ensures { Fulfils (calls.direct_input regs.old desk.old.desk.spot) script.now regs.old (B.memory bus.old) desk.old (Ok result) regs.new (B.memory bus.new) desk.new }
-{
-    let to = fetch_word(bus, regs.sp);
-    let Some(byte) = byte_at(script, desk.cursor()) else {
-        desk.look(1);
-        give_back(regs, 0, to);
-        return Served::Went;
-    };
-    desk.take(1);
-    give_back(regs, byte as u16, to);
-    Served::Went
-}
-
-// Function 6 with another E, which sends it.
-#[tactic(auto, using(crate::proofs::Looking::by_two, crate::proofs::Looking::past_two, crate::proofs::Looking::here, crate::proofs::Looking::more, crate::proofs::Looking::all))]
-fn direct_output<B: Bus>(
-    regs: &mut Regs,
-    bus: &mut B,
-    desk: &mut Desk,
-) -> Result<Served, AllocError>
-    ensures { (script : List ℕ) → Fulfils (calls.direct_output regs.old desk.old.desk.spot) script regs.old (B.memory bus.old) desk.old result regs.new (B.memory bus.new) desk.new }
-{
-    let to = fetch_word(bus, regs.sp);
-    desk.append(regs.e)?;
-    give_back(regs, 0, to);
-    Ok(Served::Went)
-}
-
-// Function 11, which tells whether a byte of the script is left.
-fn console_status<B: Bus>(regs: &mut Regs, bus: &mut B, desk: &mut Desk, script: &[u8]) -> Served
-    ensures { Fulfils (calls.console_status regs.old desk.old.desk.spot) script.now regs.old (B.memory bus.old) desk.old (Ok result) regs.new (B.memory bus.new) desk.new }
-{
-    let to = fetch_word(bus, regs.sp);
-    let status = console_state(script, desk.cursor());
-    desk.look(1);
-    give_back(regs, status, to);
-    Served::Went
-}
-
-// Function 2, which prints E.
-#[tactic(auto, using(crate::proofs::Looking::by_two, crate::proofs::Looking::past_two, crate::proofs::Looking::here, crate::proofs::Looking::more, crate::proofs::Looking::all))]
-fn console_output<B: Bus>(
-    regs: &mut Regs,
-    bus: &mut B,
-    desk: &mut Desk,
-) -> Result<Served, AllocError>
-    ensures { (script : List ℕ) → Fulfils (calls.console_output regs.old desk.old.desk.spot) script regs.old (B.memory bus.old) desk.old result regs.new (B.memory bus.new) desk.new }
-{
-    let to = fetch_word(bus, regs.sp);
-    desk.print(regs.e)?;
-    give_back(regs, 0, to);
-    Ok(Served::Went)
-}
-
-// Function 7, which gives the I/O byte.
-#[tactic(auto, using(crate::proofs::Looking::by_one, crate::proofs::Looking::past_one, crate::proofs::Looking::here, crate::proofs::Looking::more, crate::proofs::Looking::all))]
-fn get_io_byte<B: Bus>(regs: &mut Regs, bus: &mut B, desk: &Desk) -> Served
-    ensures { (script : List ℕ) → Fulfils (calls.get_io_byte regs.old desk.now.desk.spot) script regs.old (B.memory bus.old) desk.now (Ok result) regs.new (B.memory bus.new) desk.now }
-{
-    let byte = fetch(bus, IO_BYTE);
-    let to = fetch_word(bus, regs.sp);
-    give_back(regs, u16::from(byte), to);
-    Served::Went
-}
-
-// Function 8, which sets the I/O byte to E.
-#[tactic(auto, using(crate::proofs::Looking::by_two, crate::proofs::Looking::here, crate::proofs::Looking::more, crate::proofs::Looking::all))]
-fn set_io_byte<B: Bus>(regs: &mut Regs, bus: &mut B, desk: &Desk) -> Result<Served, AllocError>
-    ensures { (script : List ℕ) → Fulfils (calls.set_io_byte regs.old desk.now.desk.spot) script regs.old (B.memory bus.old) desk.now result regs.new (B.memory bus.new) desk.now }
-{
-    let to = fetch_word(bus, regs.sp);
-    bus.ready(IO_BYTE)?;
-    bus.write(IO_BYTE, regs.e);
-    give_back(regs, 0, to);
-    Ok(Served::Went)
-}
-
-// Function 12, which gives the version.
-fn version_number<B: Bus>(regs: &mut Regs, bus: &mut B, desk: &Desk) -> Served
-    ensures { (script : List ℕ) → Fulfils (calls.version_number regs.old desk.now.desk.spot) script regs.old (B.memory bus.old) desk.now (Ok result) regs.new (B.memory bus.new) desk.now }
-{
-    let to = fetch_word(bus, regs.sp);
-    give_back(regs, VERSION, to);
-    Served::Went
-}
-
-// Function 9, which prints the string at DE.
-#[tactic(auto, using(crate::proofs::Looking::by_two, crate::proofs::Looking::past_two, crate::proofs::Looking::here, crate::proofs::Looking::more, crate::proofs::Looking::all))]
-fn string_output<B: Bus>(
-    regs: &mut Regs,
-    bus: &mut B,
-    desk: &mut Desk,
-) -> Result<Served, AllocError>
-    ensures { (script : List ℕ) → Fulfils (calls.string_output regs.old desk.old.desk.spot) script regs.old (B.memory bus.old) desk.old result regs.new (B.memory bus.new) desk.new }
-{
-    let to = fetch_word(bus, regs.sp);
-    if !print_string(bus, desk, word_of(regs.e, regs.d))? {
-        return Ok(Served::Stop(Cause::NoDollar));
-    }
-    give_back(regs, 0, to);
-    Ok(Served::Went)
-}
-
-// The script byte at a place, or that there is none.
-fn byte_at(script: &[u8], place: usize) -> Option<u8>
-    ensures byte { result ≡ slice_get script.now place }
-    ensures within { IsSome result → place < length script.now }
-{
-    script.get(place).copied()
-}
-
-// What function 11 gives where a place comes next.
-fn console_state(script: &[u8], place: usize) -> u16
-    ensures { result ≡ (if is_some (slice_get script.now place) then 0xff else 0) }
-{
-    if byte_at(script, place).is_some() {
-        0xff
-    } else {
-        0
-    }
-}
-
-// Function 10, which takes a line of the script.
-#[tactic(auto, using(crate::proofs::Looking::by_one, crate::proofs::Looking::at_first, crate::proofs::Looking::after_first))]
-fn line_input<B: Bus>(
-    regs: &mut Regs,
-    bus: &mut B,
-    desk: &mut Desk,
-    script: &[u8],
-) -> Result<Served, AllocError>
-    ensures { (n : ℕ) → length script.now ≤ n → Fulfils (calls.line_input n regs.old desk.old.desk.spot) script.now regs.old (B.memory bus.old) desk.old result regs.new (B.memory bus.new) desk.new }
+    ensures serves { (script : List ℕ) → Fulfils (file_call function regs.old desk.old.desk.spot) script regs.old (B.memory bus.old) desk.old (drives_of table.old) result regs.new (B.memory bus.new) desk.new (drives_of table.new) }
+    ensures drive { desk.old.desk.spot.drive < 256 }
 {
     let at = word_of(regs.e, regs.d);
-    let capacity = fetch(bus, at);
-    let (line, taken) = match take_line(desk.allocator(), script, desk.cursor(), capacity)? {
-        LineEnd::Ended(line, taken) => (line, taken),
-        LineEnd::Booted(looks) => {
-            desk.look(looks);
-            return Ok(Served::Stop(Cause::WarmBoot));
-        }
-        LineEnd::Short(looks) => {
-            desk.look(looks);
-            return Ok(Served::Stop(Cause::ConsoleExhausted));
-        }
+    let dr = fetch(bus, at);
+    let Some(drive) = drive_named(desk.drive(), dr) else {
+        return Ok(Served::Stop(Cause::BadDrive(dr)));
     };
+    let block = fetch_block(bus, at, drive, dr, function.has_random_place());
     let to = fetch_word(bus, regs.sp);
-    ready_line(bus, at, line.len() as u8)?;
-    desk.send_all(line.sends())?;
-    desk.take(taken);
-    store_line(bus, at, line.text());
-    give_back(regs, 0, to);
+    let finding = function.inquire(table, &block)?;
+    carry_on(finding, regs, bus, table, desk, to)
+}
+
+// Function 19, which deletes files.
+fn delete_call<B: Bus>(
+    regs: &mut Regs,
+    bus: &mut B,
+    table: &mut Table<'_>,
+    desk: &Desk,
+) -> Result<Served, AllocError>
+    ensures serves { (script : List ℕ) → Fulfils (delete_call regs.old desk.now.desk.spot) script regs.old (B.memory bus.old) desk.now (drives_of table.old) result regs.new (B.memory bus.new) desk.now (drives_of table.new) }
+    ensures drive { desk.now.desk.spot.drive < 256 }
+{
+    let at = word_of(regs.e, regs.d);
+    let dr = fetch(bus, at);
+    let Some(drive) = drive_named(desk.drive(), dr) else {
+        return Ok(Served::Stop(Cause::BadDrive(dr)));
+    };
+    let block = fetch_block(bus, at, drive, dr, false);
+    let to = fetch_word(bus, regs.sp);
+    let value = value_of(delete_files(table, &block)?);
+    give_back(regs, value, to);
     Ok(Served::Went)
 }
 
-// Makes the cells of a line ready: the count's, and one for each byte.
-fn ready_line<B: Bus>(bus: &mut B, at: u16, count: u8) -> Result<(), AllocError>
-    ensures count { OnOk result (IsTrue (B.is_ready bus.new (onward at 1))) }
-    ensures text { OnOk result ((i : ℕ) → i < count → IsTrue (B.is_ready bus.new (onward (onward at 2) i))) }
-    ensures memory { B.memory bus.new ≡ B.memory bus.old }
+// The value of a deletion: 0 where a file was deleted.
+fn value_of(is_some_deleted: bool) -> u16
+    ensures { result ≡ (if is_some_deleted then 0 else 0xff) }
 {
-    bus.ready(at.wrapping_add(1))?;
-    ready_cells(bus, at.wrapping_add(2), u16::from(count))
+    if is_some_deleted { 0 } else { 0xff }
 }
 
-// Writes a line's cells, which are ready: the count's, and one for each byte.
-fn store_line<B: Bus>(bus: &mut B, at: u16, text: &[u8])
-    requires short { length text.now ≤ 255 }
-    requires count { IsTrue (B.is_ready bus.old (onward at 1)) }
-    requires text { (i : ℕ) → i < length text.now → IsTrue (B.is_ready bus.old (onward (onward at 2) i)) }
-    ensures own { (B.memory bus.new).own ≡ write_all (B.memory bus.old).own (line_cells at text.now) }
-    ensures looks { (B.memory bus.new).looks ≡ (B.memory bus.old).looks }
-    ensures beneath { (B.memory bus.new).beneath ≡ (B.memory bus.old).beneath }
-    ensures lender { (B.memory bus.new).lender ≡ (B.memory bus.old).lender }
+// Function 18, which goes on with a search.
+fn search_next_call<B: Bus>(
+    regs: &mut Regs,
+    bus: &mut B,
+    table: &mut Table<'_>,
+    desk: &mut Desk,
+) -> Result<Served, AllocError>
+    ensures serves { (script : List ℕ) → Fulfils (search_next_call regs.old desk.old.desk.spot) script regs.old (B.memory bus.old) desk.old (drives_of table.old) result regs.new (B.memory bus.new) desk.new (drives_of table.new) }
+    ensures search { IfSome desk.old.desk.spot.search (λ s. slice_index s.pattern 0 < 256) }
 {
-    bus.write(at.wrapping_add(1), text.len() as u8);
-    write_cells(bus, at.wrapping_add(2), text);
+    let to = fetch_word(bus, regs.sp);
+    let finding = search_next(table, desk.search());
+    carry_on(finding, regs, bus, table, desk, to)
 }
 
-/// Goes back to an address with a value: HL gets it, A is L and B is H, and the return address leaves the stack. (CP/M 2.2 Interface Guide.)
-pub fn give_back(regs: &mut Regs, value: u16, to: u16)
-    ensures { regs.new ≡ at_caller value to regs.old }
+// The drive that the first byte of a control block names.
+fn drive_named(current: u8, dr: u8) -> Option<u8>
+    ensures { result ≡ drive_named current dr }
 {
-    let low = (value % 256) as u8;
-    let high = (value / 256) as u8;
-    regs.a = low;
-    regs.b = high;
-    regs.h = high;
-    regs.l = low;
-    regs.sp = regs.sp.wrapping_add(2);
-    regs.pc = to;
-}
-
-// Prints the string at an address, up to its `$`, and tells whether there is one. Where there is none, and on an `Err`,
-// the desk stays.
-fn print_string<B: Bus>(bus: &mut B, desk: &mut Desk, at: u16) -> Result<bool, AllocError>
-    ensures prints { Prints at (B.memory bus.old) desk.old.desk result (B.memory bus.new) desk.new.desk }
-    ensures places { desk.new.places ≡ desk.old.places }
-{
-    let mark = desk.mark();
-    let found = print_until_dollar(bus, desk, at);
-    if found != Ok(true) {
-        desk.undo(mark);
+    match dr {
+        0 => Some(current),
+        1..=4 => Some(dr - 1),
+        _ => None,
     }
-    found
 }
 
-// Prints the bytes from an address on up to the first `$`, and tells whether there is one.
-#[tactic(auto, using(crate::proofs::Looking::one_more, crate::proofs::Looking::some_more, crate::proofs::Looking::here, crate::proofs::Scanning::bound_at))]
-fn print_until_dollar<B: Bus>(bus: &mut B, desk: &mut Desk, at: u16) -> Result<bool, AllocError>
-    ensures scans { Scans at (B.memory bus.old) desk.old.desk result (B.memory bus.new) desk.new.desk }
-    ensures places { desk.new.places ≡ desk.old.places }
+// The control block at an address, whose drive byte was read: 36 bytes, or 33 and zeros.
+fn fetch_block<B: Bus>(bus: &mut B, at: u16, drive: u8, dr: u8, whole: bool) -> Block
+    ensures { Reads (block_read drive dr (if whole then 36 else 33) at) (B.memory bus.old) result (B.memory bus.new) }
 {
-    let mut address = at;
-    for _cell in 0..65_536u32 {
-        let byte = fetch(bus, address);
-        if byte == b'$' {
-            return Ok(true);
-        }
-        desk.print(byte)?;
-        address = address.wrapping_add(1);
+    let mut bytes = [0; 36];
+    bytes[0] = dr;
+    if whole {
+        fetch_cells(bus, at.wrapping_add(1), &mut bytes[1..]);
+        return Block {
+            drive,
+            fcb: Fcb::from_bytes(&bytes),
+        };
     }
-    Ok(false)
+    fetch_cells(bus, at.wrapping_add(1), &mut bytes[1..33]);
+    Block {
+        drive,
+        fcb: Fcb::from_bytes(&bytes),
+    }
 }

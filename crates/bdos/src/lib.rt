@@ -1,18 +1,10 @@
-//! The calls of the BDOS of CP/M 2.2 that need no files, over any memory.
+//! The calls of the BDOS of CP/M 2.2, over any memory and any files.
 #![tactic(auto)]
 
 mod calls;
-mod cause;
-mod desk;
-mod disks;
+mod carry_on;
+mod cells;
 mod function;
-mod line;
-mod places;
-mod served;
 
-pub use calls::{call, give_back};
-pub use cause::Cause;
-pub use desk::{Desk, Spot};
-pub use function::Function;
-pub use places::Places;
-pub use served::Served;
+pub use calls::call;
+pub use function::SystemFunction;

@@ -2,7 +2,7 @@
 use Rattle.std.proofs.Common.{◌≡◌, ℕ, ◌+◌, Option, Some, None, refl, ap, ◌∙◌, add-one}
 use Rattle.interaction_trees.specs.Dependence.{Outcome, Step, Stop, state_of}
 use Rattle.interaction_trees.specs.Dependence as dependence
-use Rattle.bdos.specs.declared.cause.Cause.{Cause}
+use Rattle.console_calls.specs.declared.cause.Cause.{Cause}
 use Rattle.machine.specs.Views.{State}
 use Rattle.machine.specs.Machine.{Answers, next, part, made, start, outcome, after}
 

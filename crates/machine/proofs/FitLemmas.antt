@@ -10,11 +10,11 @@ use Rattle.i8080.specs.Reading.{Reading, Done, Cell}
 use Rattle.i8080.specs.Registers.{word}
 use Rattle.i8080.specs.Instruction.{instruction, word_at}
 use Rattle.i8080.specs.End as end
-use Rattle.bdos.specs.declared.cause.Cause.{Cause}
-use Rattle.bdos.specs.declared.cause.Cause.TheVariants.{WarmBoot, SystemArea}
-use Rattle.bdos.specs.declared.desk.Spot.{Spot}
-use Rattle.bdos.specs.Calls.{CallEnd, Completed}
-use Rattle.bdos.specs.Calls as calls
+use Rattle.console_calls.specs.declared.cause.Cause.{Cause}
+use Rattle.console_calls.specs.declared.cause.Cause.TheVariants.{WarmBoot, SystemArea}
+use Rattle.console_calls.specs.declared.desk.Spot.{Spot}
+use Rattle.console_calls.specs.Calls.{CallEnd, Completed}
+use Rattle.console_calls.specs.Calls as calls
 use Rattle.filenames.specs.Names.{is_sayable}
 use Rattle.filenames.specs.ControlBlock.{place_of, random_of}
 use Rattle.directory.specs.Entries.{count_at}
@@ -31,12 +31,12 @@ use Rattle.file_calls.specs.Questions.{FileQuestion, FileAnswers, FileTree, IsTh
 use Rattle.file_calls.specs.FileCalls.{found, block_length, deletion, search_next, key_of, new_key_of, absent, if_there, if_in_range, record_found, missing, writing, entry_found, next_among}
 use Rattle.file_calls.specs.Changes.{FileChange, Unchanged, Made, Deleted, Renamed, Stored, own_with}
 use Rattle.file_calls.proofs.Shapes.{places}
-use Rattle.system_calls.specs.Questions.{SystemQuestion, OfState, OfFiles, SystemAnswers, SystemTree, reading_first, asking_state, asking_files}
-use Rattle.system_calls.specs.FileCalls.{SystemEnd, back, value_of, bytes_at, block_read, drive_named, carried_on, with_block, on_drive}
-use Rattle.system_calls.specs.declared.function.SystemFunction.{SystemFunction}
-use Rattle.system_calls.specs.declared.function.SystemFunction.TheVariants.{OfFile, SearchNext, DeleteFile, OfDesk}
-use Rattle.system_calls.specs.Calls.{call, called, system_function}
-use Rattle.system_calls.proofs.Trees.{result-reading, result-state, result-files}
+use Rattle.bdos.specs.Questions.{SystemQuestion, OfState, OfFiles, SystemAnswers, SystemTree, reading_first, asking_state, asking_files}
+use Rattle.bdos.specs.FileCalls.{SystemEnd, back, value_of, bytes_at, block_read, drive_named, carried_on, with_block, on_drive}
+use Rattle.bdos.specs.declared.function.SystemFunction.{SystemFunction}
+use Rattle.bdos.specs.declared.function.SystemFunction.TheVariants.{OfFile, SearchNext, DeleteFile, OfDesk}
+use Rattle.bdos.specs.Calls.{call, called, system_function}
+use Rattle.bdos.proofs.Trees.{result-reading, result-state, result-files}
 use Rattle.host_questions.specs.Passing.{IsSound, IsFitting}
 use Rattle.host_questions.specs.Passing as passing
 use Rattle.host_questions.proofs.Answering.{answers_are}

@@ -22,7 +22,7 @@ use Rattle.hostfiles.specs.declared.looks.Looks.{Looks}
 use Rattle.hostfiles.specs.declared.looks.Ask.{Ask}
 use Rattle.hostfiles.specs.declared.looks.Ask.TheVariants.{Has, Length, Rec, Directory}
 use Rattle.file_calls.specs.Questions.{FileQuestion, IsThere, ShapeOf, Content, FilesOn, look_for}
-use Rattle.system_calls.specs.Drives.{IsDrive, AreDrives}
+use Rattle.bdos.specs.Drives.{IsDrive, AreDrives}
 use Rattle.host_questions.specs.Passing.{HostAnswer, HostTree, there_part, shape_part, host_part, content_part}
 use Rattle.host_questions.specs.Passing as passing
 use Rattle.machine.specs.Machine.{Question, Cell, Script, OfHost, Answers, is_in, asking_host}

@@ -26,10 +26,10 @@ grown list bytes at removed inside more =
     let both : length (first ++ middle) ≡ at + removed = length-append first middle ∙ omega (arith, count, long) in
     let empty : first ++ middle ++ [] ++ last ≡ list = ap (λ (l : List ℕ). l ++ last) (append-nil (first ++ middle)) ∙ whole in
     let inserted : spliced list (at + removed) 0 others ≡ first ++ middle ++ (others ++ last) =
-        ap (λ (l : List ℕ). spliced l (at + removed) 0 others) (sym empty) ∙ at_seams (first ++ middle) [] last others (at + removed) 0 both refl ∙ append_assoc (first ++ middle) others last in
+    ap (λ (l : List ℕ). spliced l (at + removed) 0 others) (sym empty) ∙ at_seams (first ++ middle) [] last others (at + removed) 0 both refl ∙ append_assoc (first ++ middle) others last in
     let over : written_over (first ++ middle ++ (others ++ last)) at some ≡ first ++ some ++ (others ++ last) = at_seams first middle (others ++ last) some at (length some) count (long ∙ sym as_long) in
     let joined : first ++ some ++ (others ++ last) ≡ first ++ bytes ++ last =
-        sym (append_assoc (first ++ some) others last) ∙ ap (λ (l : List ℕ). l ++ last) (append_assoc first some others ∙ ap (λ (l : List ℕ). first ++ l) (take-append-drop removed bytes)) in
+    sym (append_assoc (first ++ some) others last) ∙ ap (λ (l : List ℕ). l ++ last) (append_assoc first some others ∙ ap (λ (l : List ℕ). first ++ l) (take-append-drop removed bytes)) in
     ap (λ (l : List ℕ). written_over l at some) inserted ∙ over ∙ joined ∙ sym (ap (λ (l : List ℕ). spliced l at removed bytes) (sym whole) ∙ at_seams first middle last bytes at removed count long)
 
 -- no more: as many as are too many are taken out first
@@ -47,11 +47,11 @@ shrunk list bytes at removed inside fewer =
     let both : length (first ++ middle) ≡ at + length bytes = length-append first middle ∙ omega (arith, count, long) in
     let removed_all : length (middle ++ gone) ≡ removed = length-append middle gone ∙ omega (arith, long, long_gone, fewer) in
     let whole : first ++ middle ++ gone ++ last ≡ list =
-        append_assoc (first ++ middle) gone last ∙ ap (λ (l : List ℕ). first ++ middle ++ l) (take-append-drop (removed - length bytes) (drop (length bytes) rest)) ∙ append_assoc first middle _
-        ∙ ap (λ (l : List ℕ). first ++ l) (take-append-drop (length bytes) rest) ∙ take-append-drop at list in
+    append_assoc (first ++ middle) gone last ∙ ap (λ (l : List ℕ). first ++ middle ++ l) (take-append-drop (removed - length bytes) (drop (length bytes) rest)) ∙ append_assoc first middle _
+    ∙ ap (λ (l : List ℕ). first ++ l) (take-append-drop (length bytes) rest) ∙ take-append-drop at list in
     let taken : spliced list (at + length bytes) (removed - length bytes) [] ≡ first ++ middle ++ last =
-        ap (λ (l : List ℕ). spliced l (at + length bytes) (removed - length bytes) []) (sym whole) ∙ at_seams (first ++ middle) gone last [] (at + length bytes) (removed - length bytes) both long_gone
-        ∙ ap (λ (l : List ℕ). l ++ last) (append-nil (first ++ middle)) in
+    ap (λ (l : List ℕ). spliced l (at + length bytes) (removed - length bytes) []) (sym whole) ∙ at_seams (first ++ middle) gone last [] (at + length bytes) (removed - length bytes) both long_gone
+    ∙ ap (λ (l : List ℕ). l ++ last) (append-nil (first ++ middle)) in
     let over : written_over (first ++ middle ++ last) at bytes ≡ first ++ bytes ++ last = at_seams first middle last bytes at (length bytes) count long in
     let as_one : first ++ (middle ++ gone) ++ last ≡ list = ap (λ (l : List ℕ). l ++ last) (sym (append_assoc first middle gone)) ∙ whole in
     ap (λ (l : List ℕ). written_over l at bytes) taken ∙ over ∙ sym (ap (λ (l : List ℕ). spliced l at removed bytes) (sym as_one) ∙ at_seams first (middle ++ gone) last bytes at removed count removed_all)

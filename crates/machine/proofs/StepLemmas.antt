@@ -29,13 +29,13 @@ use Rattle.pagemem.specs.declared.overlay.Overlay.{Overlay}
 use Rattle.pagemem.specs.Overlay.{own_of, looks_of}
 use Rattle.pagemem.specs.declared.cells.Cells.{Cells as PagedCells}
 use Rattle.pagemem.specs.Cells.{own_in}
-use Rattle.bdos.specs.declared.cause.Cause.{Cause}
-use Rattle.bdos.specs.declared.cause.Cause.TheVariants.{WarmBoot, SystemArea}
-use Rattle.bdos.specs.declared.served.Served.{Served}
-use Rattle.bdos.specs.Desk.{Desk}
-use Rattle.bdos.specs.Places.{Watched, is_within}
-use Rattle.bdos.specs.Questions.{Byte, Input, addresses, script_places}
-use Rattle.bdos.specs.Calls as calls
+use Rattle.console_calls.specs.declared.cause.Cause.{Cause}
+use Rattle.console_calls.specs.declared.cause.Cause.TheVariants.{WarmBoot, SystemArea}
+use Rattle.console_calls.specs.declared.served.Served.{Served}
+use Rattle.console_calls.specs.Desk.{Desk}
+use Rattle.console_calls.specs.Places.{Watched, is_within}
+use Rattle.console_calls.specs.Questions.{Byte, Input, addresses, script_places}
+use Rattle.console_calls.specs.Calls as calls
 use Rattle.hostfiles.specs.Files as files
 use Rattle.hostfiles.specs.Hosts.{Host}
 use Rattle.hostfiles.specs.Looks.{is_looked}
@@ -47,12 +47,12 @@ use Rattle.hostfiles.specs.declared.looks.Ask.{Ask}
 use Rattle.file_calls.specs.Changes.{FileChange, Unchanged, own_with}
 use Rattle.file_calls.specs.Questions.{FileQuestion, Drives, look_for, look_for_all}
 use Rattle.file_calls.proofs.Extending.{within_all}
-use Rattle.system_calls.specs.Questions.{SystemQuestion, OfState, OfFiles, SystemAnswers, SystemTree, system_answers, reading_first, state_questions, file_questions}
-use Rattle.system_calls.specs.FileCalls.{SystemEnd}
-use Rattle.system_calls.specs.Calls.{Serves, call}
-use Rattle.system_calls.specs.Drives.{AsksDrives}
-use Rattle.system_calls.specs.Fulfils.{FulfilsBy}
-use Rattle.system_calls.proofs.Trees.{result-reading, cells-reading, places-reading, files-reading}
+use Rattle.bdos.specs.Questions.{SystemQuestion, OfState, OfFiles, SystemAnswers, SystemTree, system_answers, reading_first, state_questions, file_questions}
+use Rattle.bdos.specs.FileCalls.{SystemEnd}
+use Rattle.bdos.specs.Calls.{Serves, call}
+use Rattle.bdos.specs.Drives.{AsksDrives}
+use Rattle.bdos.specs.Fulfils.{FulfilsBy}
+use Rattle.bdos.proofs.Trees.{result-reading, cells-reading, places-reading, files-reading}
 use Rattle.host_questions.specs.Passing.{IsSound}
 use Rattle.host_questions.specs.Passing as passing
 use Rattle.host_questions.proofs.Answering.{answers_are}

@@ -10,7 +10,7 @@ use Rattle.interaction_trees.specs.Dependence as dependence
 use Rattle.i8080.specs.declared.registers.Regs.{Regs}
 use Rattle.i8080.specs.Reading.{asked}
 use Rattle.i8080.proofs.WriteLookLemmas.{extends_itself, extends_by}
-use Rattle.bdos.specs.declared.cause.Cause.{Cause}
+use Rattle.console_calls.specs.declared.cause.Cause.{Cause}
 use Rattle.hostfiles.proofs.LookLemmas.{extends_same}
 use Rattle.host_questions.specs.Passing.{IsSound}
 use Rattle.pagemem.specs.declared.overlay.Overlay.{Overlay}

@@ -11,14 +11,14 @@ use Rattle.interaction_trees.specs.Tree.{result_of}
 use Rattle.interaction_trees.specs.Dependence.{Outcome, Step, Stop, state_of}
 use Rattle.interaction_trees.specs.Dependence as dependence
 use Rattle.interaction_trees.proofs.DependenceLemmas.{same_everywhere}
-use Rattle.bdos.specs.declared.cause.Cause.{Cause}
-use Rattle.bdos.specs.Questions.{Byte, Input}
+use Rattle.console_calls.specs.declared.cause.Cause.{Cause}
+use Rattle.console_calls.specs.Questions.{Byte, Input}
 use Rattle.hostfiles.specs.Files as files
 use Rattle.host_questions.specs.Passing.{IsSound}
 use Rattle.host_questions.specs.Passing as passing
 use Rattle.host_questions.proofs.Answering.{answers_are}
 use Rattle.file_calls.specs.Changes.{own_with}
-use Rattle.system_calls.specs.Questions.{SystemQuestion, OfState, OfFiles}
+use Rattle.bdos.specs.Questions.{SystemQuestion, OfState, OfFiles}
 use Rattle.machine.specs.Views.{Session, Cells, State}
 use Rattle.machine.specs.Session.{image_of, IsSession}
 use Rattle.machine.specs.Machine.{Answers, ask, Reached, Went, Stopped, desk_with, next, part, laid, stored, stored_all, made, start, outcome, after}

@@ -1,7 +1,7 @@
 -- A state without its text. (This project's own.)
 use Rattle.std.specs.Prelude.{ℕ, List, length}
 use Rattle.i8080.specs.declared.registers.Regs.{Regs}
-use Rattle.bdos.specs.declared.desk.Spot.{Spot}
+use Rattle.console_calls.specs.declared.desk.Spot.{Spot}
 use Rattle.machine.specs.Views.{Own, State}
 
 -- what is kept of a state: all of it but the text, of which the length is kept

@@ -10,21 +10,21 @@ use Rattle.i8080.specs.End as end
 use Rattle.i8080.specs.Memory.{is_among}
 use Rattle.i8080.specs.Memory as memory
 use Rattle.i8080.specs.Instruction.{instruction}
-use Rattle.bdos.specs.declared.cause.Cause.{Cause}
-use Rattle.bdos.specs.declared.cause.Cause.TheVariants.{WarmBoot, Halt, Undefined, SystemArea}
-use Rattle.bdos.specs.declared.desk.Spot.{Spot}
-use Rattle.bdos.specs.Desk.{Desk, first_desk}
-use Rattle.bdos.specs.Places.{is_within}
-use Rattle.bdos.specs.Questions.{Byte, Input}
-use Rattle.bdos.specs.Calls.{Written}
-use Rattle.bdos.specs.Calls as calls
+use Rattle.console_calls.specs.declared.cause.Cause.{Cause}
+use Rattle.console_calls.specs.declared.cause.Cause.TheVariants.{WarmBoot, Halt, Undefined, SystemArea}
+use Rattle.console_calls.specs.declared.desk.Spot.{Spot}
+use Rattle.console_calls.specs.Desk.{Desk, first_desk}
+use Rattle.console_calls.specs.Places.{is_within}
+use Rattle.console_calls.specs.Questions.{Byte, Input}
+use Rattle.console_calls.specs.Calls.{Written}
+use Rattle.console_calls.specs.Calls as calls
 use Rattle.hostfiles.specs.Looks.{is_looked, is_same_ask}
 use Rattle.hostfiles.specs.Looks as file_looks
 use Rattle.hostfiles.specs.declared.looks.Ask.{Ask}
 use Rattle.file_calls.specs.Changes.{FileChange, Unchanged, own_with}
-use Rattle.system_calls.specs.Questions.{SystemQuestion, OfState, OfFiles, SystemAnswer, SystemAnswers, SystemTree, reading_first}
-use Rattle.system_calls.specs.FileCalls.{SystemEnd}
-use Rattle.system_calls.specs.Calls.{call}
+use Rattle.bdos.specs.Questions.{SystemQuestion, OfState, OfFiles, SystemAnswer, SystemAnswers, SystemTree, reading_first}
+use Rattle.bdos.specs.FileCalls.{SystemEnd}
+use Rattle.bdos.specs.Calls.{call}
 use Rattle.host_questions.specs.Passing.{HostAnswer, HostTree, host_answers}
 use Rattle.host_questions.specs.Passing as passing
 use Rattle.machine.specs.Views.{Session, Core, Cells, Own, State, Looked}

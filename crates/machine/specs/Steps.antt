@@ -7,7 +7,7 @@ use Rattle.i8080.specs.declared.registers.Regs.{Regs}
 use Rattle.i8080.specs.Memory.{Memory}
 use Rattle.pagemem.specs.declared.overlay.Overlay.{Overlay}
 use Rattle.pagemem.specs.Overlay.{own_of, looks_of}
-use Rattle.bdos.specs.declared.cause.Cause.{Cause}
+use Rattle.console_calls.specs.declared.cause.Cause.{Cause}
 use Rattle.std.specs.Borrow.{GName}
 use Rattle.hostfiles.specs.declared.changes.Changes.{Changes}
 use Rattle.file_calls.specs.Questions.{Drives}

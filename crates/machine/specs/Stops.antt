@@ -2,10 +2,10 @@
 use Rattle.std.specs.Prelude.{Option, Some, None}
 use Rattle.i8080.specs.declared.outcome.Did.{Did}
 use Rattle.i8080.specs.declared.outcome.Did.TheVariants as did
-use Rattle.bdos.specs.declared.cause.Cause.{Cause}
-use Rattle.bdos.specs.declared.cause.Cause.TheVariants.{Halt, Undefined}
-use Rattle.bdos.specs.declared.served.Served.{Served}
-use Rattle.bdos.specs.declared.served.Served.TheVariants as served
+use Rattle.console_calls.specs.declared.cause.Cause.{Cause}
+use Rattle.console_calls.specs.declared.cause.Cause.TheVariants.{Halt, Undefined}
+use Rattle.console_calls.specs.declared.served.Served.{Served}
+use Rattle.console_calls.specs.declared.served.Served.TheVariants as served
 
 abbrev pub stop_of_instruction : Did → Option Cause
 stop_of_instruction did.Went = None

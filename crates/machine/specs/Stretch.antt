@@ -6,7 +6,7 @@ use Rattle.interaction_trees.specs.Dependence.{Stop}
 use Rattle.i8080.specs.declared.registers.Regs.{Regs}
 use Rattle.pagemem.specs.declared.view.View.{View}
 use Rattle.pagemem.specs.ViewParts.{overlay_in, image_in}
-use Rattle.bdos.specs.declared.cause.Cause.{Cause}
+use Rattle.console_calls.specs.declared.cause.Cause.{Cause}
 use Rattle.machine.specs.Views.{Session, State, Looked, Running}
 use Rattle.machine.specs.Session.{image_of}
 use Rattle.machine.specs.WrittenCells.{Devices}

@@ -7,8 +7,8 @@ use Rattle.std.specs.Coded.{Coded, code_by, coded_ℕ, coded_bool, coded_list, c
 use base.Stored.{coded_unit}
 use Rattle.keymaps.specs.Order.{place_cmp}
 use Rattle.i8080.specs.declared.registers.Regs.{Regs}
-use Rattle.bdos.specs.declared.places.Places.{Places}
-use Rattle.bdos.specs.Desk.{Desk}
+use Rattle.console_calls.specs.declared.places.Places.{Places}
+use Rattle.console_calls.specs.Desk.{Desk}
 use Rattle.hostfiles.specs.Hosts.{Host}
 use Rattle.hostfiles.specs.Files as files
 use Rattle.hostfiles.specs.declared.looks.Looks.{Looks}

@@ -6,10 +6,10 @@ use Rattle.std.specs.List.{range_with_len}
 use Rattle.std.specs.FinMap as finmap
 use Rattle.interaction_trees.specs.Tree.{result_of}
 use Rattle.interaction_trees.specs.Dependence.{Outcome, Step, Stop}
-use Rattle.bdos.specs.declared.cause.Cause.{Cause}
-use Rattle.bdos.specs.Questions.{answers}
+use Rattle.console_calls.specs.declared.cause.Cause.{Cause}
+use Rattle.console_calls.specs.Questions.{answers}
 use Rattle.hostfiles.specs.Files as files
-use Rattle.system_calls.specs.Questions.{SystemAnswers, OfState, OfFiles}
+use Rattle.bdos.specs.Questions.{SystemAnswers, OfState, OfFiles}
 use Rattle.machine.specs.Views.{Session, Core, State}
 use Rattle.machine.specs.Session.{image_of, IsSession}
 use Rattle.machine.specs.Machine.{ask, Reached, Went, Stopped, desk_with, next, start, outcome, after}

@@ -2,9 +2,9 @@
 use Rattle.std.specs.Prelude.{◌≡◌, refl, ℕ, zero, suc, Option, Some, None}
 use Rattle.std.specs.FinMap as map
 use Rattle.i8080.specs.declared.registers.Regs.{Regs}
-use Rattle.bdos.specs.declared.places.Places.{Places}
-use Rattle.bdos.specs.Desk.{Desk}
-use Rattle.bdos.specs.Places.{Watched}
+use Rattle.console_calls.specs.declared.places.Places.{Places}
+use Rattle.console_calls.specs.Desk.{Desk}
+use Rattle.console_calls.specs.Places.{Watched}
 use Rattle.hostfiles.specs.Files as files
 use Rattle.hostfiles.specs.declared.looks.Looks.{Looks}
 use Rattle.hostfiles.specs.declared.changes.Changes.{Changes}

@@ -6,7 +6,7 @@ ghost use Rattle.machine.specs.WrittenCells.{written_cells};
 
 use crate::running::Running;
 use crate::session::Session;
-use bdos::{Desk, Spot};
+use console_calls::{Desk, Spot};
 use hostfiles::{Changes, Journal, Looks};
 use i8080::Regs;
 use pagemem::{Cells, Overlay};
@@ -28,7 +28,7 @@ pub struct Kept {
 impl Model for Kept {
     ghost use Rattle.std.specs.Coded.{codes};
     ghost use Rattle.pagemem.specs.Cells.{own_in};
-    ghost use Rattle.bdos.specs.Places.{IsSpotOf};
+    ghost use Rattle.console_calls.specs.Places.{IsSpotOf};
     ghost use Rattle.machine.specs.Views.{cells_code, changes_code};
     ghost use Rattle.machine.specs.WrittenCells.{written_cells};
     ghost use Rattle.machine.specs.Kept.{Kept};

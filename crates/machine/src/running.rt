@@ -1,10 +1,10 @@
 ghost use Rattle.std.specs.Prelude.{◌≡◌, ◌<◌, ◌&&◌, ◌==◌, ℕ, true, false, not, IfOk, IfSome, IfNone, length, slice_index};
-ghost use Rattle.bdos.specs.Places.{is_within};
+ghost use Rattle.console_calls.specs.Places.{is_within};
 ghost use Rattle.hostfiles.specs.Looks.{is_looked, asks_nothing, forgot};
 ghost use Rattle.machine.specs.Machine.{start, NothingLooked};
 
 use crate::session::Session;
-use bdos::Desk;
+use console_calls::Desk;
 use hostfiles::{Ask, Changes};
 use i8080::{Flags, Regs};
 use pagemem::Overlay;

@@ -181,7 +181,12 @@ impl Session {
 
     /// Exchanges so many bytes of the script from a place on for others. It takes memory only where these are more. `Err` where
     /// memory is refused: the session is as it was.
-    pub fn splice_script(&mut self, at: usize, removed: usize, bytes: &[u8]) -> Result<(), AllocError>
+    pub fn splice_script(
+        &mut self,
+        at: usize,
+        removed: usize,
+        bytes: &[u8],
+    ) -> Result<(), AllocError>
         requires inside { at + removed ≤ length self.old.script }
         requires room { length self.old.script + length bytes.now ≤ SCRIPT_LIMIT + removed }
         ensures ok { OnOk result (self.new ≡ record self.old { script = spliced self.old.script at removed bytes.now }) }

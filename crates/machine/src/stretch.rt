@@ -10,7 +10,7 @@ use crate::meter::Meter;
 use crate::running::Running;
 use crate::session::Session;
 use crate::system_area::{SYSTEM_AREA, enter_system};
-use bdos::Cause;
+use console_calls::Cause;
 use i8080::{Did, Regs, execute};
 use pagemem::View;
 use std::alloc::AllocError;

@@ -3,21 +3,21 @@
 ghost use Rattle.std.specs.Prelude.{◌≡◌, ◌≤◌, length};
 ghost use Rattle.std.specs.Borrow.{GName};
 ghost use Rattle.host_questions.specs.Passing.{IsSound};
-ghost use Rattle.system_calls.specs.Calls.{Serves, call};
-ghost use Rattle.system_calls.specs.Drives.{AsksDrives};
+ghost use Rattle.bdos.specs.Calls.{Serves, call};
+ghost use Rattle.bdos.specs.Drives.{AsksDrives};
 ghost use Rattle.machine.specs.Machine.{script_limit};
 ghost use Rattle.machine.specs.Steps.{seen, drives_in, TakesStep};
 ghost use Rattle.machine.specs.Stops.{stop_of_call};
 
 use crate::running::Running;
 use crate::session::Session;
-use bdos::{Cause, Desk, Served};
+use bdos::call;
+use console_calls::{Cause, Desk, Served};
 use cpmfiles::Table;
 use hostfiles::Changes;
 use i8080::Regs;
 use pagemem::{Overlay, View};
 use std::alloc::AllocError;
-use system_calls::call;
 
 /// Where a jump goes to the warm start.
 const WARM_START: u16 = 0xff03;

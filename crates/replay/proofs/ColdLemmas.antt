@@ -2,8 +2,8 @@
 use Rattle.std.proofs.Common.{◌≡◌, ℕ, zero, suc, ◌+◌, ◌-◌, ◌<◌, refl, ap, sym, ◌∙◌, arith, Some}
 use Rattle.interaction_trees.specs.Dependence.{Outcome, Step, Stop, state_of}
 use Rattle.interaction_trees.specs.Dependence as dependence
-use Rattle.bdos.specs.declared.cause.Cause.{Cause}
-use Rattle.bdos.specs.declared.cause.Cause.TheVariants.{Limit}
+use Rattle.console_calls.specs.declared.cause.Cause.{Cause}
+use Rattle.console_calls.specs.declared.cause.Cause.TheVariants.{Limit}
 use Rattle.machine.specs.Views.{State, Session}
 use Rattle.machine.specs.Machine.{Answers, ask, start, after, outcome}
 use Rattle.machine.proofs.AfterLemmas.{step_before}

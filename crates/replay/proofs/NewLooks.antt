@@ -2,8 +2,8 @@
 use Rattle.std.proofs.Common.{◌≡◌, ℕ, Bool, true, false, ◌||◌, ◌&&◌, ◌==◌, not, drop, List, Option, Some, None, Result, Ok, Err, OnOk, IfSome, IfNone, refl, sym, ap, ◌∙◌, inl, inr}
 use Rattle.std.proofs.lemmas.Bool.Decides.{eqb_tells}
 use Rattle.i8080.specs.Memory.{is_among}
-use Rattle.bdos.specs.declared.places.Places.{Places}
-use Rattle.bdos.specs.Places.{is_within}
+use Rattle.console_calls.specs.declared.places.Places.{Places}
+use Rattle.console_calls.specs.Places.{is_within}
 use Rattle.hostfiles.specs.Looks.{is_looked}
 use Rattle.hostfiles.specs.declared.looks.Looks.{Looks}
 use Rattle.hostfiles.specs.declared.looks.Ask.{Ask}

@@ -1,8 +1,8 @@
 -- The cold run of a session, up to its limit. (This project's own.)
 use Rattle.std.specs.Prelude.{ℕ, zero, suc}
 use Rattle.interaction_trees.specs.Dependence.{Step, Stop}
-use Rattle.bdos.specs.declared.cause.Cause.{Cause}
-use Rattle.bdos.specs.declared.cause.Cause.TheVariants.{Limit}
+use Rattle.console_calls.specs.declared.cause.Cause.{Cause}
+use Rattle.console_calls.specs.declared.cause.Cause.TheVariants.{Limit}
 use Rattle.machine.specs.Views.{Session, State}
 use Rattle.machine.specs.Machine.{Answers, ask, start, outcome}
 

@@ -1,8 +1,8 @@
 -- For each question the first step that looked at it. (This project's own.)
 use Rattle.std.specs.Prelude.{◌≡◌, ℕ, zero, suc, ◌+◌, ◌==◌, ◌||◌, drop, List, Option, Some, None, Bool, true, false, slice_index_or}
 use Rattle.i8080.specs.Memory.{is_among}
-use Rattle.bdos.specs.declared.places.Places.{Places}
-use Rattle.bdos.specs.Places.{is_within}
+use Rattle.console_calls.specs.declared.places.Places.{Places}
+use Rattle.console_calls.specs.Places.{is_within}
 use Rattle.machine.specs.Views.{Looked}
 use Rattle.hostfiles.specs.Looks.{is_looked, is_same_ask}
 use Rattle.hostfiles.specs.declared.looks.Looks.{Looks}

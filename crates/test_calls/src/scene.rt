@@ -1,12 +1,12 @@
 // What a call works on: memory, files and the desk.
 
-use bdos::{Desk, Served};
+use bdos::call;
+use console_calls::{Desk, Served};
 use cpmfiles::{Changes, HostFiles, Name, Table};
 use i8080::{Bus, Flags, Regs};
 use pagemem::PlainMemory;
 use std::alloc::{AllocError, Global};
 use std::test::Fail;
-use system_calls::call;
 
 /// Where each call goes back to.
 const CALLER: u16 = 0x0345;

@@ -1,8 +1,8 @@
 // Calls one after another, with their values and what they leave in memory.
 
 use crate::scene::{Scene, blank_memory, calling, returned};
-use bdos::Cause::BadDrive;
-use bdos::Served;
+use console_calls::Cause::BadDrive;
+use console_calls::Served;
 use i8080::Bus;
 use std::alloc::{AllocError, Global};
 use std::process::Abort;

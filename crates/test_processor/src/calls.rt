@@ -1,8 +1,8 @@
 // The console and the calls, over a plain memory.
 
 use crate::fixtures::{WARM_BOOT, blank};
-use bdos::Cause::{self, BadDrive, NoDollar, Unsupported, WarmBoot};
-use bdos::{Desk, Served, call};
+use console_calls::Cause::{self, BadDrive, NoDollar, Unsupported, WarmBoot};
+use console_calls::{Desk, Served, call};
 use i8080::{Bus, Regs};
 use pagemem::PlainMemory;
 use std::alloc::{AllocError, Global};

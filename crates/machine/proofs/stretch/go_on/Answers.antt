@@ -1,5 +1,5 @@
 use Rattle.std.proofs.Common.{◌≡◌, subst, ap, arith, ◌∙◌, ◌≤◌, ◌+◌, refl, Option, Some, None, Ok, ℕ}
-use Rattle.bdos.specs.declared.cause.Cause.{Cause}
+use Rattle.console_calls.specs.declared.cause.Cause.{Cause}
 use Rattle.machine.specs.Views.{Running}
 use Rattle.machine.specs.Machine.{ask, after}
 use Rattle.machine.specs.Steps.{TakesStep}

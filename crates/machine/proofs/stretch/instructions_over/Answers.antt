@@ -3,7 +3,7 @@ use Rattle.std.specs.declared.result.Result.{Result}
 use Rattle.std.specs.declared.alloc.AllocError.{AllocError}
 use Rattle.i8080.specs.declared.registers.Regs.{Regs}
 use Rattle.i8080.specs.declared.outcome.Did.TheVariants as did
-use Rattle.bdos.specs.declared.cause.Cause.{Cause}
+use Rattle.console_calls.specs.declared.cause.Cause.{Cause}
 use Rattle.pagemem.specs.Overlay.{own_of, looks_of}
 use Rattle.pagemem.specs.declared.view.View.{View}
 use Rattle.pagemem.specs.ViewParts.{overlay_in, image_in, loan_of}

@@ -1,8 +1,8 @@
 use Rattle.std.specs.Prelude.{Option, Ok, Err, Some}
 use Rattle.std.specs.Borrow.{GName}
 use Rattle.std.proofs.Common.{subst, sym, ◌∙◌}
-use Rattle.bdos.specs.declared.cause.Cause.{Cause}
-use Rattle.bdos.specs.declared.cause.Cause.TheVariants.{WarmBoot, SystemArea}
+use Rattle.console_calls.specs.declared.cause.Cause.{Cause}
+use Rattle.console_calls.specs.declared.cause.Cause.TheVariants.{WarmBoot, SystemArea}
 use Rattle.machine.specs.Views.{Running}
 use Rattle.machine.specs.WrittenCells.{devices_of}
 use Rattle.machine.specs.Steps.{running_with, TakesStep}

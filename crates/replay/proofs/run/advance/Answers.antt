@@ -1,6 +1,6 @@
 use Rattle.std.proofs.Common.{arith, inl, inr, ap, sym, ◌∙◌, Some, None, Ok, subst, ◌<◌, ◌≤◌, ℕ, Option}
 use Rattle.std.proofs.lemmas.Bool.Decides.{eqb_tells}
-use Rattle.bdos.specs.declared.cause.Cause.{Cause}
+use Rattle.console_calls.specs.declared.cause.Cause.{Cause}
 use Rattle.machine.specs.Views.{State, Running}
 use Rattle.machine.specs.Machine.{ask}
 use Rattle.machine.specs.Stretch.{LooksAtNothingNew, Stretches}

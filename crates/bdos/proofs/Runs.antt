@@ -1,0 +1,76 @@
+-- Cells that are read and written one after another.
+use Rattle.std.proofs.Common.{◌≡◌, ℕ, zero, suc, ◌+◌, ◌-◌, ◌<◌, ◌≤◌, List, [], ◌∷◌, ◌++◌, length, take, slice_set, replicate, refl, sym, ap, subst, ◌∙◌, arith}
+use Rattle.std.proofs.lemmas.List.{take_more_set, take_all, append_assoc, append-nil}
+use Rattle.i8080.specs.Memory.{Memory, Own, Looks, look, look_all, write, write_all, bytes}
+use Rattle.i8080.specs.Reading.{end_of, asked}
+use Rattle.i8080.specs.Registers.{onward}
+use Rattle.i8080.specs.End.{Reads}
+use Rattle.console_calls.proofs.Scanning.{end_of-ending, asked-ending, one_less, none_left}
+use Rattle.bdos.specs.FileCalls.{bytes_at, block_read}
+use Rattle.file_calls.specs.declared.block.Block.{Block}
+
+end_more : (byte : ℕ → ℕ) (n a : ℕ) → end_of (bytes_at (suc n) a) byte ≡ byte a ∷ end_of (bytes_at n (onward a 1)) byte
+unfolding bytes_at
+end_more byte n a = end_of-ending (λ rest. byte a ∷ rest) (bytes_at n (onward a 1)) byte
+
+asked_more : (byte : ℕ → ℕ) (n a : ℕ) → asked (bytes_at (suc n) a) byte ≡ a ∷ asked (bytes_at n (onward a 1)) byte
+unfolding bytes_at
+asked_more byte n a = ap (λ (at : List ℕ). a ∷ at) (asked-ending (λ rest. byte a ∷ rest) (bytes_at n (onward a 1)) byte)
+
+end_none : (byte : ℕ → ℕ) (a : ℕ) → end_of (bytes_at 0 a) byte ≡ []
+unfolding bytes_at
+end_none byte a = refl
+
+asked_none : (byte : ℕ → ℕ) (a : ℕ) → asked (bytes_at 0 a) byte ≡ []
+unfolding bytes_at
+asked_none byte a = refl
+
+-- one cell more was read
+pub taken_on : (byte : ℕ → ℕ) (n i a v : ℕ) (cells : List ℕ) → i < n → i < length cells → v ≡ byte a
+    → take (i + 1) (slice_set cells i v) ++ end_of (bytes_at (n - (i + 1)) (onward a 1)) byte ≡ take i cells ++ end_of (bytes_at (n - i) a) byte
+taken_on byte n i a v cells h k e =
+    ap (λ xs. xs ++ end_of (bytes_at (n - (i + 1)) (onward a 1)) byte) (take_more_set cells i v k)
+    ∙ append_assoc (take i cells) (v ∷ []) (end_of (bytes_at (n - (i + 1)) (onward a 1)) byte)
+    ∙ ap (λ x. take i cells ++ x ∷ end_of (bytes_at (n - (i + 1)) (onward a 1)) byte) e
+    ∙ ap (λ xs. take i cells ++ xs) (sym (end_more byte (n - (i + 1)) a) ∙ ap (λ k. end_of (bytes_at k a) byte) (sym (one_less n i h)))
+
+pub looked_on : (byte : ℕ → ℕ) (own : Own) (looks looks' : Looks) (n i a : ℕ) → i < n → looks' ≡ look own looks a
+    → look_all own (asked (bytes_at (n - (i + 1)) (onward a 1)) byte) looks' ≡ look_all own (asked (bytes_at (n - i) a) byte) looks
+looked_on byte own looks looks' n i a h e =
+    ap (look_all own (asked (bytes_at (n - (i + 1)) (onward a 1)) byte)) e
+    ∙ ap (λ (at : List ℕ). look_all own at looks) (sym (asked_more byte (n - (i + 1)) a) ∙ ap (λ k. asked (bytes_at k a) byte) (sym (one_less n i h)))
+
+-- all were read
+pub taken_all : (byte : ℕ → ℕ) (n i a : ℕ) (cells : List ℕ) → n ≤ i → length cells ≤ i → cells ≡ take i cells ++ end_of (bytes_at (n - i) a) byte
+taken_all byte n i a cells h k =
+    sym (ap (λ j. take i cells ++ end_of (bytes_at j a) byte) (none_left n i h) ∙ ap (λ xs. take i cells ++ xs) (end_none byte a) ∙ append-nil (take i cells) ∙ take_all i cells k)
+
+pub looked_all : (byte : ℕ → ℕ) (own : Own) (looks : Looks) (n i a : ℕ) → n ≤ i → looks ≡ look_all own (asked (bytes_at (n - i) a) byte) looks
+looked_all byte own looks n i a h = sym (ap (λ j. look_all own (asked (bytes_at j a) byte) looks) (none_left n i h) ∙ ap (λ (at : List ℕ). look_all own at looks) (asked_none byte a))
+
+-- some cells are written, and then others
+pub write_all-append : (own : Own) (xs ys : List (ℕ × ℕ)) → write_all own (xs ++ ys) ≡ write_all (write_all own xs) ys
+write_all-append own [] ys = refl
+write_all-append own (x ∷ xs) ys = write_all-append (write own x.0 x.1) xs ys
+
+pub written_both : (own mid new : Own) (xs ys : List (ℕ × ℕ)) → mid ≡ write_all own xs → new ≡ write_all mid ys → new ≡ write_all own (xs ++ ys)
+written_both own mid new xs ys a b = b ∙ ap (λ (o : Own). write_all o ys) a ∙ sym (write_all-append own xs ys)
+
+-- the same cells by another name of their address
+pub read_at : (n a b : ℕ) {m m1 : Memory} {cells : List ℕ} → a ≡ b → Reads (bytes_at n a) m cells m1 → Reads (bytes_at n b) m cells m1
+read_at n a b {m = m} {m1 = m1} {cells = cells} e h = subst (λ (x : ℕ). Reads (bytes_at n x) m cells m1) e h
+
+-- a control block whose first byte was read
+pub block_of : (length drive dr at a : ℕ) {m m1 : Memory} {cells fcb : List ℕ} → a ≡ onward at 1 → Reads (bytes_at (length - 1) a) m cells m1 → fcb ≡ dr ∷ cells ++ replicate (36 - length) 0
+    → Reads (block_read drive dr length at) m (record { drive = drive; fcb = fcb }) m1
+unfolding block_read
+block_of length drive dr at a {m = m} {m1 = m1} {cells = cells} e h f =
+    let w : Reads (bytes_at (length - 1) (onward at 1)) m cells m1 = read_at (length - 1) a (onward at 1) e h in
+    let block : List ℕ → Block = λ rest. record { drive = drive; fcb = dr ∷ rest ++ replicate (36 - length) 0 } in
+    record {
+      value = ap (λ (x : List ℕ). record { drive = drive; fcb = x }) f ∙ ap block w.value ∙ sym (end_of-ending block (bytes_at (length - 1) (onward at 1)) (bytes m));
+      looks = w.looks ∙ ap (λ (at : List ℕ). look_all m.own at m.looks) (sym (asked-ending block (bytes_at (length - 1) (onward at 1)) (bytes m)));
+      own = w.own;
+      beneath = w.beneath;
+      lender = w.lender;
+    }

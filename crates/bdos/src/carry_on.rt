@@ -1,0 +1,260 @@
+// What a call does with what it found.
+
+ghost use Rattle.std.specs.Prelude.{◌≡◌, ◌≢◌, ◌≤◌, ◌/◌, ◌%◌, List, [], ◌∷◌, ℕ, Ok, OnOk, OnErr, length};
+ghost use Rattle.file_calls.specs.Questions.{Drives, drives_of};
+ghost use Rattle.file_calls.specs.FileCalls.{IsApart};
+ghost use Rattle.file_calls.specs.Changes.{Unchanged, Stored, own_with};
+ghost use Rattle.file_calls.specs.declared.finding.Finding.TheVariants as finding;
+ghost use Rattle.i8080.specs.End.{cells_from};
+ghost use Rattle.i8080.specs.Registers.{word};
+ghost use Rattle.bdos.specs.FileCalls.{carried_on, back, directory_record, random_cells, random_bytes, opened_bytes, made_bytes};
+ghost use Rattle.bdos.specs.Fulfils.{Fulfils};
+
+use crate::cells::{fetch_cells, put_cells, put_record, ready_place, write_place};
+use console_calls::{Desk, Served, give_back};
+use cpmfiles::{Key, Table};
+use directory::Search;
+use file_calls::{Finding, Write};
+use i8080::{Bus, Regs, ready_cells, word_of, write_cells};
+use std::alloc::AllocError;
+
+/// Carries a call on that found something, and goes back to an address. An `Err` leaves registers, cells, desk and files.
+pub fn carry_on<B: Bus>(
+    finding: Finding,
+    regs: &mut Regs,
+    bus: &mut B,
+    table: &mut Table<'_>,
+    desk: &mut Desk,
+    to: u16,
+) -> Result<Served, AllocError>
+    requires { IsApart finding }
+    ensures { (script : List ℕ) → Fulfils (carried_on finding regs.old desk.old.desk.spot to) script regs.old (B.memory bus.old) desk.old (drives_of table.old) result regs.new (B.memory bus.new) desk.new (drives_of table.new) }
+{
+    match finding {
+        Finding::Value(value) => Ok(give_nothing(regs, bus, desk, value, to)),
+        Finding::Opened(count) => give_count(regs, bus, desk, count, to),
+        Finding::FirstEntry(search) => give_entry(regs, bus, desk, search, to),
+        Finding::NoEntry => Ok(give_no_entry(regs, bus, desk, to)),
+        Finding::Found(bytes, next) => give_record(regs, bus, desk, &bytes, next, to),
+        Finding::Write(write) => store(regs, bus, table, desk, &write, to),
+        Finding::Make(key) => make(regs, bus, table, desk, &key, to),
+        Finding::Rename(old, new) => rename(regs, bus, table, desk, (old, new), to),
+        Finding::Length(places) => give_place(regs, bus, desk, places, 0, to),
+        Finding::NoLength => give_place(regs, bus, desk, 0, 0xff, to),
+        Finding::RandomPlace(place) => give_place(regs, bus, desk, place, 0, to),
+    }
+}
+
+// Gives back a value, and does nothing else.
+#[tactic(auto, using(crate::proofs::Parts::extends_same, crate::proofs::Parts::extends_itself))]
+fn give_nothing<B: Bus>(regs: &mut Regs, bus: &B, desk: &Desk, value: u8, to: u16) -> Served
+    ensures { (script : List ℕ) (v : Drives) → Fulfils (carried_on (finding.Value value) regs.old desk.now.desk.spot to) script regs.old (B.memory bus.now) desk.now v (Ok result) regs.new (B.memory bus.now) desk.now v }
+{
+    give_back(regs, value as u16, to);
+    Served::Went
+}
+
+// Clears the bytes of the control block from 13 to 31, but for the count of the extent at 15.
+#[tactic(auto, using(crate::proofs::Parts::extends_same, crate::proofs::Parts::extends_itself))]
+fn give_count<B: Bus>(
+    regs: &mut Regs,
+    bus: &mut B,
+    desk: &Desk,
+    count: u8,
+    to: u16,
+) -> Result<Served, AllocError>
+    ensures { (script : List ℕ) (v : Drives) → Fulfils (carried_on (finding.Opened count) regs.old desk.now.desk.spot to) script regs.old (B.memory bus.old) desk.now v result regs.new (B.memory bus.new) desk.now v }
+{
+    let at = word_of(regs.e, regs.d).wrapping_add(13);
+    give_cells(regs, bus, desk, at, &opened_bytes(count), 0, to)
+}
+
+// Gives a value and a random place, in the three bytes of the control block from 33 on.
+#[tactic(auto, using(crate::proofs::Parts::extends_same, crate::proofs::Parts::extends_itself))]
+fn give_place<B: Bus>(
+    regs: &mut Regs,
+    bus: &mut B,
+    desk: &Desk,
+    place: u32,
+    value: u8,
+    to: u16,
+) -> Result<Served, AllocError>
+    ensures { (script : List ℕ) (v : Drives) → Fulfils (back value regs.old desk.now.desk.spot to (random_cells (word regs.old.e regs.old.d) place) Unchanged) script regs.old (B.memory bus.old) desk.now v result regs.new (B.memory bus.new) desk.now v }
+{
+    let at = word_of(regs.e, regs.d).wrapping_add(33);
+    give_cells(regs, bus, desk, at, &random_bytes(place), value, to)
+}
+
+// No entry matches: there is no search to go on with.
+#[tactic(auto, using(crate::proofs::Parts::extends_same, crate::proofs::Parts::extends_itself))]
+fn give_no_entry<B: Bus>(regs: &mut Regs, bus: &B, desk: &mut Desk, to: u16) -> Served
+    ensures { (script : List ℕ) (v : Drives) → Fulfils (carried_on finding.NoEntry regs.old desk.old.desk.spot to) script regs.old (B.memory bus.now) desk.old v (Ok result) regs.new (B.memory bus.now) desk.new v }
+{
+    desk.set_search(None);
+    give_back(regs, 0xff, to);
+    Served::Went
+}
+
+// Gives back a value, once bytes are written into the cells from an address on.
+#[tactic(auto, using(crate::proofs::Parts::extends_same, crate::proofs::Parts::extends_itself))]
+fn give_cells<B: Bus>(
+    regs: &mut Regs,
+    bus: &mut B,
+    desk: &Desk,
+    at: u16,
+    bytes: &[u8],
+    value: u8,
+    to: u16,
+) -> Result<Served, AllocError>
+    requires { length bytes.now ≤ 128 }
+    ensures { (script : List ℕ) (v : Drives) → Fulfils (back value regs.old desk.now.desk.spot to (cells_from at bytes.now) Unchanged) script regs.old (B.memory bus.old) desk.now v result regs.new (B.memory bus.new) desk.now v }
+{
+    put_cells(bus, at, bytes)?;
+    give_back(regs, value as u16, to);
+    Ok(Served::Went)
+}
+
+// The entry that a search found, in a directory record, and from where the search goes on.
+#[tactic(auto, using(crate::proofs::Parts::extends_same, crate::proofs::Parts::extends_itself))]
+fn give_entry<B: Bus>(
+    regs: &mut Regs,
+    bus: &mut B,
+    desk: &mut Desk,
+    search: Search,
+    to: u16,
+) -> Result<Served, AllocError>
+    ensures { (script : List ℕ) (v : Drives) → Fulfils (carried_on (finding.FirstEntry search) regs.old desk.old.desk.spot to) script regs.old (B.memory bus.old) desk.old v result regs.new (B.memory bus.new) desk.new v }
+{
+    put_cells(bus, desk.buffer(), &directory_record(&search.last))?;
+    desk.set_search(Some(search));
+    give_back(regs, 0, to);
+    Ok(Served::Went)
+}
+
+// A directory record whose first entry is this one, and whose others are unused.
+fn directory_record(entry: &[u8; 32]) -> [u8; 128]
+    ensures { result ≡ directory_record entry.now }
+{
+    let mut bytes = [0xe5; 128];
+    bytes[..32].copy_from_slice(entry);
+    bytes
+}
+
+// The record that was read, in the buffer, and the next place.
+#[tactic(auto, using(crate::proofs::Parts::extends_same, crate::proofs::Parts::extends_itself))]
+fn give_record<B: Bus>(
+    regs: &mut Regs,
+    bus: &mut B,
+    desk: &Desk,
+    bytes: &[u8; 128],
+    next: u32,
+    to: u16,
+) -> Result<Served, AllocError>
+    ensures { (script : List ℕ) (v : Drives) → Fulfils (carried_on (finding.Found bytes.now next) regs.old desk.now.desk.spot to) script regs.old (B.memory bus.old) desk.now v result regs.new (B.memory bus.new) desk.now v }
+{
+    let block = word_of(regs.e, regs.d);
+    put_record(bus, desk.buffer(), bytes, block, next)?;
+    give_back(regs, 0, to);
+    Ok(Served::Went)
+}
+
+// A record of the buffer goes into a file.
+fn store<B: Bus>(
+    regs: &mut Regs,
+    bus: &mut B,
+    table: &mut Table<'_>,
+    desk: &Desk,
+    write: &Write,
+    to: u16,
+) -> Result<Served, AllocError>
+    ensures { (script : List ℕ) → Fulfils (carried_on (finding.Write write.now) regs.old desk.now.desk.spot to) script regs.old (B.memory bus.old) desk.now (drives_of table.old) result regs.new (B.memory bus.new) desk.now (drives_of table.new) }
+{
+    let mut bytes = [0; 128];
+    fetch_cells(bus, desk.buffer(), &mut bytes);
+    let block = word_of(regs.e, regs.d);
+    ready_place(bus, block)?;
+    write_record(table, write, &bytes)?;
+    write_place(bus, block, write.next);
+    give_back(regs, 0, to);
+    Ok(Served::Went)
+}
+
+// Writes a record, and leaves holes before it or fills them. An `Err` changes no file.
+fn write_record(table: &mut Table<'_>, write: &Write, bytes: &[u8; 128]) -> Result<(), AllocError>
+    ensures ok { OnOk result ((drives_of table.new).own ≡ own_with (Stored write.now bytes.now) (drives_of table.old).own) }
+    ensures err { OnErr result ((drives_of table.new).own ≡ (drives_of table.old).own) }
+    ensures looks { (drives_of table.new).looks ≡ (drives_of table.old).looks }
+    ensures host { (drives_of table.new).host ≡ (drives_of table.old).host }
+    ensures lender { (drives_of table.new).lender ≡ (drives_of table.old).lender }
+{
+    let journal = &mut table.changes.journal;
+    let place = write.place as u32;
+    journal.write(&write.key, write.length, place, bytes, write.filled)
+}
+
+// Makes an empty file, and clears the bytes of the control block from 13 to 31.
+fn make<B: Bus>(
+    regs: &mut Regs,
+    bus: &mut B,
+    table: &mut Table<'_>,
+    desk: &Desk,
+    key: &Key,
+    to: u16,
+) -> Result<Served, AllocError>
+    ensures { (script : List ℕ) → Fulfils (carried_on (finding.Make key.now) regs.old desk.now.desk.spot to) script regs.old (B.memory bus.old) desk.now (drives_of table.old) result regs.new (B.memory bus.new) desk.now (drives_of table.new) }
+{
+    let at = word_of(regs.e, regs.d).wrapping_add(13);
+    ready_cells(bus, at, 19)?;
+    table.changes.journal.make(key)?;
+    write_cells(bus, at, &made_bytes());
+    give_back(regs, 0, to);
+    Ok(Served::Went)
+}
+
+// Puts a file under another key.
+fn rename<B: Bus>(
+    regs: &mut Regs,
+    bus: &B,
+    table: &mut Table<'_>,
+    desk: &Desk,
+    keys: (Key, Key),
+    to: u16,
+) -> Result<Served, AllocError>
+    requires { keys.0 ≢ keys.1 }
+    ensures { (script : List ℕ) → Fulfils (carried_on (finding.Rename keys.0 keys.1) regs.old desk.now.desk.spot to) script regs.old (B.memory bus.now) desk.now (drives_of table.old) result regs.new (B.memory bus.now) desk.now (drives_of table.new) }
+{
+    let (old, new) = keys;
+    table.changes.journal.rename(&old, &new)?;
+    give_back(regs, 0, to);
+    Ok(Served::Went)
+}
+
+// The bytes 13 to 31 of a control block that is opened at an extent of a count.
+#[tactic(auto, unfolding(crate::specs::FileCalls::opened_bytes))]
+fn opened_bytes(count: u8) -> [u8; 19]
+    ensures { result ≡ opened_bytes count }
+{
+    let mut bytes = [0; 19];
+    bytes[2] = count;
+    bytes
+}
+
+// The bytes 13 to 31 of a control block whose file is made.
+#[tactic(auto, unfolding(crate::specs::FileCalls::made_bytes))]
+fn made_bytes() -> [u8; 19]
+    ensures { result ≡ made_bytes }
+{
+    [0; 19]
+}
+
+// The three bytes of a random place, the low one first.
+#[tactic(auto, unfolding(crate::specs::FileCalls::random_bytes))]
+fn random_bytes(place: u32) -> [u8; 3]
+    ensures { result ≡ random_bytes place }
+{
+    [
+        (place % 256) as u8,
+        (place / 256 % 256) as u8,
+        (place / 65_536 % 256) as u8,
+    ]
+}

@@ -1,0 +1,80 @@
+// The cells of control blocks and of the buffer.
+
+ghost use Rattle.std.specs.Prelude.{◌≡◌, ◌≤◌, ◌<◌, ◌++◌, ℕ, IsTrue, OnOk, length};
+ghost use Rattle.i8080.specs.Memory.{write_all};
+ghost use Rattle.i8080.specs.Registers.{onward};
+ghost use Rattle.i8080.specs.End.{Reads, Writes, cells_from};
+ghost use Rattle.bdos.specs.FileCalls.{bytes_at, place_cells};
+
+use i8080::{Bus, fetch, ready_cells, write_cells};
+use std::alloc::AllocError;
+
+/// Reads cells, from an address on; the cell after 0FFFFH is 0000H.
+pub fn fetch_cells<B: Bus>(bus: &mut B, at: u16, cells: &mut [u8])
+    requires { length cells.old ≤ 128 }
+    ensures reads { Reads (bytes_at (length cells.old) at) (B.memory bus.old) cells.new (B.memory bus.new) }
+    ensures length { length cells.new ≡ length cells.old }
+{
+    let mut address = at;
+    for i in 0..cells.len() {
+        cells[i] = fetch(bus, address);
+        address = address.wrapping_add(1);
+    }
+}
+
+/// Writes bytes into the cells from an address on, once all are ready.
+pub fn put_cells<B: Bus>(bus: &mut B, at: u16, bytes: &[u8]) -> Result<(), AllocError>
+    requires { length bytes.now ≤ 128 }
+    ensures { Writes (cells_from at bytes.now) (B.memory bus.old) result (B.memory bus.new) }
+{
+    ready_cells(bus, at, bytes.len() as u16)?;
+    write_cells(bus, at, bytes);
+    Ok(())
+}
+
+/// Makes the three bytes of a control block ready that hold its sequential place.
+pub fn ready_place<B: Bus>(bus: &mut B, at: u16) -> Result<(), AllocError>
+    ensures extent { OnOk result (IsTrue (B.is_ready bus.new (onward at 12))) }
+    ensures high { OnOk result (IsTrue (B.is_ready bus.new (onward at 14))) }
+    ensures low { OnOk result (IsTrue (B.is_ready bus.new (onward at 32))) }
+    ensures kept { (q : ℕ) → IsTrue (B.is_ready bus.old q) → IsTrue (B.is_ready bus.new q) }
+    ensures memory { B.memory bus.new ≡ B.memory bus.old }
+{
+    bus.ready(at.wrapping_add(12))?;
+    bus.ready(at.wrapping_add(14))?;
+    bus.ready(at.wrapping_add(32))
+}
+
+/// Writes the sequential place of a control block, whose three bytes are ready.
+pub fn write_place<B: Bus>(bus: &mut B, at: u16, place: u32)
+    requires extent { IsTrue (B.is_ready bus.old (onward at 12)) }
+    requires high { IsTrue (B.is_ready bus.old (onward at 14)) }
+    requires low { IsTrue (B.is_ready bus.old (onward at 32)) }
+    ensures own { (B.memory bus.new).own ≡ write_all (B.memory bus.old).own (place_cells at place) }
+    ensures looks { (B.memory bus.new).looks ≡ (B.memory bus.old).looks }
+    ensures beneath { (B.memory bus.new).beneath ≡ (B.memory bus.old).beneath }
+    ensures lender { (B.memory bus.new).lender ≡ (B.memory bus.old).lender }
+{
+    bus.write(at.wrapping_add(12), (place / 128 % 32) as u8);
+    bus.write(at.wrapping_add(14), (place / 4096 % 256) as u8);
+    bus.write(at.wrapping_add(32), (place % 128) as u8);
+}
+
+/// Writes a record into the buffer, and then the place of a control block, once all cells are ready.
+#[tactic(auto, using(crate::proofs::Runs::written_both))]
+pub fn put_record<B: Bus>(
+    bus: &mut B,
+    buffer: u16,
+    bytes: &[u8],
+    at: u16,
+    place: u32,
+) -> Result<(), AllocError>
+    requires bytes { length bytes.now ≤ 128 }
+    ensures { Writes (cells_from buffer bytes.now ++ place_cells at place) (B.memory bus.old) result (B.memory bus.new) }
+{
+    ready_cells(bus, buffer, bytes.len() as u16)?;
+    ready_place(bus, at)?;
+    write_cells(bus, buffer, bytes);
+    write_place(bus, at, place);
+    Ok(())
+}

@@ -1,0 +1,9 @@
+pub mod Scanning
+mod Looking
+pub mod Trees
+mod Carried
+mod Strings
+mod Numbers
+mod Leaves
+mod Typing
+mod Lines

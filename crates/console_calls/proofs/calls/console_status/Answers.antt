@@ -1,0 +1,6 @@
+use Rattle.std.proofs.Common.{rules}
+use Rattle.console_calls.proofs.Leaves.{status_goes}
+use Rattle.console_calls.proofs.calls.console_status.Goals as goal
+
+pub returns : goal.returns
+returns g c = status_goes (search rules) (search rules) c.fetch_word-to.ensures c.give_back.ensures (search rules)

@@ -1,0 +1,9 @@
+pub mod Desk
+pub mod Places
+pub mod Questions
+pub mod Strings
+pub mod Line
+pub mod Types
+pub mod Printing
+pub mod Functions
+pub mod Calls

@@ -1,0 +1,360 @@
+ghost use Rattle.std.specs.Prelude.{◌≡◌, ◌++◌, ◌∷◌, [], ◌≢◌, ◌≤◌, ◌<◌, ◌+◌, ◌||◌, ◌&&◌, ◌==◌, ℕ, Bool, true, false, not, length, take, IfOk, OnOk, OnErr, IfSome, IfNone};
+ghost use Rattle.console_calls.specs.Desk as desk;
+ghost use Rattle.console_calls.specs.Desk.{first_desk, printed, tabbed, sent, sent_all, echoed, desk_showing};
+ghost use Rattle.console_calls.specs.Places.{is_within, is_ahead, IsSpotOf};
+
+use crate::places::Places;
+use directory::Search;
+use std::alloc::{AllocError, Global};
+use std::marker::Model;
+
+/// All of a desk but its text: how many script bytes were taken, the column, the buffer address of the file calls, the current drive (0 to 3 for A
+/// to D), and where a search of the directory goes on, if there is one.
+#[derive(Clone, Copy)]
+pub struct Spot {
+    cursor: usize,
+    column: usize,
+    buffer: u16,
+    drive: u8,
+    search: Option<Search>,
+}
+
+/// How far the console script was taken, what the console shows, and where records go; and the script places that were
+/// looked at, which are no part of a state of the machine.
+#[derive(Drop)]
+pub struct Desk {
+    spot: Spot,
+    text: Vec<u8>,
+    places: Places,
+}
+
+impl Model for Desk {
+    ghost use Rattle.std.specs.Prelude.{length, ◌≤◌, ◌<◌};
+    ghost use Rattle.console_calls.specs.Places.{Watched};
+
+    ghost Value = { Watched };
+
+    ghost view = { λ d. record {
+      desk = record { spot = d.spot; text = d.text.items };
+      places = d.places;
+    } };
+
+    ghost invariant = { λ d. record {
+      column : d.spot.column ≤ length d.text.items;
+      cursor : d.spot.cursor < 9223372036854775808;
+      from : d.places.from ≤ d.spot.cursor;
+      to : d.spot.cursor ≤ d.places.to;
+      bound : d.places.to ≤ 9223372036854775808;
+    } };
+}
+
+/// A desk as it stood, its text by its length alone.
+#[derive(Clone, Copy)]
+pub(crate) struct Mark {
+    spot: Spot,
+    length: usize,
+}
+
+impl Desk {
+    /// A desk with nothing taken and nothing sent, the buffer in page zero, and A the current drive. It takes no memory.
+    pub fn new(alloc: Global) -> Desk
+        ensures desk { result.desk ≡ first_desk }
+        ensures places { (k : ℕ) → is_within result.places k ≡ false }
+    {
+        let spot = Spot {
+            cursor: 0,
+            column: 0,
+            buffer: 0x80,
+            drive: 0,
+            search: None,
+        };
+        Desk {
+            spot,
+            text: Vec::new(alloc),
+            places: Places { from: 0, to: 0 },
+        }
+    }
+
+    /// The desk of a spot and its text, with no place looked at.
+    pub fn over(spot: Spot, text: Vec<u8>) -> Desk
+        requires { IsSpotOf spot (length text.items) }
+        ensures desk { result.desk ≡ record { spot = spot; text = text.items } }
+        ensures places { (k : ℕ) → is_within result.places k ≡ false }
+    {
+        let places = Places {
+            from: spot.cursor,
+            to: spot.cursor,
+        };
+        Desk { spot, text, places }
+    }
+
+    /// All of the desk but its text.
+    pub fn spot(&self) -> Spot
+        ensures spot { result ≡ self.now.desk.spot }
+        ensures within { IsSpotOf result (length self.now.desk.text) }
+    {
+        let Desk {
+            spot,
+            text: _,
+            places: _,
+        } = self;
+        *spot
+    }
+
+    /// The text, moved out.
+    pub fn into_text(self) -> Vec<u8>
+        ensures { result.items ≡ self.desk.text }
+    {
+        let Desk {
+            spot: _,
+            text,
+            places: _,
+        } = self;
+        text
+    }
+
+    /// Prints a byte on the console. An `Err` changes nothing.
+    pub fn print(&mut self, byte: u8) -> Result<(), AllocError>
+        ensures ok { OnOk result (self.new.desk ≡ desk_showing self.old.desk (printed self.old.desk.spot.column byte)) }
+        ensures places { self.new.places ≡ self.old.places }
+        ensures err { OnErr result (self.new ≡ self.old) }
+    {
+        if byte == b'\t' {
+            return self.tab();
+        }
+        self.send(byte)
+    }
+
+    /// All bytes sent to the console.
+    pub fn text(&self) -> &[u8]
+        ensures { result.now ≡ self.now.desk.text }
+    {
+        self.text.as_slice()
+    }
+
+    /// A copy of the desk.
+    pub fn snapshot(&self) -> Result<Desk, AllocError>
+        ensures { IfOk result (λ d. d ≡ self.now) }
+    {
+        let spot = self.spot;
+        let places = self.places;
+        let mut text = Vec::new(*self.text.allocator());
+        text.extend_from_slice(&self.text)?;
+        Ok(Desk { spot, text, places })
+    }
+
+    /// Whether the script's place was looked at.
+    pub fn looked(&self, place: usize) -> bool
+        ensures { result ≡ is_within self.now.places place }
+    {
+        self.places.from <= place && place < self.places.to
+    }
+
+    /// Takes one of the script's places that were looked at out of them; `None` where there is none.
+    pub fn take_look(&mut self) -> Option<usize>
+        ensures desk { self.new.desk ≡ self.old.desk }
+        ensures one { IfSome result (λ k. is_within self.old.places k ≡ true) }
+        ensures taken { IfSome result (λ k. (j : ℕ) → is_within self.new.places j ≡ (is_within self.old.places j && not (j == k))) }
+        ensures none { IfNone result ((j : ℕ) → is_within self.old.places j ≡ false) }
+        ensures same { IfNone result (self.new ≡ self.old) }
+    {
+        let Places { from, to } = self.places;
+        if from < self.spot.cursor {
+            self.places.from = from + 1;
+            return Some(from);
+        }
+        if from == to {
+            return None;
+        }
+        self.places.to = to - 1;
+        Some(to - 1)
+    }
+
+    /// Where records go.
+    pub fn buffer(&self) -> u16
+        ensures { result ≡ self.now.desk.spot.buffer }
+    {
+        self.spot.buffer
+    }
+
+    /// Sets the address where records go.
+    pub fn set_buffer(&mut self, buffer: u16)
+        ensures desk { self.new.desk ≡ record self.old.desk { spot = record self.old.desk.spot { buffer = buffer } } }
+        ensures places { self.new.places ≡ self.old.places }
+    {
+        self.spot.buffer = buffer;
+    }
+
+    /// The current drive: 0 to 3 for A to D.
+    pub fn drive(&self) -> u8
+        ensures { result ≡ self.now.desk.spot.drive }
+    {
+        self.spot.drive
+    }
+
+    /// Sets the current drive.
+    pub fn set_drive(&mut self, drive: u8)
+        ensures desk { self.new.desk ≡ record self.old.desk { spot = record self.old.desk.spot { drive = drive } } }
+        ensures places { self.new.places ≡ self.old.places }
+    {
+        self.spot.drive = drive;
+    }
+
+    /// Where a search of the directory goes on, if there is one.
+    pub fn search(&self) -> Option<Search>
+        ensures { result ≡ self.now.desk.spot.search }
+    {
+        self.spot.search
+    }
+
+    /// Sets where a search goes on.
+    pub fn set_search(&mut self, search: Option<Search>)
+        ensures desk { self.new.desk ≡ record self.old.desk { spot = record self.old.desk.spot { search = search } } }
+        ensures places { self.new.places ≡ self.old.places }
+    {
+        self.spot.search = search;
+    }
+
+    /// What the text's memory comes from.
+    pub(crate) fn allocator(&self) -> Global {
+        *self.text.allocator()
+    }
+
+    /// How many script bytes were taken.
+    pub(crate) fn cursor(&self) -> usize
+        ensures cursor { result ≡ self.now.desk.spot.cursor }
+        ensures bound { result < 9223372036854775808 }
+    {
+        self.spot.cursor
+    }
+
+    /// Looks at some places of the script, from the next byte's on.
+    pub(crate) fn look(&mut self, count: usize)
+        requires { self.old.desk.spot.cursor + count ≤ 9223372036854775808 }
+        ensures desk { self.new.desk ≡ self.old.desk }
+        ensures places { (k : ℕ) → is_within self.new.places k ≡ (is_within self.old.places k || is_ahead self.old.desk.spot.cursor count k) }
+    {
+        let to = self.spot.cursor + count;
+        if self.places.to < to {
+            self.places.to = to;
+        }
+    }
+
+    /// Takes some bytes of the script, which looks at their places.
+    pub(crate) fn take(&mut self, count: usize)
+        requires { self.old.desk.spot.cursor + count < 9223372036854775808 }
+        ensures desk { self.new.desk ≡ record self.old.desk { spot = record self.old.desk.spot { cursor = self.old.desk.spot.cursor + count } } }
+        ensures places { (k : ℕ) → is_within self.new.places k ≡ (is_within self.old.places k || is_ahead self.old.desk.spot.cursor count k) }
+    {
+        let cursor = self.spot.cursor + count;
+        if self.places.to < cursor {
+            self.places.to = cursor;
+        }
+        self.spot.cursor = cursor;
+    }
+
+    /// The desk as it stands, to be undone to.
+    pub(crate) fn mark(&self) -> Mark
+        ensures spot { result.spot ≡ self.now.desk.spot }
+        ensures length { result.length ≡ length self.now.desk.text }
+        ensures within { result.spot.column ≤ result.length }
+    {
+        Mark {
+            spot: self.spot,
+            length: self.text.len(),
+        }
+    }
+
+    /// Takes back what was sent since the mark.
+    pub(crate) fn undo(&mut self, mark: Mark)
+        requires within { mark.spot.column ≤ mark.length }
+        requires earlier { mark.length ≤ length self.old.desk.text }
+        requires cursor { mark.spot.cursor ≡ self.old.desk.spot.cursor }
+        ensures desk { self.new.desk ≡ record { spot = mark.spot; text = take mark.length self.old.desk.text } }
+        ensures places { self.new.places ≡ self.old.places }
+    {
+        self.text.truncate(mark.length);
+        self.spot = mark.spot;
+    }
+
+    fn send(&mut self, byte: u8) -> Result<(), AllocError>
+        ensures ok { OnOk result (self.new.desk ≡ desk_showing self.old.desk (sent self.old.desk.spot.column byte)) }
+        ensures places { self.new.places ≡ self.old.places }
+        ensures err { OnErr result (self.new ≡ self.old) }
+    {
+        self.text.push(byte)?;
+        self.spot.column = column_after(self.spot.column, byte);
+        Ok(())
+    }
+
+    /// Adds a byte to the text, and leaves the column. An `Err` changes nothing.
+    pub(crate) fn append(&mut self, byte: u8) -> Result<(), AllocError>
+        ensures ok { OnOk result (self.new.desk ≡ record self.old.desk { text = self.old.desk.text ++ byte ∷ [] }) }
+        ensures places { self.new.places ≡ self.old.places }
+        ensures err { OnErr result (self.new ≡ self.old) }
+    {
+        self.text.push(byte)?;
+        Ok(())
+    }
+
+    /// Sends bytes. An `Err` changes nothing.
+    pub(crate) fn send_all(&mut self, bytes: &[u8]) -> Result<(), AllocError>
+        ensures ok { OnOk result (self.new.desk ≡ desk_showing self.old.desk (sent_all self.old.desk.spot.column bytes.now)) }
+        ensures places { self.new.places ≡ self.old.places }
+        ensures err { OnErr result (self.new ≡ self.old) }
+    {
+        self.text.extend_from_slice(bytes)?;
+        self.spot.column = column_after_all(self.spot.column, bytes);
+        Ok(())
+    }
+
+    fn tab(&mut self) -> Result<(), AllocError>
+        ensures ok { OnOk result (self.new.desk ≡ desk_showing self.old.desk (tabbed self.old.desk.spot.column)) }
+        ensures places { self.new.places ≡ self.old.places }
+        ensures err { OnErr result (self.new ≡ self.old) }
+    {
+        let blanks = 8 - self.spot.column % 8;
+        self.text.extend_from_slice(&[b' '; 8][..blanks])?;
+        self.spot.column += blanks;
+        Ok(())
+    }
+
+    /// Prints a byte that was typed, where it is one that shows.
+    pub(crate) fn echo(&mut self, byte: u8) -> Result<(), AllocError>
+        ensures ok { OnOk result (self.new.desk ≡ desk_showing self.old.desk (echoed self.old.desk.spot.column byte)) }
+        ensures places { self.new.places ≡ self.old.places }
+        ensures err { OnErr result (self.new ≡ self.old) }
+    {
+        if matches!(byte, 0x20..|0x08| 0x09 | 0x0a | 0x0d) {
+            return self.print(byte);
+        }
+        Ok(())
+    }
+}
+
+// The column after a byte was sent.
+fn column_after(column: usize, byte: u8) -> usize
+    requires { column + 1 < 18446744073709551616 }
+    ensures column { result ≡ desk.column_after column byte }
+    ensures within { result ≤ column + 1 }
+{
+    match byte {
+        b'\r' => 0,
+        0x08 => column.saturating_sub(1),
+        0..=0x1f | 0x7f => column,
+        _ => column + 1,
+    }
+}
+
+// The column after bytes were sent.
+fn column_after_all(column: usize, bytes: &[u8]) -> usize
+    requires { column + length bytes.now < 18446744073709551616 }
+    ensures column { result ≡ desk.column_after_all column bytes.now }
+    ensures within { result ≤ column + length bytes.now }
+{
+    let mut after = column;
+    for byte in bytes {
+        after = column_after(after, *byte);
+    }
+    after
+}

@@ -1,0 +1,69 @@
+// The calls of drives and of the buffer address. They only read, and so take no memory.
+
+ghost use Rattle.std.specs.Prelude.{List, ℕ, Ok};
+ghost use Rattle.console_calls.specs.Calls as calls;
+ghost use Rattle.console_calls.specs.Calls.{Fulfils};
+
+use crate::calls::give_back;
+use crate::cause::Cause;
+use crate::desk::Desk;
+use crate::served::Served;
+use i8080::{Bus, Regs, fetch_word, word_of};
+
+/// Where records go at first, in page zero.
+const FIRST_BUFFER: u16 = 0x0080;
+
+/// The drives A to D, a bit for each.
+const DRIVES: u16 = 0x000f;
+
+/// Function 13, which goes back to the first drive and the first buffer.
+pub fn reset_disks<B: Bus>(regs: &mut Regs, bus: &mut B, desk: &mut Desk) -> Served
+    ensures { (script : List ℕ) → Fulfils (calls.reset_disks regs.old desk.old.desk.spot) script regs.old (B.memory bus.old) desk.old (Ok result) regs.new (B.memory bus.new) desk.new }
+{
+    let to = fetch_word(bus, regs.sp);
+    desk.set_buffer(FIRST_BUFFER);
+    desk.set_drive(0);
+    give_back(regs, 0, to);
+    Served::Went
+}
+
+/// Function 14, which sets the current drive.
+pub fn select_disk<B: Bus>(regs: &mut Regs, bus: &mut B, desk: &mut Desk) -> Served
+    ensures { (script : List ℕ) → Fulfils (calls.select_disk regs.old desk.old.desk.spot) script regs.old (B.memory bus.old) desk.old (Ok result) regs.new (B.memory bus.new) desk.new }
+{
+    if regs.e >= 4 {
+        return Served::Stop(Cause::BadDrive(regs.e));
+    }
+    let to = fetch_word(bus, regs.sp);
+    desk.set_drive(regs.e);
+    give_back(regs, 0, to);
+    Served::Went
+}
+
+/// Function 24, which tells the drives.
+pub fn login_vector<B: Bus>(regs: &mut Regs, bus: &mut B, desk: &Desk) -> Served
+    ensures { (script : List ℕ) → Fulfils (calls.login_vector regs.old desk.now.desk.spot) script regs.old (B.memory bus.old) desk.now (Ok result) regs.new (B.memory bus.new) desk.now }
+{
+    let to = fetch_word(bus, regs.sp);
+    give_back(regs, DRIVES, to);
+    Served::Went
+}
+
+/// Function 25, which gives the current drive.
+pub fn current_disk<B: Bus>(regs: &mut Regs, bus: &mut B, desk: &Desk) -> Served
+    ensures { (script : List ℕ) → Fulfils (calls.current_disk regs.old desk.now.desk.spot) script regs.old (B.memory bus.old) desk.now (Ok result) regs.new (B.memory bus.new) desk.now }
+{
+    let to = fetch_word(bus, regs.sp);
+    give_back(regs, desk.drive() as u16, to);
+    Served::Went
+}
+
+/// Function 26, which sets the buffer address.
+pub fn set_buffer_address<B: Bus>(regs: &mut Regs, bus: &mut B, desk: &mut Desk) -> Served
+    ensures { (script : List ℕ) → Fulfils (calls.set_buffer_address regs.old desk.old.desk.spot) script regs.old (B.memory bus.old) desk.old (Ok result) regs.new (B.memory bus.new) desk.new }
+{
+    let to = fetch_word(bus, regs.sp);
+    desk.set_buffer(word_of(regs.e, regs.d));
+    give_back(regs, 0, to);
+    Served::Went
+}

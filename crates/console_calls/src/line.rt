@@ -1,0 +1,163 @@
+ghost use Rattle.std.specs.Prelude.{◌≡◌, ◌≤◌, ◌<◌, ◌+◌, ℕ, length, reverse, ◌++◌, IfOk, OnOk};
+ghost use Rattle.console_calls.specs.Line.{no_line, shown, kept, taken_back, rubbed_out, type_byte};
+ghost use Rattle.console_calls.specs.Types.{typed_of, looks_of, FitsIn, Types};
+
+use std::alloc::{AllocError, Global};
+use std::marker::Model;
+
+/// A line that is typed: the bytes that are stored, and the bytes that are sent.
+#[derive(Drop)]
+pub(crate) struct Line {
+    stored: Vec<u8>,
+    sends: Vec<u8>,
+}
+
+impl Model for Line {
+    ghost use Rattle.std.specs.Prelude.{reverse};
+    ghost use Rattle.console_calls.specs.Line as line;
+
+    ghost Value = { line.Line };
+
+    ghost view = { λ l. record { stored = reverse l.stored.items; sends = l.sends.items } };
+}
+
+/// What a byte makes of a line.
+#[derive(Clone, Copy)]
+pub(crate) enum Took {
+    /// The line goes on.
+    Goes,
+    /// The line ends.
+    Ends,
+    /// The byte is a warm boot.
+    Boots,
+}
+
+/// How a line went, and how many places of the script were looked at for it.
+#[derive(Drop)]
+pub(crate) enum LineEnd {
+    Ended(Line, usize),
+    Booted(usize),
+    Short(usize),
+}
+
+impl Line {
+    /// A line of no byte.
+    pub(crate) fn new(alloc: Global) -> Line
+        ensures { result ≡ no_line }
+    {
+        Line {
+            stored: Vec::new(alloc),
+            sends: Vec::new(alloc),
+        }
+    }
+
+    /// How many bytes are stored.
+    pub(crate) fn len(&self) -> usize
+        ensures { result ≡ length self.now.stored }
+    {
+        self.stored.len()
+    }
+
+    /// The bytes that are stored.
+    pub(crate) fn text(&self) -> &[u8]
+        ensures { result.now ≡ reverse self.now.stored }
+    {
+        self.stored.as_slice()
+    }
+
+    /// The bytes that are sent.
+    pub(crate) fn sends(&self) -> &[u8]
+        ensures { result.now ≡ self.now.sends }
+    {
+        self.sends.as_slice()
+    }
+
+    // Takes a byte of the script.
+    fn take(&mut self, byte: u8) -> Result<Took, AllocError>
+        ensures typed { IfOk result (λ t. typed_of t self.new ≡ type_byte self.old byte) }
+        ensures longer { length self.new.stored ≤ length self.old.stored + 1 }
+    {
+        match byte {
+            b'\r' | b'\n' => {
+                self.sends.push(b'\r')?;
+                return Ok(Took::Ends);
+            }
+            0x08 => self.take_back()?,
+            0x7f => self.rub_out()?,
+            0x03 if self.stored.is_empty() => return Ok(Took::Boots),
+            _ => self.keep(byte)?,
+        }
+        Ok(Took::Goes)
+    }
+
+    fn keep(&mut self, byte: u8) -> Result<(), AllocError>
+        ensures ok { OnOk result (self.new ≡ kept byte self.old) }
+        ensures longer { length self.new.stored ≤ length self.old.stored + 1 }
+    {
+        self.stored.push(byte)?;
+        self.show(byte)
+    }
+
+    fn take_back(&mut self) -> Result<(), AllocError>
+        ensures ok { OnOk result (self.new ≡ taken_back self.old.stored self.old) }
+        ensures longer { length self.new.stored ≤ length self.old.stored }
+    {
+        if self.stored.pop().is_some() {
+            self.sends.extend_from_slice(&[0x08, b' ', 0x08])?;
+        }
+        Ok(())
+    }
+
+    fn rub_out(&mut self) -> Result<(), AllocError>
+        ensures ok { OnOk result (self.new ≡ rubbed_out self.old.stored self.old) }
+        ensures longer { length self.new.stored ≤ length self.old.stored }
+    {
+        let Some(last) = self.stored.pop() else {
+            return Ok(());
+        };
+        self.show(last)
+    }
+
+    // Sends what a stored byte sends.
+    fn show(&mut self, byte: u8) -> Result<(), AllocError>
+        ensures ok { OnOk result (self.new ≡ record self.old { sends = self.old.sends ++ shown byte }) }
+        ensures stored { self.new.stored ≡ self.old.stored }
+    {
+        if byte < b' ' {
+            self.sends.extend_from_slice(&[b'^', byte + 0x40])?;
+        } else {
+            self.sends.push(byte)?;
+        }
+        Ok(())
+    }
+}
+
+/// Takes a line of at most `capacity` bytes from a script, whose next byte is at `cursor`.
+pub(crate) fn take_line(
+    alloc: Global,
+    script: &[u8],
+    cursor: usize,
+    capacity: u8,
+) -> Result<LineEnd, AllocError>
+    requires { cursor < 9223372036854775808 }
+    ensures types { IfOk result (λ e. (byte : ℕ → ℕ) (n : ℕ) → length script.now ≤ n → Types script.now capacity cursor e byte n) }
+    ensures looks { IfOk result (λ e. cursor + looks_of e ≤ 9223372036854775808) }
+    ensures fits { IfOk result (λ e. FitsIn capacity cursor e) }
+{
+    let mut line = Line::new(alloc);
+    let mut taken = 0;
+    for place in cursor..script.len() {
+        if line.len() >= capacity as usize {
+            return Ok(LineEnd::Ended(line, taken));
+        }
+        match line.take(script[place])? {
+            Took::Goes => taken += 1,
+            Took::Ends => return Ok(LineEnd::Ended(line, taken + 1)),
+            Took::Boots => return Ok(LineEnd::Booted(taken + 1)),
+        }
+    }
+    if line.len() >= capacity as usize {
+        return Ok(LineEnd::Ended(line, taken));
+    }
+    Ok(LineEnd::Short(taken + 1))
+}

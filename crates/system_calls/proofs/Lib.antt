@@ -1,6 +1,0 @@
-pub mod Trees
-pub mod Chains
-pub mod Parts
-pub mod Runs
-pub mod Numbers
-pub mod DriveLemmas

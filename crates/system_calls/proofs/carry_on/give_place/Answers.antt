@@ -1,6 +1,0 @@
-use Rattle.std.proofs.Common.{rules}
-use Rattle.system_calls.proofs.Chains.{cells_as}
-use Rattle.system_calls.proofs.carry_on.give_place.Goals as goal
-
-pub returns : goal.returns
-returns g c script v = cells_as _ _ _ _ (search rules) c.random_bytes.ensures (c.give_cells.ensures script v)

@@ -1,5 +1,0 @@
-pub mod Questions
-pub mod FileCalls
-pub mod Fulfils
-pub mod Calls
-pub mod Drives
