@@ -124,10 +124,11 @@ impl Session {
         })
     }
 
-    /// The limit, in steps.
+    /// The limit, in steps; a session is within all its limits.
     pub fn limit(&self) -> u64
         ensures value { result ≡ self.now.limit }
         ensures within { result ≤ STEP_LIMIT }
+        ensures session { IsSession self.now }
     {
         self.limit
     }

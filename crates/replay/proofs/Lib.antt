@@ -1,4 +1,5 @@
 pub mod ColdLemmas
+pub mod PlainLemmas
 pub mod FirstLemmas
 pub mod RingLemmas
 pub mod StartLemmas

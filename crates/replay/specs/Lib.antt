@@ -3,6 +3,7 @@ pub mod Options
 pub mod Edits
 pub mod Changes
 pub mod Cold
+pub mod Plain
 pub mod FirstSteps
 pub mod Codes
 pub mod FirstLooks

@@ -17,4 +17,4 @@ mod touch;
 pub use edit::{Edit, EditError};
 pub use options::{Options, OptionsError};
 pub use report::Report;
-pub use runner::{Runner, prefix_dependence};
+pub use runner::{Runner, plain_run_is_cold, prefix_dependence};

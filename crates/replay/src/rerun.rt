@@ -1,6 +1,7 @@
 ghost use Rattle.std.specs.Prelude.{◌≡◌, ℕ, ◌+◌, ◌^◌, ◌<◌, ◌≤◌, ◌⊎◌, [], Some, IfOk, IsSome, OnErr, OnOk, MatchResult, length, take, vec_len, true, false};
 ghost use Rattle.machine.specs.Machine.{NothingLooked, ask, after};
 ghost use Rattle.machine.specs.Kept.{kept_of};
+ghost use Rattle.machine.specs.Session.{IsSession};
 ghost use Rattle.replay.specs.Cold.{cold};
 ghost use Rattle.replay.specs.FirstLooks.{IsFirstLooks};
 ghost use Rattle.replay.specs.RefusalCount.{CountsThisRun};
@@ -98,6 +99,7 @@ pub fn rerun(
     requires sound { IsSound last_run.old.session last_run.old.text.items spacing ring.old looks.old }
     requires room { meter.old ≤ 2 ^ 63 }
     ensures session { last_run.new.session ≡ last_run.old.session }
+    ensures limits { IsSession last_run.old.session }
     ensures cold { IfOk result (λ r. cold last_run.old.session ≡ record { state = left_by last_run.new; steps = r.0; cause = r.1 }) }
     ensures ended { OnOk result (IsSome last_run.new.end) }
     ensures fits { OnOk result (kept_length last_run.new.end ≤ length last_run.new.text.items) }

@@ -2,6 +2,7 @@ ghost use Rattle.std.specs.Prelude.{◌≡◌, ◌+◌, ◌^◌, ◌≤◌, [], 
 ghost use Rattle.std.specs.Borrow.{sem};
 ghost use Rattle.machine.specs.Machine.{PrefixDependence, ask};
 ghost use Rattle.replay.specs.Cold.{cold};
+ghost use Rattle.replay.specs.Plain.{PlainRunIsCold, plain_run, plainly};
 ghost use Rattle.replay.specs.Edits.{AnswersEdit, TakesMemory, edited};
 ghost use Rattle.replay.specs.RunnerView.{DropsOldest, SameOptions, KeepsUntouched, AllStand, Reran, LeavesNoneOut, CountsAnew, TicksTo, kept_steps, rerun_start};
 
@@ -150,6 +151,7 @@ impl Runner {
             × MatchResult result (λ r. Reran self.old n (reported_run r).steps × LeavesNoneOut self.old n (reported_run r).steps × CountsAnew self.old n (reported_run r).steps)
             (λ _. Reran self.old n self.old.session.limit × CountsAnew self.old n self.old.session.limit))) }
         ensures cold { IfOk result (λ r. reported_run r ≡ cold self.old.session) }
+        ensures plain { IfOk result (λ r. plain_run self.old.session ≡ plainly self.old.session (reported_run r)) }
         ensures session { IfOk result (λ r. session_of r ≡ self.old.session) }
         ensures ticked { IfOk result (λ r. meter.new + rerun_start self.old ≡ meter.old + (reported_run r).steps) }
         ensures broken_off { OnErr result (TicksTo (ask self.old.session) self.old.session.limit (rerun_start self.old) meter.old meter.new) }
@@ -177,4 +179,9 @@ impl Runner {
 /// A law: what no step below n looks at has no influence on the state after n steps.
 pub fn prefix_dependence()
     ensures { PrefixDependence }
+{}
+
+/// A law: the run of the plain machine, with all memory as one list and all files as one map, is the cold run.
+pub fn plain_run_is_cold()
+    ensures { PlainRunIsCold }
 {}

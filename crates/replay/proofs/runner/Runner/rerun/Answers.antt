@@ -1,4 +1,6 @@
-use Rattle.std.proofs.Common.{refl, sym}
+use Rattle.std.proofs.Common.{refl, sym, ap, ◌∙◌}
+use Rattle.replay.specs.Plain.{plainly}
+use Rattle.replay.proofs.PlainLemmas.{plain_run_is_cold}
 use Rattle.replay.proofs.RingLemmas.{on_err}
 use Rattle.replay.proofs.OutcomeLemmas.{if_err, match_err}
 use Rattle.replay.proofs.RunnerLemmas.{all_stand}
@@ -27,6 +29,7 @@ returns-in_err-steps c =
       record {
         ends = tt;
         cold = if_err c.from_residual.result _ c.from_residual.ensures.0;
+        plain = if_err c.from_residual.result _ c.from_residual.ensures.0;
         session = if_err c.from_residual.result _ c.from_residual.ensures.0;
         ticked = if_err c.from_residual.result _ c.from_residual.ensures.0;
         broken_off = on_err c.from_residual.result _ c.in_err-steps.ensures.broken_off;
@@ -58,6 +61,7 @@ returns c =
       record {
         ends = tt;
         cold = sym c.in_ok-steps.ensures.cold;
+        plain = let s = c.self.inside.last_run.session in plain_run_is_cold s c.rerun.ensures.limits ∙ ap (plainly s) c.in_ok-steps.ensures.cold;
         session = c.rerun.ensures.session;
         ticked = c.in_ok-steps.ensures.ticked;
         broken_off = tt;

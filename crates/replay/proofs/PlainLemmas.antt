@@ -1,0 +1,43 @@
+-- The run of the plain machine is the cold run, laid over its session.
+use Rattle.std.proofs.Common.{◌≡◌, ℕ, zero, suc, ◌+◌, refl, sym, ap, ◌∙◌, arith, Some, unwrap_or}
+use Rattle.std.specs.Ordering.{nat_cmp}
+use Rattle.std.specs.FinMap as finmap
+use Rattle.interaction_trees.specs.Dependence.{Outcome, Step, Stop}
+use Rattle.console_calls.specs.declared.cause.Cause.{Cause}
+use Rattle.machine.specs.Views.{Session, State}
+use Rattle.machine.specs.Session.{image_of, IsSession}
+use Rattle.machine.specs.Machine.{Answers, ask, start, after, outcome}
+use Rattle.machine.specs.Whole.{Whole, memory_of, whole_outcome, laid_over, whole_of}
+use Rattle.machine.proofs.WholeLemmas.{whole_goes_as_laid}
+use Rattle.machine.proofs.WholeFiles.{loaded_is}
+use Rattle.machine.proofs.AfterLemmas.{after_step}
+use Rattle.replay.specs.Cold.{Cold, cold, cold_from}
+use Rattle.replay.specs.Plain.{PlainRun, plain_from, plain_run, loaded_machine, plainly, PlainRunIsCold}
+use Rattle.replay.proofs.ColdLemmas.{after_none}
+
+next_after : (f : Answers) (n : ℕ) (st next : State) → after f n ≡ Some st → outcome f st ≡ Step next → after f (suc n) ≡ Some next
+next_after f n st next at went = let e : n + 1 ≡ suc n = omega arith in rw (← e) (after_step f n st next at went)
+
+one_on : (s : Session) (k n : ℕ) (st : State) (w : Outcome Whole Cause) (o : Outcome State Cause) → w ≡ whole_of s o
+    → ((next : State) → o ≡ Step next → plain_from s k (suc n) (laid_over s next) ≡ plainly s (cold_from (ask s) k (suc n) next))
+    → elim w as (λ _. PlainRun) [ Step next ↦ plain_from s k (suc n) next | Stop cause ↦ record { machine = laid_over s st; steps = n; cause = cause } ]
+        ≡ plainly s (elim o as (λ _. Cold) [ Step next ↦ cold_from (ask s) k (suc n) next | Stop cause ↦ record { state = st; steps = n; cause = cause } ])
+one_on s k n st w (Step next) e h = rw e (h next refl)
+one_on s k n st w (Stop cause) e h = rw e refl
+
+along : (s : Session) → IsSession s → (k n : ℕ) (st : State) → after (ask s) n ≡ Some st → plain_from s k n (laid_over s st) ≡ plainly s (cold_from (ask s) k n st)
+along s limits zero n st at = refl
+along s limits (suc k) n st at =
+    one_on s k n st (whole_outcome s (laid_over s st)) (outcome (ask s) st) (whole_goes_as_laid.outcomes s limits n st at)
+        (λ next went. along s limits k (suc n) next (next_after (ask s) n st next at went))
+
+loaded_is_laid : (s : Session) → loaded_machine s ≡ laid_over s start
+loaded_is_laid s = λ i. record {
+  core = start.core;
+  memory = memory_of (λ a. unwrap_or (sym (finmap.get-empty nat_cmp a) i) (image_of s a));
+  files = loaded_is s.files i;
+}
+
+pub plain_run_is_cold : PlainRunIsCold
+unfolding plain_run cold
+plain_run_is_cold s limits = ap (plain_from s s.limit 0) (loaded_is_laid s) ∙ along s limits s.limit 0 start (after_none (ask s) start refl)
