@@ -12,7 +12,7 @@ ghost use Rattle.bdos.specs.Fulfils.{Fulfils};
 
 use crate::cells::{fetch_cells, put_cells, put_record, ready_place, write_place};
 use console_calls::{Desk, Served, give_back};
-use cpmfiles::{Key, Table};
+use cpmfiles::{Key, RECORD_BYTES, Record, Table};
 use directory::Search;
 use file_calls::{Finding, Write};
 use i8080::{Bus, Regs, ready_cells, word_of, write_cells};
@@ -132,10 +132,10 @@ fn give_entry<B: Bus>(
 }
 
 // A directory record whose first entry is this one, and whose others are unused.
-fn directory_record(entry: &[u8; 32]) -> [u8; 128]
+fn directory_record(entry: &[u8; 32]) -> Record
     ensures { result ≡ directory_record entry.now }
 {
-    let mut bytes = [0xe5; 128];
+    let mut bytes = [0xe5; RECORD_BYTES];
     bytes[..32].copy_from_slice(entry);
     bytes
 }
@@ -146,7 +146,7 @@ fn give_record<B: Bus>(
     regs: &mut Regs,
     bus: &mut B,
     desk: &Desk,
-    bytes: &[u8; 128],
+    bytes: &Record,
     next: u32,
     to: u16,
 ) -> Result<Served, AllocError>
@@ -169,7 +169,7 @@ fn store<B: Bus>(
 ) -> Result<Served, AllocError>
     ensures { (script : List ℕ) → Fulfils (carried_on (finding.Write write.now) regs.old desk.now.desk.spot to) script regs.old (B.memory bus.old) desk.now (drives_of table.old) result regs.new (B.memory bus.new) desk.now (drives_of table.new) }
 {
-    let mut bytes = [0; 128];
+    let mut bytes = [0; RECORD_BYTES];
     fetch_cells(bus, desk.buffer(), &mut bytes);
     let block = word_of(regs.e, regs.d);
     ready_place(bus, block)?;
@@ -180,7 +180,7 @@ fn store<B: Bus>(
 }
 
 // Writes a record, and leaves holes before it or fills them. An `Err` changes no file.
-fn write_record(table: &mut Table<'_>, write: &Write, bytes: &[u8; 128]) -> Result<(), AllocError>
+fn write_record(table: &mut Table<'_>, write: &Write, bytes: &Record) -> Result<(), AllocError>
     ensures ok { OnOk result ((drives_of table.new).own ≡ own_with (Stored write.now bytes.now) (drives_of table.old).own) }
     ensures err { OnErr result ((drives_of table.new).own ≡ (drives_of table.old).own) }
     ensures looks { (drives_of table.new).looks ≡ (drives_of table.old).looks }

@@ -7,5 +7,5 @@ pub mod table;
 
 pub use filenames::{Fcb, Key, Name, NameError};
 pub use hostfiles::{Ask, Changes, FilesError, HostFiles, Journal, Looks};
-pub use records::{Record, Records};
+pub use records::{EXTENT_RECORDS, PLACES, RECORD_BYTES, Record, Records};
 pub use table::Table;

@@ -12,13 +12,10 @@ ghost use Rattle.file_calls.specs.Asks.{Asks};
 use crate::block::Block;
 use crate::finding::{Finding, Write};
 use cpmfiles::table::has_wildcard;
-use cpmfiles::{Key, Table};
+use cpmfiles::{EXTENT_RECORDS, Key, PLACES, Table};
 use directory::Search;
 use filenames::is_sayable;
 use std::alloc::AllocError;
-
-/// How many places a file can have.
-const PLACE_LIMIT: u32 = 65_536;
 
 // How many places a file has.
 fn length(table: &mut Table<'_>, key: &Key) -> Result<u32, AllocError>
@@ -131,7 +128,7 @@ pub fn write_sequential(table: &mut Table<'_>, block: &Block) -> Result<Finding,
     if !table.has(&key)? {
         return Ok(Finding::Value(0xff));
     }
-    if place >= PLACE_LIMIT {
+    if place >= PLACES {
         return Ok(Finding::Value(2));
     }
     Ok(Finding::Write(Write {
@@ -210,7 +207,7 @@ pub fn read_random(table: &mut Table<'_>, block: &Block) -> Result<Finding, Allo
 fn missing(table: &Table<'_>, key: &Key, place: u32) -> u8
     ensures { result ≡ missing (shape_here table.now.host.now table.now.changes.now.journal.entries key.now) place }
 {
-    if count(table, key, place / 128) == 0 {
+    if count(table, key, place / EXTENT_RECORDS) == 0 {
         4
     } else {
         1

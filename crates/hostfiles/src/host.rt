@@ -16,7 +16,7 @@ use crate::names::key_if_any;
 use crate::told::{told_count, told_record};
 use filenames::{Key, Name};
 use keymaps::KeyMap;
-use records::Record;
+use records::{RECORD_BYTES, Record};
 use std::alloc::{AllocError, Global};
 use std::marker::Model;
 use thiserror::Error;
@@ -53,7 +53,7 @@ impl HostFile {
         requires { length bytes.now ≤ 8388608 }
         ensures { IfOk result (λ file. file ≡ records_in bytes.now) }
     {
-        let count = (bytes.len() + 127) / 128;
+        let count = (bytes.len() + RECORD_BYTES - 1) / RECORD_BYTES;
         let mut records = Vec::with_capacity(alloc, count)?;
         for i in 0..count {
             records.push(record_at(bytes, i))?;
@@ -81,9 +81,9 @@ fn record_at(bytes: &[u8], i: usize) -> Record
     requires { 128 * i < length bytes.now }
     ensures { result ≡ record_in bytes.now i }
 {
-    let start = 128 * i;
-    if bytes.len() - start > 128 {
-        return filled_up(&bytes[start..start + 128]);
+    let start = RECORD_BYTES * i;
+    if bytes.len() - start > RECORD_BYTES {
+        return filled_up(&bytes[start..start + RECORD_BYTES]);
     }
     filled_up(&bytes[start..])
 }
@@ -93,7 +93,7 @@ fn filled_up(piece: &[u8]) -> Record
     requires { length piece.now ≤ 128 }
     ensures { result ≡ filled_up piece.now }
 {
-    let mut record = [0x1a; 128];
+    let mut record = [0x1a; RECORD_BYTES];
     record[..piece.len()].copy_from_slice(piece);
     record
 }

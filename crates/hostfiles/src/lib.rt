@@ -21,6 +21,6 @@ pub use journal::{Base, Entry, Grown, Journal};
 pub use laid::{files_are_laid, files_end};
 pub use looks::{Ask, Looks};
 pub use names::{changed_names_are_all, next_changed};
-pub use records::{Record, Records};
+pub use records::{EXTENT_RECORDS, PLACES, RECORD_BYTES, Record, Records};
 pub use seen::SeenFile;
 pub use told::{told_count, told_record};

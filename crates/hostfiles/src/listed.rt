@@ -16,6 +16,7 @@ use crate::seen::SeenFile;
 use directory::{Files, is_match};
 use filenames::{Key, Name, is_sayable};
 use keymaps::next_of_both;
+use records::EXTENT_RECORDS;
 use std::alloc::AllocError;
 
 /// Host files with what was done to them, as a search of the directory sees them.
@@ -58,7 +59,7 @@ fn extents_of(host: &HostFiles, journal: &Journal, key: &Key) -> u32
     if n == 0 {
         return 1;
     }
-    let last = (n - 1) / 128;
+    let last = (n - 1) / EXTENT_RECORDS;
     if last >= 512 {
         return 512;
     }

@@ -10,7 +10,7 @@ use crate::host::{HostFile, HostFiles};
 use crate::journal::{Base, Entry, Grown, Journal};
 use crate::looks::Looks;
 use filenames::Key;
-use records::Record;
+use records::{EXTENT_RECORDS, Record};
 use std::alloc::AllocError;
 
 /// The file of a key as a program sees it: what the run did to it, and the host file that it stands on, both found already. What is read of it
@@ -170,7 +170,7 @@ impl SeenFile<'_> {
         let mut i = places_in(self.length(), extent);
         while i > 0 {
             i -= 1;
-            if self.is_written(128 * extent as u64 + i as u64) {
+            if self.is_written(EXTENT_RECORDS as u64 * extent as u64 + i as u64) {
                 return i + 1;
             }
         }
@@ -234,12 +234,12 @@ fn places_in(n: u32, extent: u32) -> u8
     ensures within { result ≤ 128 }
     ensures past { (i : ℕ) → result ≤ i → i < 128 → n ≤ 128 * extent + i }
 {
-    let start = 128 * extent as u64;
+    let start = EXTENT_RECORDS as u64 * extent as u64;
     if n as u64 <= start {
         return 0;
     }
-    if n as u64 - start >= 128 {
-        return 128;
+    if n as u64 - start >= EXTENT_RECORDS as u64 {
+        return EXTENT_RECORDS as u8;
     }
     (n as u64 - start) as u8
 }

@@ -9,7 +9,7 @@ use crate::host::HostFiles;
 use crate::joined;
 use crate::journal::Journal;
 use filenames::Key;
-use records::Record;
+use records::{RECORD_BYTES, Record};
 
 /// How many records the file of a key is told with, if there is one.
 #[tactic(auto, using(crate::proofs::ToldLemmas::told_length))]
@@ -38,6 +38,6 @@ pub(crate) fn told_content(host: &HostFiles, journal: &Journal, key: &Key, place
 {
     match joined::content(host, journal, key, place) {
         Some(content) => content,
-        None => [0; 128],
+        None => [0; RECORD_BYTES],
     }
 }

@@ -2,7 +2,7 @@
 
 ghost use Rattle.std.specs.Prelude.{◌≡◌, ◌<◌, ◌==◌, ℕ, OnOk, OnErr, IfOk, None, Some, cond, get_or, option_copied};
 
-use crate::written::Record;
+use crate::written::{EXTENT_RECORDS, Record};
 use std::alloc::{AllocError, Global};
 use std::marker::Model;
 use std::rc::Rc;
@@ -10,7 +10,7 @@ use std::rc::Rc;
 /// The records at the 128 places of an extent. A snapshot shares them, and the first write after it copies them.
 #[derive(Drop)]
 pub struct Extent {
-    places: Rc<[Option<Record>; 128]>,
+    places: Rc<[Option<Record>; EXTENT_RECORDS as usize]>,
 }
 
 impl Model for Extent {
@@ -40,7 +40,7 @@ impl Extent {
         requires { at < 128 }
         ensures { IfOk result (λ x. (q : ℕ) → get_or x q None ≡ cond (q == at) (Some content.now) None) }
     {
-        let mut places = [None; 128];
+        let mut places = [None; EXTENT_RECORDS as usize];
         places[at] = Some(*content);
         Ok(Extent {
             places: Rc::new(alloc, places)?,

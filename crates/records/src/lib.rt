@@ -4,4 +4,4 @@
 mod extent;
 pub mod written;
 
-pub use written::{Record, Records};
+pub use written::{EXTENT_RECORDS, PLACES, RECORD_BYTES, Record, Records};

@@ -9,8 +9,17 @@ use std::alloc::{AllocError, Global};
 use std::collections::BTreeMap;
 use std::marker::Model;
 
+/// The bytes of a record (CP/M 2.2 Interface Guide).
+pub const RECORD_BYTES: usize = 128;
+
+/// The records of an extent (CP/M 2.2 Interface Guide).
+pub const EXTENT_RECORDS: u32 = 128;
+
+/// The most places of a file: 512 extents.
+pub const PLACES: u32 = 65_536;
+
 /// A record: 128 bytes of a file (CP/M 2.2 Interface Guide).
-pub type Record = [u8; 128];
+pub type Record = [u8; RECORD_BYTES];
 
 /// The records that were written into a file of up to 65,536 places, by their places.
 #[derive(Drop)]
@@ -49,11 +58,11 @@ impl Records {
         ensures { option_copied result ≡ finmap.get self.now place }
     {
         let extents = &self.extents;
-        if place >= 65536 {
+        if place >= PLACES {
             return None;
         }
-        match extents.get(&(place / 128)) {
-            Some(extent) => extent.get((place % 128) as usize),
+        match extents.get(&(place / EXTENT_RECORDS)) {
+            Some(extent) => extent.get((place % EXTENT_RECORDS) as usize),
             None => None,
         }
     }
@@ -65,12 +74,12 @@ impl Records {
         ensures err { OnErr result (self.new ≡ self.old) }
     {
         let alloc = self.alloc;
-        let at = (place % 128) as usize;
-        if let Some(extent) = self.extents.get_mut(&(place / 128)) {
+        let at = (place % EXTENT_RECORDS) as usize;
+        if let Some(extent) = self.extents.get_mut(&(place / EXTENT_RECORDS)) {
             return extent.put(alloc, at, content);
         }
         let extent = Extent::new(alloc, at, content)?;
-        self.extents.insert(place / 128, extent)?;
+        self.extents.insert(place / EXTENT_RECORDS, extent)?;
         Ok(())
     }
 
@@ -82,7 +91,7 @@ impl Records {
     {
         let mut records = self.snapshot()?;
         for place in from..to {
-            records.put(place, &[0; 128])?;
+            records.put(place, &[0; RECORD_BYTES])?;
         }
         Ok(records)
     }
