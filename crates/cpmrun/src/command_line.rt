@@ -15,7 +15,7 @@ use command_words::Words;
 use edit_lines::{Ending, Over, Reader, ReplayFault, Writer, replay, write_all};
 use folders::FileSystem;
 use machine::{Meter, Session};
-use replay::{Options, OptionsError, Runner};
+use replay::{Options, Runner};
 use std::alloc::Global;
 
 /// How checkpoints are made, as the words say.
@@ -47,11 +47,7 @@ fn replay_session<R: Reader, W: Writer>(
     ensures read { result ≡ Err ReplayFault.Read → R.failures reader.old < R.failures reader.new }
     ensures write { result ≡ Err ReplayFault.Write → W.failures writer.old < W.failures writer.new }
 {
-    let mut runner = match Runner::new(alloc, session, options) {
-        Ok(runner) => runner,
-        Err(OptionsError::OutOfMemory) => return Err(ReplayFault::OutOfMemory),
-        Err(_) => unreachable!(),
-    };
+    let mut runner = Runner::within(alloc, session, options)?;
     replay(alloc, &mut runner, meter, reader, writer)
 }
 

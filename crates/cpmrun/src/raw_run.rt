@@ -15,7 +15,7 @@ use edit_lines::{Asked, Failed, Writer, cause_text, write_all, write_changed_fil
 use folders::{ChangedFile, FileSystem, write_to_drive};
 use hostfiles::{HostFiles, Journal, Name};
 use machine::{Cause, Meter, Session};
-use replay::{Options, OptionsError, Report, Runner};
+use replay::{Options, Report, Runner};
 use std::alloc::{AllocError, Global};
 
 /// The exit status after a run that stopped by this cause.
@@ -219,10 +219,8 @@ pub fn run_once<'a, S: FileSystem, O: Writer, E: Writer>(
         (world (S.files system.new) (S.names system.new) (O.holds out.new) (O.failures out.new) (E.holds err.new) (E.failures err.new))) }
     ensures untold { OnErr result (err.new ≡ err.old) }
 {
-    let mut runner = match Runner::new(system.alloc(), session, options()) {
-        Ok(runner) => runner,
-        Err(OptionsError::OutOfMemory) => return Err(Fault::OutOfMemory),
-        Err(_) => unreachable!(),
+    let Ok(mut runner) = Runner::within(system.alloc(), session, options()) else {
+        return Err(Fault::OutOfMemory);
     };
     run_and_tell(system, folders, &mut runner, meter, out, err)
 }

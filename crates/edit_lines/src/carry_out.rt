@@ -44,7 +44,7 @@ fn carry_out_edit<W: Writer>(
 {
     match runner.edit(edit) {
         Ok(()) => write_reply(writer, b"ok\n"),
-        Err(refusal) if refusal == EditError::OutOfMemory => Err(ReplayFault::OutOfMemory),
+        Err(EditError::OutOfMemory) => Err(ReplayFault::OutOfMemory),
         Err(refusal) => write_reply(writer, &refused(refusal.number())),
     }
 }
@@ -64,10 +64,7 @@ fn drop_oldest<W: Writer>(
     ensures failed { result ≡ Err ReplayFault.Write → W.failures writer.old < W.failures writer.new }
 {
     runner.drop_oldest(count);
-    match write_all(writer, b"ok\n".as_slice()) {
-        Ok(()) => Ok(()),
-        Err(Failed) => Err(ReplayFault::Write),
-    }
+    write_reply(writer, b"ok\n")
 }
 
 /// Writes a report whose first lines are these: then the lines of the changed files, and `end`. They are written in pieces, and
@@ -100,12 +97,8 @@ fn run<W: Writer>(
     ensures failed { result ≡ Err ReplayFault.Write → W.failures writer.old < W.failures writer.new }
     ensures meter { meter.new ≤ meter.old + STEP_LIMIT }
 {
-    let Ok(report) = runner.rerun(meter) else {
-        return Err(ReplayFault::OutOfMemory);
-    };
-    let Ok(head) = head_of(alloc, &report) else {
-        return Err(ReplayFault::OutOfMemory);
-    };
+    let report = runner.rerun(meter)?;
+    let head = head_of(alloc, &report)?;
     match write_report(&report, head.as_str(), writer) {
         Ok(()) => Ok(()),
         Err(Failed) => Err(ReplayFault::Write),
@@ -135,10 +128,7 @@ pub fn carry_out<W: Writer>(
     if number > LINES_LIMIT {
         return Err(ReplayFault::Malformed(number));
     }
-    let Ok(parsed) = parse_line(alloc, line) else {
-        return Err(ReplayFault::OutOfMemory);
-    };
-    match parsed {
+    match parse_line(alloc, line)? {
         None => Err(ReplayFault::Malformed(number)),
         Some(Command::Edit(edit)) => carry_out_edit(runner, edit, writer),
         Some(Command::Run) => run(alloc, runner, meter, writer),

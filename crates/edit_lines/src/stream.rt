@@ -15,7 +15,7 @@ use crate::ends::{Reader, Writer};
 use crate::limits::{LINE_LIMIT, LINES_LIMIT};
 use machine::{Meter, STEP_LIMIT};
 use replay::Runner;
-use std::alloc::Global;
+use std::alloc::{AllocError, Global};
 
 /// The beginning of a line that was read, and how many lines were carried out.
 #[derive(Drop)]
@@ -55,9 +55,7 @@ fn take_byte<W: Writer>(
         if place.line.len() == LINE_LIMIT {
             return Err(ReplayFault::LineTooLong(place.lines + 1));
         }
-        if place.line.push(byte).is_err() {
-            return Err(ReplayFault::OutOfMemory);
-        }
+        place.line.push(byte).map_err(AllocError::from)?;
         return Ok(());
     }
     carry_out(

@@ -1,6 +1,6 @@
 use Rattle.std.proofs.Common.{[], ap, subst}
 use Rattle.std.proofs.KnownBytes.{Consumes-nil}
-use Rattle.std.proofs.lemmas.Result.{IfErr-weaker}
+use Rattle.std.proofs.lemmas.Result.{IfErr-weaker, err_from_is_err_and}
 use Rattle.machine.specs.Views.{Session}
 use Rattle.replay.specs.RunnerView.{RunnerView}
 use Rattle.edit_lines.specs.Progress.{Faults}
@@ -8,24 +8,26 @@ use Rattle.cpmrun.proofs.Writing.{writes_replay}
 use Rattle.edit_lines.proofs.Stepping.{at_once}
 use Rattle.cpmrun.proofs.command_line.replay_session.Goals as goal
 
-pub returns-in-Err-OutOfMemory-clause-fault : goal.returns-in-Err-OutOfMemory-clause-fault
-returns-in-Err-OutOfMemory-clause-fault g c = record {
-  left = g.R.Reader.left c.args.reader.now;
-  last = c.args.session;
-  bytes = [];
-  read = Consumes-nil _;
-  leaves = at_once _ c.args.session _;
-}
+pub returns-in_err-runner-clause-fault : goal.returns-in_err-runner-clause-fault
+returns-in_err-runner-clause-fault g c =
+    let e = err_from_is_err_and c.from_residual.result c.from_residual.ensures.1 in
+    rw (e.1, e.2) (record {
+      left = g.R.Reader.left c.args.reader.now;
+      last = c.args.session;
+      bytes = [];
+      read = Consumes-nil _;
+      leaves = at_once _ c.args.session _;
+    })
 
 -- a new runner has the session that it was given
 pub returns-clause-ok : goal.returns-clause-ok
 returns-clause-ok g c =
-    let same = ap (λ (r : RunnerView). r.session) c.in-Ok.ensures.ok in
-    writes_replay c.args.session c.in-Ok.runner c.replay.new.runner _ _ _ _ _ _ c.replay.result same c.replay.ensures.ok
+    let same = ap (λ (r : RunnerView). r.session) c.in_ok-runner.ensures in
+    writes_replay c.args.session c.in_ok-runner.runner c.replay.new.runner _ _ _ _ _ _ c.replay.result same c.replay.ensures.ok
 
 pub returns-clause-fault : goal.returns-clause-fault
 returns-clause-fault g c =
-    let same = ap (λ (r : RunnerView). r.session) c.in-Ok.ensures.ok in
+    let same = ap (λ (r : RunnerView). r.session) c.in_ok-runner.ensures in
     IfErr-weaker c.replay.result _ _
     (λ f h. let (bytes, consumed, faults, effects) = h in record {
       left = g.R.Reader.left c.replay.new.reader;

@@ -11,10 +11,11 @@ returns-then-len-eq-LINE_LIMIT-clause-goes g c = λ first held bytes rest r left
     line_too_long first held bytes _ _ p.line.items p.lines r p.few (omega (arith, p.short, p.line.ok.0)) left c.args.byte rest
     c.if-byte-ne10.true (omega (arith, p.line.ok.0, c.len.ensures)) few_more
 
-pub returns-then-is_err-clause-goes : goal.returns-then-is_err-clause-goes
-returns-then-is_err-clause-goes g c = λ first held bytes rest r left few_more.
+pub returns-in_err-map_err-clause-goes : goal.returns-in_err-map_err-clause-goes
+returns-in_err-map_err-clause-goes g c = λ first held bytes rest r.
     let p = c.args.place.now in
-    line_stays first held bytes _ _ p.line.items p.lines r p.few (omega (arith, p.short, p.line.ok.0)) left c.args.byte rest few_more
+    let e = err_from_is_err_and c.from_residual.result c.from_residual.ensures.1 in
+    rw (e.1, e.2) (λ left few_more. line_stays first held bytes _ _ p.line.items p.lines r p.few (omega (arith, p.short, p.line.ok.0)) left c.args.byte rest few_more)
 
 pub returns-then-byte-ne10-clause-goes : goal.returns-then-byte-ne10-clause-goes
 returns-then-byte-ne10-clause-goes g c = λ first held bytes rest r.
@@ -25,7 +26,7 @@ returns-then-byte-ne10-clause-goes g c = λ first held bytes rest r.
 pub returns-in_err-carry_out-clause-goes : goal.returns-in_err-carry_out-clause-goes
 returns-in_err-carry_out-clause-goes g c = λ first held bytes rest r.
     let p = c.args.place.now in
-    let e = err_from_is_err_and c.from_residual.result c.from_residual.ensures.1 in
+    let e = err_from_is_err_and c.from_residual-in_err-carry_out.result c.from_residual-in_err-carry_out.ensures.1 in
     rw (e.1, e.2) (λ left few_more. rw c.if-byte-ne10.false (line_fails first held bytes _ _ p.line.items p.lines r p.few (omega (arith, p.short, p.line.ok.0)) (Unit {0}) left rest few_more _ _ c.in_err-carry_out.field-0.0
     _ c.as_slice.ensures.value c.in_err-carry_out.ensures.carries))
 
@@ -37,7 +38,7 @@ returns-clause-goes g c = λ first held bytes rest r.
 
 pub returns-in_err-carry_out-clause-memory : goal.returns-in_err-carry_out-clause-memory
 returns-in_err-carry_out-clause-memory g c = λ same.
-    let e = err_from_is_err_and c.from_residual.result c.from_residual.ensures.1 in
+    let e = err_from_is_err_and c.from_residual-in_err-carry_out.result c.from_residual-in_err-carry_out.ensures.1 in
     inr (c.if-byte-ne10.false, wants (Unit {0}) _ _ _ _ _ _ _ _ c.as_slice.ensures.value c.in_err-carry_out.ensures.carries cc)
 
 pub returns-then-len-eq-LINE_LIMIT-clause-effects : goal.returns-then-len-eq-LINE_LIMIT-clause-effects
@@ -45,10 +46,11 @@ returns-then-len-eq-LINE_LIMIT-clause-effects g c = λ first begun bytes rest r.
     let p = c.args.place.now in
     effects_too_long first begun bytes _ _ p.line.items p.lines r c.args.byte rest
 
-pub returns-then-is_err-clause-effects : goal.returns-then-is_err-clause-effects
-returns-then-is_err-clause-effects g c = λ first begun bytes rest r.
+pub returns-in_err-map_err-clause-effects : goal.returns-in_err-map_err-clause-effects
+returns-in_err-map_err-clause-effects g c = λ first begun bytes rest r.
     let p = c.args.place.now in
-    inl (p.lines, effects_stay first begun bytes _ _ p.line.items p.lines r c.args.byte rest)
+    let e = err_from_is_err_and c.from_residual.result c.from_residual.ensures.1 in
+    rw (e.1, e.2) (inl (p.lines, effects_stay first begun bytes _ _ p.line.items p.lines r c.args.byte rest))
 
 pub returns-then-byte-ne10-clause-effects : goal.returns-then-byte-ne10-clause-effects
 returns-then-byte-ne10-clause-effects g c = λ first begun bytes rest r.
@@ -59,7 +61,7 @@ returns-then-byte-ne10-clause-effects g c = λ first begun bytes rest r.
 pub returns-in_err-carry_out-clause-effects : goal.returns-in_err-carry_out-clause-effects
 returns-in_err-carry_out-clause-effects g c = λ first begun bytes rest r.
     let p = c.args.place.now in
-    let e = err_from_is_err_and c.from_residual.result c.from_residual.ensures.1 in
+    let e = err_from_is_err_and c.from_residual-in_err-carry_out.result c.from_residual-in_err-carry_out.ensures.1 in
     rw (e.1, e.2) (rw c.if-byte-ne10.false (effects_failing first begun bytes _ _ p.line.items p.lines r (Unit {0}) rest _ _ c.in_err-carry_out.field-0.0
     _ c.as_slice.ensures.value c.in_err-carry_out.ensures.effect))
 
