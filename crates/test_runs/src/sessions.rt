@@ -8,7 +8,7 @@ use test_sessions::Act::{Drop, Edit, Hold, Keep, Leave, Refuse, Run};
 use test_sessions::Change::{Limit, Poke, Remove};
 use test_sessions::Left::Cells;
 use test_sessions::worked::{
-    FINDS_NO_DOLLAR, NO_OPCODE, PASSES_MEMORY, PRINTED, PRINTED_TEXT, PRINTS, RETURN_ALONE,
+    EMPTY_PROGRAM, FINDS_NO_DOLLAR, NO_OPCODE, PRINTED, PRINTED_TEXT, PRINTS, RETURN_ALONE,
     SAYS_HI, SAYS_HI_AT_LIMIT, STAYS,
 };
 use test_sessions::{Case, EMPTY, Given, Trouble, Wanted, play, play_all, session_of};
@@ -28,10 +28,7 @@ const PRINTS_TAB: Wanted<'_> = Wanted {
 // Programs, what each prints, and how it ends within a million steps.
 const ENDING: &[Case<'_>] = &[
     PRINTED_TEXT,
-    Case {
-        given: EMPTY,
-        acts: &[Run(64_768, PASSES_MEMORY)],
-    },
+    EMPTY_PROGRAM,
     RETURN_ALONE,
     NO_OPCODE,
     Case {

@@ -82,8 +82,8 @@ pub const STOPS_BEHIND_CALL: Wanted<'_> = Wanted {
     text: b"Hi",
 };
 
-/// Passes all of memory up to the system's area.
-pub const PASSES_MEMORY: Wanted<'_> = Wanted {
+// Passes all of memory up to the system's area.
+const PASSES_MEMORY: Wanted<'_> = Wanted {
     cause: Cause::SystemArea(0xfe00),
     steps: 64_768,
     regs: Regs {
