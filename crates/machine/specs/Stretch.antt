@@ -4,6 +4,7 @@ use Rattle.std.specs.declared.result.Result.{Result}
 use Rattle.std.specs.declared.alloc.AllocError.{AllocError}
 use Rattle.interaction_trees.specs.Dependence.{Stop}
 use Rattle.i8080.specs.declared.registers.Regs.{Regs}
+use Rattle.pagemem.specs.declared.overlay.Overlay.{Overlay}
 use Rattle.pagemem.specs.declared.view.View.{View}
 use Rattle.pagemem.specs.ViewParts.{overlay_in, image_in}
 use Rattle.console_calls.specs.declared.cause.Cause.{Cause}
@@ -42,6 +43,10 @@ GoesOn s steps old reached new =
 abbrev pub InstructionsGoOn : ℕ → Regs → View → ℕ × Result (Option Cause) AllocError → Regs → View → Type 0
 InstructionsGoOn steps r v reached r' v' =
     (s : Session) (d : Devices) → image_in v ≡ image_of s → GoesOn s steps (running_with r d (overlay_in v)) reached (running_with r' d (overlay_in v'))
+
+-- the same over the image of a session
+abbrev pub OverlayGoesOn : Session → ℕ → Regs → Overlay → ℕ × Result (Option Cause) AllocError → Regs → Overlay → Type 0
+OverlayGoesOn s steps r o reached r' o' = (d : Devices) → GoesOn s steps (running_with r d o) reached (running_with r' d o')
 
 -- how it ended, without the count of steps
 abbrev pub ended_of : Result (ℕ × Option Cause) AllocError → Result (Option Cause) AllocError

@@ -4,7 +4,7 @@ ghost use Rattle.std.specs.Prelude.{◌≡◌, ◌+◌, ◌-◌, ◌^◌, ◌<�
 ghost use Rattle.pagemem.specs.ViewParts.{loan_of};
 ghost use Rattle.machine.specs.Machine.{ask, after, IsReached};
 ghost use Rattle.machine.specs.Steps.{TakesStep};
-ghost use Rattle.machine.specs.Stretch.{GoesOn, InstructionsGoOn, RunsTo};
+ghost use Rattle.machine.specs.Stretch.{GoesOn, InstructionsGoOn, OverlayGoesOn, RunsTo};
 
 use crate::meter::Meter;
 use crate::running::Running;
@@ -12,7 +12,7 @@ use crate::session::Session;
 use crate::system_area::{SYSTEM_AREA, enter_system};
 use console_calls::Cause;
 use i8080::{Did, Regs, execute};
-use pagemem::View;
+use pagemem::{Overlay, View};
 use std::alloc::AllocError;
 
 // Instructions: at most so many, up to the system's area, to one that looks at something new, or to a stop. Answers how many
@@ -44,18 +44,19 @@ fn instructions_over(
     (n, Ok(None))
 }
 
-// The same, over a session's image.
+// The same, over a session's image. The registers and the overlay are lent apart, so that the loop may keep registers at hand.
 #[inline(never)]
 fn instructions(
-    running: &mut Running,
+    regs: &mut Regs,
+    overlay: &mut Overlay,
     session: &Session,
     steps: u64,
 ) -> (u64, Result<Option<Cause>, AllocError>)
-    ensures goes { GoesOn session.now steps running.old result running.new }
-    ensures progress { running.old.state.core.regs.pc < 0xfe00 → 0 < steps → IfOk result.1 (λ stop. IfNone stop (0 < result.0)) }
+    ensures goes { OverlayGoesOn session.now steps regs.old overlay.old result regs.new overlay.new }
+    ensures progress { regs.old.pc < 0xfe00 → 0 < steps → IfOk result.1 (λ stop. IfNone stop (0 < result.0)) }
 {
-    let mut view = View::new(session.image(), &mut running.overlay);
-    instructions_over(&mut running.regs, &mut view, steps)
+    let mut view = View::new(session.image(), overlay);
+    instructions_over(regs, &mut view, steps)
 }
 
 // At most so many steps: one in the system's area, or instructions. Answers how many were carried out, and how it ended.
@@ -72,7 +73,7 @@ fn go_on(
     ensures within { result.0 ≤ steps }
 {
     if running.regs.pc < SYSTEM_AREA {
-        return instructions(running, session, steps);
+        return instructions(&mut running.regs, &mut running.overlay, session, steps);
     }
     match enter_system(running, session) {
         Ok(None) => (1, Ok(None)),

@@ -2,7 +2,9 @@ use Rattle.std.proofs.Common.{◌≡◌, subst, ap, arith, ◌∙◌, ◌≤◌,
 use Rattle.console_calls.specs.declared.cause.Cause.{Cause}
 use Rattle.machine.specs.Views.{Running}
 use Rattle.machine.specs.Machine.{ask, after}
-use Rattle.machine.specs.Steps.{TakesStep}
+use Rattle.machine.specs.WrittenCells.{devices_of}
+use Rattle.machine.specs.Steps.{running_with, TakesStep}
+use Rattle.machine.specs.Stretch.{Stretches}
 use Rattle.machine.proofs.FitLemmas.{sound_reached}
 use Rattle.machine.proofs.StretchLemmas.{ends_by_step, ends_by_stop, ends_by_failure}
 use Rattle.machine.proofs.stretch.go_on.Goals as goal
@@ -19,10 +21,19 @@ enter_system-requires-clause-area c =
     let inside : 65024 ≤ c.running.inside.regs.pc = c.if-running-lt-SYSTEM_AREA.false in
     subst (λ (v : Running). 65024 ≤ v.state.core.regs.pc) c.running.view_is inside
 
+pub returns-then-running-lt-SYSTEM_AREA-clause-goes : goal.returns-then-running-lt-SYSTEM_AREA-clause-goes
+returns-then-running-lt-SYSTEM_AREA-clause-goes c from at =
+    let old = c.running.inside in
+    let done = c.instructions in
+    let d = devices_of old.desk old.changes in
+    subst (λ (v : Running). Stretches c.args.session.now from (from + c.args.steps) v.looked (from + done.result.0) done.result.1 (running_with done.new.regs d done.new.overlay)) c.running.view_is
+    (done.ensures.goes d from (rw (← c.running.view_is) at at))
+
 pub returns-then-running-lt-SYSTEM_AREA-clause-within : goal.returns-then-running-lt-SYSTEM_AREA-clause-within
 returns-then-running-lt-SYSTEM_AREA-clause-within c =
+    let old = c.running.inside in
     let reached = c.requires.at in
-    omega (arith, (c.instructions.ensures.goes reached.0 reached.1).within)
+    omega (arith, (c.instructions.ensures.goes (devices_of old.desk old.changes) reached.0 (rw (← c.running.view_is) at reached.1)).within)
 
 pub returns-in-Ok-None-clause-goes : goal.returns-in-Ok-None-clause-goes
 returns-in-Ok-None-clause-goes c from at =
