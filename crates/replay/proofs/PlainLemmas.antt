@@ -21,7 +21,7 @@ next_after f n st next at went = let e : n + 1 ≡ suc n = omega arith in rw (�
 one_on : (s : Session) (k n : ℕ) (st : State) (w : Outcome Whole Cause) (o : Outcome State Cause) → w ≡ whole_of s o
     → ((next : State) → o ≡ Step next → plain_from s k (suc n) (laid_over s next) ≡ plainly s (cold_from (ask s) k (suc n) next))
     → elim w as (λ _. PlainRun) [ Step next ↦ plain_from s k (suc n) next | Stop cause ↦ record { machine = laid_over s st; steps = n; cause = cause } ]
-        ≡ plainly s (elim o as (λ _. Cold) [ Step next ↦ cold_from (ask s) k (suc n) next | Stop cause ↦ record { state = st; steps = n; cause = cause } ])
+    ≡ plainly s (elim o as (λ _. Cold) [ Step next ↦ cold_from (ask s) k (suc n) next | Stop cause ↦ record { state = st; steps = n; cause = cause } ])
 one_on s k n st w (Step next) e h = rw e (h next refl)
 one_on s k n st w (Stop cause) e h = rw e refl
 
@@ -29,7 +29,7 @@ along : (s : Session) → IsSession s → (k n : ℕ) (st : State) → after (as
 along s limits zero n st at = refl
 along s limits (suc k) n st at =
     one_on s k n st (whole_outcome s (laid_over s st)) (outcome (ask s) st) (whole_goes_as_laid.outcomes s limits n st at)
-        (λ next went. along s limits k (suc n) next (next_after (ask s) n st next at went))
+    (λ next went. along s limits k (suc n) next (next_after (ask s) n st next at went))
 
 loaded_is_laid : (s : Session) → loaded_machine s ≡ laid_over s start
 loaded_is_laid s = λ i. record {
