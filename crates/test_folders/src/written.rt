@@ -47,8 +47,8 @@ fn make(journal: &mut Journal, name: &Name, how: How) -> Result<(), AllocError> 
 }
 
 fn write_apart(journal: &mut Journal, name: &Name) -> Result<(), AllocError> {
-    journal.write(&name.key(), 0, 0, &[1; 128])?;
-    journal.write(&name.key(), 1, 2, &[3; 128])
+    journal.write(&name.key(), 0, 0, &[1; 128], false)?;
+    journal.write(&name.key(), 1, 2, &[3; 128], false)
 }
 
 fn write(
