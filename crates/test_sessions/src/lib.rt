@@ -16,10 +16,9 @@ mod wanted;
 pub mod worked;
 
 pub use acts::{Act, Case, Change};
-pub use comparing::{difference, keeps};
 pub use given::{EMPTY, Given, Host, alone};
 pub use left::Left;
-pub use making::{edit_of, make, name_of, runner_of, session_of};
+pub use making::{make, session_of};
 pub use playing::{play, play_all};
 pub use trouble::{Difference, Trouble};
-pub use wanted::{LOADED, NO_FLAGS, RETURNED, Wanted};
+pub use wanted::{RETURNED, Wanted};
