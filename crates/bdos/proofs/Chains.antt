@@ -2,14 +2,17 @@
 use Rattle.std.proofs.Common.{◌≡◌, ℕ, Bool, ◌||◌, List, [], ◌∷◌, ◌++◌, Result, Ok, Err, IfOk, OnOk, OnErr, Option, Some, cond, refl, sym, ap, subst, ◌∙◌}
 use Rattle.std.proofs.lemmas.List.{append-nil}
 use Rattle.std.specs.declared.alloc.AllocError.{AllocError}
+use Rattle.std.specs.Borrow.{GName}
 use Rattle.interaction_trees.specs.Tree.{Return, result_of, asked}
 use Rattle.i8080.specs.declared.registers.Regs.{Regs}
 use Rattle.i8080.specs.Memory.{Memory, Own, Looks, Extends, is_among, bytes, look_all, write_all}
-use Rattle.i8080.specs.Reading.{Reading, Done, Cell, end_of, looks_after}
+use Rattle.i8080.specs.Reading.{Reading, Done, Cell, end_of}
+use Rattle.i8080.specs.Performs.{looks_after}
 use Rattle.i8080.specs.Registers.{word}
 use Rattle.i8080.specs.Instruction.{word_at}
 use Rattle.i8080.specs.Reading as reading
-use Rattle.i8080.specs.End.{Reads, cells_from}
+use Rattle.i8080.specs.End.{cells_from}
+use Rattle.i8080.specs.Performs.{Reads}
 use Rattle.i8080.proofs.LookLemmas.{extends_past}
 use Rattle.i8080.proofs.WriteLookLemmas.{extends_itself, extends_by}
 use Rattle.console_calls.specs.declared.served.Served.{Served}
@@ -18,8 +21,9 @@ use Rattle.console_calls.specs.declared.desk.Spot.{Spot}
 use Rattle.console_calls.specs.declared.cause.Cause.{Cause}
 use Rattle.console_calls.specs.Desk.{Desk}
 use Rattle.console_calls.specs.Questions.{StateTree, answers, addresses, script_places}
-use Rattle.console_calls.specs.Calls as calls
-use Rattle.console_calls.specs.Calls.{CallEnd, Stopped, at_caller, served_of, regs_after, desk_after, own_after}
+use Rattle.console_calls.proofs.Parts as parts
+use Rattle.console_calls.specs.Calls.{CallEnd, Stopped, at_caller}
+use Rattle.console_calls.specs.Serves.{served_of, regs_after, desk_after, own_after}
 use Rattle.console_calls.proofs.Scanning.{same_bytes}
 use Rattle.console_calls.proofs.Trees.{look_all-append, or_false}
 use Rattle.hostfiles.specs.Looks as file_looks
@@ -27,16 +31,20 @@ use Rattle.hostfiles.proofs.LookLemmas.{extends_same, extends_trans}
 use Rattle.hostfiles.specs.declared.looks.Looks as file_questions_asked
 use Rattle.hostfiles.specs.Hosts.{Host, Key}
 use Rattle.hostfiles.specs.Files as hostfiles
-use Rattle.file_calls.specs.Questions.{FileQuestion, FileTree, Drives, file_answers, look_for_all}
+use Rattle.hostfiles.specs.declared.changes.Changes.{Changes}
+use Rattle.file_calls.specs.Questions.{FileQuestion, FileTree}
+use Rattle.file_calls.specs.Answers.{Drives, file_answers, look_for_all}
 use Rattle.file_calls.specs.declared.block.Block.{Block}
 use Rattle.file_calls.specs.declared.finding.Finding.{Finding}
-use Rattle.file_calls.specs.Changes.{FileChange, Unchanged, Deleted, own_with}
+use Rattle.file_calls.specs.Changes.{FileChange, Unchanged, Deleted}
+use Rattle.file_calls.specs.Deletes.{own_with}
 use Rattle.file_calls.specs.Deletes.{Deletes}
 use Rattle.file_calls.specs.Asks.{Asks}
 use Rattle.file_calls.proofs.Extending.{within_all}
-use Rattle.bdos.specs.Questions.{SystemTree, SystemAnswers, reading_first, asking_state, asking_files, state_questions, file_questions, system_answers}
+use Rattle.bdos.specs.Questions.{SystemTree, SystemAnswers, reading_first, asking_state, asking_files}
+use Rattle.bdos.specs.Fulfils.{state_questions, file_questions, system_answers}
 use Rattle.bdos.specs.FileCalls.{SystemEnd, back, carried_on, with_block, on_drive, drive_named, block_read, value_of}
-use Rattle.bdos.specs.Fulfils.{FulfilsBy, end_in, cells_asked, places_asked, files_asked}
+use Rattle.bdos.specs.Fulfils.{Fulfils, scene_with, end_in, cells_asked, places_asked, files_asked}
 use Rattle.bdos.proofs.Trees.{result-reading, cells-reading, places-reading, files-reading, result-state, questions-state, files-state, result-files, state-files, questions-files}
 
 on_err : {P Q : Type 0} (result : Result Served AllocError) → (P → Q) → OnErr result P → OnErr result Q
@@ -58,7 +66,7 @@ look_for-append own (x ∷ xs) ys l = look_for-append own xs ys _
 module _ {script : List ℕ} {r : Regs} {m m1 : Memory} {d : Desk} {v : Drives} {was is : ℕ → Bool} {result : Result Served AllocError} {r' : Regs} {m' : Memory} {d' : Desk} {v' : Drives} where
   -- a reading, and what follows its end
   pub after_read : {E : Type 0} (t : Reading E) (k : E → SystemTree SystemEnd) (e : E) → Reads t m e m1
-      → FulfilsBy (k e) script r m1 d v was result r' m' d' v' is → FulfilsBy (reading_first t k) script r m d v was result r' m' d' v' is
+      → Fulfils (k e) script (scene_with r m1 d v was) result (scene_with r' m' d' v' is) → Fulfils (reading_first t k) script (scene_with r m d v was) result (scene_with r' m' d' v' is)
   after_read t k e h w =
       let same : bytes m1 ≡ bytes m = same_bytes m m1 h.own h.beneath in
       let f : SystemAnswers = system_answers (bytes m) script v.host v.own in
@@ -104,11 +112,20 @@ module _ {script : List ℕ} {r : Regs} {m m1 : Memory} {d : Desk} {v : Drives} 
 swapped : {X : Type 0} {a b : Host} {o p : hostfiles.Own} → a ≡ b → o ≡ p → (g : Host → hostfiles.Own → X) → g a o ≡ g b p
 swapped {b = b} {o = o} h k g = ap (λ x. g x o) h ∙ ap (g b) k
 
+-- what asking the files leaves, seen as drives
+record Told {E : Type 0} (t : FileTree E) (e : E) (v v' : Drives) : Type 0 where
+  found : e ≡ result_of (file_answers v.host v.own) t
+  looks : v'.looks ≡ look_for_all v.own (asked (file_answers v.host v.own) t) v.looks
+  extends : file_looks.Extends v.looks v'.looks
+  own : v'.own ≡ v.own
+  host : v'.host ≡ v.host
+  lender : v'.lender ≡ v.lender
+
 module _ {script : List ℕ} {r : Regs} {m : Memory} {d : Desk} {v v1 : Drives} {was is : ℕ → Bool} {result : Result Served AllocError} {r' : Regs} {m' : Memory} {d' : Desk} {v' : Drives} where
   -- what the files are asked, and what follows what they tell
-  pub after_files : {E : Type 0} (t : FileTree E) (k : E → SystemTree SystemEnd) (e : E) → Asks t v (Ok e) v1
-      → FulfilsBy (k e) script r m d v1 was result r' m' d' v' is → FulfilsBy (asking_files t k) script r m d v was result r' m' d' v' is
-  after_files t k e h w =
+  after_told : {E : Type 0} (t : FileTree E) (k : E → SystemTree SystemEnd) (e : E) → Told t e v v1
+      → Fulfils (k e) script (scene_with r m d v1 was) result (scene_with r' m' d' v' is) → Fulfils (asking_files t k) script (scene_with r m d v was) result (scene_with r' m' d' v' is)
+  after_told t k e h w =
       let f : SystemAnswers = system_answers (bytes m) script v.host v.own in
       let ends : end_in (k e) script m v1 ≡ end_in (asking_files t k) script m v =
       swapped h.host h.own (λ host own. result_of (system_answers (bytes m) script host own) (k e)) ∙ ap (λ x. result_of f (k x)) h.found ∙ sym (result-files f k t) in
@@ -148,6 +165,23 @@ module _ {script : List ℕ} {r : Regs} {m : Memory} {d : Desk} {v v1 : Drives} 
         lender = w.lender;
       }
 
+-- drives, of which a run did and looked at this
+abbrev pub drives_with : Host → Changes → GName → Drives
+drives_with host c lender = record { host = host; own = c.journal.entries; looks = c.looks; lender = lender }
+
+module _ {script : List ℕ} {r : Regs} {m : Memory} {d : Desk} {host : Host} {c c1 : Changes} {lender : GName} {was is : ℕ → Bool} {result : Result Served AllocError} {r' : Regs} {m' : Memory} {d' : Desk} {v' : Drives} where
+  pub after_files : {E : Type 0} (t : FileTree E) (k : E → SystemTree SystemEnd) (e : E) → Asks t host c (Ok e) c1
+      → Fulfils (k e) script (scene_with r m d (drives_with host c1 lender) was) result (scene_with r' m' d' v' is)
+      → Fulfils (asking_files t k) script (scene_with r m d (drives_with host c lender) was) result (scene_with r' m' d' v' is)
+  after_files t k e h w = after_told t k e (record {
+    found = h.answer;
+    looks = h.looks;
+    extends = h.extends;
+    own = ap (λ j. j.entries) h.stays;
+    host = refl;
+    lender = refl;
+  }) w
+
 -- what is asked of the files first is among what the whole call asks
 asked_before : {E : Type 0} (t : FileTree E) (k : E → SystemTree SystemEnd) (script : List ℕ) (m : Memory) (v : Drives) (l : file_questions_asked.Looks)
     → file_looks.Extends l (look_for_all v.own (asked (file_answers v.host v.own) t) v.looks)
@@ -165,7 +199,7 @@ module _ {t : SystemTree SystemEnd} {script : List ℕ} {r r' : Regs} {m m' : Me
   pub gives_up : r' ≡ r → m' ≡ m → d' ≡ d → v'.own ≡ v.own → file_looks.Extends v.looks v'.looks
       → file_looks.Extends v'.looks (look_for_all v.own (files_asked t script m v) v.looks)
       → v'.host ≡ v.host → v'.lender ≡ v.lender → ((j : ℕ) → is j ≡ was j)
-      → FulfilsBy t script r m d v was (Err e) r' m' d' v' is
+      → Fulfils t script (scene_with r m d v was) (Err e) (scene_with r' m' d' v' is)
   gives_up regs memory desk files extends bound host lends same = record {
     served = tt;
     regs = tt;
@@ -195,25 +229,25 @@ module _ {script : List ℕ} {r r' : Regs} {m m' : Memory} {d d' : Desk} {v v' :
   pub fails_asking : {E : Type 0} (t : FileTree E) (k : E → SystemTree SystemEnd) → r' ≡ r → m' ≡ m → d' ≡ d → v'.own ≡ v.own → file_looks.Extends v.looks v'.looks
       → file_looks.Extends v'.looks (look_for_all v.own (asked (file_answers v.host v.own) t) v.looks)
       → v'.host ≡ v.host → v'.lender ≡ v.lender → ((j : ℕ) → is j ≡ was j)
-      → FulfilsBy (asking_files t k) script r m d v was (Err e) r' m' d' v' is
+      → Fulfils (asking_files t k) script (scene_with r m d v was) (Err e) (scene_with r' m' d' v' is)
   fails_asking t k regs memory desk files extends bound host lends same =
       gives_up regs memory desk files extends (asked_before t k script m v v'.looks bound) host lends same
 
 -- what another name of a tree asks
-pub asked_as : {t u : FileTree Finding} {v v' : Drives} {result : Result Finding AllocError} → t ≡ u → Asks t v result v' → Asks u v result v'
-asked_as {v = v} {v' = v'} {result = result} e h = subst (λ (x : FileTree Finding). Asks x v result v') e h
+pub asked_as : (host : Host) {t u : FileTree Finding} {c c' : Changes} {result : Result Finding AllocError} → t ≡ u → Asks t host c result c' → Asks u host c result c'
+asked_as host {c = c} {c' = c'} {result = result} e h = subst (λ (x : FileTree Finding). Asks x host c result c') e h
 
 -- a tree by another name
 module _ {script : List ℕ} {r r' : Regs} {m m' : Memory} {d d' : Desk} {v v' : Drives} {was is : ℕ → Bool} {result : Result Served AllocError} where
-  pub named : {t t' : SystemTree SystemEnd} → t' ≡ t → FulfilsBy t script r m d v was result r' m' d' v' is → FulfilsBy t' script r m d v was result r' m' d' v' is
-  named e w = subst (λ (t : SystemTree SystemEnd). FulfilsBy t script r m d v was result r' m' d' v' is) (sym e) w
+  pub named : {t t' : SystemTree SystemEnd} → t' ≡ t → Fulfils t script (scene_with r m d v was) result (scene_with r' m' d' v' is) → Fulfils t' script (scene_with r m d v was) result (scene_with r' m' d' v' is)
+  named e w = subst (λ (t : SystemTree SystemEnd). Fulfils t script (scene_with r m d v was) result (scene_with r' m' d' v' is)) (sym e) w
 
-  pub found_as : (spot : Spot) (to : ℕ) {x y : Finding} → x ≡ y → FulfilsBy (carried_on y r spot to) script r m d v was result r' m' d' v' is → FulfilsBy (carried_on x r spot to) script r m d v was result r' m' d' v' is
+  pub found_as : (spot : Spot) (to : ℕ) {x y : Finding} → x ≡ y → Fulfils (carried_on y r spot to) script (scene_with r m d v was) result (scene_with r' m' d' v' is) → Fulfils (carried_on x r spot to) script (scene_with r m d v was) result (scene_with r' m' d' v' is)
   found_as spot to e w = named (ap (λ (x : Finding). carried_on x r spot to) e) w
 
   -- and with the same bytes in the same cells
   pub cells_as : (value : ℕ) (spot : Spot) (to : ℕ) (change : FileChange) {a b : ℕ} {xs ys : List ℕ} → a ≡ b → xs ≡ ys
-      → FulfilsBy (back value r spot to (cells_from a xs) change) script r m d v was result r' m' d' v' is → FulfilsBy (back value r spot to (cells_from b ys) change) script r m d v was result r' m' d' v' is
+      → Fulfils (back value r spot to (cells_from a xs) change) script (scene_with r m d v was) result (scene_with r' m' d' v' is) → Fulfils (back value r spot to (cells_from b ys) change) script (scene_with r m d v was) result (scene_with r' m' d' v' is)
   cells_as value spot to change {a = a} {ys = ys} e f w = named (ap (λ x. back value r spot to (cells_from x ys) change) (sym e) ∙ ap (λ (xs : List ℕ). back value r spot to (cells_from a xs) change) (sym f)) w
 
 -- a call that goes back, once it wrote cells and changed files
@@ -221,7 +255,7 @@ module _ {script : List ℕ} {r r' : Regs} {m m' : Memory} {d d' : Desk} {v v' :
   pub goes_back : (value : ℕ) (spot : Spot) (to : ℕ) (cells : List (ℕ × ℕ)) (change : FileChange) → r' ≡ at_caller value to r → d' ≡ record { spot = spot; text = d.text }
       → m'.own ≡ write_all m.own cells → m'.looks ≡ m.looks → m'.beneath ≡ m.beneath → m'.lender ≡ m.lender
       → v'.own ≡ own_with change v.own → v'.looks ≡ v.looks → v'.host ≡ v.host → v'.lender ≡ v.lender → ((j : ℕ) → is j ≡ was j)
-      → FulfilsBy (back value r spot to cells change) script r m d v was (Ok served.Went) r' m' d' v' is
+      → Fulfils (back value r spot to cells change) script (scene_with r m d v was) (Ok served.Went) (scene_with r' m' d' v' is)
   goes_back value spot to cells change regs desk own looks beneath lender files asks host lends same = record {
     served = refl;
     regs = regs;
@@ -248,7 +282,7 @@ module _ {script : List ℕ} {r r' : Regs} {m m' : Memory} {d d' : Desk} {v v' :
 
   -- a drive that is not there stops it
   pub stops : (cause : Cause) → r' ≡ r → d' ≡ d → m' ≡ m → v' ≡ v → ((j : ℕ) → is j ≡ was j)
-      → FulfilsBy (Return (Stopped cause, Unchanged)) script r m d v was (Ok (served.Stop cause)) r' m' d' v' is
+      → Fulfils (Return (Stopped cause, Unchanged)) script (scene_with r m d v was) (Ok (served.Stop cause)) (scene_with r' m' d' v' is)
   stops cause regs desk memory drives same = record {
     served = refl;
     regs = regs;
@@ -277,7 +311,7 @@ module _ {script : List ℕ} {r r' : Regs} {m m' : Memory} {d d' : Desk} {v v' :
 module _ {script : List ℕ} {r : Regs} {m m1 m2 m3 : Memory} {d : Desk} {v : Drives} {was is : ℕ → Bool} {result : Result Served AllocError} {r' : Regs} {m' : Memory} {d' : Desk} {v' : Drives} where
   pub heads : (length n : ℕ) (spot : Spot) (k : Block → ℕ → SystemTree SystemEnd) {at current dr drive to : ℕ} {block : Block} → length ≡ n → at ≡ word r.e r.d → current ≡ spot.drive
       → Reads (Cell at Done) m dr m1 → Some drive ≡ drive_named current dr → Reads (block_read drive dr n at) m1 block m2 → Reads (word_at r.sp Done) m2 to m3
-      → FulfilsBy (k block to) script r m3 d v was result r' m' d' v' is → FulfilsBy (with_block length r spot k) script r m d v was result r' m' d' v' is
+      → Fulfils (k block to) script (scene_with r m3 d v was) result (scene_with r' m' d' v' is) → Fulfils (with_block length r spot k) script (scene_with r m d v was) result (scene_with r' m' d' v' is)
   heads length n spot k {at = at} {dr = dr} {drive = drive} {to = to} {block = block} same de here first there second third w =
       after_read (Cell (word r.e r.d) Done) (λ dr. on_drive length r spot dr k (drive_named spot.drive dr)) dr (subst (λ (a : ℕ). Reads (Cell a Done) m dr m1) de first)
       (named (ap (on_drive length r spot dr k) (sym (there ∙ ap (λ c. drive_named c dr) here)))
@@ -287,8 +321,8 @@ module _ {script : List ℕ} {r : Regs} {m m1 m2 m3 : Memory} {d : Desk} {v : Dr
 
 -- a call of the desk alone
 module _ {script : List ℕ} {r : Regs} {m : Memory} {d : Desk} {was is : ℕ → Bool} {result : Result Served AllocError} {r' : Regs} {m' : Memory} {d' : Desk} where
-  pub of_desk : (v : Drives) (t : StateTree CallEnd) → calls.FulfilsBy t script r m d was result r' m' d' is
-      → FulfilsBy (asking_state t (λ e. Return (e, Unchanged))) script r m d v was result r' m' d' v is
+  pub of_desk : (v : Drives) (t : StateTree CallEnd) → parts.FulfilsBy t script r m d was result r' m' d' is
+      → Fulfils (asking_state t (λ e. Return (e, Unchanged))) script (scene_with r m d v was) result (scene_with r' m' d' v is)
   of_desk v t w =
       let f : SystemAnswers = system_answers (bytes m) script v.host v.own in
       let k : CallEnd → SystemTree SystemEnd = λ e. Return (e, Unchanged) in
@@ -322,7 +356,7 @@ module _ {script : List ℕ} {r : Regs} {m : Memory} {d : Desk} {was is : ℕ �
 module _ {script : List ℕ} {r r' : Regs} {m : Memory} {d : Desk} {v v' : Drives} {was : ℕ → Bool} where
   pub deleting : (spot : Spot) (to : ℕ) (t : FileTree (List Key)) {some : Bool} {value : ℕ} → Deletes t v (Ok some) v' → value ≡ cond some 0 0xff → r' ≡ at_caller value to r
       → d ≡ record { spot = spot; text = d.text }
-      → FulfilsBy (asking_files t (λ names. back (value_of names) r spot to [] (Deleted names))) script r m d v was (Ok served.Went) r' m d v' was
+      → Fulfils (asking_files t (λ names. back (value_of names) r spot to [] (Deleted names))) script (scene_with r m d v was) (Ok served.Went) (scene_with r' m d v' was)
   deleting spot to t {value = value} h told regs desk =
       let f : SystemAnswers = system_answers (bytes m) script v.host v.own in
       let names : List Key = result_of (file_answers v.host v.own) t in

@@ -15,16 +15,17 @@ use Rattle.file_calls.specs.declared.function.FileFunction.{FileFunction}
 use Rattle.file_calls.specs.declared.function.FileFunction.TheVariants.{Open, Close, SearchFirst, ReadSequential, WriteSequential, Make, Rename, ReadRandom, WriteRandom, FileSize, SetRandomRecord, WriteRandomZeroFill}
 use Rattle.file_calls.specs.declared.finding.Finding.{Finding}
 use Rattle.file_calls.specs.declared.finding.Finding.TheVariants as finding
-use Rattle.filenames.specs.Names.{is_sayable}
-use Rattle.filenames.specs.ControlBlock.{place_of, random_of}
+use Rattle.hostfiles.specs.Names.{is_sayable}
+use Rattle.hostfiles.specs.ControlBlock.{place_of, random_of}
 use Rattle.directory.specs.Entries.{count_at}
 use Rattle.directory.specs.declared.entry.Search.{Search}
 use Rattle.hostfiles.specs.Hosts.{Key}
-use Rattle.cpmfiles.specs.Tables.{has_wildcard, is_rename}
+use Rattle.cpmfiles.specs.Renaming.{has_wildcard, is_rename}
 use Rattle.file_calls.specs.Questions.{FileQuestion, FileAnswers, FileTree, IsThere, ShapeOf, Content, FilesOn}
 use Rattle.file_calls.specs.FileCalls.{found, block_length, deletion, search_next, key_of, new_key_of, absent, if_there, if_in_range, record_found, missing, writing, matching}
 use Rattle.file_calls.specs.Changes.{Deleted, Unchanged}
-use Rattle.bdos.specs.Questions.{SystemAnswers, SystemTree, reading_first, asking_state, asking_files, file_questions}
+use Rattle.bdos.specs.Questions.{SystemAnswers, SystemTree, reading_first, asking_state, asking_files}
+use Rattle.bdos.specs.Fulfils.{file_questions}
 use Rattle.bdos.specs.FileCalls.{SystemEnd, back, value_of, bytes_at, block_read, drive_named, carried_on, with_block, on_drive, file_call, delete_call, search_next_call}
 use Rattle.bdos.specs.Drives.{AreDrives, AsksDrives}
 use Rattle.bdos.proofs.Trees.{files-reading, files-state, questions-files}

@@ -4,7 +4,7 @@ use Rattle.std.proofs.lemmas.List.{take_more_set, take_all, append_assoc, append
 use Rattle.i8080.specs.Memory.{Memory, Own, Looks, look, look_all, write, write_all, bytes}
 use Rattle.i8080.specs.Reading.{end_of, asked}
 use Rattle.i8080.specs.Registers.{onward}
-use Rattle.i8080.specs.End.{Reads}
+use Rattle.i8080.specs.Performs.{Reads}
 use Rattle.console_calls.proofs.Scanning.{end_of-ending, asked-ending, one_less, none_left}
 use Rattle.bdos.specs.FileCalls.{bytes_at, block_read}
 use Rattle.file_calls.specs.declared.block.Block.{Block}

@@ -1,23 +1,16 @@
 -- The calls by their numbers. (CP/M 2.2 Interface Guide; function 40 is its "write random with zero fill"; which of its calls are
 -- there: this project's profile.)
-use Rattle.std.specs.Prelude.{ℕ, ◌==◌, List, if◌then◌else◌}
-use Rattle.std.specs.declared.result.Result.{Result}
-use Rattle.std.specs.declared.alloc.AllocError.{AllocError}
+use Rattle.std.specs.Prelude.{ℕ, ◌==◌, if◌then◌else◌}
 use Rattle.interaction_trees.specs.Tree.{Return}
 use Rattle.i8080.specs.declared.registers.Regs.{Regs}
-use Rattle.i8080.specs.Memory.{Memory}
-use Rattle.console_calls.specs.declared.served.Served.{Served}
 use Rattle.console_calls.specs.declared.desk.Spot.{Spot}
-use Rattle.console_calls.specs.Places.{Watched}
 use Rattle.console_calls.specs.Calls as desk_calls
 use Rattle.file_calls.specs.declared.function.FileFunction.TheVariants.{Open, Close, SearchFirst, ReadSequential, WriteSequential, Make, Rename, ReadRandom, WriteRandom, FileSize, SetRandomRecord, WriteRandomZeroFill}
-use Rattle.file_calls.specs.Questions.{Drives}
 use Rattle.file_calls.specs.Changes.{Unchanged}
 use Rattle.bdos.specs.declared.function.SystemFunction.{SystemFunction}
 use Rattle.bdos.specs.declared.function.SystemFunction.TheVariants.{OfFile, SearchNext, DeleteFile, OfDesk}
 use Rattle.bdos.specs.Questions.{SystemTree, asking_state}
 use Rattle.bdos.specs.FileCalls.{SystemEnd, file_call, delete_call, search_next_call}
-use Rattle.bdos.specs.Fulfils.{Fulfils}
 
 abbrev pub system_function : ℕ → SystemFunction
 system_function number =
@@ -47,7 +40,3 @@ called n OfDesk r spot = asking_state (desk_calls.call n r spot) (λ e. Return (
 -- the call whose number is in C
 unfoldable pub call : ℕ → Regs → Spot → SystemTree SystemEnd
 call n r spot = called n (system_function r.c) r spot
-
--- what a call leaves, over a script of at most n bytes
-abbrev pub Serves : ℕ → List ℕ → Regs → Memory → Watched → Drives → Result Served AllocError → Regs → Memory → Watched → Drives → Type 0
-Serves n script r m d v result r' m' d' v' = Fulfils (call n r d.desk.spot) script r m d v result r' m' d' v'

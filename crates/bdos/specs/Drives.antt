@@ -2,7 +2,8 @@
 use Rattle.std.specs.Prelude.{ℕ, ◌<◌, List, [], ◌∷◌}
 use Rattle.interaction_trees.specs.Tree.{asked}
 use Rattle.file_calls.specs.Questions.{FileQuestion, IsThere, ShapeOf, Content, FilesOn}
-use Rattle.bdos.specs.Questions.{SystemAnswers, SystemTree, file_questions}
+use Rattle.bdos.specs.Questions.{SystemAnswers, SystemTree}
+use Rattle.bdos.specs.Fulfils.{file_questions}
 use Rattle.bdos.specs.FileCalls.{SystemEnd}
 
 -- a directory that is asked for is that of a drive that a byte tells

@@ -18,7 +18,7 @@ use Rattle.file_calls.specs.declared.function.FileFunction.{FileFunction}
 use Rattle.file_calls.specs.declared.finding.Finding.{Finding}
 use Rattle.file_calls.specs.declared.finding.Finding.TheVariants as finding
 use Rattle.file_calls.specs.FileCalls.{found, block_length, deletion, search_next}
-use Rattle.file_calls.specs.Deletes.{is_some_named}
+use Rattle.file_calls.specs.Changes.{is_some_named}
 use Rattle.file_calls.specs.Changes.{FileChange, Unchanged, Made, Deleted, Renamed, Stored}
 use Rattle.bdos.specs.Questions.{SystemTree, reading_first, asking_files}
 

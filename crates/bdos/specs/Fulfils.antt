@@ -1,5 +1,5 @@
 -- What a function leaves that carries out a call. (This project's own.)
-use Rattle.std.specs.Prelude.{◌≡◌, ℕ, ◌||◌, Bool, List, IfOk, OnOk, OnErr}
+use Rattle.std.specs.Prelude.{◌≡◌, ℕ, ◌||◌, Bool, List, IfOk, OnOk, OnErr, [], ◌∷◌}
 use Rattle.std.specs.declared.result.Result.{Result}
 use Rattle.std.specs.declared.alloc.AllocError.{AllocError}
 use Rattle.interaction_trees.specs.Tree.{result_of, asked}
@@ -8,13 +8,33 @@ use Rattle.i8080.specs.Memory.{Memory, Extends, is_among, bytes, look_all}
 use Rattle.console_calls.specs.declared.served.Served.{Served}
 use Rattle.console_calls.specs.Desk.{Desk}
 use Rattle.console_calls.specs.Places.{Watched, is_within}
-use Rattle.console_calls.specs.Questions.{addresses, script_places}
-use Rattle.console_calls.specs.Calls.{served_of, regs_after, desk_after, own_after}
+use Rattle.console_calls.specs.Questions.{addresses, script_places, StateQuestion, answers}
+use Rattle.console_calls.specs.Serves.{served_of, regs_after, desk_after, own_after}
 use Rattle.hostfiles.specs.Looks as file_looks
-use Rattle.file_calls.specs.Questions.{FileQuestion, Drives, look_for_all}
-use Rattle.file_calls.specs.Changes.{own_with}
-use Rattle.bdos.specs.Questions.{SystemTree, system_answers, state_questions, file_questions}
+use Rattle.file_calls.specs.Questions.{FileQuestion}
+use Rattle.file_calls.specs.Answers.{Drives, look_for_all, file_answers}
+use Rattle.file_calls.specs.Deletes.{own_with}
+use Rattle.bdos.specs.Questions.{SystemTree, SystemQuestion, OfState, OfFiles, SystemAnswers}
 use Rattle.bdos.specs.FileCalls.{SystemEnd}
+use Rattle.hostfiles.specs.Hosts.{Host}
+use Rattle.hostfiles.specs.Files.{Own}
+use Rattle.bdos.specs.Calls.{call}
+
+-- those of the one kind, and those of the other
+abbrev pub state_questions : List SystemQuestion → List StateQuestion
+state_questions [] = []
+state_questions (OfState q ∷ rest) = q ∷ state_questions rest
+state_questions (OfFiles q ∷ rest) = state_questions rest
+
+abbrev pub file_questions : List SystemQuestion → List FileQuestion
+file_questions [] = []
+file_questions (OfState q ∷ rest) = file_questions rest
+file_questions (OfFiles q ∷ rest) = q ∷ file_questions rest
+
+-- what a memory, a script, and files answer
+abbrev pub system_answers : (ℕ → ℕ) → List ℕ → Host → Own → SystemAnswers
+system_answers byte script host own (OfState q) = answers byte script q
+system_answers byte script host own (OfFiles q) = file_answers host own q
 
 -- how a tree ends, and what it asks, over a memory, a script and files
 abbrev pub end_in : SystemTree SystemEnd → List ℕ → Memory → Drives → SystemEnd
@@ -29,30 +49,46 @@ places_asked t script m v = script_places (state_questions (asked (system_answer
 abbrev pub files_asked : SystemTree SystemEnd → List ℕ → Memory → Drives → List FileQuestion
 files_asked t script m v = file_questions (asked (system_answers (bytes m) script v.host v.own) t)
 
-pub record FulfilsBy (t : SystemTree SystemEnd) (script : List ℕ) (r : Regs) (m : Memory) (d : Desk) (v : Drives) (was : ℕ → Bool) (result : Result Served AllocError) (r' : Regs) (m' : Memory) (d' : Desk) (v' : Drives) (is : ℕ → Bool) : Type 0 where
-  pub served : IfOk result (λ s. s ≡ served_of (end_in t script m v).0)
-  pub regs : OnOk result (r' ≡ regs_after (end_in t script m v).0 r)
-  pub desk : OnOk result (d' ≡ desk_after (end_in t script m v).0 d)
-  pub own : OnOk result (m'.own ≡ own_after (end_in t script m v).0 m.own)
-  pub files : OnOk result (v'.own ≡ own_with (end_in t script m v).1 v.own)
-  pub looks : OnOk result (m'.looks ≡ look_all m.own (cells_asked t script m v) m.looks)
-  pub places : OnOk result ((k : ℕ) → is k ≡ (was k || is_among k (places_asked t script m v)))
-  pub asks : OnOk result (v'.looks ≡ look_for_all v.own (files_asked t script m v) v.looks)
-  -- at a failure: the looks before, and some of those of the whole call, of memory and of the files
-  pub err_looks : OnErr result (Extends m.looks m'.looks)
-  pub err_bound : OnErr result (Extends m'.looks (look_all m.own (cells_asked t script m v) m.looks))
-  pub err_asks_bound : OnErr result (file_looks.Extends v'.looks (look_for_all v.own (files_asked t script m v) v.looks))
-  pub err_regs : OnErr result (r' ≡ r)
-  pub err_desk : OnErr result (d' ≡ d)
-  pub err_own : OnErr result (m'.own ≡ m.own)
-  pub err_files : OnErr result (v'.own ≡ v.own)
-  pub err_places : OnErr result ((k : ℕ) → is k ≡ was k)
-  pub extends : file_looks.Extends v.looks v'.looks
-  pub host : v'.host ≡ v.host
-  pub lends : v'.lender ≡ v.lender
-  pub beneath : m'.beneath ≡ m.beneath
-  pub lender : m'.lender ≡ m.lender
+-- what a call is carried out over: the registers, memory, the desk, the files, and which places of the script were looked at
+pub record Scene : Type 0 where
+  pub regs : Regs
+  pub memory : Memory
+  pub desk : Desk
+  pub files : Drives
+  pub places : ℕ → Bool
 
--- a tree of a call, carried out at a desk whose looked-at places are kept
-abbrev pub Fulfils : SystemTree SystemEnd → List ℕ → Regs → Memory → Watched → Drives → Result Served AllocError → Regs → Memory → Watched → Drives → Type 0
-Fulfils t script r m d v result r' m' d' v' = FulfilsBy t script r m d.desk v (is_within d.places) result r' m' d'.desk v' (is_within d'.places)
+abbrev pub scene_with : Regs → Memory → Desk → Drives → (ℕ → Bool) → Scene
+scene_with r m d v places = record { regs = r; memory = m; desk = d; files = v; places = places }
+
+-- at a desk that keeps these places
+abbrev pub scene : Regs → Memory → Watched → Drives → Scene
+scene r m d v = scene_with r m d.desk v (is_within d.places)
+
+-- a tree of a call, carried out over a script: how it ends, and what it asks, over the old scene is what the new one shows
+pub record Fulfils (t : SystemTree SystemEnd) (script : List ℕ) (old : Scene) (result : Result Served AllocError) (new : Scene) : Type 0 where
+  pub served : IfOk result (λ s. s ≡ served_of (end_in t script old.memory old.files).0)
+  pub regs : OnOk result (new.regs ≡ regs_after (end_in t script old.memory old.files).0 old.regs)
+  pub desk : OnOk result (new.desk ≡ desk_after (end_in t script old.memory old.files).0 old.desk)
+  pub own : OnOk result (new.memory.own ≡ own_after (end_in t script old.memory old.files).0 old.memory.own)
+  pub files : OnOk result (new.files.own ≡ own_with (end_in t script old.memory old.files).1 old.files.own)
+  pub looks : OnOk result (new.memory.looks ≡ look_all old.memory.own (cells_asked t script old.memory old.files) old.memory.looks)
+  pub places : OnOk result ((k : ℕ) → new.places k ≡ (old.places k || is_among k (places_asked t script old.memory old.files)))
+  pub asks : OnOk result (new.files.looks ≡ look_for_all old.files.own (files_asked t script old.memory old.files) old.files.looks)
+  -- at a failure: the looks before, and some of those of the whole call, of memory and of the files
+  pub err_looks : OnErr result (Extends old.memory.looks new.memory.looks)
+  pub err_bound : OnErr result (Extends new.memory.looks (look_all old.memory.own (cells_asked t script old.memory old.files) old.memory.looks))
+  pub err_asks_bound : OnErr result (file_looks.Extends new.files.looks (look_for_all old.files.own (files_asked t script old.memory old.files) old.files.looks))
+  pub err_regs : OnErr result (new.regs ≡ old.regs)
+  pub err_desk : OnErr result (new.desk ≡ old.desk)
+  pub err_own : OnErr result (new.memory.own ≡ old.memory.own)
+  pub err_files : OnErr result (new.files.own ≡ old.files.own)
+  pub err_places : OnErr result ((k : ℕ) → new.places k ≡ old.places k)
+  pub extends : file_looks.Extends old.files.looks new.files.looks
+  pub host : new.files.host ≡ old.files.host
+  pub lends : new.files.lender ≡ old.files.lender
+  pub beneath : new.memory.beneath ≡ old.memory.beneath
+  pub lender : new.memory.lender ≡ old.memory.lender
+
+-- what a call leaves, over a script of at most n bytes
+abbrev pub Serves : ℕ → List ℕ → Scene → Result Served AllocError → Scene → Type 0
+Serves n script old result new = Fulfils (call n old.regs old.desk.spot) script old result new

@@ -1,14 +1,17 @@
 // What a call does with what it found.
 
 ghost use Rattle.std.specs.Prelude.{◌≡◌, ◌≢◌, ◌≤◌, ◌/◌, ◌%◌, List, [], ◌∷◌, ℕ, Ok, OnOk, OnErr, length};
-ghost use Rattle.file_calls.specs.Questions.{Drives, drives_of};
+ghost use Rattle.console_calls.specs.Places.{Watched};
+ghost use Rattle.file_calls.specs.Answers.{Drives, drives_of};
 ghost use Rattle.file_calls.specs.FileCalls.{IsApart};
-ghost use Rattle.file_calls.specs.Changes.{Unchanged, Stored, own_with};
+ghost use Rattle.file_calls.specs.Changes.{Unchanged, Stored};
+ghost use Rattle.file_calls.specs.Deletes.{own_with};
 ghost use Rattle.file_calls.specs.declared.finding.Finding.TheVariants as finding;
 ghost use Rattle.i8080.specs.End.{cells_from};
 ghost use Rattle.i8080.specs.Registers.{word};
-ghost use Rattle.bdos.specs.FileCalls.{carried_on, back, directory_record, random_cells, random_bytes, opened_bytes, made_bytes};
-ghost use Rattle.bdos.specs.Fulfils.{Fulfils};
+ghost use Rattle.bdos.specs.FileCalls.{carried_on, back, directory_record, random_cells};
+ghost use Rattle.bdos.specs.FileCalls.{random_bytes, opened_bytes, made_bytes};
+ghost use Rattle.bdos.specs.Fulfils.{Fulfils, scene};
 
 use crate::cells::{fetch_cells, put_cells, put_record, ready_place, write_place};
 use console_calls::{Desk, Served, give_back};
@@ -18,7 +21,8 @@ use file_calls::{Finding, Write};
 use i8080::{Bus, Regs, ready_cells, word_of, write_cells};
 use std::alloc::AllocError;
 
-/// Carries a call on that found something, and goes back to an address. An `Err` leaves registers, cells, desk and files.
+/// Carries a call on that found something, and goes back to an address. An `Err` leaves registers, cells,
+/// desk and files.
 pub fn carry_on<B: Bus>(
     finding: Finding,
     regs: &mut Regs,
@@ -28,7 +32,10 @@ pub fn carry_on<B: Bus>(
     to: u16,
 ) -> Result<Served, AllocError>
     requires { IsApart finding }
-    ensures { (script : List ℕ) → Fulfils (carried_on finding regs.old desk.old.desk.spot to) script regs.old (B.memory bus.old) desk.old (drives_of table.old) result regs.new (B.memory bus.new) desk.new (drives_of table.new) }
+    ensures { (script : List ℕ) →
+        Fulfils (carried_on finding regs.old desk.old.desk.spot to) script
+        (scene regs.old (B.memory bus.old) desk.old (drives_of table.old)) result
+        (scene regs.new (B.memory bus.new) desk.new (drives_of table.new)) }
 {
     match finding {
         Finding::Value(value) => Ok(give_nothing(regs, bus, desk, value, to)),
@@ -46,16 +53,19 @@ pub fn carry_on<B: Bus>(
 }
 
 // Gives back a value, and does nothing else.
-#[tactic(auto, using(crate::proofs::Parts::extends_same, crate::proofs::Parts::extends_itself))]
+#[tactic(auto, using(crate::proofs::Parts::still_looked_at))]
 fn give_nothing<B: Bus>(regs: &mut Regs, bus: &B, desk: &Desk, value: u8, to: u16) -> Served
-    ensures { (script : List ℕ) (v : Drives) → Fulfils (carried_on (finding.Value value) regs.old desk.now.desk.spot to) script regs.old (B.memory bus.now) desk.now v (Ok result) regs.new (B.memory bus.now) desk.now v }
+    ensures { (script : List ℕ) (v : Drives) →
+        Fulfils (carried_on (finding.Value value) regs.old desk.now.desk.spot to) script
+        (scene regs.old (B.memory bus.now) desk.now v) (Ok result)
+        (scene regs.new (B.memory bus.now) desk.now v) }
 {
     give_back(regs, value as u16, to);
     Served::Went
 }
 
 // Clears the bytes of the control block from 13 to 31, but for the count of the extent at 15.
-#[tactic(auto, using(crate::proofs::Parts::extends_same, crate::proofs::Parts::extends_itself))]
+#[tactic(auto, using(crate::proofs::Parts::still_looked_at))]
 fn give_count<B: Bus>(
     regs: &mut Regs,
     bus: &mut B,
@@ -63,14 +73,17 @@ fn give_count<B: Bus>(
     count: u8,
     to: u16,
 ) -> Result<Served, AllocError>
-    ensures { (script : List ℕ) (v : Drives) → Fulfils (carried_on (finding.Opened count) regs.old desk.now.desk.spot to) script regs.old (B.memory bus.old) desk.now v result regs.new (B.memory bus.new) desk.now v }
+    ensures { (script : List ℕ) (v : Drives) →
+        Fulfils (carried_on (finding.Opened count) regs.old desk.now.desk.spot to) script
+        (scene regs.old (B.memory bus.old) desk.now v) result
+        (scene regs.new (B.memory bus.new) desk.now v) }
 {
     let at = word_of(regs.e, regs.d).wrapping_add(13);
-    give_cells(regs, bus, desk, at, &opened_bytes(count), 0, to)
+    give_cells(regs, bus, at, &opened_bytes(count), 0, to)
 }
 
 // Gives a value and a random place, in the three bytes of the control block from 33 on.
-#[tactic(auto, using(crate::proofs::Parts::extends_same, crate::proofs::Parts::extends_itself))]
+#[tactic(auto, using(crate::proofs::Parts::still_looked_at))]
 fn give_place<B: Bus>(
     regs: &mut Regs,
     bus: &mut B,
@@ -79,16 +92,23 @@ fn give_place<B: Bus>(
     value: u8,
     to: u16,
 ) -> Result<Served, AllocError>
-    ensures { (script : List ℕ) (v : Drives) → Fulfils (back value regs.old desk.now.desk.spot to (random_cells (word regs.old.e regs.old.d) place) Unchanged) script regs.old (B.memory bus.old) desk.now v result regs.new (B.memory bus.new) desk.now v }
+    ensures { (script : List ℕ) (v : Drives) →
+        let cells = random_cells (word regs.old.e regs.old.d) place in
+        Fulfils (back value regs.old desk.now.desk.spot to cells Unchanged) script
+        (scene regs.old (B.memory bus.old) desk.now v) result
+        (scene regs.new (B.memory bus.new) desk.now v) }
 {
     let at = word_of(regs.e, regs.d).wrapping_add(33);
-    give_cells(regs, bus, desk, at, &random_bytes(place), value, to)
+    give_cells(regs, bus, at, &random_bytes(place), value, to)
 }
 
 // No entry matches: there is no search to go on with.
-#[tactic(auto, using(crate::proofs::Parts::extends_same, crate::proofs::Parts::extends_itself))]
+#[tactic(auto, using(crate::proofs::Parts::still_looked_at))]
 fn give_no_entry<B: Bus>(regs: &mut Regs, bus: &B, desk: &mut Desk, to: u16) -> Served
-    ensures { (script : List ℕ) (v : Drives) → Fulfils (carried_on finding.NoEntry regs.old desk.old.desk.spot to) script regs.old (B.memory bus.now) desk.old v (Ok result) regs.new (B.memory bus.now) desk.new v }
+    ensures { (script : List ℕ) (v : Drives) →
+        Fulfils (carried_on finding.NoEntry regs.old desk.old.desk.spot to) script
+        (scene regs.old (B.memory bus.now) desk.old v) (Ok result)
+        (scene regs.new (B.memory bus.now) desk.new v) }
 {
     desk.set_search(None);
     give_back(regs, 0xff, to);
@@ -96,18 +116,20 @@ fn give_no_entry<B: Bus>(regs: &mut Regs, bus: &B, desk: &mut Desk, to: u16) -> 
 }
 
 // Gives back a value, once bytes are written into the cells from an address on.
-#[tactic(auto, using(crate::proofs::Parts::extends_same, crate::proofs::Parts::extends_itself))]
+#[tactic(auto, using(crate::proofs::Parts::still_looked_at))]
 fn give_cells<B: Bus>(
     regs: &mut Regs,
     bus: &mut B,
-    desk: &Desk,
     at: u16,
     bytes: &[u8],
     value: u8,
     to: u16,
 ) -> Result<Served, AllocError>
     requires { length bytes.now ≤ 128 }
-    ensures { (script : List ℕ) (v : Drives) → Fulfils (back value regs.old desk.now.desk.spot to (cells_from at bytes.now) Unchanged) script regs.old (B.memory bus.old) desk.now v result regs.new (B.memory bus.new) desk.now v }
+    ensures { (script : List ℕ) (d : Watched) (v : Drives) →
+        Fulfils (back value regs.old d.desk.spot to (cells_from at bytes.now) Unchanged) script
+        (scene regs.old (B.memory bus.old) d v) result
+        (scene regs.new (B.memory bus.new) d v) }
 {
     put_cells(bus, at, bytes)?;
     give_back(regs, value as u16, to);
@@ -115,7 +137,7 @@ fn give_cells<B: Bus>(
 }
 
 // The entry that a search found, in a directory record, and from where the search goes on.
-#[tactic(auto, using(crate::proofs::Parts::extends_same, crate::proofs::Parts::extends_itself))]
+#[tactic(auto, using(crate::proofs::Parts::still_looked_at))]
 fn give_entry<B: Bus>(
     regs: &mut Regs,
     bus: &mut B,
@@ -123,7 +145,10 @@ fn give_entry<B: Bus>(
     search: Search,
     to: u16,
 ) -> Result<Served, AllocError>
-    ensures { (script : List ℕ) (v : Drives) → Fulfils (carried_on (finding.FirstEntry search) regs.old desk.old.desk.spot to) script regs.old (B.memory bus.old) desk.old v result regs.new (B.memory bus.new) desk.new v }
+    ensures { (script : List ℕ) (v : Drives) →
+        Fulfils (carried_on (finding.FirstEntry search) regs.old desk.old.desk.spot to) script
+        (scene regs.old (B.memory bus.old) desk.old v) result
+        (scene regs.new (B.memory bus.new) desk.new v) }
 {
     put_cells(bus, desk.buffer(), &directory_record(&search.last))?;
     desk.set_search(Some(search));
@@ -141,7 +166,7 @@ fn directory_record(entry: &[u8; 32]) -> Record
 }
 
 // The record that was read, in the buffer, and the next place.
-#[tactic(auto, using(crate::proofs::Parts::extends_same, crate::proofs::Parts::extends_itself))]
+#[tactic(auto, using(crate::proofs::Parts::still_looked_at))]
 fn give_record<B: Bus>(
     regs: &mut Regs,
     bus: &mut B,
@@ -150,7 +175,10 @@ fn give_record<B: Bus>(
     next: u32,
     to: u16,
 ) -> Result<Served, AllocError>
-    ensures { (script : List ℕ) (v : Drives) → Fulfils (carried_on (finding.Found bytes.now next) regs.old desk.now.desk.spot to) script regs.old (B.memory bus.old) desk.now v result regs.new (B.memory bus.new) desk.now v }
+    ensures { (script : List ℕ) (v : Drives) →
+        Fulfils (carried_on (finding.Found bytes.now next) regs.old desk.now.desk.spot to) script
+        (scene regs.old (B.memory bus.old) desk.now v) result
+        (scene regs.new (B.memory bus.new) desk.now v) }
 {
     let block = word_of(regs.e, regs.d);
     put_record(bus, desk.buffer(), bytes, block, next)?;
@@ -167,7 +195,10 @@ fn store<B: Bus>(
     write: &Write,
     to: u16,
 ) -> Result<Served, AllocError>
-    ensures { (script : List ℕ) → Fulfils (carried_on (finding.Write write.now) regs.old desk.now.desk.spot to) script regs.old (B.memory bus.old) desk.now (drives_of table.old) result regs.new (B.memory bus.new) desk.now (drives_of table.new) }
+    ensures { (script : List ℕ) →
+        Fulfils (carried_on (finding.Write write.now) regs.old desk.now.desk.spot to) script
+        (scene regs.old (B.memory bus.old) desk.now (drives_of table.old)) result
+        (scene regs.new (B.memory bus.new) desk.now (drives_of table.new)) }
 {
     let mut bytes = [0; RECORD_BYTES];
     fetch_cells(bus, desk.buffer(), &mut bytes);
@@ -181,7 +212,8 @@ fn store<B: Bus>(
 
 // Writes a record, and leaves holes before it or fills them. An `Err` changes no file.
 fn write_record(table: &mut Table<'_>, write: &Write, bytes: &Record) -> Result<(), AllocError>
-    ensures ok { OnOk result ((drives_of table.new).own ≡ own_with (Stored write.now bytes.now) (drives_of table.old).own) }
+    ensures ok { OnOk result ((drives_of table.new).own ≡
+        own_with (Stored write.now bytes.now) (drives_of table.old).own) }
     ensures err { OnErr result ((drives_of table.new).own ≡ (drives_of table.old).own) }
     ensures looks { (drives_of table.new).looks ≡ (drives_of table.old).looks }
     ensures host { (drives_of table.new).host ≡ (drives_of table.old).host }
@@ -201,7 +233,10 @@ fn make<B: Bus>(
     key: &Key,
     to: u16,
 ) -> Result<Served, AllocError>
-    ensures { (script : List ℕ) → Fulfils (carried_on (finding.Make key.now) regs.old desk.now.desk.spot to) script regs.old (B.memory bus.old) desk.now (drives_of table.old) result regs.new (B.memory bus.new) desk.now (drives_of table.new) }
+    ensures { (script : List ℕ) →
+        Fulfils (carried_on (finding.Make key.now) regs.old desk.now.desk.spot to) script
+        (scene regs.old (B.memory bus.old) desk.now (drives_of table.old)) result
+        (scene regs.new (B.memory bus.new) desk.now (drives_of table.new)) }
 {
     let at = word_of(regs.e, regs.d).wrapping_add(13);
     ready_cells(bus, at, 19)?;
@@ -221,7 +256,10 @@ fn rename<B: Bus>(
     to: u16,
 ) -> Result<Served, AllocError>
     requires { keys.0 ≢ keys.1 }
-    ensures { (script : List ℕ) → Fulfils (carried_on (finding.Rename keys.0 keys.1) regs.old desk.now.desk.spot to) script regs.old (B.memory bus.now) desk.now (drives_of table.old) result regs.new (B.memory bus.now) desk.now (drives_of table.new) }
+    ensures { (script : List ℕ) →
+        Fulfils (carried_on (finding.Rename keys.0 keys.1) regs.old desk.now.desk.spot to) script
+        (scene regs.old (B.memory bus.now) desk.now (drives_of table.old)) result
+        (scene regs.new (B.memory bus.now) desk.now (drives_of table.new)) }
 {
     let (old, new) = keys;
     table.changes.journal.rename(&old, &new)?;

@@ -3,7 +3,8 @@
 ghost use Rattle.std.specs.Prelude.{◌≡◌, ◌≤◌, ◌<◌, ◌++◌, ℕ, IsTrue, OnOk, length};
 ghost use Rattle.i8080.specs.Memory.{write_all};
 ghost use Rattle.i8080.specs.Registers.{onward};
-ghost use Rattle.i8080.specs.End.{Reads, Writes, cells_from};
+ghost use Rattle.i8080.specs.End.{cells_from};
+ghost use Rattle.i8080.specs.Performs.{Reads, Writes};
 ghost use Rattle.bdos.specs.FileCalls.{bytes_at, place_cells};
 
 use i8080::{Bus, fetch, ready_cells, write_cells};
@@ -70,7 +71,8 @@ pub fn put_record<B: Bus>(
     place: u32,
 ) -> Result<(), AllocError>
     requires bytes { length bytes.now ≤ 128 }
-    ensures { Writes (cells_from buffer bytes.now ++ place_cells at place) (B.memory bus.old) result (B.memory bus.new) }
+    ensures { Writes (cells_from buffer bytes.now ++ place_cells at place)
+        (B.memory bus.old) result (B.memory bus.new) }
 {
     ready_cells(bus, buffer, bytes.len() as u16)?;
     ready_place(bus, at)?;

@@ -12,9 +12,9 @@ pub const TAIL_LIMIT: usize = 126;
 /// The jump to the warm start, the I/O byte, the drive, and the jump to the BDOS.
 const JUMPS: [u8; 8] = [0xc3, 0x03, 0xff, 0, 0, 0xc3, 0x06, 0xfe];
 
-/// Page zero with a command tail: the jumps to the warm start and to the BDOS, at 005CH and 006CH the drive byte and the name of the
-/// tail's first two words, and from 0080H on 0 for an empty tail, else its length plus one, a blank and the tail. Its letters are
-/// raised.
+/// Page zero with a command tail: the jumps to the warm start and to the BDOS, at 005CH and 006CH the drive
+/// byte and the name of the tail's first two words, and from 0080H on 0 for an empty tail, else its length
+/// plus one, a blank and the tail. Its letters are raised.
 pub fn page_zero(tail: &[u8]) -> [u8; 256]
     requires { length tail.now ≤ TAIL_LIMIT }
     ensures { result ≡ page_zero tail.now }

@@ -5,7 +5,8 @@ ghost use Rattle.command_tail.specs.Words.{without_blanks, first_word, behind_fi
 
 use filenames::{first, halves};
 
-/// The first word of a text, and what stands behind it. Words are separated by blanks; where there is none, it is empty.
+/// The first word of a text, and what stands behind it. Words are separated by blanks; where there is none,
+/// it is empty.
 pub fn split_word(text: &[u8]) -> (&[u8], &[u8])
     ensures word { result.0.now ≡ first_word text.now }
     ensures rest { result.1.now ≡ behind_first_word text.now }
@@ -27,8 +28,8 @@ fn without_blanks(text: &[u8]) -> &[u8]
     &[]
 }
 
-/// The drive byte and the name of a word: 1 to 26 where it begins with a letter A to Z and `:`, else 0, then the field of the
-/// name, of 8 bytes, and that of the type, of 3.
+/// The drive byte and the name of a word: 1 to 26 where it begins with a letter A to Z and `:`, else 0, then
+/// the field of the name, of 8 bytes, and that of the type, of 3.
 pub fn named_by(word: &[u8]) -> [u8; 12]
     ensures { result ≡ named_by word.now }
 {
@@ -52,7 +53,8 @@ fn split_drive(word: &[u8]) -> (u8, &[u8])
     (0, word)
 }
 
-// Fills a field from a part of a name: `*` fills the rest with `?`, a shorter part is padded with blanks, and a longer one is cut.
+// Fills a field from a part of a name: `*` fills the rest with `?`, a shorter part is padded with blanks, and
+// a longer one is cut.
 fn fill_field(field: &mut [u8], part: &[u8])
     ensures { field.new ≡ field_of (length field.old) part.now }
 {

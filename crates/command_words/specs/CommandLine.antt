@@ -6,17 +6,21 @@ use Rattle.std.specs.Str.Parse.{IsNumeral, digits_value, without_leading_plus}
 use Rattle.clap.specs.Words.{App, Kinds, Row, Rule, Text, fault_of, first_of, matches_of, new_app, new_rule, one_of, with_rule}
 use Rattle.command_words.specs.declared.words.Words.{Words}
 use Rattle.clap.specs.Simple.{on_top}
-use Rattle.clap.specs.declared.builder.value_parser.ValueParser.{ValueParser}
 use Rattle.clap.specs.declared.builder.value_parser.ValueParser.TheVariants as parser
 
 -- an option with one value
 abbrev pub option_rule : Text → Rule
 option_rule name = record (new_rule name) { long = Some name; value_names = 1 }
 
+-- an argument with a default
+abbrev pub with_default : Rule → Text → Rule
+with_default rule default = record rule { defaults = default ∷ [] }
+
 -- an option whose value is a number from one to another, with a default
 abbrev pub number_rule : Text → ℕ → ℕ → Text → Rule
 number_rule name least most default = record (option_rule name) { parser = Some (parser.Unsigned least most); defaults = default ∷ [] }
 
+-- a command with arguments, one after another
 abbrev pub with_rules : App → List Rule → App
 with_rules app [] = app
 with_rules app (rule ∷ rules) = with_rules (with_rule app rule) rules
@@ -25,15 +29,19 @@ with_rules app (rule ∷ rules) = with_rules (with_rule app rule) rules
 abbrev pub place_rules : List Rule
 place_rules = record (new_rule (codes "PROGRAM")) { required = true } ∷ new_rule (codes "TAIL") ∷ []
 
+-- the folders that are read
 abbrev pub folder_rules : List Rule
 folder_rules = option_rule (codes "files") ∷ option_rule (codes "files-b") ∷ option_rule (codes "files-c") ∷ option_rule (codes "files-d") ∷ []
 
+-- the folders that are written to
 abbrev pub output_rules : List Rule
 output_rules = option_rule (codes "out") ∷ option_rule (codes "out-b") ∷ option_rule (codes "out-c") ∷ option_rule (codes "out-d") ∷ []
 
+-- the console's script, and the edit lines
 abbrev pub file_rules : List Rule
 file_rules = option_rule (codes "console") ∷ option_rule (codes "edits") ∷ []
 
+-- the limit of steps, and how checkpoints are made
 abbrev pub number_rules : List Rule
 number_rules =
     number_rule (codes "limit") 0 4000000000 (codes "1000000")
@@ -44,6 +52,7 @@ number_rules =
 abbrev pub plain_command : App
 plain_command = on_top (λ s. record s { no_binary_name = true; has_version = true }) (new_app (codes "cpmrun"))
 
+-- the command line with all its arguments
 abbrev pub command_line : App
 command_line = with_rules (with_rules (with_rules (with_rules (with_rules plain_command place_rules) folder_rules) file_rules) output_rules) number_rules
 

@@ -1,6 +1,6 @@
-ghost use Rattle.std.specs.Prelude.{◌≡◌, ◌∷◌, [], false, codes, IfOk, map};
+ghost use Rattle.std.specs.Prelude.{◌≡◌, false, codes, IfOk, map};
 ghost use Rattle.clap.specs.Words.{app_of, rule_of};
-ghost use Rattle.command_words.specs.CommandLine.{command_line, number_rule, number_rules, option_rule, place_rules, with_rules};
+ghost use Rattle.command_words.specs.CommandLine.{command_line, number_rule, number_rules, option_rule, place_rules, with_default, with_rules};
 
 use clap::{Arg, Command, value_parser};
 use std::alloc::{AllocError, Global};
@@ -110,7 +110,8 @@ fn with_paths<'a>(
     mut command: Command<'a>,
     options: &[PathOption<'a>],
 ) -> Result<Command<'a>, AllocError>
-    ensures { IfOk result (λ c. app_of c ≡ with_rules (app_of command.entry) (map (λ o. option_rule o.name.now) options.now)) }
+    ensures { IfOk result (λ c.
+        app_of c ≡ with_rules (app_of command.entry) (map (λ o. option_rule o.name.now) options.now)) }
 {
     for option in options {
         command = command.arg(path_argument(alloc, option))?;
@@ -135,7 +136,7 @@ fn with_places<'a>(alloc: Global, command: Command<'a>) -> Result<Command<'a>, A
 
 /// The argument of an option whose value is a number, which may yet be any text.
 fn number_argument<'a>(alloc: Global, name: &'a str, default: &'a str) -> Arg<'a>
-    ensures rule { rule_of result ≡ record (option_rule name.entry.now) { defaults = default.entry.now ∷ [] } }
+    ensures rule { rule_of result ≡ with_default (option_rule name.entry.now) default.entry.now }
     ensures local { result.global ≡ false }
 {
     Arg::new(alloc, name)

@@ -71,8 +71,8 @@ fn words_of<'a>(matches: &ArgMatches<'a>) -> Option<Words<'a>>
     })
 }
 
-/// The words after the program's name, as `clap` matches them with the command line. An error is `clap`'s: `outcome_of` tells whether
-/// help was asked for, the words are a fault of use, or memory was refused.
+/// The words after the program's name, as `clap` matches them with the command line. An error is `clap`'s:
+/// `outcome_of` says whether help was asked for, the words are a fault of use, or memory was refused.
 pub fn read_words<'a>(alloc: Global, words: &'a [String]) -> Result<Words<'a>, Error>
     ensures says { IfOk result (Says (matches_at (map string_bytes words.entry.now))) }
     ensures fails { FailsBy (faults_at (map string_bytes words.entry.now)) result }

@@ -4,15 +4,18 @@ use Rattle.std.specs.declared.alloc.AllocError.{AllocError}
 use Rattle.interaction_trees.specs.Tree.{Query, result_of, asked}
 use Rattle.i8080.specs.declared.registers.Regs.{Regs}
 use Rattle.i8080.specs.Memory.{Memory, Own, Looks, Extends, is_among, bytes, look_all}
-use Rattle.i8080.specs.Reading.{Reading, end_of, looks_after}
+use Rattle.i8080.specs.Reading.{Reading, end_of}
+use Rattle.i8080.specs.Performs.{looks_after}
 use Rattle.i8080.specs.Reading as reading
-use Rattle.i8080.specs.End.{Reads}
+use Rattle.i8080.specs.Performs.{Reads}
 use Rattle.i8080.proofs.LookLemmas.{extends_past}
 use Rattle.i8080.proofs.BoundLemmas.{bound_all}
 use Rattle.console_calls.specs.declared.served.Served.{Served}
 use Rattle.console_calls.specs.Desk.{Desk}
 use Rattle.console_calls.specs.Questions.{Input, StateTree, reads, followed_by, answers, addresses, script_places}
-use Rattle.console_calls.specs.Calls.{CallEnd, FulfilsBy, served_of, regs_after, desk_after, own_after}
+use Rattle.console_calls.specs.Calls.{CallEnd}
+use Rattle.console_calls.proofs.Parts.{FulfilsBy}
+use Rattle.console_calls.specs.Serves.{served_of, regs_after, desk_after, own_after}
 use Rattle.console_calls.proofs.Scanning.{same_bytes}
 use Rattle.console_calls.proofs.Trees.{result_of-reads, addresses-reads, places-reads, look_all-append, or_assoc, result_of-followed_by, addresses-followed_by, places-followed_by}
 

@@ -7,14 +7,15 @@ use Rattle.i8080.specs.declared.registers.Regs.{Regs}
 use Rattle.i8080.specs.Memory.{Memory, write_all}
 use Rattle.i8080.specs.Reading.{Done}
 use Rattle.i8080.specs.Instruction.{word_at}
-use Rattle.i8080.specs.End.{Reads}
+use Rattle.i8080.specs.Performs.{Reads}
 use Rattle.console_calls.specs.declared.desk.Spot.{Spot}
 use Rattle.console_calls.specs.declared.served.Served.TheVariants as served
 use Rattle.console_calls.specs.declared.cause.Cause.{Cause}
 use Rattle.console_calls.specs.declared.cause.Cause.TheVariants.{ConsoleExhausted}
 use Rattle.console_calls.specs.Desk.{Desk, echoed}
 use Rattle.console_calls.specs.Places.{is_ahead}
-use Rattle.console_calls.specs.Calls.{Written, Completed, Stopped, FulfilsBy, at_caller, completing, taking, given, direct_input, console_input, console_status, nothing}
+use Rattle.console_calls.specs.Calls.{Written, Completed, Stopped, at_caller, completing, taking, given, direct_input, console_input, console_status, nothing}
+use Rattle.console_calls.proofs.Parts.{FulfilsBy}
 use Rattle.console_calls.proofs.Carried.{after_read, after_input}
 use Rattle.console_calls.proofs.Trees.{or_false}
 

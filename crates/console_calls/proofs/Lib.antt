@@ -1,6 +1,7 @@
 pub mod Scanning
 mod Looking
 pub mod Trees
+pub mod Parts
 mod Carried
 mod Strings
 mod Numbers

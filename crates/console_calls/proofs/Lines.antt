@@ -3,10 +3,11 @@ use Rattle.std.proofs.Common.{◌≡◌, ℕ, suc, ◌+◌, ◌||◌, ◌++◌, 
 use Rattle.interaction_trees.specs.Tree.{asked}
 use Rattle.i8080.specs.declared.registers.Regs.{Regs}
 use Rattle.i8080.specs.Memory.{Memory, Looks, Extends, bytes, look_all, write_all}
-use Rattle.i8080.specs.Reading.{Done, Cell, looks_after}
+use Rattle.i8080.specs.Reading.{Done, Cell}
+use Rattle.i8080.specs.Performs.{looks_after}
 use Rattle.i8080.specs.Registers.{word, onward}
 use Rattle.i8080.specs.Instruction.{word_at}
-use Rattle.i8080.specs.End.{Reads}
+use Rattle.i8080.specs.Performs.{Reads}
 use Rattle.console_calls.specs.declared.served.Served.{Served}
 use Rattle.console_calls.specs.declared.served.Served.TheVariants as served
 use Rattle.console_calls.specs.declared.cause.Cause.TheVariants.{WarmBoot, ConsoleExhausted}
@@ -17,7 +18,8 @@ use Rattle.console_calls.specs.Places.{is_ahead}
 use Rattle.console_calls.specs.Questions.{StateAnswers, followed_by, answers, addresses}
 use Rattle.console_calls.specs.Line.{Line, no_line, typing}
 use Rattle.console_calls.specs.Types.{Types, end_from, looks_of}
-use Rattle.console_calls.specs.Calls.{FulfilsBy, at_caller, line_input, line_ended, line_cells}
+use Rattle.console_calls.specs.Calls.{at_caller, line_input, line_ended, line_cells}
+use Rattle.console_calls.proofs.Parts.{FulfilsBy}
 use Rattle.console_calls.proofs.Carried.{after_read, after_asking, bound_rest}
 use Rattle.console_calls.proofs.Leaves.{stops, returns_with}
 use Rattle.console_calls.proofs.Typing.{no_cells}

@@ -45,3 +45,9 @@ at_first own xs looks new a h = bound_all own xs new (look own looks a) h
 
 pub after_first : (own : Own) (xs : List ℕ) (looks new : Looks) (a : ℕ) → new ≡ look own looks a → Extends new (look_all own xs (look own looks a))
 after_first own xs looks new a e = bound_all own xs new (look own looks a) (bound_here new (look own looks a) e)
+
+-- the looks of a call that fails after it read a cell, or the return address
+pub ruleset until_it_failed = (by_one, by_two, past_one, past_two, here, more, all)
+
+-- those of a call that fails after it read the capacity of a line
+pub ruleset after_the_capacity = (by_one, at_first, after_first)

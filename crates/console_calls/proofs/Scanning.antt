@@ -1,13 +1,14 @@
 -- Printing a string byte by byte, one cell after another.
-use Rattle.std.proofs.Common.{◌≡◌, ◌≢◌, ℕ, suc, ◌+◌, ◌-◌, ◌<◌, ◌≤◌, true, false, List, [], ◌∷◌, ◌++◌, Option, Some, None, is_some, length, take, Ok, refl, ap, sym, subst, ◌∙◌, arith, cond, ◌==◌}
+use Rattle.std.proofs.Common.{◌≡◌, ◌≢◌, ℕ, suc, ◌+◌, ◌-◌, ◌<◌, ◌≤◌, true, false, List, [], ◌∷◌, ◌++◌, Option, Some, None, is_some, length, take, refl, ap, sym, subst, ◌∙◌, arith, cond, ◌==◌}
 use Rattle.std.proofs.lemmas.Bool.{eq-eqb, ne_eqb}
 use Rattle.std.proofs.lemmas.List.{take-append-le, length-append, append_assoc, append-nil}
 use Rattle.std.specs.Option.{option_map}
 use Rattle.i8080.specs.Memory.{Memory, Own, Looks, Extends, bytes, look, look_all}
 use Rattle.i8080.specs.Reading.{Reading, Done, Cell, end_of, asked}
 use Rattle.i8080.specs.Registers.{onward}
-use Rattle.i8080.specs.End.{Reads}
+use Rattle.i8080.specs.Performs.{Reads}
 use Rattle.i8080.proofs.BoundLemmas.{bound_all}
+use Rattle.console_calls.proofs.Looking.{one_more, some_more, here}
 use Rattle.console_calls.specs.Desk.{Desk, Shown, printed, printed_all, desk_showing, desk_printing}
 use Rattle.console_calls.specs.Strings.{ending, string_at}
 use Rattle.console_calls.specs.Printing.{Grown, printed_if}
@@ -125,3 +126,6 @@ pub bound_at : (byte : ℕ → ℕ) (own : Own) (looks new whole : Looks) (n i a
 bound_at byte own looks new whole n i a h e bound =
     let first = first_asked byte (n - (i + 1)) a in
     subst (λ (l : Looks). Extends new l) (sym (rw (one_less n i h) (ap (λ (at : List ℕ). look_all own at looks) first.1)) ∙ e) (bound_all own first.0 new (look own looks a) bound)
+
+-- the looks of a string that is read cell by cell
+pub ruleset byte_by_byte = (one_more, some_more, here, bound_at)

@@ -3,10 +3,11 @@ use Rattle.std.proofs.Common.{◌≡◌, ℕ, Bool, true, false, List, Option, S
 use Rattle.interaction_trees.specs.Tree.{Return, asked}
 use Rattle.i8080.specs.declared.registers.Regs.{Regs}
 use Rattle.i8080.specs.Memory.{Memory, Looks, Extends, bytes, look_all}
-use Rattle.i8080.specs.Reading.{Done, looks_after}
+use Rattle.i8080.specs.Reading.{Done}
+use Rattle.i8080.specs.Performs.{looks_after}
 use Rattle.i8080.specs.Registers.{word}
 use Rattle.i8080.specs.Instruction.{word_at}
-use Rattle.i8080.specs.End.{Reads}
+use Rattle.i8080.specs.Performs.{Reads}
 use Rattle.console_calls.specs.declared.desk.Spot.{Spot}
 use Rattle.console_calls.specs.declared.served.Served.{Served}
 use Rattle.console_calls.specs.declared.served.Served.TheVariants as served
@@ -15,7 +16,8 @@ use Rattle.console_calls.specs.Desk.{Desk}
 use Rattle.console_calls.specs.Questions.{reads, answers, addresses}
 use Rattle.console_calls.specs.Strings.{string_at}
 use Rattle.console_calls.specs.Printing.{Prints, string_in, printed_if}
-use Rattle.console_calls.specs.Calls.{FulfilsBy, at_caller, string_output, printing}
+use Rattle.console_calls.specs.Calls.{at_caller, string_output, printing}
+use Rattle.console_calls.proofs.Parts.{FulfilsBy}
 use Rattle.console_calls.proofs.Carried.{after_reading, after_read, bound_rest, bound_first}
 use Rattle.console_calls.proofs.Trees.{or_false}
 

@@ -1,26 +1,20 @@
 -- The BDOS calls: what each asks of the state, and what it then does. (CP/M 2.2 Interface Guide, functions 0 to 2, 6 to 14 and 24
 -- to 26; what stops a call, and in which order it asks: this project's profile.)
-use Rattle.std.specs.Prelude.{◌≡◌, ℕ, ◌==◌, ◌+◌, ◌||◌, Bool, is_some, if◌then◌else◌, nat_lt, List, [], ◌∷◌, ◌++◌, Option, Some, None, IfOk, OnOk, OnErr, suc, length, reverse}
-use Rattle.std.specs.declared.result.Result.{Result}
-use Rattle.std.specs.declared.alloc.AllocError.{AllocError}
-use Rattle.interaction_trees.specs.Tree.{Return, Query, result_of, asked}
+use Rattle.std.specs.Prelude.{ℕ, ◌==◌, ◌+◌, is_some, if◌then◌else◌, nat_lt, List, [], ◌∷◌, Option, Some, None, suc, length, reverse}
+use Rattle.interaction_trees.specs.Tree.{Return, Query}
 use Rattle.i8080.specs.declared.registers.Regs.{Regs}
-use Rattle.i8080.specs.Memory.{Memory, Own, Extends, is_among, bytes, look_all, write_all}
 use Rattle.i8080.specs.Reading.{Done, Cell}
 use Rattle.i8080.specs.Registers.{word, high, low, onward}
 use Rattle.i8080.specs.Instruction.{word_at}
 use Rattle.i8080.specs.End.{cells_from}
 use Rattle.console_calls.specs.declared.cause.Cause.{Cause}
 use Rattle.console_calls.specs.declared.cause.Cause.TheVariants.{WarmBoot, ConsoleExhausted, NoDollar, Unsupported, BadDrive}
-use Rattle.console_calls.specs.declared.served.Served.{Served}
-use Rattle.console_calls.specs.declared.served.Served.TheVariants as served
 use Rattle.console_calls.specs.declared.desk.Spot.{Spot}
 use Rattle.console_calls.specs.declared.function.Function.{Function}
 use Rattle.console_calls.specs.declared.function.Function.TheVariants.{SystemReset, ConsoleInput, ConsoleOutput, DirectConsole, GetIoByte, SetIoByte, PrintString, ReadConsoleBuffer, ConsoleStatus, VersionNumber, ResetDisks, SelectDisk, LoginVector, CurrentDisk, SetBufferAddress}
 use Rattle.console_calls.specs.Functions.{function_of}
-use Rattle.console_calls.specs.Desk.{Desk, printed, echoed, printed_all, spot_showing, column_after_all}
-use Rattle.console_calls.specs.Places.{Watched, is_within}
-use Rattle.console_calls.specs.Questions.{Input, StateTree, reads, followed_by, answers, addresses, script_places}
+use Rattle.console_calls.specs.Desk.{printed, echoed, printed_all, spot_showing, column_after_all}
+use Rattle.console_calls.specs.Questions.{Input, StateTree, reads, followed_by}
 use Rattle.console_calls.specs.Strings.{string_at}
 use Rattle.console_calls.specs.Line.{LineEnd, Ended, Booted, Short, no_line, typing}
 
@@ -70,7 +64,7 @@ direct_output r spot = completing 0 r spot (r.e ∷ []) nothing
 abbrev pub direct_console : Regs → Spot → StateTree CallEnd
 direct_console r spot = if r.e == 0xff then direct_input r spot else direct_output r spot
 
--- function 11 tells whether a script byte is left (CP/M 2.2 Interface Guide, function 11)
+-- function 11 gives whether a script byte is left (CP/M 2.2 Interface Guide, function 11)
 abbrev pub console_status : Regs → Spot → StateTree CallEnd
 console_status r spot = Query (Input spot.cursor) (λ answer. completing (if is_some answer then 0xff else 0) r spot [] nothing)
 
@@ -161,46 +155,3 @@ called n (Some f) r spot = carried_out n f r spot
 -- the call whose number is in C, over a script of at most n bytes; other numbers stop (CP/M 2.2 Interface Guide)
 unfoldable pub call : ℕ → Regs → Spot → StateTree CallEnd
 call n r spot = called n (function_of r.c) r spot
-
-abbrev pub served_of : CallEnd → Served
-served_of (Completed r spot bytes written) = served.Went
-served_of (Stopped cause) = served.Stop cause
-
-abbrev pub regs_after : CallEnd → Regs → Regs
-regs_after (Completed r spot bytes written) old = r
-regs_after (Stopped cause) old = old
-
-abbrev pub desk_after : CallEnd → Desk → Desk
-desk_after (Completed r spot bytes written) old = record { spot = spot; text = old.text ++ bytes }
-desk_after (Stopped cause) old = old
-
-abbrev pub own_after : CallEnd → Own → Own
-own_after (Completed r spot bytes written) own = write_all own written.cells
-own_after (Stopped cause) own = own
-
--- what a call leaves that carries out a tree of questions and its end
-pub record FulfilsBy (t : StateTree CallEnd) (script : List ℕ) (r : Regs) (m : Memory) (d : Desk) (was : ℕ → Bool) (result : Result Served AllocError) (r' : Regs) (m' : Memory) (d' : Desk) (is : ℕ → Bool) : Type 0 where
-  pub served : IfOk result (λ s. s ≡ served_of (result_of (answers (bytes m) script) t))
-  pub regs : OnOk result (r' ≡ regs_after (result_of (answers (bytes m) script) t) r)
-  pub desk : OnOk result (d' ≡ desk_after (result_of (answers (bytes m) script) t) d)
-  pub own : OnOk result (m'.own ≡ own_after (result_of (answers (bytes m) script) t) m.own)
-  pub looks : OnOk result (m'.looks ≡ look_all m.own (addresses (asked (answers (bytes m) script) t)) m.looks)
-  -- the script places that were looked at are the old ones and those that were asked
-  pub places : OnOk result ((k : ℕ) → is k ≡ (was k || is_among k (script_places (asked (answers (bytes m) script) t))))
-  -- at a failure: the looks before, and some of those of the whole call
-  pub err_looks : OnErr result (Extends m.looks m'.looks)
-  pub err_bound : OnErr result (Extends m'.looks (look_all m.own (addresses (asked (answers (bytes m) script) t)) m.looks))
-  pub err_regs : OnErr result (r' ≡ r)
-  pub err_desk : OnErr result (d' ≡ d)
-  pub err_own : OnErr result (m'.own ≡ m.own)
-  pub err_places : OnErr result ((k : ℕ) → is k ≡ was k)
-  pub beneath : m'.beneath ≡ m.beneath
-  pub lender : m'.lender ≡ m.lender
-
--- a tree of a call, carried out at a desk whose looked-at places are kept
-abbrev pub Fulfils : StateTree CallEnd → List ℕ → Regs → Memory → Watched → Result Served AllocError → Regs → Memory → Watched → Type 0
-Fulfils t script r m d result r' m' d' = FulfilsBy t script r m d.desk (is_within d.places) result r' m' d'.desk (is_within d'.places)
-
--- what a call leaves, over a script of at most n bytes
-abbrev pub Serves : ℕ → List ℕ → Regs → Memory → Watched → Result Served AllocError → Regs → Memory → Watched → Type 0
-Serves n script r m d result r' m' d' = Fulfils (call n r d.desk.spot) script r m d result r' m' d'

@@ -7,3 +7,4 @@ pub mod Types
 pub mod Printing
 pub mod Functions
 pub mod Calls
+pub mod Serves

@@ -1,5 +1,5 @@
 -- The script places that were looked at: calls look at places in order, and never behind the cursor. (This project's own.)
-use Rattle.std.specs.Prelude.{ℕ, ◌+◌, ◌≤◌, ◌<◌, ◌&&◌, nat_le, nat_lt, Bool}
+use Rattle.std.specs.Prelude.{◌≡◌, ℕ, ◌+◌, ◌≤◌, ◌<◌, ◌==◌, ◌&&◌, ◌||◌, not, nat_le, nat_lt, Bool}
 use Rattle.console_calls.specs.declared.places.Places.{Places}
 use Rattle.console_calls.specs.declared.desk.Spot.{Spot}
 use Rattle.console_calls.specs.Desk.{Desk}
@@ -11,6 +11,14 @@ is_within p k = nat_le p.from k && nat_lt k p.to
 -- whether a place is one of some from another on
 abbrev pub is_ahead : ℕ → ℕ → ℕ → Bool
 is_ahead cursor count k = nat_le cursor k && nat_lt k (cursor + count)
+
+-- some places from the cursor on were looked at, beside those before
+abbrev pub LooksAhead : Places → ℕ → ℕ → Places → Type 0
+LooksAhead old cursor count new = (k : ℕ) → is_within new k ≡ (is_within old k || is_ahead cursor count k)
+
+-- one place is no longer among those that were looked at
+abbrev pub LeavesOut : Places → ℕ → Places → Type 0
+LeavesOut old place new = (k : ℕ) → is_within new k ≡ (is_within old k && not (k == place))
 
 -- a desk, and the script places that were looked at
 pub record Watched : Type 0 where

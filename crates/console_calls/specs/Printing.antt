@@ -4,7 +4,8 @@ use Rattle.std.specs.Prelude.{◌≡◌, ℕ, Bool, true, List, Option, Some, No
 use Rattle.std.specs.declared.result.Result.{Result}
 use Rattle.std.specs.declared.alloc.AllocError.{AllocError}
 use Rattle.i8080.specs.Memory.{Memory, Extends, bytes}
-use Rattle.i8080.specs.Reading.{end_of, looks_after}
+use Rattle.i8080.specs.Reading.{end_of}
+use Rattle.i8080.specs.Performs.{looks_after}
 use Rattle.console_calls.specs.Desk.{Desk, desk_printing}
 use Rattle.console_calls.specs.Strings.{string_at}
 

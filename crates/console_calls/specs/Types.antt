@@ -11,11 +11,13 @@ use Rattle.console_calls.specs.Questions.{answers, script_places}
 use Rattle.console_calls.specs.Line.{Line, Typed, Goes, Ends, Boots, Ended, Booted, Short, no_line, typing}
 use Rattle.console_calls.specs.Line as line
 
+-- what a byte makes of a line
 abbrev pub typed_of : Took → Line → Typed
 typed_of took.Goes l = Goes l
 typed_of took.Ends l = Ends l
 typed_of took.Boots l = Boots
 
+-- how a line went, from the place of its first byte on
 abbrev pub end_from : ℕ → LineEnd → line.LineEnd
 end_from k (code.Ended l n) = Ended l (k + n)
 end_from k (code.Booted n) = Booted
@@ -31,6 +33,10 @@ looks_of (code.Short n) = n
 pub record Types (script : List ℕ) (capacity k : ℕ) (e : LineEnd) (byte : ℕ → ℕ) (n : ℕ) : Type 0 where
   pub ends : result_of (answers byte script) (typing (suc n) capacity k no_line) ≡ end_from k e
   pub places : (j : ℕ) → is_among j (script_places (asked (answers byte script) (typing (suc n) capacity k no_line))) ≡ is_ahead k (looks_of e) j
+
+-- the line from a place on, whatever stands in memory, over any script that is no longer than n bytes
+abbrev pub TakesLine : List ℕ → ℕ → ℕ → LineEnd → Type 0
+TakesLine script capacity k e = (byte : ℕ → ℕ) (n : ℕ) → length script ≤ n → Types script capacity k e byte n
 
 -- a line that ended is no longer than the capacity, and its last byte has a place
 abbrev pub FitsIn : ℕ → ℕ → LineEnd → Type 0

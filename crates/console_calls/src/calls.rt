@@ -1,8 +1,9 @@
-ghost use Rattle.std.specs.Prelude.{◌≡◌, ◌≤◌, ◌<◌, ◌+◌, ◌∷◌, [], ℕ, List, length, slice_get, is_some, IsSome, IsTrue, OnOk, if◌then◌else◌, Ok};
+ghost use Rattle.std.specs.Prelude.{◌≡◌, ◌≤◌, ◌<◌, ℕ, List, length, slice_get, is_some, IsSome, IsTrue, OnOk, if◌then◌else◌, Ok};
 ghost use Rattle.i8080.specs.Memory.{write_all};
 ghost use Rattle.i8080.specs.Registers.{onward};
 ghost use Rattle.console_calls.specs.Calls as calls;
-ghost use Rattle.console_calls.specs.Calls.{Serves, Fulfils, at_caller, line_cells};
+ghost use Rattle.console_calls.specs.Calls.{at_caller, line_cells};
+ghost use Rattle.console_calls.specs.Serves.{CarriesOut};
 ghost use Rattle.console_calls.specs.Printing.{Prints, Scans};
 
 use crate::cause::Cause;
@@ -20,8 +21,9 @@ const IO_BYTE: u16 = 0x0003;
 /// CP/M 2.2.
 const VERSION: u16 = 0x0022;
 
-/// Carries out the call whose number is in C. A call that stops, and an `Err` (a want of memory), leave the registers, the
-/// written cells and the desk as they were; a call that stops has looked at cells and script places. (CP/M 2.2 Interface Guide.)
+/// Carries out the call whose number is in C. A call that stops, and an `Err` (a want of memory), leave the
+/// registers, the written cells and the desk as they were; a call that stops has looked at cells and script
+/// places. (CP/M 2.2 Interface Guide.)
 #[tactic(auto, unfolding(crate::specs::Calls::call))]
 pub fn call<B: Bus>(
     regs: &mut Regs,
@@ -29,7 +31,8 @@ pub fn call<B: Bus>(
     desk: &mut Desk,
     script: &[u8],
 ) -> Result<Served, AllocError>
-    ensures { (n : ℕ) → length script.now ≤ n → Serves n script.now regs.old (B.memory bus.old) desk.old result regs.new (B.memory bus.new) desk.new }
+    ensures { (n : ℕ) → length script.now ≤ n → CarriesOut (calls.call n) script.now
+        (regs.old, B.memory bus.old, desk.old) result (regs.new, B.memory bus.new, desk.new) }
 {
     let Some(function) = Function::decode(regs.c) else {
         return Ok(Served::Stop(Cause::Unsupported(regs.c)));
@@ -54,14 +57,15 @@ pub fn call<B: Bus>(
 }
 
 // Function 1, which takes a byte of the script.
-#[tactic(auto, using(crate::proofs::Looking::by_two, crate::proofs::Looking::past_two, crate::proofs::Looking::here, crate::proofs::Looking::more, crate::proofs::Looking::all))]
+#[tactic(auto, using(crate::proofs::Looking::until_it_failed))]
 fn console_input<B: Bus>(
     regs: &mut Regs,
     bus: &mut B,
     desk: &mut Desk,
     script: &[u8],
 ) -> Result<Served, AllocError>
-    ensures { Fulfils (calls.console_input regs.old desk.old.desk.spot) script.now regs.old (B.memory bus.old) desk.old result regs.new (B.memory bus.new) desk.new }
+    ensures { CarriesOut calls.console_input script.now
+        (regs.old, B.memory bus.old, desk.old) result (regs.new, B.memory bus.new, desk.new) }
 {
     let Some(byte) = byte_at(script, desk.cursor()) else {
         desk.look(1);
@@ -81,7 +85,8 @@ fn direct_console<B: Bus>(
     desk: &mut Desk,
     script: &[u8],
 ) -> Result<Served, AllocError>
-    ensures { Fulfils (calls.direct_console regs.old desk.old.desk.spot) script.now regs.old (B.memory bus.old) desk.old result regs.new (B.memory bus.new) desk.new }
+    ensures { CarriesOut calls.direct_console script.now
+        (regs.old, B.memory bus.old, desk.old) result (regs.new, B.memory bus.new, desk.new) }
 {
     if regs.e == 0xff {
         return Ok(direct_input(regs, bus, desk, script));
@@ -91,7 +96,8 @@ fn direct_console<B: Bus>(
 
 // Function 6 with FFH in E, which takes a byte of the script where one is left.
 fn direct_input<B: Bus>(regs: &mut Regs, bus: &mut B, desk: &mut Desk, script: &[u8]) -> Served
-    ensures { Fulfils (calls.direct_input regs.old desk.old.desk.spot) script.now regs.old (B.memory bus.old) desk.old (Ok result) regs.new (B.memory bus.new) desk.new }
+    ensures { CarriesOut calls.direct_input script.now
+        (regs.old, B.memory bus.old, desk.old) (Ok result) (regs.new, B.memory bus.new, desk.new) }
 {
     let to = fetch_word(bus, regs.sp);
     let Some(byte) = byte_at(script, desk.cursor()) else {
@@ -105,13 +111,14 @@ fn direct_input<B: Bus>(regs: &mut Regs, bus: &mut B, desk: &mut Desk, script: &
 }
 
 // Function 6 with another E, which sends it.
-#[tactic(auto, using(crate::proofs::Looking::by_two, crate::proofs::Looking::past_two, crate::proofs::Looking::here, crate::proofs::Looking::more, crate::proofs::Looking::all))]
+#[tactic(auto, using(crate::proofs::Looking::until_it_failed))]
 fn direct_output<B: Bus>(
     regs: &mut Regs,
     bus: &mut B,
     desk: &mut Desk,
 ) -> Result<Served, AllocError>
-    ensures { (script : List ℕ) → Fulfils (calls.direct_output regs.old desk.old.desk.spot) script regs.old (B.memory bus.old) desk.old result regs.new (B.memory bus.new) desk.new }
+    ensures { (script : List ℕ) → CarriesOut calls.direct_output script
+        (regs.old, B.memory bus.old, desk.old) result (regs.new, B.memory bus.new, desk.new) }
 {
     let to = fetch_word(bus, regs.sp);
     desk.append(regs.e)?;
@@ -119,9 +126,10 @@ fn direct_output<B: Bus>(
     Ok(Served::Went)
 }
 
-// Function 11, which tells whether a byte of the script is left.
+// Function 11, which gives whether a byte of the script is left.
 fn console_status<B: Bus>(regs: &mut Regs, bus: &mut B, desk: &mut Desk, script: &[u8]) -> Served
-    ensures { Fulfils (calls.console_status regs.old desk.old.desk.spot) script.now regs.old (B.memory bus.old) desk.old (Ok result) regs.new (B.memory bus.new) desk.new }
+    ensures { CarriesOut calls.console_status script.now
+        (regs.old, B.memory bus.old, desk.old) (Ok result) (regs.new, B.memory bus.new, desk.new) }
 {
     let to = fetch_word(bus, regs.sp);
     let status = console_state(script, desk.cursor());
@@ -131,13 +139,14 @@ fn console_status<B: Bus>(regs: &mut Regs, bus: &mut B, desk: &mut Desk, script:
 }
 
 // Function 2, which prints E.
-#[tactic(auto, using(crate::proofs::Looking::by_two, crate::proofs::Looking::past_two, crate::proofs::Looking::here, crate::proofs::Looking::more, crate::proofs::Looking::all))]
+#[tactic(auto, using(crate::proofs::Looking::until_it_failed))]
 fn console_output<B: Bus>(
     regs: &mut Regs,
     bus: &mut B,
     desk: &mut Desk,
 ) -> Result<Served, AllocError>
-    ensures { (script : List ℕ) → Fulfils (calls.console_output regs.old desk.old.desk.spot) script regs.old (B.memory bus.old) desk.old result regs.new (B.memory bus.new) desk.new }
+    ensures { (script : List ℕ) → CarriesOut calls.console_output script
+        (regs.old, B.memory bus.old, desk.old) result (regs.new, B.memory bus.new, desk.new) }
 {
     let to = fetch_word(bus, regs.sp);
     desk.print(regs.e)?;
@@ -146,9 +155,10 @@ fn console_output<B: Bus>(
 }
 
 // Function 7, which gives the I/O byte.
-#[tactic(auto, using(crate::proofs::Looking::by_one, crate::proofs::Looking::past_one, crate::proofs::Looking::here, crate::proofs::Looking::more, crate::proofs::Looking::all))]
+#[tactic(auto, using(crate::proofs::Looking::until_it_failed))]
 fn get_io_byte<B: Bus>(regs: &mut Regs, bus: &mut B, desk: &Desk) -> Served
-    ensures { (script : List ℕ) → Fulfils (calls.get_io_byte regs.old desk.now.desk.spot) script regs.old (B.memory bus.old) desk.now (Ok result) regs.new (B.memory bus.new) desk.now }
+    ensures { (script : List ℕ) → CarriesOut calls.get_io_byte script
+        (regs.old, B.memory bus.old, desk.now) (Ok result) (regs.new, B.memory bus.new, desk.now) }
 {
     let byte = fetch(bus, IO_BYTE);
     let to = fetch_word(bus, regs.sp);
@@ -157,9 +167,10 @@ fn get_io_byte<B: Bus>(regs: &mut Regs, bus: &mut B, desk: &Desk) -> Served
 }
 
 // Function 8, which sets the I/O byte to E.
-#[tactic(auto, using(crate::proofs::Looking::by_two, crate::proofs::Looking::here, crate::proofs::Looking::more, crate::proofs::Looking::all))]
+#[tactic(auto, using(crate::proofs::Looking::until_it_failed))]
 fn set_io_byte<B: Bus>(regs: &mut Regs, bus: &mut B, desk: &Desk) -> Result<Served, AllocError>
-    ensures { (script : List ℕ) → Fulfils (calls.set_io_byte regs.old desk.now.desk.spot) script regs.old (B.memory bus.old) desk.now result regs.new (B.memory bus.new) desk.now }
+    ensures { (script : List ℕ) → CarriesOut calls.set_io_byte script
+        (regs.old, B.memory bus.old, desk.now) result (regs.new, B.memory bus.new, desk.now) }
 {
     let to = fetch_word(bus, regs.sp);
     bus.ready(IO_BYTE)?;
@@ -170,7 +181,8 @@ fn set_io_byte<B: Bus>(regs: &mut Regs, bus: &mut B, desk: &Desk) -> Result<Serv
 
 // Function 12, which gives the version.
 fn version_number<B: Bus>(regs: &mut Regs, bus: &mut B, desk: &Desk) -> Served
-    ensures { (script : List ℕ) → Fulfils (calls.version_number regs.old desk.now.desk.spot) script regs.old (B.memory bus.old) desk.now (Ok result) regs.new (B.memory bus.new) desk.now }
+    ensures { (script : List ℕ) → CarriesOut calls.version_number script
+        (regs.old, B.memory bus.old, desk.now) (Ok result) (regs.new, B.memory bus.new, desk.now) }
 {
     let to = fetch_word(bus, regs.sp);
     give_back(regs, VERSION, to);
@@ -178,13 +190,14 @@ fn version_number<B: Bus>(regs: &mut Regs, bus: &mut B, desk: &Desk) -> Served
 }
 
 // Function 9, which prints the string at DE.
-#[tactic(auto, using(crate::proofs::Looking::by_two, crate::proofs::Looking::past_two, crate::proofs::Looking::here, crate::proofs::Looking::more, crate::proofs::Looking::all))]
+#[tactic(auto, using(crate::proofs::Looking::until_it_failed))]
 fn string_output<B: Bus>(
     regs: &mut Regs,
     bus: &mut B,
     desk: &mut Desk,
 ) -> Result<Served, AllocError>
-    ensures { (script : List ℕ) → Fulfils (calls.string_output regs.old desk.old.desk.spot) script regs.old (B.memory bus.old) desk.old result regs.new (B.memory bus.new) desk.new }
+    ensures { (script : List ℕ) → CarriesOut calls.string_output script
+        (regs.old, B.memory bus.old, desk.old) result (regs.new, B.memory bus.new, desk.new) }
 {
     let to = fetch_word(bus, regs.sp);
     if !print_string(bus, desk, word_of(regs.e, regs.d))? {
@@ -214,14 +227,15 @@ fn console_state(script: &[u8], place: usize) -> u16
 }
 
 // Function 10, which takes a line of the script.
-#[tactic(auto, using(crate::proofs::Looking::by_one, crate::proofs::Looking::at_first, crate::proofs::Looking::after_first))]
+#[tactic(auto, using(crate::proofs::Looking::after_the_capacity))]
 fn line_input<B: Bus>(
     regs: &mut Regs,
     bus: &mut B,
     desk: &mut Desk,
     script: &[u8],
 ) -> Result<Served, AllocError>
-    ensures { (n : ℕ) → length script.now ≤ n → Fulfils (calls.line_input n regs.old desk.old.desk.spot) script.now regs.old (B.memory bus.old) desk.old result regs.new (B.memory bus.new) desk.new }
+    ensures { (n : ℕ) → length script.now ≤ n → CarriesOut (calls.line_input n) script.now
+        (regs.old, B.memory bus.old, desk.old) result (regs.new, B.memory bus.new, desk.new) }
 {
     let at = word_of(regs.e, regs.d);
     let capacity = fetch(bus, at);
@@ -269,7 +283,8 @@ fn store_line<B: Bus>(bus: &mut B, at: u16, text: &[u8])
     write_cells(bus, at.wrapping_add(2), text);
 }
 
-/// Goes back to an address with a value: HL gets it, A is L and B is H, and the return address leaves the stack. (CP/M 2.2 Interface Guide.)
+/// Goes back to an address with a value: HL gets it, A is L and B is H, and the return address leaves the
+/// stack. (CP/M 2.2 Interface Guide.)
 pub fn give_back(regs: &mut Regs, value: u16, to: u16)
     ensures { regs.new ≡ at_caller value to regs.old }
 {
@@ -283,8 +298,8 @@ pub fn give_back(regs: &mut Regs, value: u16, to: u16)
     regs.pc = to;
 }
 
-// Prints the string at an address, up to its `$`, and tells whether there is one. Where there is none, and on an `Err`,
-// the desk stays.
+// Prints the string at an address, up to its `$`, and answers whether there is one. Where there is none, and
+// on an `Err`, the desk stays.
 fn print_string<B: Bus>(bus: &mut B, desk: &mut Desk, at: u16) -> Result<bool, AllocError>
     ensures prints { Prints at (B.memory bus.old) desk.old.desk result (B.memory bus.new) desk.new.desk }
     ensures places { desk.new.places ≡ desk.old.places }
@@ -297,8 +312,8 @@ fn print_string<B: Bus>(bus: &mut B, desk: &mut Desk, at: u16) -> Result<bool, A
     found
 }
 
-// Prints the bytes from an address on up to the first `$`, and tells whether there is one.
-#[tactic(auto, using(crate::proofs::Looking::one_more, crate::proofs::Looking::some_more, crate::proofs::Looking::here, crate::proofs::Scanning::bound_at))]
+// Prints the bytes from an address on up to the first `$`, and answers whether there is one.
+#[tactic(auto, using(crate::proofs::Scanning::byte_by_byte))]
 fn print_until_dollar<B: Bus>(bus: &mut B, desk: &mut Desk, at: u16) -> Result<bool, AllocError>
     ensures scans { Scans at (B.memory bus.old) desk.old.desk result (B.memory bus.new) desk.new.desk }
     ensures places { desk.new.places ≡ desk.old.places }

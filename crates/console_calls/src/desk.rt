@@ -1,15 +1,16 @@
-ghost use Rattle.std.specs.Prelude.{◌≡◌, ◌++◌, ◌∷◌, [], ◌≢◌, ◌≤◌, ◌<◌, ◌+◌, ◌||◌, ◌&&◌, ◌==◌, ℕ, Bool, true, false, not, length, take, IfOk, OnOk, OnErr, IfSome, IfNone};
+ghost use Rattle.std.specs.Prelude.{◌≡◌, ◌≤◌, ◌<◌, ◌+◌, ℕ, true, false, length, IfOk, OnOk, OnErr, IfSome, IfNone};
 ghost use Rattle.console_calls.specs.Desk as desk;
-ghost use Rattle.console_calls.specs.Desk.{first_desk, printed, tabbed, sent, sent_all, echoed, desk_showing};
-ghost use Rattle.console_calls.specs.Places.{is_within, is_ahead, IsSpotOf};
+ghost use Rattle.console_calls.specs.Desk.{Shows, first_desk, printed, tabbed, sent, sent_all, echoed, at_spot, desk_taking, desk_appending, desk_back};
+ghost use Rattle.console_calls.specs.Places.{IsSpotOf, LeavesOut, LooksAhead, is_within};
 
 use crate::places::Places;
 use directory::Search;
 use std::alloc::{AllocError, Global};
 use std::marker::Model;
 
-/// All of a desk but its text: how many script bytes were taken, the column, the buffer address of the file calls, the current drive (0 to 3 for A
-/// to D), and where a search of the directory goes on, if there is one.
+/// All of a desk but its text: how many script bytes were taken, the column, the buffer address of the file
+/// calls, the current drive (0 to 3 for A to D), and where a search of the directory goes on, if there is
+/// one.
 #[derive(Clone, Copy)]
 pub struct Spot {
     cursor: usize,
@@ -19,8 +20,8 @@ pub struct Spot {
     search: Option<Search>,
 }
 
-/// How far the console script was taken, what the console shows, and where records go; and the script places that were
-/// looked at, which are no part of a state of the machine.
+/// How far the console script was taken, what the console shows, and where records go; and the script places
+/// that were looked at, which are no part of a state of the machine.
 #[derive(Drop)]
 pub struct Desk {
     spot: Spot,
@@ -56,7 +57,8 @@ pub(crate) struct Mark {
 }
 
 impl Desk {
-    /// A desk with nothing taken and nothing sent, the buffer in page zero, and A the current drive. It takes no memory.
+    /// A desk with nothing taken and nothing sent, the buffer in page zero, and A the current drive. It takes
+    /// no memory.
     pub fn new(alloc: Global) -> Desk
         ensures desk { result.desk ≡ first_desk }
         ensures places { (k : ℕ) → is_within result.places k ≡ false }
@@ -115,7 +117,7 @@ impl Desk {
 
     /// Prints a byte on the console. An `Err` changes nothing.
     pub fn print(&mut self, byte: u8) -> Result<(), AllocError>
-        ensures ok { OnOk result (self.new.desk ≡ desk_showing self.old.desk (printed self.old.desk.spot.column byte)) }
+        ensures ok { OnOk result (Shows self.old.desk self.new.desk (λ column. printed column byte)) }
         ensures places { self.new.places ≡ self.old.places }
         ensures err { OnErr result (self.new ≡ self.old) }
     {
@@ -154,7 +156,7 @@ impl Desk {
     pub fn take_look(&mut self) -> Option<usize>
         ensures desk { self.new.desk ≡ self.old.desk }
         ensures one { IfSome result (λ k. is_within self.old.places k ≡ true) }
-        ensures taken { IfSome result (λ k. (j : ℕ) → is_within self.new.places j ≡ (is_within self.old.places j && not (j == k))) }
+        ensures taken { IfSome result (λ k. LeavesOut self.old.places k self.new.places) }
         ensures none { IfNone result ((j : ℕ) → is_within self.old.places j ≡ false) }
         ensures same { IfNone result (self.new ≡ self.old) }
     {
@@ -179,7 +181,7 @@ impl Desk {
 
     /// Sets the address where records go.
     pub fn set_buffer(&mut self, buffer: u16)
-        ensures desk { self.new.desk ≡ record self.old.desk { spot = record self.old.desk.spot { buffer = buffer } } }
+        ensures desk { self.new.desk ≡ at_spot self.old.desk (record self.old.desk.spot { buffer = buffer }) }
         ensures places { self.new.places ≡ self.old.places }
     {
         self.spot.buffer = buffer;
@@ -194,7 +196,7 @@ impl Desk {
 
     /// Sets the current drive.
     pub fn set_drive(&mut self, drive: u8)
-        ensures desk { self.new.desk ≡ record self.old.desk { spot = record self.old.desk.spot { drive = drive } } }
+        ensures desk { self.new.desk ≡ at_spot self.old.desk (record self.old.desk.spot { drive = drive }) }
         ensures places { self.new.places ≡ self.old.places }
     {
         self.spot.drive = drive;
@@ -209,7 +211,7 @@ impl Desk {
 
     /// Sets where a search goes on.
     pub fn set_search(&mut self, search: Option<Search>)
-        ensures desk { self.new.desk ≡ record self.old.desk { spot = record self.old.desk.spot { search = search } } }
+        ensures desk { self.new.desk ≡ at_spot self.old.desk (record self.old.desk.spot { search = search }) }
         ensures places { self.new.places ≡ self.old.places }
     {
         self.spot.search = search;
@@ -232,7 +234,7 @@ impl Desk {
     pub(crate) fn look(&mut self, count: usize)
         requires { self.old.desk.spot.cursor + count ≤ 9223372036854775808 }
         ensures desk { self.new.desk ≡ self.old.desk }
-        ensures places { (k : ℕ) → is_within self.new.places k ≡ (is_within self.old.places k || is_ahead self.old.desk.spot.cursor count k) }
+        ensures places { LooksAhead self.old.places self.old.desk.spot.cursor count self.new.places }
     {
         let to = self.spot.cursor + count;
         if self.places.to < to {
@@ -243,8 +245,8 @@ impl Desk {
     /// Takes some bytes of the script, which looks at their places.
     pub(crate) fn take(&mut self, count: usize)
         requires { self.old.desk.spot.cursor + count < 9223372036854775808 }
-        ensures desk { self.new.desk ≡ record self.old.desk { spot = record self.old.desk.spot { cursor = self.old.desk.spot.cursor + count } } }
-        ensures places { (k : ℕ) → is_within self.new.places k ≡ (is_within self.old.places k || is_ahead self.old.desk.spot.cursor count k) }
+        ensures desk { self.new.desk ≡ desk_taking self.old.desk count }
+        ensures places { LooksAhead self.old.places self.old.desk.spot.cursor count self.new.places }
     {
         let cursor = self.spot.cursor + count;
         if self.places.to < cursor {
@@ -270,7 +272,7 @@ impl Desk {
         requires within { mark.spot.column ≤ mark.length }
         requires earlier { mark.length ≤ length self.old.desk.text }
         requires cursor { mark.spot.cursor ≡ self.old.desk.spot.cursor }
-        ensures desk { self.new.desk ≡ record { spot = mark.spot; text = take mark.length self.old.desk.text } }
+        ensures desk { self.new.desk ≡ desk_back mark.spot mark.length self.old.desk }
         ensures places { self.new.places ≡ self.old.places }
     {
         self.text.truncate(mark.length);
@@ -278,7 +280,7 @@ impl Desk {
     }
 
     fn send(&mut self, byte: u8) -> Result<(), AllocError>
-        ensures ok { OnOk result (self.new.desk ≡ desk_showing self.old.desk (sent self.old.desk.spot.column byte)) }
+        ensures ok { OnOk result (Shows self.old.desk self.new.desk (λ column. sent column byte)) }
         ensures places { self.new.places ≡ self.old.places }
         ensures err { OnErr result (self.new ≡ self.old) }
     {
@@ -289,7 +291,7 @@ impl Desk {
 
     /// Adds a byte to the text, and leaves the column. An `Err` changes nothing.
     pub(crate) fn append(&mut self, byte: u8) -> Result<(), AllocError>
-        ensures ok { OnOk result (self.new.desk ≡ record self.old.desk { text = self.old.desk.text ++ byte ∷ [] }) }
+        ensures ok { OnOk result (self.new.desk ≡ desk_appending self.old.desk byte) }
         ensures places { self.new.places ≡ self.old.places }
         ensures err { OnErr result (self.new ≡ self.old) }
     {
@@ -299,7 +301,7 @@ impl Desk {
 
     /// Sends bytes. An `Err` changes nothing.
     pub(crate) fn send_all(&mut self, bytes: &[u8]) -> Result<(), AllocError>
-        ensures ok { OnOk result (self.new.desk ≡ desk_showing self.old.desk (sent_all self.old.desk.spot.column bytes.now)) }
+        ensures ok { OnOk result (Shows self.old.desk self.new.desk (λ column. sent_all column bytes.now)) }
         ensures places { self.new.places ≡ self.old.places }
         ensures err { OnErr result (self.new ≡ self.old) }
     {
@@ -309,7 +311,7 @@ impl Desk {
     }
 
     fn tab(&mut self) -> Result<(), AllocError>
-        ensures ok { OnOk result (self.new.desk ≡ desk_showing self.old.desk (tabbed self.old.desk.spot.column)) }
+        ensures ok { OnOk result (Shows self.old.desk self.new.desk tabbed) }
         ensures places { self.new.places ≡ self.old.places }
         ensures err { OnErr result (self.new ≡ self.old) }
     {
@@ -321,7 +323,7 @@ impl Desk {
 
     /// Prints a byte that was typed, where it is one that shows.
     pub(crate) fn echo(&mut self, byte: u8) -> Result<(), AllocError>
-        ensures ok { OnOk result (self.new.desk ≡ desk_showing self.old.desk (echoed self.old.desk.spot.column byte)) }
+        ensures ok { OnOk result (Shows self.old.desk self.new.desk (λ column. echoed column byte)) }
         ensures places { self.new.places ≡ self.old.places }
         ensures err { OnErr result (self.new ≡ self.old) }
     {

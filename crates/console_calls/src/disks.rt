@@ -2,7 +2,7 @@
 
 ghost use Rattle.std.specs.Prelude.{List, ℕ, Ok};
 ghost use Rattle.console_calls.specs.Calls as calls;
-ghost use Rattle.console_calls.specs.Calls.{Fulfils};
+ghost use Rattle.console_calls.specs.Serves.{CarriesOut};
 
 use crate::calls::give_back;
 use crate::cause::Cause;
@@ -18,7 +18,8 @@ const DRIVES: u16 = 0x000f;
 
 /// Function 13, which goes back to the first drive and the first buffer.
 pub fn reset_disks<B: Bus>(regs: &mut Regs, bus: &mut B, desk: &mut Desk) -> Served
-    ensures { (script : List ℕ) → Fulfils (calls.reset_disks regs.old desk.old.desk.spot) script regs.old (B.memory bus.old) desk.old (Ok result) regs.new (B.memory bus.new) desk.new }
+    ensures { (script : List ℕ) → CarriesOut calls.reset_disks script
+        (regs.old, B.memory bus.old, desk.old) (Ok result) (regs.new, B.memory bus.new, desk.new) }
 {
     let to = fetch_word(bus, regs.sp);
     desk.set_buffer(FIRST_BUFFER);
@@ -29,7 +30,8 @@ pub fn reset_disks<B: Bus>(regs: &mut Regs, bus: &mut B, desk: &mut Desk) -> Ser
 
 /// Function 14, which sets the current drive.
 pub fn select_disk<B: Bus>(regs: &mut Regs, bus: &mut B, desk: &mut Desk) -> Served
-    ensures { (script : List ℕ) → Fulfils (calls.select_disk regs.old desk.old.desk.spot) script regs.old (B.memory bus.old) desk.old (Ok result) regs.new (B.memory bus.new) desk.new }
+    ensures { (script : List ℕ) → CarriesOut calls.select_disk script
+        (regs.old, B.memory bus.old, desk.old) (Ok result) (regs.new, B.memory bus.new, desk.new) }
 {
     if regs.e >= 4 {
         return Served::Stop(Cause::BadDrive(regs.e));
@@ -40,9 +42,10 @@ pub fn select_disk<B: Bus>(regs: &mut Regs, bus: &mut B, desk: &mut Desk) -> Ser
     Served::Went
 }
 
-/// Function 24, which tells the drives.
+/// Function 24, which gives a bit for each drive.
 pub fn login_vector<B: Bus>(regs: &mut Regs, bus: &mut B, desk: &Desk) -> Served
-    ensures { (script : List ℕ) → Fulfils (calls.login_vector regs.old desk.now.desk.spot) script regs.old (B.memory bus.old) desk.now (Ok result) regs.new (B.memory bus.new) desk.now }
+    ensures { (script : List ℕ) → CarriesOut calls.login_vector script
+        (regs.old, B.memory bus.old, desk.now) (Ok result) (regs.new, B.memory bus.new, desk.now) }
 {
     let to = fetch_word(bus, regs.sp);
     give_back(regs, DRIVES, to);
@@ -51,7 +54,8 @@ pub fn login_vector<B: Bus>(regs: &mut Regs, bus: &mut B, desk: &Desk) -> Served
 
 /// Function 25, which gives the current drive.
 pub fn current_disk<B: Bus>(regs: &mut Regs, bus: &mut B, desk: &Desk) -> Served
-    ensures { (script : List ℕ) → Fulfils (calls.current_disk regs.old desk.now.desk.spot) script regs.old (B.memory bus.old) desk.now (Ok result) regs.new (B.memory bus.new) desk.now }
+    ensures { (script : List ℕ) → CarriesOut calls.current_disk script
+        (regs.old, B.memory bus.old, desk.now) (Ok result) (regs.new, B.memory bus.new, desk.now) }
 {
     let to = fetch_word(bus, regs.sp);
     give_back(regs, desk.drive() as u16, to);
@@ -60,7 +64,8 @@ pub fn current_disk<B: Bus>(regs: &mut Regs, bus: &mut B, desk: &Desk) -> Served
 
 /// Function 26, which sets the buffer address.
 pub fn set_buffer_address<B: Bus>(regs: &mut Regs, bus: &mut B, desk: &mut Desk) -> Served
-    ensures { (script : List ℕ) → Fulfils (calls.set_buffer_address regs.old desk.old.desk.spot) script regs.old (B.memory bus.old) desk.old (Ok result) regs.new (B.memory bus.new) desk.new }
+    ensures { (script : List ℕ) → CarriesOut calls.set_buffer_address script
+        (regs.old, B.memory bus.old, desk.old) (Ok result) (regs.new, B.memory bus.new, desk.new) }
 {
     let to = fetch_word(bus, regs.sp);
     desk.set_buffer(word_of(regs.e, regs.d));

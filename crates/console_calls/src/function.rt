@@ -12,7 +12,7 @@ pub enum Function {
     ConsoleOutput,
     /// 6: a byte from or to the console as it stands.
     DirectConsole,
-    /// 7: what the I/O byte holds.
+    /// 7: gives the I/O byte.
     GetIoByte,
     /// 8: another I/O byte.
     SetIoByte,

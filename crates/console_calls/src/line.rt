@@ -1,6 +1,6 @@
-ghost use Rattle.std.specs.Prelude.{◌≡◌, ◌≤◌, ◌<◌, ◌+◌, ℕ, length, reverse, ◌++◌, IfOk, OnOk};
+ghost use Rattle.std.specs.Prelude.{◌≡◌, ◌≤◌, ◌<◌, ◌+◌, length, reverse, ◌++◌, IfOk, OnOk};
 ghost use Rattle.console_calls.specs.Line.{no_line, shown, kept, taken_back, rubbed_out, type_byte};
-ghost use Rattle.console_calls.specs.Types.{typed_of, looks_of, FitsIn, Types};
+ghost use Rattle.console_calls.specs.Types.{typed_of, looks_of, FitsIn, TakesLine};
 
 use std::alloc::{AllocError, Global};
 use std::marker::Model;
@@ -140,7 +140,7 @@ pub(crate) fn take_line(
     capacity: u8,
 ) -> Result<LineEnd, AllocError>
     requires { cursor < 9223372036854775808 }
-    ensures types { IfOk result (λ e. (byte : ℕ → ℕ) (n : ℕ) → length script.now ≤ n → Types script.now capacity cursor e byte n) }
+    ensures types { IfOk result (TakesLine script.now capacity cursor) }
     ensures looks { IfOk result (λ e. cursor + looks_of e ≤ 9223372036854775808) }
     ensures fits { IfOk result (λ e. FitsIn capacity cursor e) }
 {

@@ -3,14 +3,15 @@ use Rattle.std.proofs.Common.{◌≡◌, Bool, true, false, cond, ◌&&◌, Opti
 use Rattle.std.specs.Ordering.{nat_cmp, eq_by_cmp}
 use Rattle.std.specs.Cmp.Lexicographic.{slice_cmp, nat_list_cmp_total}
 use Rattle.std.specs.FinMap.{get, get-insert}
-use Rattle.keymaps.proofs.Views.{same_key, key_of}
+use Rattle.hostfiles.proofs.Views.{same_key, key_of}
 use Rattle.directory.specs.Entries.{is_match}
 use Rattle.hostfiles.proofs.FileLemmas.{get-files}
 use Rattle.hostfiles.proofs.LaidLemmas.{entry_file}
 use Rattle.hostfiles.specs.Hosts.{Key, Host}
 use Rattle.hostfiles.specs.Files.{Own, has, nothing, deleted, files}
 use Rattle.hostfiles.specs.declared.journal.Entry.{Entry}
-use Rattle.cpmfiles.specs.Tables.{Deletes, is_named, has_wildcard}
+use Rattle.cpmfiles.specs.Tables.{NamedAreGone, is_named}
+use Rattle.cpmfiles.specs.Renaming.{has_wildcard}
 
 named_alone : (host : Host) (own : Own) (key q : Key) → has_wildcard key ≡ false → (is_named key q && has host own q) ≡ (eq_by_cmp (slice_cmp nat_cmp) q key && has host own q)
 named_alone host own key q plain = ap (λ b. cond b (is_match key q) (eq_by_cmp (slice_cmp nat_cmp) q key) && has host own q) plain
@@ -23,7 +24,7 @@ none_taken : (b : Bool) (h : Bool) (x r : Option Entry) → (b ≡ true → h �
 none_taken true h x r e = ap (λ t. cond t x r) (sym (e refl))
 none_taken false h x r e = refl
 
-pub one_deleted : (host : Host) (own : Own) (key : Key) (after : Own) → has_wildcard key ≡ false → has host own key ≡ true → after ≡ deleted own key → Deletes host own key after
+pub one_deleted : (host : Host) (own : Own) (key : Key) (after : Own) → has_wildcard key ≡ false → has host own key ≡ true → after ≡ deleted own key → NamedAreGone host own key after
 one_deleted host own key after plain h e = record {
   at = λ q.
       ap (λ m. get m q) e ∙ get-insert nat_list_cmp_total own key nothing q
@@ -31,7 +32,7 @@ one_deleted host own key after plain h e = record {
       ∙ sym (ap (λ t. cond t (Some nothing) (get own q)) (named_alone host own key q plain));
 }
 
-pub none_deleted : (host : Host) (own : Own) (key : Key) (after : Own) → has_wildcard key ≡ false → has host own key ≡ false → after ≡ own → Deletes host own key after
+pub none_deleted : (host : Host) (own : Own) (key : Key) (after : Own) → has_wildcard key ≡ false → has host own key ≡ false → after ≡ own → NamedAreGone host own key after
 none_deleted host own key after plain h e = record {
   at = λ q.
       ap (λ m. get m q) e
@@ -40,7 +41,7 @@ none_deleted host own key after plain h e = record {
 }
 
 pub all_deleted : (host : Host) (own : Own) (pattern : Key) (after : Own) → has_wildcard pattern ≡ true
-    → ((q : Key) → get after q ≡ cond (is_match pattern q && has host own q) (Some nothing) (get own q)) → Deletes host own pattern after
+    → ((q : Key) → get after q ≡ cond (is_match pattern q && has host own q) (Some nothing) (get own q)) → NamedAreGone host own pattern after
 all_deleted host own pattern after wild h = record {
   at = λ q.
       h q ∙ sym (ap (λ b. cond (cond b (is_match pattern q) (eq_by_cmp (slice_cmp nat_cmp) q pattern) && has host own q) (Some nothing) (get own q)) wild);
@@ -48,7 +49,7 @@ all_deleted host own pattern after wild h = record {
 
 -- ---- the map of all files
 
-pub files-deleted_all : (host : Host) (own after : Own) (pattern : Key) → Deletes host own pattern after → (q : Key) → get (files host after) q ≡ cond (is_named pattern q && has host own q) None (get (files host own) q)
+pub files-deleted_all : (host : Host) (own after : Own) (pattern : Key) → NamedAreGone host own pattern after → (q : Key) → get (files host after) q ≡ cond (is_named pattern q && has host own q) None (get (files host own) q)
 files-deleted_all host own after pattern d q =
     get-files host after q ∙ ap (entry_file host q) (d.at q)
     ∙ elim (is_named pattern q && has host own q) as (λ b. entry_file host q (cond b (Some nothing) (get own q)) ≡ cond b None (entry_file host q (get own q))) [ true ↦ refl | false ↦ refl ]

@@ -1,5 +1,5 @@
 -- No question is forgotten, and at a failure none is asked that the whole call does not ask.
-use Rattle.std.proofs.Common.{ℕ, Bool, true, false, cond, is_some, nat_lt, refl}
+use Rattle.std.proofs.Common.{◌≡◌, ℕ, Bool, true, false, cond, is_some, nat_lt, refl, sym, subst}
 use Rattle.std.specs.FinMap.{get}
 use Rattle.hostfiles.specs.Hosts.{Key, Host}
 use Rattle.hostfiles.specs.Files.{Own, has, length_at, entry_at, is_below}
@@ -41,6 +41,17 @@ within_read host own key k l m h = by_case (has host own key) (nat_lt k (length_
   by_case true true = within_content own key k l (look_records host own key m) h
   by_case true false = h
   by_case false c = h
+
+-- what is asked first of a record that is read: whether the file is there, and then how long it is
+pub within_read_first : (host : Host) (own : Own) (key : Key) (k : ℕ) (l m : Looks) → Extends l (look_has own key m)
+    → Extends l (look_read host own key k m)
+within_read_first host own key k l m h = within_read host own key k l m (within_records host own key l m h)
+
+pub within_read_length : (host : Host) (own : Own) (key : Key) (k : ℕ) (l m : Looks) → has host own key ≡ true
+    → Extends l (look_length own key (look_has own key m)) → Extends l (look_read host own key k m)
+within_read_length host own key k l m there h =
+    within_read host own key k l m
+    (subst (λ b. Extends l (cond b (look_length own key (look_has own key m)) (look_has own key m))) (sym there) h)
 
 -- the second key of a renaming is asked after the first
 pub within_second : (own : Own) (old new : Key) (l m : Looks) → Extends l (look_has own old m)

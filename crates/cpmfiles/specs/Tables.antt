@@ -1,21 +1,22 @@
 -- The calls of a table. (CP/M 2.2 Interface Guide, functions 17, 19, 22 and 23; what each asks of the host files, and which keys
 -- it refuses: this project's profile.)
-use Rattle.std.specs.Prelude.{◌≡◌, ℕ, Bool, ◌&&◌, ◌==◌, not, Some, length, drop, filter, slice_index, if◌then◌else◌}
+use Rattle.std.specs.Prelude.{◌≡◌, ℕ, List, Option, Bool, ◌&&◌, not, Some, length, filter, slice_index, if◌then◌else◌}
+use Rattle.std.specs.Option.{option_map}
 use Rattle.std.specs.Ordering.{nat_cmp, eq_by_cmp}
-use Rattle.std.specs.List.{list_any}
 use Rattle.std.specs.Cmp.Lexicographic.{slice_cmp}
 use Rattle.std.specs.FinMap.{get, entries}
 use Rattle.filenames.specs.Names.{is_sayable}
-use Rattle.directory.specs.Entries.{is_match}
+use Rattle.directory.specs.Entries.{Shapes, is_match, next_entry, entry_bytes, position_in}
 use Rattle.hostfiles.specs.Hosts.{Key, Host}
 use Rattle.hostfiles.specs.Files.{Own, has, nothing, shapes}
-use Rattle.hostfiles.specs.Looks.{look_has, look_directory, Extends}
+use Rattle.hostfiles.specs.Looks.{look_has, look_directory}
 use Rattle.hostfiles.specs.declared.looks.Looks.{Looks}
-use Rattle.cpmfiles.specs.declared.table.Table.{Table}
+use Rattle.cpmfiles.specs.Renaming.{has_wildcard, is_rename}
 
--- `?` among the bytes of a name
-abbrev pub has_wildcard : Key → Bool
-has_wildcard key = list_any (λ b. b == 63) (drop 1 key)
+-- the bytes of the first entry that matches, after the entry of these bytes if they are given
+abbrev pub next_bytes : Key → ℕ → Option (List ℕ) → Shapes → Option (List ℕ)
+next_bytes pattern ex after m =
+    option_map entry_bytes (next_entry pattern ex (option_map (position_in (slice_index pattern 0)) after) m)
 
 abbrev pub can_make : Host → Own → Key → Bool
 can_make host own key = is_sayable key && not (has host own key)
@@ -23,10 +24,6 @@ can_make host own key = is_sayable key && not (has host own key)
 -- whether there is a file is asked of a key that can be said
 abbrev pub look_made : Own → Key → Looks → Looks
 look_made own key l = if is_sayable key then look_has own key l else l
-
--- a key without `?` may be renamed to one that can be said
-abbrev pub is_rename : Key → Key → Bool
-is_rename old new = not (has_wildcard old) && is_sayable new
 
 abbrev pub can_rename : Host → Own → Key → Key → Bool
 can_rename host own old new = is_rename old new && has host own old && not (has host own new)
@@ -40,7 +37,7 @@ abbrev pub is_named : Key → Key → Bool
 is_named pattern q = if has_wildcard pattern then is_match pattern q else eq_by_cmp (slice_cmp nat_cmp) q pattern
 
 -- what is owned after: of the keys that are named, and have files, that they are gone
-pub record Deletes (host : Host) (own : Own) (pattern : Key) (after : Own) : Type 0 where
+pub record NamedAreGone (host : Host) (own : Own) (pattern : Key) (after : Own) : Type 0 where
   pub at : (q : Key) → get after q ≡ (if is_named pattern q && has host own q then Some nothing else get own q)
 
 -- how many files are named
@@ -52,8 +49,3 @@ count_deleted host own pattern =
 -- a pattern with `?` asks the directory of its drive, one without whether the file is there
 abbrev pub look_deleted : Own → Key → Looks → Looks
 look_deleted own pattern l = if has_wildcard pattern then look_directory (slice_index pattern 0) l else look_has own pattern l
-
--- each question that is looked at after was looked at before, or is among those that a whole call looks at
-abbrev pub LooksWithin : (Own → Looks → Looks) → Table → Table → Type 0
-LooksWithin look old new =
-    Extends new.changes.now.looks (look old.changes.now.journal.entries old.changes.now.looks)

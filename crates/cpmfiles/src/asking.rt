@@ -1,25 +1,28 @@
-// What a program asks of the files, of which a run did something. The questions are marked, and an `Err` has marked no other.
+// What a program asks of the files, of which a run did something. The questions are marked, and an `Err` has
+// marked no other.
 
-ghost use Rattle.std.specs.Prelude.{◌≡◌, OnOk, OnErr, IfOk};
-ghost use Rattle.hostfiles.specs.Files.{has, length_at, records, place, place_of, entry_at};
-ghost use Rattle.hostfiles.specs.Looks.{look_has, look_length, look_content, look_records, look_read, Extends};
-ghost use Rattle.cpmfiles.specs.Tables.{can_make, can_rename, look_made, look_renamed};
+ghost use Rattle.std.specs.Prelude.{◌≡◌, ◌<◌, Ok, slice_index};
+ghost use Rattle.std.specs.Option.{option_map};
+ghost use Rattle.directory.specs.Entries.{position_in};
+ghost use Rattle.hostfiles.specs.Files.{has, records, place, shapes};
+ghost use Rattle.hostfiles.specs.Looks.{look_has, look_records, look_read, look_directory};
+ghost use Rattle.hostfiles.specs.Asking.{Inquires};
+ghost use Rattle.cpmfiles.specs.Tables.{can_make, can_rename, look_made, look_renamed, next_bytes};
 
 use crate::table::has_wildcard;
+use directory::{Position, next_entry};
 use filenames::{Key, is_sayable};
 use hostfiles::changes::Changes;
 use hostfiles::host::HostFiles;
+use hostfiles::listed::Listed;
 use hostfiles::seen::SeenFile;
 use records::Record;
 use std::alloc::AllocError;
 
 /// Whether there is a file of the key.
 pub fn has(host: &HostFiles, changes: &mut Changes, key: &Key) -> Result<bool, AllocError>
-    ensures answer { IfOk result (λ b. b ≡ has host.now changes.old.journal.entries key.now) }
-    ensures looks { OnOk result (changes.new.looks ≡ look_has changes.old.journal.entries key.now changes.old.looks) }
-    ensures extends { Extends changes.old.looks changes.new.looks }
-    ensures bound { OnErr result (Extends changes.new.looks (look_has changes.old.journal.entries key.now changes.old.looks)) }
-    ensures stays { changes.new.journal ≡ changes.old.journal }
+    ensures { Inquires result (λ own. has host.now own key.now)
+        (λ own. look_has own key.now) changes.old changes.new }
 {
     SeenFile::find(host, &changes.journal, key).ask_presence(&mut changes.looks)
 }
@@ -31,11 +34,8 @@ pub fn records(
     changes: &mut Changes,
     key: &Key,
 ) -> Result<Option<u32>, AllocError>
-    ensures answer { IfOk result (λ n. n ≡ records host.now changes.old.journal.entries key.now) }
-    ensures looks { OnOk result (changes.new.looks ≡ look_records host.now changes.old.journal.entries key.now changes.old.looks) }
-    ensures extends { Extends changes.old.looks changes.new.looks }
-    ensures bound { OnErr result (Extends changes.new.looks (look_records host.now changes.old.journal.entries key.now changes.old.looks)) }
-    ensures stays { changes.new.journal ≡ changes.old.journal }
+    ensures { Inquires result (λ own. records host.now own key.now)
+        (λ own. look_records host.now own key.now) changes.old changes.new }
 {
     let file = SeenFile::find(host, &changes.journal, key);
     if !file.ask_presence(&mut changes.looks)? {
@@ -44,34 +44,8 @@ pub fn records(
     Ok(Some(file.ask_length(&mut changes.looks)?))
 }
 
-/// How many places the file of the key has; 0 where there is none.
-pub fn length(host: &HostFiles, changes: &mut Changes, key: &Key) -> Result<u32, AllocError>
-    ensures answer { IfOk result (λ n. n ≡ length_at host.now changes.old.journal.entries key.now) }
-    ensures looks { OnOk result (changes.new.looks ≡ look_length changes.old.journal.entries key.now changes.old.looks) }
-    ensures extends { Extends changes.old.looks changes.new.looks }
-    ensures bound { OnErr result (Extends changes.new.looks (look_length changes.old.journal.entries key.now changes.old.looks)) }
-    ensures stays { changes.new.journal ≡ changes.old.journal }
-{
-    SeenFile::find(host, &changes.journal, key).ask_length(&mut changes.looks)
-}
-
-/// The record at a place below the length of the file of the key; none in a hole.
-pub fn content(
-    host: &HostFiles,
-    changes: &mut Changes,
-    key: &Key,
-    k: u32,
-) -> Result<Option<Record>, AllocError>
-    ensures answer { IfOk result (λ r. r ≡ place_of host.now key.now (entry_at changes.old.journal.entries key.now) k) }
-    ensures looks { OnOk result (changes.new.looks ≡ look_content changes.old.journal.entries key.now k changes.old.looks) }
-    ensures extends { Extends changes.old.looks changes.new.looks }
-    ensures bound { OnErr result (Extends changes.new.looks (look_content changes.old.journal.entries key.now k changes.old.looks)) }
-    ensures stays { changes.new.journal ≡ changes.old.journal }
-{
-    SeenFile::find(host, &changes.journal, key).ask_record(&mut changes.looks, k)
-}
-
-/// The record at a place of the file of the key; none where there is no file, or none that long, or a hole at the place.
+/// The record at a place of the file of the key; none where there is no file, or none that long, or a hole at
+/// the place.
 #[tactic(auto, using(crate::proofs::LookLaws::asked_in_turn))]
 pub fn read(
     host: &HostFiles,
@@ -79,29 +53,24 @@ pub fn read(
     key: &Key,
     k: u32,
 ) -> Result<Option<Record>, AllocError>
-    ensures answer { IfOk result (λ r. r ≡ place host.now changes.old.journal.entries key.now k) }
-    ensures looks { OnOk result (changes.new.looks ≡ look_read host.now changes.old.journal.entries key.now k changes.old.looks) }
-    ensures extends { Extends changes.old.looks changes.new.looks }
-    ensures bound { OnErr result (Extends changes.new.looks (look_read host.now changes.old.journal.entries key.now k changes.old.looks)) }
-    ensures stays { changes.new.journal ≡ changes.old.journal }
+    ensures { Inquires result (λ own. place host.now own key.now k)
+        (λ own. look_read host.now own key.now k) changes.old changes.new }
 {
-    let Some(n) = records(host, changes, key)? else {
-        return Ok(None);
-    };
-    if k >= n {
+    let file = SeenFile::find(host, &changes.journal, key);
+    if !file.ask_presence(&mut changes.looks)? {
         return Ok(None);
     }
-    content(host, changes, key, k)
+    if k >= file.ask_length(&mut changes.looks)? {
+        return Ok(None);
+    }
+    file.ask_record(&mut changes.looks, k)
 }
 
 /// Whether a file of the key may be made: the key can be said, and no file has it.
 #[tactic(auto, using(crate::proofs::LookLaws::extends_same))]
 pub fn can_make(host: &HostFiles, changes: &mut Changes, key: &Key) -> Result<bool, AllocError>
-    ensures answer { IfOk result (λ b. b ≡ can_make host.now changes.old.journal.entries key.now) }
-    ensures looks { OnOk result (changes.new.looks ≡ look_made changes.old.journal.entries key.now changes.old.looks) }
-    ensures extends { Extends changes.old.looks changes.new.looks }
-    ensures bound { OnErr result (Extends changes.new.looks (look_made changes.old.journal.entries key.now changes.old.looks)) }
-    ensures stays { changes.new.journal ≡ changes.old.journal }
+    ensures { Inquires result (λ own. can_make host.now own key.now)
+        (λ own. look_made own key.now) changes.old changes.new }
 {
     if !is_sayable(key) {
         return Ok(false);
@@ -109,7 +78,8 @@ pub fn can_make(host: &HostFiles, changes: &mut Changes, key: &Key) -> Result<bo
     Ok(!has(host, changes, key)?)
 }
 
-/// Whether a file may be renamed: its key has no `?` and a file has it, the new key can be said and no file has it. Both keys are asked.
+/// Whether a file may be renamed: its key has no `?` and a file has it, the new key can be said and no file
+/// has it. Both keys are asked.
 #[tactic(auto, using(crate::proofs::LookLaws::asked_in_turn))]
 pub fn can_rename(
     host: &HostFiles,
@@ -117,11 +87,8 @@ pub fn can_rename(
     old: &Key,
     new: &Key,
 ) -> Result<bool, AllocError>
-    ensures answer { IfOk result (λ b. b ≡ can_rename host.now changes.old.journal.entries old.now new.now) }
-    ensures looks { OnOk result (changes.new.looks ≡ look_renamed changes.old.journal.entries old.now new.now changes.old.looks) }
-    ensures extends { Extends changes.old.looks changes.new.looks }
-    ensures bound { OnErr result (Extends changes.new.looks (look_renamed changes.old.journal.entries old.now new.now changes.old.looks)) }
-    ensures stays { changes.new.journal ≡ changes.old.journal }
+    ensures { Inquires result (λ own. can_rename host.now own old.now new.now)
+        (λ own. look_renamed own old.now new.now) changes.old changes.new }
 {
     if has_wildcard(old) {
         return Ok(false);
@@ -132,4 +99,42 @@ pub fn can_rename(
     let there = has(host, changes, old)?;
     let taken = has(host, changes, new)?;
     Ok(there && !taken)
+}
+
+/// The first entry of the directory that matches a pattern, after the entry given if there is one, in the
+/// files as they are now. The pattern's drive is matched exactly; its name and its `ex` byte may have a `?`.
+/// Takes no memory.
+#[tactic(auto, using(crate::proofs::LookLaws::extends_by_directory))]
+pub fn search(
+    host: &HostFiles,
+    changes: &mut Changes,
+    pattern: &Key,
+    ex: u8,
+    after: Option<[u8; 32]>,
+) -> Option<[u8; 32]>
+    ensures inquires { Inquires (Ok result) (λ own. next_bytes pattern.now ex after (shapes host.now own))
+        (λ own. look_directory (slice_index pattern.now 0)) changes.old changes.new }
+    ensures drive { slice_index pattern.now 0 < 256 }
+{
+    let drive = pattern[0];
+    changes.looks.mark_directory(drive);
+    let last = position_after(drive, after);
+    let listed = Listed {
+        host,
+        journal: &changes.journal,
+    };
+    match next_entry(&listed, pattern, ex, last) {
+        Some(entry) => Some(entry.to_bytes()),
+        None => None,
+    }
+}
+
+// Where the entry given last stands, if there is one.
+fn position_after(drive: u8, after: Option<[u8; 32]>) -> Option<Position>
+    ensures { result ≡ option_map (position_in drive) after }
+{
+    match after {
+        Some(bytes) => Some(Position::of_bytes(drive, &bytes)),
+        None => None,
+    }
 }

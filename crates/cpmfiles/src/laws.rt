@@ -4,9 +4,11 @@ ghost use Rattle.std.specs.Prelude.{◌≡◌, ◌&&◌, List, ℕ, None, if◌t
 ghost use Rattle.std.specs.FinMap as finmap;
 ghost use Rattle.hostfiles.specs.Hosts.{Host};
 ghost use Rattle.hostfiles.specs.Files.{Own, has, files};
-ghost use Rattle.cpmfiles.specs.Tables.{Deletes, is_named};
+ghost use Rattle.cpmfiles.specs.Tables.{NamedAreGone, is_named};
 
 /// Carries the law that a deletion takes out of the map of all files those that are named, and no other.
 pub fn named_files_are_gone()
-    ensures { (host : Host) → (own after : Own) → (pattern : List ℕ) → Deletes host own pattern after → (q : List ℕ) → finmap.get (files host after) q ≡ (if is_named pattern q && has host own q then None else finmap.get (files host own) q) }
+    ensures { (host : Host) → (own after : Own) → (pattern : List ℕ) → NamedAreGone host own pattern after →
+        (q : List ℕ) → finmap.get (files host after) q ≡
+        (if is_named pattern q && has host own q then None else finmap.get (files host own) q) }
 {}

@@ -1,4 +1,8 @@
 //! Files of a program: names, control blocks, host files, what a run does to them, and both joined as a table.
+//!
+//! - `asking`: what a program asks of the files, each question marked
+//! - `table`, `laws`: `Table`: the files as a program reads, writes, makes, renames, deletes and searches them; the
+//!   law of a deletion
 #![tactic(auto)]
 
 pub mod asking;

@@ -1,24 +1,25 @@
 // Host files joined with what a run did to them.
 
-ghost use Rattle.std.specs.Prelude.{◌≡◌, ◌<◌, ◌≤◌, true, false, OnOk, OnErr, IfOk, Some, Ok, slice_index};
-ghost use Rattle.std.specs.Option.{option_map};
-ghost use Rattle.directory.specs.Entries.{next_entry, entry_bytes, position_in, count_at};
-ghost use Rattle.hostfiles.specs.Files.{has, records, length_at, place, place_of, entry_at, file_of, shape_of, shapes, made, renamed, wrote};
-ghost use Rattle.hostfiles.specs.Looks.{look_has, look_length, look_records, look_content, look_read, look_directory, Extends};
-ghost use Rattle.cpmfiles.specs.Tables.{can_make, can_rename, has_wildcard, look_made, look_renamed, count_deleted, look_deleted, Deletes, LooksWithin};
+ghost use Rattle.std.specs.Prelude.{◌≡◌, ◌<◌, true, false, OnOk, OnErr, IfOk, Some, Ok, slice_index};
+ghost use Rattle.hostfiles.specs.Files.{has, records, length_at, place, shapes, made, renamed, wrote};
+ghost use Rattle.hostfiles.specs.Looks.{look_has, look_records, look_read, look_directory, Extends};
+ghost use Rattle.hostfiles.specs.Asking.{AsksFor, Inquires};
+ghost use Rattle.cpmfiles.specs.Tables.{can_make, can_rename, look_made, look_renamed};
+ghost use Rattle.cpmfiles.specs.Renaming.{has_wildcard};
+ghost use Rattle.cpmfiles.specs.Tables.{count_deleted, look_deleted, NamedAreGone, next_bytes};
+ghost use Rattle.cpmfiles.specs.Leaving.{own_in, looks_in, StandsOver, DoesIf};
 
 use crate::asking;
-use directory::{Position, next_entry};
 use filenames::Key;
 use hostfiles::changes::Changes;
 use hostfiles::host::HostFiles;
-use hostfiles::listed::{Listed, without_matches};
-use hostfiles::seen::SeenFile;
+use hostfiles::listed::without_matches;
 use records::Record;
 use std::alloc::AllocError;
 
-/// Host files joined with what a run did to them. Each call marks what it asks of the host files; an `Err` is want of memory, and changes
-/// no file and nothing that the run did. It may have marked some of what the whole call asks, and nothing else.
+/// Host files joined with what a run did to them. Each call marks what it asks of the host files; an `Err` is
+/// want of memory, and changes no file and nothing that the run did. It may have marked some of what the
+/// whole call asks, and nothing else.
 #[derive(Drop)]
 pub struct Table<'a> {
     /// The host files.
@@ -41,13 +42,9 @@ impl Table<'_> {
     /// Whether there is a file of the key.
     #[tactic(auto, using(crate::proofs::LookLaws::extends_by_has, crate::proofs::LookLaws::extends_same))]
     pub fn has(&mut self, key: &Key) -> Result<bool, AllocError>
-        ensures answer { IfOk result (λ b. b ≡ has self.old.host.now self.old.changes.now.journal.entries key.now) }
-        ensures looks { OnOk result (self.new.changes.now.looks ≡ look_has self.old.changes.now.journal.entries key.now self.old.changes.now.looks) }
-        ensures extends { Extends self.old.changes.now.looks self.new.changes.now.looks }
-        ensures bound { OnErr result (LooksWithin (λ own. look_has own key.now) self.old self.new) }
-        ensures stays { self.new.changes.now.journal ≡ self.old.changes.now.journal }
-        ensures host { self.new.host.now ≡ self.old.host.now }
-        ensures lender { self.new.changes.ghost_name ≡ self.old.changes.ghost_name }
+        ensures inquires { Inquires result (λ own. has self.old.host.now own key.now)
+            (λ own. look_has own key.now) self.old.changes.now self.new.changes.now }
+        ensures over { StandsOver self.old self.new }
     {
         asking::has(self.host, self.changes, key)
     }
@@ -55,43 +52,30 @@ impl Table<'_> {
     /// How many places the file of the key has, if there is one.
     #[tactic(auto, using(crate::proofs::LookLaws::asked_in_turn))]
     pub fn records(&mut self, key: &Key) -> Result<Option<u32>, AllocError>
-        ensures answer { IfOk result (λ n. n ≡ records self.old.host.now self.old.changes.now.journal.entries key.now) }
-        ensures looks { OnOk result (self.new.changes.now.looks ≡ look_records self.old.host.now self.old.changes.now.journal.entries key.now self.old.changes.now.looks) }
-        ensures extends { Extends self.old.changes.now.looks self.new.changes.now.looks }
-        ensures bound { OnErr result (LooksWithin (λ own. look_records self.old.host.now own key.now) self.old self.new) }
-        ensures stays { self.new.changes.now.journal ≡ self.old.changes.now.journal }
-        ensures host { self.new.host.now ≡ self.old.host.now }
-        ensures lender { self.new.changes.ghost_name ≡ self.old.changes.ghost_name }
+        ensures inquires { Inquires result (λ own. records self.old.host.now own key.now)
+            (λ own. look_records self.old.host.now own key.now) self.old.changes.now self.new.changes.now }
+        ensures over { StandsOver self.old self.new }
     {
         asking::records(self.host, self.changes, key)
     }
 
-    /// How many places the file of the key has; 0 where there is none. It asks for the length alone, so it is for a caller that knows whether the
-    /// file is there.
-    pub fn length(&mut self, key: &Key) -> Result<u32, AllocError>
-        ensures answer { IfOk result (λ n. n ≡ length_at self.old.host.now self.old.changes.now.journal.entries key.now) }
-        ensures looks { OnOk result (self.new.changes.now.looks ≡ look_length self.old.changes.now.journal.entries key.now self.old.changes.now.looks) }
-        ensures extends { Extends self.old.changes.now.looks self.new.changes.now.looks }
-        ensures bound { OnErr result (LooksWithin (λ own. look_length own key.now) self.old self.new) }
-        ensures stays { self.new.changes.now.journal ≡ self.old.changes.now.journal }
-        ensures host { self.new.host.now ≡ self.old.host.now }
-        ensures lender { self.new.changes.ghost_name ≡ self.old.changes.ghost_name }
-    {
-        asking::length(self.host, self.changes, key)
-    }
-
-    /// Reads the record at a place. `false` where there is no file, or none that long, or a hole at the place: `bytes` then stay.
+    /// Reads the record at a place. `false` where there is no file, or none that long, or a hole at the
+    /// place: `bytes` then stay.
     #[tactic(auto, using(crate::proofs::LookLaws::asked_in_turn))]
     pub fn read(&mut self, key: &Key, k: u32, bytes: &mut Record) -> Result<bool, AllocError>
-        ensures found { IfOk result (λ b. b ≡ true → place self.old.host.now self.old.changes.now.journal.entries key.now k ≡ Some bytes.new) }
-        ensures none { IfOk result (λ b. b ≡ false → (place self.old.host.now self.old.changes.now.journal.entries key.now k ≡ None) × (bytes.new ≡ bytes.old)) }
+        ensures found { IfOk result (λ b. b ≡ true →
+            place self.old.host.now (own_in self.old) key.now k ≡ Some bytes.new) }
+        ensures none { IfOk result (λ b. b ≡ false →
+            place self.old.host.now (own_in self.old) key.now k ≡ None) }
+        ensures not_read { IfOk result (λ b. b ≡ false → bytes.new ≡ bytes.old) }
         ensures err { OnErr result (bytes.new ≡ bytes.old) }
-        ensures looks { OnOk result (self.new.changes.now.looks ≡ look_read self.old.host.now self.old.changes.now.journal.entries key.now k self.old.changes.now.looks) }
-        ensures extends { Extends self.old.changes.now.looks self.new.changes.now.looks }
-        ensures bound { OnErr result (LooksWithin (λ own. look_read self.old.host.now own key.now k) self.old self.new) }
+        ensures looks { OnOk result (looks_in self.new ≡
+            look_read self.old.host.now (own_in self.old) key.now k (looks_in self.old)) }
+        ensures extends { Extends (looks_in self.old) (looks_in self.new) }
+        ensures bound { OnErr result (Extends (looks_in self.new)
+            (look_read self.old.host.now (own_in self.old) key.now k (looks_in self.old))) }
         ensures stays { self.new.changes.now.journal ≡ self.old.changes.now.journal }
-        ensures host { self.new.host.now ≡ self.old.host.now }
-        ensures lender { self.new.changes.ghost_name ≡ self.old.changes.ghost_name }
+        ensures over { StandsOver self.old self.new }
     {
         let Some(record) = asking::read(self.host, self.changes, key, k)? else {
             return Ok(false);
@@ -100,41 +84,17 @@ impl Table<'_> {
         Ok(true)
     }
 
-    /// The record at a place below the length of a file that is there; none in a hole. It asks for the record alone, so it is for a caller that
-    /// knows the length.
-    pub fn content(&mut self, key: &Key, k: u32) -> Result<Option<Record>, AllocError>
-        ensures answer { IfOk result (λ r. r ≡ place_of self.old.host.now key.now (entry_at self.old.changes.now.journal.entries key.now) k) }
-        ensures looks { OnOk result (self.new.changes.now.looks ≡ look_content self.old.changes.now.journal.entries key.now k self.old.changes.now.looks) }
-        ensures extends { Extends self.old.changes.now.looks self.new.changes.now.looks }
-        ensures bound { OnErr result (LooksWithin (λ own. look_content own key.now k) self.old self.new) }
-        ensures stays { self.new.changes.now.journal ≡ self.old.changes.now.journal }
-        ensures host { self.new.host.now ≡ self.old.host.now }
-        ensures lender { self.new.changes.ghost_name ≡ self.old.changes.ghost_name }
-    {
-        asking::content(self.host, self.changes, key, k)
-    }
-
-    /// The count of extent `e` of the file of a key: the greatest place of it that holds a record, plus one; 0 where none does. It asks nothing, so
-    /// it is for a caller that knows the length.
-    pub fn count(&self, key: &Key, e: u32) -> u8
-        ensures count { result ≡ count_at (shape_of (file_of self.now.host.now key.now (entry_at self.now.changes.now.journal.entries key.now))) e }
-        ensures within { result ≤ 128 }
-    {
-        SeenFile::find(self.host, &self.changes.journal, key).count(e)
-    }
-
     /// Writes a record, if there is a file: a write past the end leaves holes between.
     pub fn write(&mut self, key: &Key, k: u32, bytes: &Record) -> Result<bool, AllocError>
         requires { k < 65536 }
-        ensures answer { IfOk result (λ b. b ≡ has self.old.host.now self.old.changes.now.journal.entries key.now) }
-        ensures looks { OnOk result (self.new.changes.now.looks ≡ look_records self.old.host.now self.old.changes.now.journal.entries key.now self.old.changes.now.looks) }
-        ensures extends { Extends self.old.changes.now.looks self.new.changes.now.looks }
-        ensures bound { OnErr result (LooksWithin (λ own. look_records self.old.host.now own key.now) self.old self.new) }
-        ensures done { IfOk result (λ b. b ≡ true → self.new.changes.now.journal.entries ≡ wrote (length_at self.old.host.now self.old.changes.now.journal.entries key.now) self.old.changes.now.journal.entries key.now k bytes.now) }
-        ensures absent { IfOk result (λ b. b ≡ false → self.new.changes.now.journal.entries ≡ self.old.changes.now.journal.entries) }
-        ensures err { OnErr result (self.new.changes.now.journal.entries ≡ self.old.changes.now.journal.entries) }
-        ensures host { self.new.host.now ≡ self.old.host.now }
-        ensures lender { self.new.changes.ghost_name ≡ self.old.changes.ghost_name }
+        ensures asks { AsksFor result (has self.old.host.now (own_in self.old) key.now)
+            (look_records self.old.host.now (own_in self.old) key.now)
+            (looks_in self.old) (looks_in self.new) }
+        ensures does { DoesIf result
+            (wrote (length_at self.old.host.now (own_in self.old) key.now)
+            (own_in self.old) key.now k bytes.now)
+            (own_in self.old) (own_in self.new) }
+        ensures over { StandsOver self.old self.new }
     {
         let Some(n) = self.records(key)? else {
             return Ok(false);
@@ -143,61 +103,33 @@ impl Table<'_> {
         Ok(true)
     }
 
-    /// The same as `search`, as a `Result`. Never an `Err`.
+    /// The first entry of the directory that matches a pattern, after the entry given if there is one, in the
+    /// files as they are now. The pattern's drive is matched exactly; its name and its `ex` byte may have a
+    /// `?`. Takes no memory, and is never an `Err`.
     pub fn next_entry(
         &mut self,
         pattern: &Key,
         ex: u8,
         after: Option<[u8; 32]>,
     ) -> Result<Option<[u8; 32]>, AllocError>
-        ensures answer { result ≡ Ok (option_map entry_bytes (next_entry pattern.now ex (option_map (position_in (slice_index pattern.now 0)) after) (shapes self.old.host.now self.old.changes.now.journal.entries))) }
-        ensures looks { self.new.changes.now.looks ≡ look_directory (slice_index pattern.now 0) self.old.changes.now.looks }
+        ensures answer { result ≡
+            Ok (next_bytes pattern.now ex after (shapes self.old.host.now (own_in self.old))) }
+        ensures looks { looks_in self.new ≡ look_directory (slice_index pattern.now 0) (looks_in self.old) }
         ensures drive { slice_index pattern.now 0 < 256 }
-        ensures extends { Extends self.old.changes.now.looks self.new.changes.now.looks }
+        ensures extends { Extends (looks_in self.old) (looks_in self.new) }
         ensures stays { self.new.changes.now.journal ≡ self.old.changes.now.journal }
-        ensures host { self.new.host.now ≡ self.old.host.now }
-        ensures lender { self.new.changes.ghost_name ≡ self.old.changes.ghost_name }
+        ensures over { StandsOver self.old self.new }
     {
-        Ok(self.search(pattern, ex, after))
-    }
-
-    /// The first entry of the directory that matches a pattern, after the entry given if there is one, in the files as they are now. The
-    /// pattern's drive is matched exactly; its name and its `ex` byte may have a `?`. Takes no memory.
-    #[tactic(auto, using(crate::proofs::LookLaws::extends_by_directory))]
-    pub fn search(&mut self, pattern: &Key, ex: u8, after: Option<[u8; 32]>) -> Option<[u8; 32]>
-        ensures answer { result ≡ option_map entry_bytes (next_entry pattern.now ex (option_map (position_in (slice_index pattern.now 0)) after) (shapes self.old.host.now self.old.changes.now.journal.entries)) }
-        ensures looks { self.new.changes.now.looks ≡ look_directory (slice_index pattern.now 0) self.old.changes.now.looks }
-        ensures drive { slice_index pattern.now 0 < 256 }
-        ensures extends { Extends self.old.changes.now.looks self.new.changes.now.looks }
-        ensures stays { self.new.changes.now.journal ≡ self.old.changes.now.journal }
-        ensures host { self.new.host.now ≡ self.old.host.now }
-        ensures lender { self.new.changes.ghost_name ≡ self.old.changes.ghost_name }
-    {
-        let drive = pattern[0];
-        self.changes.looks.mark_directory(drive);
-        let last = position_after(drive, after);
-        let listed = Listed {
-            host: self.host,
-            journal: &self.changes.journal,
-        };
-        match next_entry(&listed, pattern, ex, last) {
-            Some(entry) => Some(entry.to_bytes()),
-            None => None,
-        }
+        Ok(asking::search(self.host, self.changes, pattern, ex, after))
     }
 
     /// Makes an empty file, where the key can be said and no file has it.
     #[tactic(auto, using(crate::proofs::LookLaws::extends_same))]
     pub fn make(&mut self, key: &Key) -> Result<bool, AllocError>
-        ensures answer { IfOk result (λ b. b ≡ can_make self.old.host.now self.old.changes.now.journal.entries key.now) }
-        ensures looks { OnOk result (self.new.changes.now.looks ≡ look_made self.old.changes.now.journal.entries key.now self.old.changes.now.looks) }
-        ensures extends { Extends self.old.changes.now.looks self.new.changes.now.looks }
-        ensures bound { OnErr result (LooksWithin (λ own. look_made own key.now) self.old self.new) }
-        ensures done { IfOk result (λ b. b ≡ true → self.new.changes.now.journal.entries ≡ made self.old.changes.now.journal.entries key.now) }
-        ensures unmade { IfOk result (λ b. b ≡ false → self.new.changes.now.journal.entries ≡ self.old.changes.now.journal.entries) }
-        ensures err { OnErr result (self.new.changes.now.journal.entries ≡ self.old.changes.now.journal.entries) }
-        ensures host { self.new.host.now ≡ self.old.host.now }
-        ensures lender { self.new.changes.ghost_name ≡ self.old.changes.ghost_name }
+        ensures asks { AsksFor result (can_make self.old.host.now (own_in self.old) key.now)
+            (look_made (own_in self.old) key.now) (looks_in self.old) (looks_in self.new) }
+        ensures does { DoesIf result (made (own_in self.old) key.now) (own_in self.old) (own_in self.new) }
+        ensures over { StandsOver self.old self.new }
     {
         if !asking::can_make(self.host, self.changes, key)? {
             return Ok(false);
@@ -206,17 +138,16 @@ impl Table<'_> {
         Ok(true)
     }
 
-    /// Deletes each file whose key matches a pattern, and tells how many there were. The pattern's drive is matched exactly.
+    /// Deletes each file whose key matches a pattern, and tells how many there were. The pattern's drive is
+    /// matched exactly.
     #[tactic(auto, using(crate::proofs::LookLaws::extends_same))]
     pub fn delete(&mut self, pattern: &Key) -> Result<u64, AllocError>
-        ensures answer { IfOk result (λ n. n ≡ count_deleted self.old.host.now self.old.changes.now.journal.entries pattern.now) }
-        ensures looks { OnOk result (self.new.changes.now.looks ≡ look_deleted self.old.changes.now.journal.entries pattern.now self.old.changes.now.looks) }
-        ensures extends { Extends self.old.changes.now.looks self.new.changes.now.looks }
-        ensures bound { OnErr result (LooksWithin (λ own. look_deleted own pattern.now) self.old self.new) }
-        ensures done { OnOk result (Deletes self.old.host.now self.old.changes.now.journal.entries pattern.now self.new.changes.now.journal.entries) }
-        ensures err { OnErr result (self.new.changes.now.journal.entries ≡ self.old.changes.now.journal.entries) }
-        ensures host { self.new.host.now ≡ self.old.host.now }
-        ensures lender { self.new.changes.ghost_name ≡ self.old.changes.ghost_name }
+        ensures asks { AsksFor result (count_deleted self.old.host.now (own_in self.old) pattern.now)
+            (look_deleted (own_in self.old) pattern.now) (looks_in self.old) (looks_in self.new) }
+        ensures done { OnOk result
+            (NamedAreGone self.old.host.now (own_in self.old) pattern.now (own_in self.new)) }
+        ensures err { OnErr result (own_in self.new ≡ own_in self.old) }
+        ensures over { StandsOver self.old self.new }
     {
         if has_wildcard(pattern) {
             return self.delete_all(pattern);
@@ -227,14 +158,12 @@ impl Table<'_> {
     // Deletes the file of a key, if it is there.
     fn delete_one(&mut self, key: &Key) -> Result<u64, AllocError>
         requires { has_wildcard key.now ≡ false }
-        ensures answer { IfOk result (λ n. n ≡ count_deleted self.old.host.now self.old.changes.now.journal.entries key.now) }
-        ensures looks { OnOk result (self.new.changes.now.looks ≡ look_deleted self.old.changes.now.journal.entries key.now self.old.changes.now.looks) }
-        ensures extends { Extends self.old.changes.now.looks self.new.changes.now.looks }
-        ensures bound { OnErr result (LooksWithin (λ own. look_deleted own key.now) self.old self.new) }
-        ensures done { OnOk result (Deletes self.old.host.now self.old.changes.now.journal.entries key.now self.new.changes.now.journal.entries) }
-        ensures err { OnErr result (self.new.changes.now.journal.entries ≡ self.old.changes.now.journal.entries) }
-        ensures host { self.new.host.now ≡ self.old.host.now }
-        ensures lender { self.new.changes.ghost_name ≡ self.old.changes.ghost_name }
+        ensures asks { AsksFor result (count_deleted self.old.host.now (own_in self.old) key.now)
+            (look_deleted (own_in self.old) key.now) (looks_in self.old) (looks_in self.new) }
+        ensures done { OnOk result
+            (NamedAreGone self.old.host.now (own_in self.old) key.now (own_in self.new)) }
+        ensures err { OnErr result (own_in self.new ≡ own_in self.old) }
+        ensures over { StandsOver self.old self.new }
     {
         if !self.has(key)? {
             return Ok(0);
@@ -243,18 +172,17 @@ impl Table<'_> {
         Ok(1)
     }
 
-    // Deletes all files that match a pattern with `?`: what was done so far is copied first, so that an `Err` leaves it.
+    // Deletes all files that match a pattern with `?`: what was done so far is copied first, so that an `Err`
+    // leaves it.
     #[tactic(auto, using(crate::proofs::LookLaws::extends_by_directory))]
     fn delete_all(&mut self, pattern: &Key) -> Result<u64, AllocError>
         requires { has_wildcard pattern.now ≡ true }
-        ensures answer { IfOk result (λ n. n ≡ count_deleted self.old.host.now self.old.changes.now.journal.entries pattern.now) }
-        ensures looks { OnOk result (self.new.changes.now.looks ≡ look_deleted self.old.changes.now.journal.entries pattern.now self.old.changes.now.looks) }
-        ensures extends { Extends self.old.changes.now.looks self.new.changes.now.looks }
-        ensures bound { OnErr result (LooksWithin (λ own. look_deleted own pattern.now) self.old self.new) }
-        ensures done { OnOk result (Deletes self.old.host.now self.old.changes.now.journal.entries pattern.now self.new.changes.now.journal.entries) }
-        ensures err { OnErr result (self.new.changes.now.journal.entries ≡ self.old.changes.now.journal.entries) }
-        ensures host { self.new.host.now ≡ self.old.host.now }
-        ensures lender { self.new.changes.ghost_name ≡ self.old.changes.ghost_name }
+        ensures asks { AsksFor result (count_deleted self.old.host.now (own_in self.old) pattern.now)
+            (look_deleted (own_in self.old) pattern.now) (looks_in self.old) (looks_in self.new) }
+        ensures done { OnOk result
+            (NamedAreGone self.old.host.now (own_in self.old) pattern.now (own_in self.new)) }
+        ensures err { OnErr result (own_in self.new ≡ own_in self.old) }
+        ensures over { StandsOver self.old self.new }
     {
         self.changes.looks.mark_directory(pattern[0]);
         let (journal, count) = without_matches(self.host, &self.changes.journal, pattern)?;
@@ -262,18 +190,15 @@ impl Table<'_> {
         Ok(count)
     }
 
-    /// Puts a file under another key, where a file has the old key, the new key can be said and no file has it. Neither has a `?`.
+    /// Puts a file under another key, where a file has the old key, the new key can be said and no file has
+    /// it. Neither has a `?`.
     #[tactic(auto, using(crate::proofs::LookLaws::asked_in_turn))]
     pub fn rename(&mut self, old: &Key, new: &Key) -> Result<bool, AllocError>
-        ensures answer { IfOk result (λ b. b ≡ can_rename self.old.host.now self.old.changes.now.journal.entries old.now new.now) }
-        ensures looks { OnOk result (self.new.changes.now.looks ≡ look_renamed self.old.changes.now.journal.entries old.now new.now self.old.changes.now.looks) }
-        ensures extends { Extends self.old.changes.now.looks self.new.changes.now.looks }
-        ensures bound { OnErr result (LooksWithin (λ own. look_renamed own old.now new.now) self.old self.new) }
-        ensures done { IfOk result (λ b. b ≡ true → self.new.changes.now.journal.entries ≡ renamed self.old.changes.now.journal.entries old.now new.now) }
-        ensures unmoved { IfOk result (λ b. b ≡ false → self.new.changes.now.journal.entries ≡ self.old.changes.now.journal.entries) }
-        ensures err { OnErr result (self.new.changes.now.journal.entries ≡ self.old.changes.now.journal.entries) }
-        ensures host { self.new.host.now ≡ self.old.host.now }
-        ensures lender { self.new.changes.ghost_name ≡ self.old.changes.ghost_name }
+        ensures asks { AsksFor result (can_rename self.old.host.now (own_in self.old) old.now new.now)
+            (look_renamed (own_in self.old) old.now new.now) (looks_in self.old) (looks_in self.new) }
+        ensures does { DoesIf result
+            (renamed (own_in self.old) old.now new.now) (own_in self.old) (own_in self.new) }
+        ensures over { StandsOver self.old self.new }
     {
         if !asking::can_rename(self.host, self.changes, old, new)? {
             return Ok(false);
@@ -293,14 +218,4 @@ pub fn has_wildcard(key: &Key) -> bool
         }
     }
     false
-}
-
-// Where the entry given last stands, if there is one.
-fn position_after(drive: u8, after: Option<[u8; 32]>) -> Option<Position>
-    ensures { result ≡ option_map (position_in drive) after }
-{
-    match after {
-        Some(bytes) => Some(Position::of_bytes(drive, &bytes)),
-        None => None,
-    }
 }

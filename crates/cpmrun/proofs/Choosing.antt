@@ -2,7 +2,7 @@
 use Rattle.std.proofs.Common.{◌≡◌, ℕ, List, refl, inr, Some, None, Result, Ok, Err, IfOk, IfErr}
 use Rattle.std.specs.Borrow.{Bor}
 use Rattle.command_words.specs.declared.words.Words.{Words}
-use Rattle.machine.specs.Views.{Session}
+use Rattle.machine.specs.Given.{Session}
 use Rattle.folders.specs.FileSystem.{text_at}
 use Rattle.cpmrun.specs.declared.fault.Fault.{Fault}
 use Rattle.cpmrun.specs.Requests.{AreWords}
@@ -28,5 +28,5 @@ module _ (words : List (List ℕ)) (w : Words) (are : AreWords words w) (s : Ses
 
   -- the replay of its edit lines was broken off
   pub replay_broken : {T : Type 0} (r : Result T Fault) (f : Fault) (path : Bor (List ℕ)) → r ≡ Err f → w.edits ≡ Some path → after.files ≡ before.files
-      → BreaksReplay path.now (text_at before.files path.now) s before.out after.out before.out_failures after.out_failures f → IfErr r (FaultOf words before after)
+      → BreaksReplay path.now (text_at before.files path.now) s (before.out, before.out_failures) (after.out, after.out_failures) f → IfErr r (FaultOf words before after)
   replay_broken r f path is e files h = rw is (inr (inr (w, are, inr (s, of, rw e (h, files)))))

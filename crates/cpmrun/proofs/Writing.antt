@@ -1,7 +1,7 @@
 -- What a replay wrote, and what it read.
 use Rattle.std.proofs.Common.{◌≡◌, ℕ, List, ◌++◌, append-nil, refl, sym, ap, subst, ◌∙◌, ◌⊎◌, inl, inr, Option, Some, None, Result, Ok, Err, IfOk, IfSome, OnOk}
 use Rattle.std.specs.Io.KnownBytes.{Appends, Consumes, IsAtEnd}
-use Rattle.machine.specs.Views.{Session}
+use Rattle.machine.specs.Given.{Session}
 use Rattle.edit_lines.specs.declared.ending.Ending.{Ending}
 use Rattle.edit_lines.specs.declared.ending.ReplayFault.{ReplayFault}
 use Rattle.edit_lines.specs.Pieces.{lines_of}

@@ -4,7 +4,7 @@ use Rattle.std.specs.Io.KnownBytes.{Appends, Consumes}
 use Rattle.command_words.specs.Outcome.{ComesTo}
 use Rattle.command_words.specs.declared.outcome.Outcome.TheVariants.{Information}
 use Rattle.command_words.specs.declared.words.Words.{Words}
-use Rattle.machine.specs.Views.{Session}
+use Rattle.machine.specs.Given.{Session}
 use Rattle.edit_lines.specs.declared.ending.ReplayFault.{ReplayFault}
 use Rattle.edit_lines.specs.declared.ending.ReplayFault.TheVariants as replay_fault
 use Rattle.cpmrun.specs.declared.fault.Fault.{Fault}
@@ -15,7 +15,7 @@ use Rattle.cpmrun.specs.World.{World}
 use Rattle.folders.specs.FileSystem.{text_at}
 use Rattle.edit_lines.specs.Pieces.{lines_of}
 use Rattle.cpmrun.specs.Complaints.{Complains}
-use Rattle.edit_lines.specs.Progress.{Faults}
+use Rattle.edit_lines.specs.Faults.{Faults}
 use Rattle.cpmrun.specs.RawRun.{BreaksRun, RunsOnce}
 use Rattle.edit_lines.specs.Replay.{Finished, Replays}
 
@@ -38,18 +38,22 @@ pub record BreaksOffWith (f : ReplayFault) (source : Option (List ℕ)) (first :
   pub read : Consumes source left bytes
   pub leaves : Faults left first held bytes last holds f
 
+-- what an output holds, where that is told, and how often writing to it failed
+abbrev pub Output : Type 0
+Output = Option (List ℕ) × ℕ
+
 -- what a fault leaves that broke off the replay of the edit lines of this path, which has these bytes where they are told: a fault of
 -- writing comes only where writing failed
-abbrev pub BreaksReplay : List ℕ → Option (List ℕ) → Session → Option (List ℕ) → Option (List ℕ) → ℕ → ℕ → Fault → Type 0
-BreaksReplay path source s held holds failed fails (Use text) = ⊥
-BreaksReplay path source s held holds failed fails NotText = ⊥
-BreaksReplay path source s held holds failed fails (CannotRead p) = (p.now ≡ path) × ((holds ≡ held) ⊎ BreaksOffWith replay_fault.Read source s held holds)
-BreaksReplay path source s held holds failed fails CannotWrite = (failed < fails) × BreaksOffWith replay_fault.Write source s held holds
-BreaksReplay path source s held holds failed fails (Folders f) = ⊥
-BreaksReplay path source s held holds failed fails (Refused n) = ⊥
-BreaksReplay path source s held holds failed fails (Malformed k) = BreaksOffWith (replay_fault.Malformed k) source s held holds
-BreaksReplay path source s held holds failed fails (TooLong k) = BreaksOffWith (replay_fault.LineTooLong k) source s held holds
-BreaksReplay path source s held holds failed fails OutOfMemory = (holds ≡ held) ⊎ BreaksOffWith replay_fault.OutOfMemory source s held holds
+abbrev pub BreaksReplay : List ℕ → Option (List ℕ) → Session → Output → Output → Fault → Type 0
+BreaksReplay path source s old new (Use text) = ⊥
+BreaksReplay path source s old new NotText = ⊥
+BreaksReplay path source s old new (CannotRead p) = (p.now ≡ path) × ((new.0 ≡ old.0) ⊎ BreaksOffWith replay_fault.Read source s old.0 new.0)
+BreaksReplay path source s old new CannotWrite = (old.1 < new.1) × BreaksOffWith replay_fault.Write source s old.0 new.0
+BreaksReplay path source s old new (Folders f) = ⊥
+BreaksReplay path source s old new (Refused n) = ⊥
+BreaksReplay path source s old new (Malformed k) = BreaksOffWith (replay_fault.Malformed k) source s old.0 new.0
+BreaksReplay path source s old new (TooLong k) = BreaksOffWith (replay_fault.LineTooLong k) source s old.0 new.0
+BreaksReplay path source s old new OutOfMemory = (new.0 ≡ old.0) ⊎ BreaksOffWith replay_fault.OutOfMemory source s old.0 new.0
 
 -- help or the version was written, some text
 abbrev pub Informs : Option (List ℕ) → Option (List ℕ) → Type 0
@@ -76,7 +80,7 @@ Ends words status before after =
 abbrev pub BreaksOff : Words → Session → World → World → Fault → Type 0
 BreaksOff w s before after fault = MatchOption w.edits
     (BreaksRun w.out s before after fault)
-    (λ path. BreaksReplay path.now (text_at before.files path.now) s before.out after.out before.out_failures after.out_failures fault
+    (λ path. BreaksReplay path.now (text_at before.files path.now) s (before.out, before.out_failures) (after.out, after.out_failures) fault
     × (after.files ≡ before.files))
 
 -- nothing was written

@@ -6,7 +6,7 @@ use Rattle.hostfiles.specs.Hosts.{Host}
 use Rattle.folders.specs.FileSystem.{Path, Reads, Stored}
 use Rattle.folders.specs.Folders.{AreFromFolders, FailsFolders}
 use Rattle.machine.specs.declared.session.TheConstants.{PROGRAM_LIMIT, SCRIPT_LIMIT}
-use Rattle.machine.specs.Views.{Session}
+use Rattle.machine.specs.Given.{Session}
 use Rattle.machine.specs.Session.{made_of}
 use Rattle.cpmrun.specs.declared.fault.Fault.{Fault}
 use Rattle.cpmrun.specs.declared.fault.Fault.TheVariants.{Use, NotText, CannotRead, CannotWrite, Folders, Refused, Malformed, TooLong, OutOfMemory}

@@ -1,19 +1,20 @@
 -- One run of a session: what it writes, its status, and what it leaves where it is broken off. (This project's profile.)
-use Rattle.std.specs.Prelude.{◌≡◌, ℕ, ◌<◌, ◌⊎◌, [], ◌∷◌, ◌++◌, List, Option, codes, filter, slice_index, take}
+use Rattle.std.specs.Prelude.{◌≡◌, ℕ, ◌<◌, ◌⊎◌, [], ◌∷◌, ◌++◌, List, Option, codes, filter, slice_index, take, unwrap_or}
+use Rattle.std.specs.FinMap.{contains_key}
+use Rattle.std.specs.List.{concat}
 use Rattle.std.specs.Borrow.{Bor}
 use Rattle.std.specs.Io.KnownBytes.{Appends}
-use Rattle.console_calls.specs.declared.cause.Cause.{Cause}
-use Rattle.console_calls.specs.declared.cause.Cause.TheVariants.{WarmBoot, Halt, Limit, Undefined, SystemArea, ConsoleExhausted, NoDollar, Unsupported, BadDrive}
-use Rattle.filenames.specs.Names.{Key}
+use Rattle.machine.specs.Cause.{Cause}
+use Rattle.machine.specs.Cause.TheVariants.{WarmBoot, Halt, Limit, Undefined, SystemArea, ConsoleExhausted, NoDollar, Unsupported, BadDrive}
+use Rattle.hostfiles.specs.Names.{Key}
 use Rattle.hostfiles.specs.Hosts.{Host}
-use Rattle.hostfiles.specs.Files.{Own, has}
-use Rattle.hostfiles.specs.Changed.{changed_keys}
 use Rattle.folders.specs.FileSystem.{Path, Stored}
 use Rattle.folders.specs.Folders.{FailsToWrite, LeavesIn, WritesInto, folder_of}
-use Rattle.folders.specs.Written.{bytes_of}
 use Rattle.cpmrun.specs.World.{World}
-use Rattle.machine.specs.Views.{Session}
-use Rattle.replay.specs.Cold.{cold}
+use Rattle.machine.specs.ChangedFiles.{changed_keys_in, told_in}
+use Rattle.machine.specs.Given.{Session}
+use Rattle.machine.specs.WholeFiles.{Files}
+use Rattle.replay.specs.Plain.{plain_run}
 use Rattle.edit_lines.specs.ChangedLines.{gone_lines}
 use Rattle.edit_lines.specs.ReportText.{cause_text, line}
 use Rattle.edit_lines.specs.Writing.{WritesOrFails}
@@ -38,19 +39,23 @@ stop_line cause = line (codes "stop " ++ cause_text cause)
 
 -- what the run of a session prints
 abbrev pub printed : Session → List ℕ
-printed s = (cold s).state.core.desk.text
+printed s = (plain_run s).machine.core.desk.text
 
 -- what the run of a session tells: its stop, and the changed files that are gone
 abbrev pub telling : Session → List ℕ
-telling s = stop_line (cold s).cause ++ gone_lines s.files (cold s).state.own.files
+telling s = stop_line (plain_run s).cause ++ gone_lines s.files (plain_run s).machine.files
 
 -- the folder of a file's drive, if it has one
 abbrev pub home : List (Option (Bor (List ℕ))) → Key → Option Path
 home folders key = folder_of folders (slice_index key 0)
 
 -- the changed files that are there at the stop, in the order of their names
-abbrev pub written_keys : Host → Own → List Key
-written_keys host own = filter (has host own) (changed_keys host own)
+abbrev pub written_keys : Host → Files → List Key
+written_keys host files = filter (contains_key files) (changed_keys_in host files)
+
+-- the records of a file as it is told, one after another; nothing where there is no file
+abbrev pub bytes_in : Files → Key → List ℕ
+bytes_in files key = concat (unwrap_or (told_in files key) [])
 
 -- a fault of the folder of a file's drive
 abbrev pub IsOfFolder : List (Option (Bor (List ℕ))) → Key → Fault → Type 0
@@ -65,45 +70,45 @@ IsOfFolder folders name (TooLong k) = ⊥
 IsOfFolder folders name OutOfMemory = ⊥
 
 -- files are written into the folders of their drives, one after another, and each whole
-abbrev pub WritesEach : List (Option (Bor (List ℕ))) → Host → Own → Option Stored → List Key → Option Stored → Type 0
-WritesEach folders host own before [] after = after ≡ before
-WritesEach folders host own before (key ∷ keys) after =
-    (next : Option Stored) × WritesInto (home folders key) before next key (bytes_of host own key) × WritesEach folders host own next keys after
+abbrev pub WritesEach : List (Option (Bor (List ℕ))) → Files → Option Stored → List Key → Option Stored → Type 0
+WritesEach folders files before [] after = after ≡ before
+WritesEach folders files before (key ∷ keys) after =
+    (next : Option Stored) × WritesInto (home folders key) before next key (bytes_in files key) × WritesEach folders files next keys after
 
 -- some first of them are, and then one of which this is true is not: what stood at its path stands there still
-abbrev pub StopsAt : (Key → Type 0) → List (Option (Bor (List ℕ))) → Host → Own → Option Stored → List Key → Option Stored → Type 0
-StopsAt Fails folders host own before [] after = ⊥
-StopsAt Fails folders host own before (key ∷ keys) after =
+abbrev pub StopsAt : (Key → Type 0) → List (Option (Bor (List ℕ))) → Files → Option Stored → List Key → Option Stored → Type 0
+StopsAt Fails folders files before [] after = ⊥
+StopsAt Fails folders files before (key ∷ keys) after =
     (Fails key × LeavesIn (home folders key) before after key)
-    ⊎ ((next : Option Stored) × WritesInto (home folders key) before next key (bytes_of host own key) × StopsAt Fails folders host own next keys after)
+    ⊎ ((next : Option Stored) × WritesInto (home folders key) before next key (bytes_in files key) × StopsAt Fails folders files next keys after)
 
 -- all changed files that are there were written
-abbrev pub WritesAll : List (Option (Bor (List ℕ))) → Host → Own → Option Stored → Option Stored → Type 0
-WritesAll folders host own before after = WritesEach folders host own before (written_keys host own) after
+abbrev pub WritesAll : List (Option (Bor (List ℕ))) → Host → Files → Option Stored → Option Stored → Type 0
+WritesAll folders host files before after = WritesEach folders files before (written_keys host files) after
 
 -- the changed files were not all written, and why: the folder of a drive does not take one, or memory was refused
-abbrev pub Unwritten : List (Option (Bor (List ℕ))) → Host → Own → Option Stored → Option Stored → Fault → Type 0
-Unwritten folders host own before after (Use text) = ⊥
-Unwritten folders host own before after NotText = ⊥
-Unwritten folders host own before after (CannotRead p) = ⊥
-Unwritten folders host own before after CannotWrite = ⊥
-Unwritten folders host own before after (Folders f) = StopsAt (λ name. FailsToWrite folders name f) folders host own before (written_keys host own) after
-Unwritten folders host own before after (Refused n) = ⊥
-Unwritten folders host own before after (Malformed k) = ⊥
-Unwritten folders host own before after (TooLong k) = ⊥
-Unwritten folders host own before after OutOfMemory = after ≡ before
+abbrev pub Unwritten : List (Option (Bor (List ℕ))) → Host → Files → Option Stored → Option Stored → Fault → Type 0
+Unwritten folders host files before after (Use text) = ⊥
+Unwritten folders host files before after NotText = ⊥
+Unwritten folders host files before after (CannotRead p) = ⊥
+Unwritten folders host files before after CannotWrite = ⊥
+Unwritten folders host files before after (Folders f) = StopsAt (λ name. FailsToWrite folders name f) folders files before (written_keys host files) after
+Unwritten folders host files before after (Refused n) = ⊥
+Unwritten folders host files before after (Malformed k) = ⊥
+Unwritten folders host files before after (TooLong k) = ⊥
+Unwritten folders host files before after OutOfMemory = after ≡ before
 
 -- the same of the changed files of a session's run
 abbrev pub WritesFiles : List (Option (Bor (List ℕ))) → Session → Option Stored → Option Stored → Type 0
-WritesFiles folders s before after = WritesAll folders s.files (cold s).state.own.files before after
+WritesFiles folders s before after = WritesAll folders s.files (plain_run s).machine.files before after
 
 abbrev pub FailsToWriteFiles : List (Option (Bor (List ℕ))) → Session → Option Stored → Option Stored → Fault → Type 0
-FailsToWriteFiles folders s before after fault = Unwritten folders s.files (cold s).state.own.files before after fault
+FailsToWriteFiles folders s before after fault = Unwritten folders s.files (plain_run s).machine.files before after fault
 
 -- the session was run once: what it prints was written, then its changed files, and then what it tells, or a part of that where
 -- writing failed
 pub record RunsOnce (folders : List (Option (Bor (List ℕ)))) (s : Session) (status : ℕ) (before after : World) : Type 0 where
-  pub exits : status ≡ stop_status (cold s).cause
+  pub exits : status ≡ stop_status (plain_run s).cause
   pub written : Appends before.out after.out (printed s)
   pub files : WritesFiles folders s before.files after.files
   pub telling : WritesOrFails before.err after.err before.err_failures after.err_failures (telling s)

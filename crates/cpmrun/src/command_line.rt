@@ -1,7 +1,7 @@
 // The whole of the program but for its `main`.
 
 ghost use Rattle.std.specs.Prelude.{◌≡◌, ◌⊎◌, ◌^◌, ◌<◌, None, IfOk, IfErr, OnOk, OnErr, map, string_bytes};
-ghost use Rattle.machine.specs.Views.{Session};
+ghost use Rattle.machine.specs.Given.{Session};
 ghost use Rattle.replay.specs.Options.{refusal_of};
 ghost use Rattle.cpmrun.specs.Ends.{BreaksOffWith, BreaksReplay, Ends, EndsByFault, FaultOf, Informs, WritesReplay};
 ghost use Rattle.cpmrun.specs.World.{world};
@@ -42,8 +42,10 @@ fn replay_session<R: Reader, W: Writer>(
     requires meter { meter.old ≡ 0 }
     requires reader { R.failures reader.old < 2 ^ 63 }
     requires writer { W.failures writer.old < 2 ^ 63 }
-    ensures ok { OnOk result (WritesReplay (R.left reader.old) session (W.holds writer.old) (W.holds writer.new)) }
-    ensures fault { IfErr result (λ f. BreaksOffWith f (R.left reader.old) session (W.holds writer.old) (W.holds writer.new)) }
+    ensures ok { OnOk result (WritesReplay (R.left reader.old) session (W.holds writer.old)
+        (W.holds writer.new)) }
+    ensures fault { IfErr result
+        (λ f. BreaksOffWith f (R.left reader.old) session (W.holds writer.old) (W.holds writer.new)) }
     ensures read { result ≡ Err ReplayFault.Read → R.failures reader.old < R.failures reader.new }
     ensures write { result ≡ Err ReplayFault.Write → W.failures writer.old < W.failures writer.new }
 {
@@ -63,8 +65,11 @@ fn replay_file<'a, S: FileSystem, O: Writer>(
     requires options { refusal_of options ≡ None }
     requires meter { meter.old ≡ 0 }
     requires out { O.failures out.old < 2 ^ 63 }
-    ensures done { OnOk result (WritesReplay (text_at (S.files system.now) path.now) session (O.holds out.old) (O.holds out.new)) }
-    ensures fault { IfErr result (BreaksReplay path.now (text_at (S.files system.now) path.now) session (O.holds out.old) (O.holds out.new) (O.failures out.old) (O.failures out.new)) }
+    ensures done { OnOk result
+        (WritesReplay (text_at (S.files system.now) path.now) session (O.holds out.old) (O.holds out.new)) }
+    ensures fault { IfErr result
+        (BreaksReplay path.now (text_at (S.files system.now) path.now) session
+        (O.holds out.old, O.failures out.old) (O.holds out.new, O.failures out.new)) }
 {
     let mut edits = Over::new(open(system, path)?);
     match replay_session(system.alloc(), session, options, meter, &mut edits, out) {
@@ -99,11 +104,15 @@ fn run<'a, S: FileSystem, O: Writer, E: Writer>(
     requires out { O.failures out.old < 2 ^ 63 }
     requires err { E.failures err.old < 2 ^ 63 }
     ensures done { IfOk result (λ status. Ends (map string_bytes words.entry.now) status
-        (world (S.files system.old) (S.names system.old) (O.holds out.old) (O.failures out.old) (E.holds err.old) (E.failures err.old))
-        (world (S.files system.new) (S.names system.new) (O.holds out.new) (O.failures out.new) (E.holds err.new) (E.failures err.new))) }
+        (world (S.files system.old) (S.names system.old)
+        (O.holds out.old) (O.failures out.old) (E.holds err.old) (E.failures err.old))
+        (world (S.files system.new) (S.names system.new)
+        (O.holds out.new) (O.failures out.new) (E.holds err.new) (E.failures err.new))) }
     ensures fault { IfErr result (FaultOf (map string_bytes words.entry.now)
-        (world (S.files system.old) (S.names system.old) (O.holds out.old) (O.failures out.old) (E.holds err.old) (E.failures err.old))
-        (world (S.files system.new) (S.names system.new) (O.holds out.new) (O.failures out.new) (E.holds err.new) (E.failures err.new))) }
+        (world (S.files system.old) (S.names system.old)
+        (O.holds out.old) (O.failures out.old) (E.holds err.old) (E.failures err.old))
+        (world (S.files system.new) (S.names system.new)
+        (O.holds out.new) (O.failures out.new) (E.holds err.new) (E.failures err.new))) }
     ensures untold { OnErr result (err.new ≡ err.old) }
 {
     let words = match read_request(system.alloc(), words)? {
@@ -133,12 +142,17 @@ pub fn command<S: FileSystem, O: Writer, E: Writer>(
 ) -> u8
     requires out { O.failures out.old < 2 ^ 63 }
     requires err { E.failures err.old < 2 ^ 63 }
-    ensures ends { let before = world (S.files system.old) (S.names system.old) (O.holds out.old) (O.failures out.old) (E.holds err.old) (E.failures err.old) in
-        let after = world (S.files system.new) (S.names system.new) (O.holds out.new) (O.failures out.new) (E.holds err.new) (E.failures err.new) in
-        Ends (map string_bytes words.now) result before after ⊎ EndsByFault (map string_bytes words.now) result before after }
+    ensures ends { let before = world (S.files system.old) (S.names system.old) (O.holds out.old)
+        (O.failures out.old) (E.holds err.old) (E.failures err.old) in
+        let after = world (S.files system.new) (S.names system.new) (O.holds out.new)
+        (O.failures out.new) (E.holds err.new) (E.failures err.new) in
+        Ends (map string_bytes words.now) result before after
+        ⊎ EndsByFault (map string_bytes words.now) result before after }
     ensures done { result ≡ 0 → Ends (map string_bytes words.now) result
-        (world (S.files system.old) (S.names system.old) (O.holds out.old) (O.failures out.old) (E.holds err.old) (E.failures err.old))
-        (world (S.files system.new) (S.names system.new) (O.holds out.new) (O.failures out.new) (E.holds err.new) (E.failures err.new)) }
+        (world (S.files system.old) (S.names system.old)
+        (O.holds out.old) (O.failures out.old) (E.holds err.old) (E.failures err.old))
+        (world (S.files system.new) (S.names system.new)
+        (O.holds out.new) (O.failures out.new) (E.holds err.new) (E.failures err.new)) }
 {
     match run(system, words, out, err) {
         Ok(status) => status,

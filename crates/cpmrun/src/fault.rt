@@ -87,7 +87,8 @@ impl Fault<'_> {
 /// Writes the text, or a beginning of it where the writer fails, which is passed over.
 fn tell<E: Writer>(err: &mut E, text: &[u8])
     requires { E.failures err.old < 2 ^ 63 }
-    ensures { WritesOrFails (E.holds err.old) (E.holds err.new) (E.failures err.old) (E.failures err.new) text.now }
+    ensures { WritesOrFails (E.holds err.old) (E.holds err.new) (E.failures err.old)
+        (E.failures err.new) text.now }
 {
     let _ = write_all(err, text);
 }
@@ -96,7 +97,8 @@ fn tell<E: Writer>(err: &mut E, text: &[u8])
 /// path or number, and gives the status. A failure of the writer is passed over.
 pub fn complain<E: Writer>(alloc: Global, fault: Fault<'_>, err: &mut E) -> u8
     requires { E.failures err.old < 2 ^ 63 }
-    ensures { Complains fault.entry result (E.holds err.old) (E.holds err.new) (E.failures err.old) (E.failures err.new) }
+    ensures { Complains fault.entry result (E.holds err.old) (E.holds err.new) (E.failures err.old)
+        (E.failures err.new) }
 {
     if let Some(text) = fault.fixed_message() {
         tell(err, text.as_bytes());

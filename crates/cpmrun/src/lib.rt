@@ -1,4 +1,8 @@
 //! The program but for its `main`: the words of its command line, what is loaded, one run or a replay of edit lines, and its faults.
+//!
+//! - `request`, `loading`: what the words of the command line ask for; the session that their files give
+//! - `raw_run`: one run of a session, with its text, its changed files and its stop
+//! - `command_line`, `fault`: the command; its faults, with their statuses and messages
 #![tactic(auto)]
 
 mod command_line;

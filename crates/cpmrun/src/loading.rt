@@ -49,7 +49,8 @@ pub fn open<'a, S: FileSystem>(system: &S, path: &'a str) -> Result<S::Input, Fa
 
 /// The bytes of a program, as many as are read.
 fn read_program<T: Read + Drop>(alloc: Global, source: T) -> io::Result<Vec<u8>>
-    ensures { IfOk result (λ program. IfSome (T.remaining source) (λ bytes. program.items ≡ take (PROGRAM_LIMIT + 1) bytes)) }
+    ensures { IfOk result (λ program. IfSome (T.remaining source)
+        (λ bytes. program.items ≡ take (PROGRAM_LIMIT + 1) bytes)) }
 {
     let mut program = Vec::new(alloc);
     source.take(PROGRAM_READ).read_to_end(&mut program)?;
@@ -58,7 +59,8 @@ fn read_program<T: Read + Drop>(alloc: Global, source: T) -> io::Result<Vec<u8>>
 
 /// The bytes of a script, as many as are read.
 fn read_script<T: Read + Drop>(alloc: Global, source: T) -> io::Result<Vec<u8>>
-    ensures { IfOk result (λ script. IfSome (T.remaining source) (λ bytes. script.items ≡ take (SCRIPT_LIMIT + 1) bytes)) }
+    ensures { IfOk result (λ script. IfSome (T.remaining source)
+        (λ bytes. script.items ≡ take (SCRIPT_LIMIT + 1) bytes)) }
 {
     let mut script = Vec::new(alloc);
     source.take(SCRIPT_READ).read_to_end(&mut script)?;
@@ -67,7 +69,8 @@ fn read_script<T: Read + Drop>(alloc: Global, source: T) -> io::Result<Vec<u8>>
 
 /// The program of this path.
 fn program_at<'a, S: FileSystem>(system: &S, path: &'a str) -> Result<Vec<u8>, Fault<'a>>
-    ensures program { IfOk result (λ program. Reads (S.files system.now) path.now (PROGRAM_LIMIT + 1) program.items) }
+    ensures program { IfOk result
+        (λ program. Reads (S.files system.now) path.now (PROGRAM_LIMIT + 1) program.items) }
     ensures fault { IfErr result (Unread path.now) }
 {
     match read_program(system.alloc(), open(system, path)?) {
@@ -78,7 +81,8 @@ fn program_at<'a, S: FileSystem>(system: &S, path: &'a str) -> Result<Vec<u8>, F
 
 /// The script of this path, which is empty where there is none.
 fn script_at<'a, S: FileSystem>(system: &S, path: Option<&'a str>) -> Result<Vec<u8>, Fault<'a>>
-    ensures script { IfOk result (λ script. IsScriptAt (S.files system.now) (text_of path.entry) script.items) }
+    ensures script { IfOk result
+        (λ script. IsScriptAt (S.files system.now) (text_of path.entry) script.items) }
     ensures fault { IfErr result (UnreadIfAny (text_of path.entry)) }
 {
     let Some(path) = path else {
@@ -98,7 +102,8 @@ fn session_of<'a>(
     files: HostFiles,
     script: Vec<u8>,
 ) -> Result<Session, Fault<'a>>
-    ensures { MadeOrRefused (made_of program.items words.now.tail.now files script.items words.now.limit) result }
+    ensures { MadeOrRefused (made_of program.items words.now.tail.now files script.items words.now.limit)
+        result }
 {
     let Ok(tail) = words.tail.as_bytes().to_vec(alloc) else {
         return Err(Fault::OutOfMemory);

@@ -3,8 +3,8 @@
 ghost use Rattle.std.specs.Prelude.{◌≡◌, ◌^◌, ◌<◌, ◌≤◌, ◌++◌, IfOk, IfErr, OnOk, OnErr, string_bytes};
 ghost use Rattle.folders.specs.Folders.{LeavesIn, WritesInto};
 ghost use Rattle.folders.specs.Written.{bytes_of};
-ghost use Rattle.replay.specs.Cold.{cold};
-ghost use Rattle.replay.specs.Report.{reported_run, session_of};
+ghost use Rattle.hostfiles.specs.Files.{files};
+ghost use Rattle.replay.specs.Report.{run_of, session_of};
 ghost use Rattle.edit_lines.specs.ChangedLines.{gone_lines};
 ghost use Rattle.edit_lines.specs.Writing.{Writes, WritesOrFails};
 ghost use Rattle.cpmrun.specs.RawRun.{BreaksRun, IsOfFolder, RunsOnce, Unwritten, WritesAll, home, stop_line, stop_status};
@@ -51,9 +51,11 @@ fn write_file<'a, S: FileSystem>(
     journal: &Journal,
     name: &Name,
 ) -> Result<(), Fault<'a>>
-    ensures written { OnOk result (WritesInto (home folders.now name.now) (S.files system.old) (S.files system.new) name.now
+    ensures written { OnOk result
+        (WritesInto (home folders.now name.now) (S.files system.old) (S.files system.new) name.now
         (bytes_of host.now journal.now.entries name.now)) }
-    ensures err { OnErr result (LeavesIn (home folders.now name.now) (S.files system.old) (S.files system.new) name.now) }
+    ensures err { OnErr result
+        (LeavesIn (home folders.now name.now) (S.files system.old) (S.files system.new) name.now) }
     ensures fault { IfErr result (IsOfFolder folders.now name.now) }
 {
     let contents = ChangedFile {
@@ -74,9 +76,11 @@ fn write_changed<'a, S: FileSystem>(
     folders: &[Option<&'a str>; 4],
     report: &Report<'_>,
 ) -> Result<(), Fault<'a>>
-    ensures written { OnOk result (WritesAll folders.now (session_of report.now).files (reported_run report.now).state.own.files
+    ensures written { OnOk result
+        (WritesAll folders.now (session_of report.now).files (run_of report.now).machine.files
         (S.files system.old) (S.files system.new)) }
-    ensures fault { IfErr result (Unwritten folders.now (session_of report.now).files (reported_run report.now).state.own.files
+    ensures fault { IfErr result
+        (Unwritten folders.now (session_of report.now).files (run_of report.now).machine.files
         (S.files system.old) (S.files system.new)) }
 {
     let mut after: Option<Name> = None;
@@ -97,7 +101,8 @@ fn write_lines<E: Writer>(
     journal: &Journal,
 ) -> Result<(), Failed>
     requires { E.failures err.old < 2 ^ 63 }
-    ensures { Writes (E.holds err.old) (E.holds err.new) (E.failures err.old) (E.failures err.new) (line.now ++ gone_lines host.now journal.now.entries) result }
+    ensures { Writes (E.holds err.old) (E.holds err.new) (E.failures err.old) (E.failures err.new)
+        (line.now ++ gone_lines host.now (files host.now journal.now.entries)) result }
 {
     write_piece(err, line)?;
     write_changed_files(err, Asked::GoneAlone, host, journal)
@@ -106,7 +111,8 @@ fn write_lines<E: Writer>(
 /// Tells a line, and then the changed files that are gone. A failure of the writer ends this, and is passed over.
 fn tell_lines<E: Writer>(err: &mut E, line: &[u8], host: &HostFiles, journal: &Journal)
     requires { E.failures err.old < 2 ^ 63 }
-    ensures { WritesOrFails (E.holds err.old) (E.holds err.new) (E.failures err.old) (E.failures err.new) (line.now ++ gone_lines host.now journal.now.entries) }
+    ensures { WritesOrFails (E.holds err.old) (E.holds err.new) (E.failures err.old) (E.failures err.new)
+        (line.now ++ gone_lines host.now (files host.now journal.now.entries)) }
 {
     let _ = write_lines(err, line, host, journal);
 }
@@ -119,8 +125,10 @@ fn tell_stop<'a, E: Writer>(
     err: &mut E,
 ) -> Result<(), Fault<'a>>
     requires { E.failures err.old < 2 ^ 63 }
-    ensures told { OnOk result (WritesOrFails (E.holds err.old) (E.holds err.new) (E.failures err.old) (E.failures err.new)
-        (stop_line (reported_run report.now).cause ++ gone_lines (session_of report.now).files (reported_run report.now).state.own.files)) }
+    ensures told { OnOk result
+        (WritesOrFails (E.holds err.old) (E.holds err.new) (E.failures err.old) (E.failures err.new)
+        (stop_line (run_of report.now).cause
+        ++ gone_lines (session_of report.now).files (run_of report.now).machine.files)) }
     ensures memory { IfErr result (λ f. f ≡ Fault.OutOfMemory) }
     ensures untold { OnErr result (err.new ≡ err.old) }
 {
@@ -141,15 +149,18 @@ fn tell_run<'a, S: FileSystem, O: Writer, E: Writer>(
     out: &mut O,
     err: &mut E,
 ) -> Result<u8, Fault<'a>>
-    requires cold { reported_run report.now ≡ cold (session_of report.now) }
     requires out { O.failures out.old < 2 ^ 63 }
     requires err { E.failures err.old < 2 ^ 63 }
     ensures done { IfOk result (λ status. RunsOnce folders.now (session_of report.now) status
-        (world (S.files system.old) (S.names system.old) (O.holds out.old) (O.failures out.old) (E.holds err.old) (E.failures err.old))
-        (world (S.files system.new) (S.names system.new) (O.holds out.new) (O.failures out.new) (E.holds err.new) (E.failures err.new))) }
+        (world (S.files system.old) (S.names system.old)
+        (O.holds out.old) (O.failures out.old) (E.holds err.old) (E.failures err.old))
+        (world (S.files system.new) (S.names system.new)
+        (O.holds out.new) (O.failures out.new) (E.holds err.new) (E.failures err.new))) }
     ensures fault { IfErr result (BreaksRun folders.now (session_of report.now)
-        (world (S.files system.old) (S.names system.old) (O.holds out.old) (O.failures out.old) (E.holds err.old) (E.failures err.old))
-        (world (S.files system.new) (S.names system.new) (O.holds out.new) (O.failures out.new) (E.holds err.new) (E.failures err.new))) }
+        (world (S.files system.old) (S.names system.old)
+        (O.holds out.old) (O.failures out.old) (E.holds err.old) (E.failures err.old))
+        (world (S.files system.new) (S.names system.new)
+        (O.holds out.new) (O.failures out.new) (E.holds err.new) (E.failures err.new))) }
     ensures untold { OnErr result (err.new ≡ err.old) }
 {
     let Ok(()) = write_all(out, report.text()) else {
@@ -173,11 +184,15 @@ fn run_and_tell<'a, S: FileSystem, O: Writer, E: Writer>(
     requires out { O.failures out.old < 2 ^ 63 }
     requires err { E.failures err.old < 2 ^ 63 }
     ensures done { IfOk result (λ status. RunsOnce folders.now runner.old.session status
-        (world (S.files system.old) (S.names system.old) (O.holds out.old) (O.failures out.old) (E.holds err.old) (E.failures err.old))
-        (world (S.files system.new) (S.names system.new) (O.holds out.new) (O.failures out.new) (E.holds err.new) (E.failures err.new))) }
+        (world (S.files system.old) (S.names system.old)
+        (O.holds out.old) (O.failures out.old) (E.holds err.old) (E.failures err.old))
+        (world (S.files system.new) (S.names system.new)
+        (O.holds out.new) (O.failures out.new) (E.holds err.new) (E.failures err.new))) }
     ensures fault { IfErr result (BreaksRun folders.now runner.old.session
-        (world (S.files system.old) (S.names system.old) (O.holds out.old) (O.failures out.old) (E.holds err.old) (E.failures err.old))
-        (world (S.files system.new) (S.names system.new) (O.holds out.new) (O.failures out.new) (E.holds err.new) (E.failures err.new))) }
+        (world (S.files system.old) (S.names system.old)
+        (O.holds out.old) (O.failures out.old) (E.holds err.old) (E.failures err.old))
+        (world (S.files system.new) (S.names system.new)
+        (O.holds out.new) (O.failures out.new) (E.holds err.new) (E.failures err.new))) }
     ensures untold { OnErr result (err.new ≡ err.old) }
 {
     let Ok(report) = runner.rerun(meter) else {
@@ -212,11 +227,15 @@ pub fn run_once<'a, S: FileSystem, O: Writer, E: Writer>(
     requires out { O.failures out.old < 2 ^ 63 }
     requires err { E.failures err.old < 2 ^ 63 }
     ensures done { IfOk result (λ status. RunsOnce folders.now session status
-        (world (S.files system.old) (S.names system.old) (O.holds out.old) (O.failures out.old) (E.holds err.old) (E.failures err.old))
-        (world (S.files system.new) (S.names system.new) (O.holds out.new) (O.failures out.new) (E.holds err.new) (E.failures err.new))) }
+        (world (S.files system.old) (S.names system.old)
+        (O.holds out.old) (O.failures out.old) (E.holds err.old) (E.failures err.old))
+        (world (S.files system.new) (S.names system.new)
+        (O.holds out.new) (O.failures out.new) (E.holds err.new) (E.failures err.new))) }
     ensures fault { IfErr result (BreaksRun folders.now session
-        (world (S.files system.old) (S.names system.old) (O.holds out.old) (O.failures out.old) (E.holds err.old) (E.failures err.old))
-        (world (S.files system.new) (S.names system.new) (O.holds out.new) (O.failures out.new) (E.holds err.new) (E.failures err.new))) }
+        (world (S.files system.old) (S.names system.old)
+        (O.holds out.old) (O.failures out.old) (E.holds err.old) (E.failures err.old))
+        (world (S.files system.new) (S.names system.new)
+        (O.holds out.new) (O.failures out.new) (E.holds err.new) (E.failures err.new))) }
     ensures untold { OnErr result (err.new ≡ err.old) }
 {
     let Ok(mut runner) = Runner::within(system.alloc(), session, options()) else {

@@ -23,3 +23,6 @@ match_end [] ks zero h = refl
 match_end [] ks (suc i) h = refl
 match_end (p ∷ ps) ks zero h = absurd (omega arith)
 match_end (p ∷ ps) ks (suc i) h = match_end ps ks i (omega arith)
+
+-- a match, byte by byte
+pub ruleset byte_by_byte = (match_on, match_off, match_end)

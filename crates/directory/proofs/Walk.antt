@@ -14,7 +14,7 @@ use Rattle.keymaps.proofs.Views.{same_key}
 use Rattle.keymaps.proofs.Left.{rises}
 use Rattle.directory.specs.declared.entry.Entry.{Entry}
 use Rattle.directory.specs.declared.entry.Position.{Position}
-use Rattle.directory.specs.Entries.{Shape, Shapes, entries_at, entries_of, count_in, count_by, with_entry, first_where, is_after, is_match, matches, chunk_from, fitting, above, next_entry}
+use Rattle.directory.specs.Entries.{Shape, Shapes, entries_at, entries_of, count_in, count_by, with_entry, first_where, listed, is_after, is_match, matches, chunk_from, fitting, above, next_entry}
 use Rattle.keymaps.proofs.Rising.{first_of_both, second_of_both, here, begins, ends, find_below, below_less}
 
 abbrev pub or_else : {X : Type 0} → Option X → Option X → Option X
@@ -49,9 +49,6 @@ nowhere (x ∷ xs) = nowhere xs
 abbrev pub chunk : Key → Option Shape → List Entry
 chunk k None = []
 chunk k (Some s) = entries_of k s
-
-abbrev pub listed : List (Key × Shape) → List Entry
-listed es = flat_map (λ e. entries_of e.0 e.1) es
 
 pub listed_here : (p : Entry → Bool) (k : Key) (v : Option Shape) (es : List (Key × Shape)) → first_where p (listed (here k v ++ es)) ≡ or_else (first_where p (chunk k v)) (first_where p (listed es))
 listed_here p k None es = refl

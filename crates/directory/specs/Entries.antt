@@ -4,7 +4,7 @@ use Rattle.std.specs.Prelude.{ℕ, ◌+◌, ◌-◌, ◌*◌, ◌/◌, ◌%◌, 
 use Rattle.std.specs.Ordering.{nat_cmp, is_lt, is_eq}
 use Rattle.std.specs.List.{range_with_len, filter}
 use Rattle.std.specs.Cmp.Lexicographic.{slice_cmp}
-use Rattle.std.specs.FinMap.{FinMap, entries}
+use Rattle.std.specs.FinMap.{FinMap, get, entries}
 use Rattle.keymaps.specs.Order.{Key, is_above}
 use Rattle.directory.specs.declared.entry.Entry.{Entry}
 use Rattle.directory.specs.declared.entry.Position.{Position}
@@ -13,10 +13,11 @@ use Rattle.directory.specs.declared.entry.Position.{Position}
 abbrev pub Shape : Type 0
 Shape = List Bool
 
+-- the files of all drives, by their keys
 abbrev pub Shapes : Type 0
 Shapes = FinMap (slice_cmp nat_cmp) Shape
 
--- the greatest place of an extent that holds a record, plus one; 0 where none does
+-- the greatest place of an extent at which a record stands, plus one; 0 where there is none
 abbrev pub count_of : Shape → ℕ
 count_of [] = 0
 count_of (b ∷ bs) = if nat_lt 0 (count_of bs) then count_of bs + 1 else (if b then 1 else 0)
@@ -30,14 +31,21 @@ abbrev pub count_in : Shape → ℕ → Option ℕ
 count_in [] e = if e == 0 then Some 0 else None
 count_in (b ∷ bs) e = if nat_lt 0 (count_at (b ∷ bs) e) then Some (count_at (b ∷ bs) e) else None
 
+-- the same where there may be no file
 abbrev pub count_by : Option Shape → ℕ → Option ℕ
 count_by None e = None
 count_by (Some s) e = count_in s e
 
+-- the count of the entry of an extent of the file of a key, if it has one
+abbrev pub entry_count : Shapes → Key → ℕ → Option ℕ
+entry_count m key e = count_by (get m key) e
+
+-- an entry with this count before the others, if there is a count
 abbrev pub with_entry : Key → ℕ → Option ℕ → List Entry → List Entry
 with_entry key e None rest = rest
 with_entry key e (Some n) rest = record { key = key; extent = e; count = n } ∷ rest
 
+-- the entries of these extents
 abbrev pub entries_at : Key → (ℕ → Option ℕ) → List ℕ → List Entry
 entries_at key count [] = []
 entries_at key count (e ∷ es) = with_entry key e (count e) (entries_at key count es)
@@ -46,10 +54,18 @@ entries_at key count (e ∷ es) = with_entry key e (count e) (entries_at key cou
 unfoldable pub entries_of : Key → Shape → List Entry
 entries_of key s = entries_at key (count_in s) (range_with_len 0 512)
 
--- all entries, by key
-abbrev pub directory : Shapes → List Entry
-directory m = flat_map (λ e. entries_of e.0 e.1) (entries m)
+-- files by their keys, in order, each with its shape
+abbrev pub Listing : Type 0
+Listing = List (Key × Shape)
 
+-- all entries of these files, by key
+abbrev pub listed : Listing → List Entry
+listed files = flat_map (λ e. entries_of e.0 e.1) files
+
+abbrev pub directory : Shapes → List Entry
+directory m = listed (entries m)
+
+-- the first that passes a test
 abbrev pub first_where : {X : Type 0} → (X → Bool) → List X → Option X
 first_where p [] = None
 first_where p (x ∷ xs) = if p x then Some x else first_where p xs
@@ -69,18 +85,28 @@ fits_name (p ∷ ps) (b ∷ bs) = (p == 63 || p == b) && fits_name ps bs
 abbrev pub is_match : Key → Key → Bool
 is_match pattern key = slice_index pattern 0 == slice_index key 0 && fits_name (drop 1 pattern) (drop 1 key)
 
+-- an entry of a matching key, of each extent where the byte is 63 (`?`), else of this extent
 abbrev pub matches : Key → ℕ → Entry → Bool
 matches pattern ex e = is_match pattern e.key && (ex == 63 || ex == e.extent)
 
--- the first match after a position
+-- the first match among entries
+abbrev pub first_match : Key → ℕ → List Entry → Option Entry
+first_match pattern ex es = first_where (matches pattern ex) es
+
+-- the first match after a position, if it is given
+abbrev pub next_among : Key → ℕ → Option Position → Listing → Option Entry
+next_among pattern ex after files = first_where (λ e. is_after after e && matches pattern ex e) (listed files)
+
 abbrev pub next_entry : Key → ℕ → Option Position → Shapes → Option Entry
-next_entry pattern ex after m = first_where (λ e. is_after after e && matches pattern ex e) (directory m)
+next_entry pattern ex after m = next_among pattern ex after (entries m)
 
 -- ---- entries as bytes
 
+-- the 32 bytes of an entry
 abbrev pub entry_bytes : Entry → List ℕ
 entry_bytes e = 0 ∷ drop 1 e.key ++ (e.extent % 32) ∷ 0 ∷ (e.extent / 32) ∷ e.count ∷ replicate 16 0
 
+-- the position that the bytes of an entry say, on a drive
 abbrev pub position_in : ℕ → List ℕ → Position
 position_in drive bytes = record { key = drive ∷ take 11 (drop 1 bytes); extent = slice_index bytes 12 + 32 * slice_index bytes 14 }
 
@@ -89,6 +115,10 @@ position_in drive bytes = record { key = drive ∷ take 11 (drop 1 bytes); exten
 -- the entries of a file's extents from one on
 unfoldable pub chunk_from : Key → Option Shape → ℕ → List Entry
 chunk_from k v n = entries_at k (count_by v) (range_with_len n (512 - n))
+
+-- the entries of the extents from one on of the file of a key, if there is one
+abbrev pub entries_from : Shapes → Key → ℕ → List Entry
+entries_from m key n = chunk_from key (get m key) n
 
 -- the entries of the files above a key
 unfoldable pub above : Option Key → Shapes → List Entry

@@ -1,18 +1,20 @@
 // Entries of the directory.
 
-ghost use Rattle.std.specs.Prelude.{◌≡◌, ◌<◌, length};
+ghost use Rattle.std.specs.Prelude.{◌≡◌, ◌<◌};
 ghost use Rattle.directory.specs.Entries.{entry_bytes, position_in};
 
 use keymaps::Key;
 
-/// An entry of the directory: one for each extent of a file that holds a record, or extent 0 of a file with no place.
+/// An entry of the directory: one for each extent of a file in which a record stands, or extent 0 of a file
+/// with no place.
 #[derive(Clone, Copy)]
 pub struct Entry {
     /// The file's key.
     pub key: Key,
     /// The extent, 0 to 511.
     pub extent: u16,
-    /// The greatest place of the extent that holds a record, plus one: 1 to 128, or 0 where the file has no place.
+    /// The greatest place of the extent at which a record stands, plus one: 1 to 128, or 0 where the file has
+    /// no place.
     pub count: u8,
 }
 
@@ -37,8 +39,8 @@ pub struct Search {
 }
 
 impl Entry {
-    /// The 32 bytes of the entry: 0, the eleven bytes of the name, the extent modulo 32, 0, the extent divided by 32, the count, and
-    /// sixteen zeros.
+    /// The 32 bytes of the entry: 0, the eleven bytes of the name, the extent modulo 32, 0, the extent
+    /// divided by 32, the count, and sixteen zeros.
     pub fn to_bytes(&self) -> [u8; 32]
         requires { self.now.extent < 512 }
         ensures { result ≡ entry_bytes self.now }

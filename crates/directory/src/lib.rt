@@ -1,4 +1,6 @@
 //! The directory of files, one entry after another: the CP/M 2.2 Interface Guide.
+//!
+//! - `entry`, `pattern`, `search`: an entry of the directory; patterns with `?`; the next entry that matches
 #![tactic(auto)]
 
 pub mod entry;

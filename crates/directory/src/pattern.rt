@@ -12,8 +12,9 @@ fn fits(pattern: u8, byte: u8) -> bool
     pattern == 63 || pattern == byte
 }
 
-/// Whether a key matches a pattern: the drives are equal, and so is each byte of the name, or the pattern's is `?`.
-#[tactic(auto, using(crate::proofs::Patterns::match_on, crate::proofs::Patterns::match_off, crate::proofs::Patterns::match_end))]
+/// Whether a key matches a pattern: the drives are equal, and so is each byte of the name, or the pattern's
+/// is `?`.
+#[tactic(auto, using(crate::proofs::Patterns::byte_by_byte))]
 pub fn is_match(pattern: &Key, key: &Key) -> bool
     ensures { result ≡ is_match pattern.now key.now }
 {

@@ -1,12 +1,8 @@
 // A search in the directory.
 
 ghost use Rattle.std.specs.Prelude.{◌≡◌, ◌<◌, ◌≤◌, ◌||◌, ◌==◌, ℕ, List, Option, true, None, Some, IfSome, IfNone};
-ghost use Rattle.std.specs.declared.cmp.Ordering.TheVariants.{Less};
-ghost use Rattle.std.specs.FinMap as finmap;
-ghost use Rattle.std.specs.Ordering.{nat_cmp};
-ghost use Rattle.std.specs.Cmp.Lexicographic.{slice_cmp};
-ghost use Rattle.keymaps.specs.Order.{is_above};
-ghost use Rattle.directory.specs.Entries.{Shapes, count_by, matches, first_where, chunk_from, fitting, above, next_entry};
+ghost use Rattle.keymaps.specs.Order.{EachAbove, EachBetween, IsAbsent, is_above};
+ghost use Rattle.directory.specs.Entries.{Shapes, entry_count, entries_from, first_match, fitting, above, next_entry};
 
 use crate::entry::{Entry, Position};
 use crate::pattern::is_match;
@@ -24,18 +20,18 @@ pub trait Files {
     /// A key above the one given, if there is one, such that no file's key lies between them.
     fn next_key(&self, after: Option<Key>) -> Option<Key>
         ensures above { IfSome result (λ k. is_above after k ≡ true) }
-        ensures least { IfSome result (λ k. (x : List ℕ) → is_above after x ≡ true → slice_cmp nat_cmp x k ≡ Less → finmap.get (files self.now) x ≡ None) }
+        ensures least { IfSome result (λ k. EachBetween after k (IsAbsent (files self.now))) }
         ensures fewer { IfSome result (λ k. left self.now (Some k) < left self.now after) }
-        ensures none { IfNone result ((x : List ℕ) → is_above after x ≡ true → finmap.get (files self.now) x ≡ None) };
+        ensures none { IfNone result (EachAbove after (IsAbsent (files self.now))) };
 
     /// The count of an extent's entry, if it has one.
     fn count(&self, key: &Key, extent: u32) -> Option<u8>
-        ensures { result ≡ count_by (finmap.get (files self.now) key.now) extent };
+        ensures { result ≡ entry_count (files self.now) key.now extent };
 
     /// An extent from which on the file of a key has no entry, at most 512.
     fn extents(&self, key: &Key) -> u32
         ensures within { result ≤ 512 }
-        ensures none { (e : ℕ) → result ≤ e → e < 512 → count_by (finmap.get (files self.now) key.now) e ≡ None };
+        ensures none { (e : ℕ) → result ≤ e → e < 512 → entry_count (files self.now) key.now e ≡ None };
 }
 
 // Whether an extent matches a pattern's byte.
@@ -48,7 +44,7 @@ fn fits_extent(ex: u8, extent: u32) -> bool
 // The entry of an extent, if it has one that matches.
 fn entry_at<T: Files>(files: &T, key: &Key, extent: u32, ex: u8) -> Option<Entry>
     requires { extent < 512 }
-    ensures entry { result ≡ fitting key.now extent ex (count_by (finmap.get (T.files files.now) key.now) extent) }
+    ensures entry { result ≡ fitting key.now extent ex (entry_count (T.files files.now) key.now extent) }
     ensures within { IfSome result (λ e. e.extent < 512) }
 {
     match files.count(key, extent) {
@@ -69,7 +65,7 @@ fn entry_at<T: Files>(files: &T, key: &Key, extent: u32, ex: u8) -> Option<Entry
 
 // The first match among a file's extents from one on.
 fn first_extent<T: Files>(files: &T, key: &Key, from: u32, pattern: &Key, ex: u8) -> Option<Entry>
-    ensures entry { result ≡ first_where (matches pattern.now ex) (chunk_from key.now (finmap.get (T.files files.now) key.now) from) }
+    ensures entry { result ≡ first_match pattern.now ex (entries_from (T.files files.now) key.now from) }
     ensures within { IfSome result (λ e. e.extent < 512) }
 {
     if !is_match(pattern, key) {
@@ -88,7 +84,7 @@ fn first_extent<T: Files>(files: &T, key: &Key, from: u32, pattern: &Key, ex: u8
 
 // The first match among the files above a key.
 fn first_above<T: Files>(files: &T, pattern: &Key, ex: u8, key: Option<Key>) -> Option<Entry>
-    ensures entry { result ≡ first_where (matches pattern.now ex) (above key (T.files files.now)) }
+    ensures entry { result ≡ first_match pattern.now ex (above key (T.files files.now)) }
     ensures within { IfSome result (λ e. e.extent < 512) }
 {
     let mut after = key;
@@ -101,8 +97,9 @@ fn first_above<T: Files>(files: &T, pattern: &Key, ex: u8, key: Option<Key>) -> 
     None
 }
 
-/// The first entry that matches, in the order of keys and then of extents, after the position given if there is one, among the files as
-/// they are now. The pattern's `ex` byte is `?` or the extent. It goes on from the position, never from the beginning.
+/// The first entry that matches, in the order of keys and then of extents, after the position given if there
+/// is one, among the files as they are now. The pattern's `ex` byte is `?` or the extent. It goes on from the
+/// position, never from the beginning.
 pub fn next_entry<T: Files>(
     files: &T,
     pattern: &Key,

@@ -9,7 +9,8 @@ use Rattle.edit_lines.specs.declared.ending.ReplayFault.{ReplayFault}
 use Rattle.edit_lines.specs.Effects.{Effects, EffectsAtEnd, EffectsAtFault}
 use Rattle.edit_lines.specs.Pieces.{lines_of}
 use Rattle.edit_lines.specs.Replay.{Finished, Replays}
-use Rattle.edit_lines.specs.Progress.{Faults, Finishes}
+use Rattle.edit_lines.specs.Faults.{Faults}
+use Rattle.edit_lines.specs.Progress.{Finishes}
 
 pub no_more_bytes : (a b d : Option (List ℕ)) (bytes piece : List ℕ) (n : ℕ) → n ≡ 0 → Consumes a b bytes → Consumes b d (take n piece) → Consumes a d bytes
 no_more_bytes a b d bytes piece n e p q =

@@ -6,14 +6,16 @@ use Rattle.std.proofs.Math.Seq.{take-append_seam}
 use Rattle.std.specs.List.{concat}
 use Rattle.std.specs.Io.KnownBytes.{Appends}
 use Rattle.std.proofs.KnownBytes.{Appends-trans}
-use Rattle.machine.specs.Views.{Session}
+use Rattle.machine.specs.Given.{Session}
 use Rattle.edit_lines.specs.declared.line.Command.{Command}
 use Rattle.edit_lines.specs.declared.ending.ReplayFault.{ReplayFault}
 use Rattle.edit_lines.specs.declared.ending.ReplayFault.TheVariants.{Malformed, LineTooLong, Read, Write, OutOfMemory}
-use Rattle.edit_lines.specs.EditLine.{EditLine, MayWantMemory}
+use Rattle.edit_lines.specs.EditLine.{EditLine}
+use Rattle.edit_lines.specs.LineParts.{MayWantMemory}
 use Rattle.edit_lines.specs.Pieces.{lines_of, past_lines}
 use Rattle.edit_lines.specs.Replay.{Carries, Replays, MalformedAt, none, more, reply, session_after}
-use Rattle.edit_lines.specs.Progress.{BreaksOff, Faults, CarriesOut}
+use Rattle.edit_lines.specs.Faults.{BreaksOff, Faults}
+use Rattle.edit_lines.specs.Progress.{CarriesOut}
 use Rattle.edit_lines.specs.declared.limits.TheConstants.{LINE_LIMIT, LINES_LIMIT}
 
 -- one more line is carried out

@@ -1,7 +1,7 @@
 -- What one more line, one more byte and the end of the input do to a runner and a meter.
 use Rattle.std.proofs.Common.{◌≡◌, ℕ, ◌+◌, ◌-◌, ◌<◌, List, [], ◌∷◌, ◌++◌, length, refl, sym, ap, subst, ◌∙◌, arith, append_assoc, length-append, inl, inr, Result, Ok, Err}
 use Rattle.std.proofs.lemmas.List.{append-nil}
-use Rattle.replay.specs.Cold.{Cold, cold}
+use Rattle.replay.specs.Plain.{PlainRun, plain_run}
 use Rattle.replay.specs.RunnerView.{RunnerView, SameOptions, Reran, LeavesNoneOut, CountsAnew, rerun_start}
 use Rattle.edit_lines.specs.declared.line.Command.{Command}
 use Rattle.edit_lines.specs.declared.line.Command.TheVariants.{Run}
@@ -26,11 +26,11 @@ pub SameOptions-trans : (a b d : RunnerView) → SameOptions a b → SameOptions
 SameOptions-trans a b d p q = record { spacing = q.spacing ∙ p.spacing; slots = q.slots ∙ p.slots }
 
 -- a run had its effect, by what its report tells
-pub run_effect : (old : RunnerView) (meter : ℕ) (new : RunnerView) (metered : ℕ) (run : Cold) → run ≡ cold old.session → new.session ≡ old.session
+pub run_effect : (old : RunnerView) (meter : ℕ) (new : RunnerView) (metered : ℕ) (run : PlainRun) → run ≡ plain_run old.session → new.session ≡ old.session
     → SameOptions old new → metered + rerun_start old ≡ meter + run.steps
     → Reran old new run.steps × LeavesNoneOut old new run.steps × CountsAnew old new run.steps → RunEffect old meter new metered
 run_effect old meter new metered run is session options ticked made =
-    let steps : run.steps ≡ (cold old.session).steps = ap (λ (r : Cold). r.steps) is in
+    let steps : run.steps ≡ (plain_run old.session).steps = ap (λ (r : PlainRun). r.steps) is in
     record {
       session = session;
       options = options;

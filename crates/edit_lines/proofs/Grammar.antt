@@ -7,7 +7,8 @@ use Rattle.hex.proofs.HexLemmas.{decode_of-ok, decode_sized-twice}
 use Rattle.replay.specs.declared.edit.Edit.TheVariants.{Insert, Replace, Remove, Poke, SetFile, RemoveFile, SetLimit}
 use Rattle.edit_lines.specs.declared.line.Command.{Command}
 use Rattle.edit_lines.specs.declared.line.Command.TheVariants.{Edit, Run, DropOldest}
-use Rattle.edit_lines.specs.EditLine.{EditLine, IsAddress, IsHexText, IsNumber, IsName, IsPaired, IsPlaced, IsPlaceOf, NamesBytesAt}
+use Rattle.edit_lines.specs.EditLine.{EditLine, IsAddress, IsHexText, IsNumber, IsName}
+use Rattle.edit_lines.specs.LineParts.{IsPaired, IsPlaced, IsPlaceOf, NamesBytesAt}
 use Rattle.filenames.specs.Names.{Key}
 use Rattle.edit_lines.specs.FileLines.{IsFile}
 use Rattle.edit_lines.specs.Pieces.{words_of}

@@ -6,9 +6,9 @@ use Rattle.replay.specs.declared.edit.Edit.{Edit}
 use Rattle.replay.specs.declared.edit.EditError.{EditError}
 use Rattle.replay.specs.declared.edit.EditError.TheVariants.{PastEnd, ScriptTooLong, NoSuchFile, FileTooLong, TooManyFiles, OutsideProgram, LimitTooLarge, OutOfMemory}
 use Rattle.hostfiles.specs.Hosts.{Host}
-use Rattle.hostfiles.specs.Files.{Own}
-use Rattle.machine.specs.Views.{Session}
-use Rattle.replay.specs.Cold.{Cold}
+use Rattle.machine.specs.WholeFiles.{Files}
+use Rattle.machine.specs.Given.{Session}
+use Rattle.replay.specs.Plain.{PlainRun}
 use Rattle.edit_lines.specs.declared.ending.ReplayFault.{ReplayFault}
 use Rattle.edit_lines.specs.declared.ending.ReplayFault.TheVariants.{Malformed, LineTooLong, Read, Write}
 use Rattle.edit_lines.specs.declared.ending.ReplayFault.TheVariants as fault
@@ -20,13 +20,13 @@ use Rattle.edit_lines.specs.ReportText.{line, head_text}
 use Rattle.edit_lines.specs.ChangedLines.{changed_lines}
 use Rattle.edit_lines.specs.Reports.{report_text}
 
-pub report_is : (s : Session) (run : Cold) (head : List ℕ) (host : Host) (own : Own) → head ≡ head_text run → host ≡ s.files → own ≡ run.state.own.files
-    → ((head ++ changed_lines host own) ++ line (codes "end")) ≡ report_text s run
+pub report_is : (s : Session) (run : PlainRun) (head : List ℕ) (host : Host) (all : Files) → head ≡ head_text run → host ≡ s.files → all ≡ run.machine.files
+    → ((head ++ changed_lines host all) ++ line (codes "end")) ≡ report_text s run
 unfolding report_text
-report_is s run head host own first files done =
-    ap (λ (h : List ℕ). (h ++ changed_lines host own) ++ line (codes "end")) first
-    ∙ ap (λ (h : Host). (head_text run ++ changed_lines h own) ++ line (codes "end")) files
-    ∙ ap (λ (o : Own). (head_text run ++ changed_lines s.files o) ++ line (codes "end")) done
+report_is s run head host all first files done =
+    ap (λ (h : List ℕ). (h ++ changed_lines host all) ++ line (codes "end")) first
+    ∙ ap (λ (h : Host). (head_text run ++ changed_lines h all) ++ line (codes "end")) files
+    ∙ ap (λ (m : Files). (head_text run ++ changed_lines s.files m) ++ line (codes "end")) done
 
 -- the refusal that was answered
 pub refused_by : (wanted : Result Session ℕ) (e : EditError) (after : Session) → (e ≡ OutOfMemory → ⊥) → AnswersEdit {U = Unit {0}} wanted (Err e) after → wanted ≡ Err (number_of e)

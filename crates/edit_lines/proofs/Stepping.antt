@@ -4,13 +4,14 @@ use Rattle.std.proofs.lemmas.List.{append-nil}
 use Rattle.std.specs.List.{concat}
 use Rattle.std.specs.Io.KnownBytes.{Appends, IsAtEnd}
 use Rattle.std.proofs.KnownBytes.{Appends-trans, Appends-nil}
-use Rattle.machine.specs.Views.{Session}
+use Rattle.machine.specs.Given.{Session}
 use Rattle.edit_lines.specs.declared.line.Command.{Command}
 use Rattle.edit_lines.specs.declared.ending.ReplayFault.{ReplayFault}
 use Rattle.edit_lines.specs.EditLine.{EditLine}
 use Rattle.edit_lines.specs.Pieces.{first_piece, other_pieces, pieces, without_empty_last, lines_of, past_lines}
 use Rattle.edit_lines.specs.Replay.{none, Finished, TooLongAt, EndsAt, Replays, reply, session_after}
-use Rattle.edit_lines.specs.Progress.{StandsAt, EndsWith, BreaksOff, Faults, CarriesOut}
+use Rattle.edit_lines.specs.Faults.{EndsWith, BreaksOff, Faults}
+use Rattle.edit_lines.specs.Progress.{StandsAt, CarriesOut}
 use Rattle.edit_lines.proofs.Cutting.{cut_beside, cut_here, one_line, past_lines-pieces, past_lines-last, lines_of-append, lines_of-pieces}
 use Rattle.edit_lines.proofs.Carrying.{Carries-snoc, concat-snoc, Faults-from, stays_there}
 use Rattle.edit_lines.specs.declared.limits.TheConstants.{LINE_LIMIT, LINES_LIMIT}

@@ -15,7 +15,10 @@ use Rattle.edit_lines.specs.ReportText.{line}
 use Rattle.hex.specs.Hex.{encode_with, encode_lower, lower_digits}
 use Rattle.filenames.specs.Names.{Key, printed, type_text}
 use Rattle.hostfiles.specs.Hosts.{Record, Host}
-use Rattle.edit_lines.specs.ChangedLines.{records_text, file_text, changed_line}
+use Rattle.edit_lines.specs.ChangedLines.{records_text, file_text, changed_line, line_of_file, lines_of_files}
+use Rattle.edit_lines.specs.declared.changed_lines.Asked.{Asked}
+use Rattle.machine.proofs.ChangedFileLemmas.{told_laid, changed_keys_laid}
+use Rattle.hostfiles.specs.Files.{files}
 use Rattle.edit_lines.specs.Writing.{WritesOrFails}
 use Rattle.edit_lines.specs.Writing.{Writes}
 
@@ -146,11 +149,11 @@ pub there : (t : Option (List Record)) (n : ℕ) → Some n ≡ option_map lengt
 there None n h = cc
 there (Some f) n h = refl
 
-pub gone_line : (host : Host) (own : Own) (q key : Key) → q ≡ key → told host own q ≡ None → (codes "gone " ++ printed key) ++ 10 ∷ [] ≡ changed_line host own key
+pub gone_line : (host : Host) (own : Own) (q key : Key) → q ≡ key → told host own q ≡ None → (codes "gone " ++ printed key) ++ 10 ∷ [] ≡ changed_line key (told host own key)
 gone_line host own q key same none = sym (ap (λ t. line (file_text key t)) (ap (told host own) (sym same) ∙ none))
 
 pub file_line : (host : Host) (own : Own) (q key : Key) → q ≡ key → told host own q ≡ Some (unwrap_or (told host own q) [])
-    → (((codes "file " ++ printed key) ++ codes " ") ++ records_text (unwrap_or (told host own q) [])) ++ 10 ∷ [] ≡ changed_line host own key
+    → (((codes "file " ++ printed key) ++ codes " ") ++ records_text (unwrap_or (told host own q) [])) ++ 10 ∷ [] ≡ changed_line key (told host own key)
 file_line host own q key same some = sym (ap (λ t. line (file_text key t)) (ap (told host own) (sym same) ∙ some))
 
 -- ---- a text of all changed files, of which each has a part
@@ -160,6 +163,13 @@ parts_above part host own after = concat (map part (keys_above (changed_names ho
 
 abbrev pub all_parts : (Key → List ℕ) → Host → Own → List ℕ
 all_parts part host own = concat (map part (changed_keys host own))
+
+-- the line of a file, by what was done to the host files
+abbrev pub own_line : Asked → Host → Own → Key → List ℕ
+own_line asked host own key = line_of_file asked key (told host own key)
+
+pub lines_laid : (asked : Asked) (host : Host) (own : Own) → all_parts (own_line asked host own) host own ≡ lines_of_files asked host (files host own)
+lines_laid asked host own = sym (λ i. concat (map (λ key. line_of_file asked key (told_laid host own key i)) (changed_keys_laid host own i)))
 
 pub parts_begin : (part : Key → List ℕ) (host : Host) (own : Own) → [] ++ parts_above part host own None ≡ all_parts part host own
 parts_begin part host own = ap (λ ks. concat (map part ks)) (keys_above_none (changed_names host own))

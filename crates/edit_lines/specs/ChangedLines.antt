@@ -4,8 +4,8 @@ use Rattle.std.specs.List.{concat}
 use Rattle.hex.specs.Hex.{encode_lower}
 use Rattle.filenames.specs.Names.{Key, printed}
 use Rattle.hostfiles.specs.Hosts.{Record, Host}
-use Rattle.hostfiles.specs.Files.{Own, told}
-use Rattle.hostfiles.specs.Changed.{changed_keys}
+use Rattle.machine.specs.ChangedFiles.{changed_keys_in, told_in}
+use Rattle.machine.specs.WholeFiles.{Files}
 use Rattle.edit_lines.specs.ReportText.{line}
 use Rattle.edit_lines.specs.declared.changed_lines.Asked.{Asked}
 use Rattle.edit_lines.specs.declared.changed_lines.Asked.TheVariants.{All, GoneAlone}
@@ -21,28 +21,25 @@ file_text key None = codes "gone " ++ printed key
 file_text key (Some records) = codes "file " ++ printed key ++ codes " " ++ records_text records
 
 -- its line
-abbrev pub changed_line : Host → Own → Key → List ℕ
-changed_line host own key = line (file_text key (told host own key))
+abbrev pub changed_line : Key → Option (List Record) → List ℕ
+changed_line key told = line (file_text key told)
 
 -- the line of a changed file that is gone; nothing for one that is there
-abbrev pub gone_text : Key → Option (List Record) → List ℕ
-gone_text key None = line (codes "gone " ++ printed key)
-gone_text key (Some records) = []
+abbrev pub gone_line : Key → Option (List Record) → List ℕ
+gone_line key None = line (codes "gone " ++ printed key)
+gone_line key (Some records) = []
 
-abbrev pub gone_line : Host → Own → Key → List ℕ
-gone_line host own key = gone_text key (told host own key)
-
--- the line of a changed file, where it is asked for
-abbrev pub line_of_file : Asked → Host → Own → Key → List ℕ
+-- the line of a changed file as it is told, where it is asked for
+abbrev pub line_of_file : Asked → Key → Option (List Record) → List ℕ
 line_of_file All = changed_line
 line_of_file GoneAlone = gone_line
 
 -- the lines of the changed files that are asked for, in the order of their names
-abbrev pub lines_of_files : Asked → Host → Own → List ℕ
-lines_of_files asked host own = concat (map (line_of_file asked host own) (changed_keys host own))
+abbrev pub lines_of_files : Asked → Host → Files → List ℕ
+lines_of_files asked host files = concat (map (λ key. line_of_file asked key (told_in files key)) (changed_keys_in host files))
 
-abbrev pub changed_lines : Host → Own → List ℕ
+abbrev pub changed_lines : Host → Files → List ℕ
 changed_lines = lines_of_files All
 
-abbrev pub gone_lines : Host → Own → List ℕ
+abbrev pub gone_lines : Host → Files → List ℕ
 gone_lines = lines_of_files GoneAlone

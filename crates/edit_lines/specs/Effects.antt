@@ -1,8 +1,8 @@
 -- What the lines of an edit text do, one after the other, to a runner with its checkpoints and to the meter of its runs. (This project's own.)
 use Rattle.std.specs.Prelude.{◌≡◌, ℕ, ◌+◌, ◌-◌, ◌⊎◌, List, [], ◌∷◌, ◌++◌, length, Result, Ok, Err}
-use Rattle.machine.specs.Views.{Session}
+use Rattle.machine.specs.Given.{Session}
 use Rattle.machine.specs.Machine.{ask}
-use Rattle.replay.specs.Cold.{cold}
+use Rattle.replay.specs.Plain.{plain_run}
 use Rattle.replay.specs.Edits.{edited}
 use Rattle.replay.specs.RunnerView.{RunnerView, SameOptions, KeepsUntouched, DropsOldest, Reran, LeavesNoneOut, CountsAnew, TicksTo, rerun_start}
 use Rattle.edit_lines.specs.declared.line.Command.{Command}
@@ -24,10 +24,10 @@ EditEffect (Err n) old new = new ≡ old
 pub record RunEffect (old : RunnerView) (meter : ℕ) (new : RunnerView) (metered : ℕ) : Type 0 where
   pub session : new.session ≡ old.session
   pub options : SameOptions old new
-  pub ticked : metered + rerun_start old ≡ meter + (cold old.session).steps
-  pub reran : Reran old new (cold old.session).steps
-  pub complete : LeavesNoneOut old new (cold old.session).steps
-  pub counted : CountsAnew old new (cold old.session).steps
+  pub ticked : metered + rerun_start old ≡ meter + (plain_run old.session).steps
+  pub reran : Reran old new (plain_run old.session).steps
+  pub complete : LeavesNoneOut old new (plain_run old.session).steps
+  pub counted : CountsAnew old new (plain_run old.session).steps
 
 -- what a command does to a runner and a meter
 abbrev pub Effect : Command → RunnerView → ℕ → RunnerView → ℕ → Type 0

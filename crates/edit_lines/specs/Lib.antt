@@ -1,8 +1,10 @@
 pub mod Pieces
 pub mod EditLine
+pub mod LineParts
 pub mod ReportText
 pub mod Reports
 pub mod Replay
+pub mod Faults
 pub mod Progress
 pub mod Effects
 pub mod FileLines

@@ -3,8 +3,8 @@
 use Rattle.std.specs.Prelude.{◌≡◌, ℕ, ◌+◌, ◌<◌, ◌≤◌, ◌⊎◌, List, [], ◌∷◌, ◌++◌, length, codes, Result, Ok, Err}
 use Rattle.std.specs.Fmt.{decimal}
 use Rattle.std.specs.List.{concat}
-use Rattle.machine.specs.Views.{Session}
-use Rattle.replay.specs.Cold.{cold}
+use Rattle.machine.specs.Given.{Session}
+use Rattle.replay.specs.Plain.{plain_run}
 use Rattle.replay.specs.Edits.{edited}
 use Rattle.edit_lines.specs.declared.line.Command.{Command}
 use Rattle.edit_lines.specs.declared.line.Command.TheVariants.{Edit, Run, DropOldest}
@@ -26,7 +26,7 @@ edit_after s (Err n) = s
 -- the reply to a command, and the session after it
 abbrev pub reply : Session → Command → List ℕ
 reply s (Edit e) = edit_reply (edited s e)
-reply s Run = report_text s (cold s)
+reply s Run = report_text s (plain_run s)
 reply s (DropOldest n) = line (codes "ok")
 
 abbrev pub session_after : Session → Command → Session

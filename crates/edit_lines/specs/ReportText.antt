@@ -2,11 +2,11 @@
 use Rattle.std.specs.Prelude.{ℕ, ◌/◌, ◌%◌, List, [], ◌∷◌, ◌++◌, codes}
 use Rattle.std.specs.Fmt.{decimal}
 use Rattle.hex.specs.Hex.{encode_lower, encode_upper}
-use Rattle.i8080.specs.Flags.{byte_of}
-use Rattle.i8080.specs.declared.registers.Regs.{Regs}
-use Rattle.console_calls.specs.declared.cause.Cause.{Cause}
-use Rattle.console_calls.specs.declared.cause.Cause.TheVariants.{WarmBoot, Halt, Limit, Undefined, SystemArea, ConsoleExhausted, NoDollar, Unsupported, BadDrive}
-use Rattle.replay.specs.Cold.{Cold}
+use Rattle.machine.specs.Flags.{byte_of}
+use Rattle.machine.specs.Regs.{Regs}
+use Rattle.machine.specs.Cause.{Cause}
+use Rattle.machine.specs.Cause.TheVariants.{WarmBoot, Halt, Limit, Undefined, SystemArea, ConsoleExhausted, NoDollar, Unsupported, BadDrive}
+use Rattle.replay.specs.Plain.{PlainRun}
 
 -- `-` for no byte, else two digits in lower case for each
 abbrev pub hex_text : List ℕ → List ℕ
@@ -45,10 +45,10 @@ regs_text r =
     ++ codes " H=" ++ byte_text r.h ++ codes " L=" ++ byte_text r.l
     ++ codes " SP=" ++ word_text r.sp ++ codes " PC=" ++ word_text r.pc
 
--- the first lines of the reply to `run`, of a cold run
-abbrev pub head_text : Cold → List ℕ
+-- the first lines of the reply to `run`, of a run
+abbrev pub head_text : PlainRun → List ℕ
 head_text run =
     line (codes "stop " ++ cause_text run.cause)
     ++ line (codes "steps " ++ decimal run.steps)
-    ++ line (regs_text run.state.core.regs)
-    ++ line (codes "text " ++ hex_text run.state.core.desk.text)
+    ++ line (regs_text run.machine.core.regs)
+    ++ line (codes "text " ++ hex_text run.machine.core.desk.text)

@@ -1,11 +1,11 @@
 -- The reply to `run`. (This project's own.)
 use Rattle.std.specs.Prelude.{ℕ, List, ◌++◌, codes}
-use Rattle.machine.specs.Views.{Session}
-use Rattle.replay.specs.Cold.{Cold}
+use Rattle.machine.specs.Given.{Session}
+use Rattle.replay.specs.Plain.{PlainRun}
 use Rattle.edit_lines.specs.ReportText.{line, head_text}
 use Rattle.edit_lines.specs.ChangedLines.{changed_lines}
 
--- of a session and its cold run: why it stopped, the count of steps, the registers and the console text, then a line for each changed
+-- of a session and its run: why it stopped, the count of steps, the registers and the console text, then a line for each changed
 -- file in the order of the names
-unfoldable pub report_text : Session → Cold → List ℕ
-report_text s run = (head_text run ++ changed_lines s.files run.state.own.files) ++ line (codes "end")
+unfoldable pub report_text : Session → PlainRun → List ℕ
+report_text s run = (head_text run ++ changed_lines s.files run.machine.files) ++ line (codes "end")

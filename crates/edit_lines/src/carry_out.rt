@@ -1,7 +1,7 @@
 ghost use Rattle.std.specs.Prelude.{◌≡◌, ℕ, ◌+◌, ◌^◌, ◌<◌, ◌≤◌, OnOk};
-ghost use Rattle.replay.specs.Cold.{cold};
+ghost use Rattle.replay.specs.Plain.{plain_run};
 ghost use Rattle.replay.specs.RunnerView.{DropsOldest, SameOptions, rerun_start};
-ghost use Rattle.replay.specs.Report.{reported_run, session_of};
+ghost use Rattle.replay.specs.Report.{run_of, session_of};
 ghost use Rattle.edit_lines.specs.Effects.{CommandDid, LineDid};
 ghost use Rattle.edit_lines.specs.Progress.{CarriesOut, Does};
 ghost use Rattle.edit_lines.specs.ReportText.{head_text};
@@ -21,7 +21,8 @@ use std::alloc::Global;
 /// Writes a reply, or some first part of it where the writer fails.
 fn write_reply<W: Writer>(writer: &mut W, text: &[u8]) -> Result<(), ReplayFault>
     requires { W.failures writer.old < 2 ^ 63 }
-    ensures { Replies (W.holds writer.old) (W.holds writer.new) (W.failures writer.old) (W.failures writer.new) text.now result }
+    ensures { Replies (W.holds writer.old) (W.holds writer.new) (W.failures writer.old)
+        (W.failures writer.new) text.now result }
 {
     match write_all(writer, text) {
         Ok(()) => Ok(()),
@@ -36,7 +37,8 @@ fn carry_out_edit<W: Writer>(
     writer: &mut W,
 ) -> Result<(), ReplayFault>
     requires { W.failures writer.old < 2 ^ 63 }
-    ensures does { Does (Command.Edit edit) runner.old.session runner.new.session (W.holds writer.old) (W.holds writer.new) result }
+    ensures does { Does (Command.Edit edit) runner.old.session runner.new.session (W.holds writer.old)
+        (W.holds writer.new) result }
     ensures effect { (meter : ℕ) → CommandDid (Command.Edit edit) runner.old meter runner.new meter result }
     ensures options { SameOptions runner.old runner.new }
     ensures fine { OnOk result (W.failures writer.new ≡ W.failures writer.old) }
@@ -56,9 +58,11 @@ fn drop_oldest<W: Writer>(
     writer: &mut W,
 ) -> Result<(), ReplayFault>
     requires { W.failures writer.old < 2 ^ 63 }
-    ensures does { Does (Command.DropOldest count) runner.old.session runner.new.session (W.holds writer.old) (W.holds writer.new) result }
+    ensures does { Does (Command.DropOldest count) runner.old.session runner.new.session (W.holds writer.old)
+        (W.holds writer.new) result }
     ensures dropped { DropsOldest count runner.old runner.new }
-    ensures effect { (meter : ℕ) → CommandDid (Command.DropOldest count) runner.old meter runner.new meter result }
+    ensures effect { (meter : ℕ)
+        → CommandDid (Command.DropOldest count) runner.old meter runner.new meter result }
     ensures options { SameOptions runner.old runner.new }
     ensures fine { OnOk result (W.failures writer.new ≡ W.failures writer.old) }
     ensures failed { result ≡ Err ReplayFault.Write → W.failures writer.old < W.failures writer.new }
@@ -71,8 +75,9 @@ fn drop_oldest<W: Writer>(
 /// no memory is taken.
 fn write_report<W: Writer>(report: &Report<'_>, head: &str, writer: &mut W) -> Result<(), Failed>
     requires writer { W.failures writer.old < 2 ^ 63 }
-    requires head { head.now ≡ head_text (reported_run report.now) }
-    ensures { Writes (W.holds writer.old) (W.holds writer.new) (W.failures writer.old) (W.failures writer.new) (report_text (session_of report.now) (reported_run report.now)) result }
+    requires head { head.now ≡ head_text (run_of report.now) }
+    ensures { Writes (W.holds writer.old) (W.holds writer.new) (W.failures writer.old) (W.failures writer.new)
+        (report_text (session_of report.now) (run_of report.now)) result }
 {
     write_piece(writer, head.as_bytes())?;
     write_changed_files(writer, Asked::All, report.files(), report.journal())?;
@@ -89,8 +94,10 @@ fn run<W: Writer>(
 ) -> Result<(), ReplayFault>
     requires writer { W.failures writer.old < 2 ^ 63 }
     requires meter { meter.old ≤ 2 ^ 63 }
-    ensures does { Does Command.Run runner.old.session runner.new.session (W.holds writer.old) (W.holds writer.new) result }
-    ensures from { OnOk result (meter.new + rerun_start runner.old ≡ meter.old + (cold runner.old.session).steps) }
+    ensures does { Does Command.Run runner.old.session runner.new.session (W.holds writer.old)
+        (W.holds writer.new) result }
+    ensures from { OnOk result
+        (meter.new + rerun_start runner.old ≡ meter.old + (plain_run runner.old.session).steps) }
     ensures effect { CommandDid Command.Run runner.old meter.old runner.new meter.new result }
     ensures options { SameOptions runner.old runner.new }
     ensures fine { OnOk result (W.failures writer.new ≡ W.failures writer.old) }
@@ -117,7 +124,8 @@ pub fn carry_out<W: Writer>(
 ) -> Result<(), ReplayFault>
     requires writer { W.failures writer.old < 2 ^ 63 }
     requires meter { meter.old ≤ 2 ^ 63 }
-    ensures carries { CarriesOut number line.now runner.old.session runner.new.session (W.holds writer.old) (W.holds writer.new) result }
+    ensures carries { CarriesOut number line.now runner.old.session runner.new.session (W.holds writer.old)
+        (W.holds writer.new) result }
     ensures effect { LineDid number line.now runner.old meter.old runner.new meter.new result }
     ensures options { SameOptions runner.old runner.new }
     ensures fine { OnOk result (W.failures writer.new ≡ W.failures writer.old) }

@@ -4,7 +4,7 @@ ghost use Rattle.std.specs.Prelude.{◌≡◌, ◌^◌, ◌<◌, ◌++◌, [], l
 ghost use Rattle.std.specs.List.{before_first};
 ghost use Rattle.hex.specs.Hex.{encode_lower};
 ghost use Rattle.filenames.specs.Names.{drive_text, is_blank, printed, type_text};
-ghost use Rattle.hostfiles.specs.Files.{told};
+ghost use Rattle.hostfiles.specs.Files.{files, told};
 ghost use Rattle.edit_lines.specs.ChangedLines.{records_text, changed_line, gone_line, line_of_file, lines_of_files};
 ghost use Rattle.edit_lines.specs.Writing.{Writes};
 
@@ -30,7 +30,8 @@ pub fn write_changed_files<W: Writer>(
     journal: &Journal,
 ) -> Result<(), Failed>
     requires { W.failures writer.old < 2 ^ 63 }
-    ensures { Writes (W.holds writer.old) (W.holds writer.new) (W.failures writer.old) (W.failures writer.new) (lines_of_files asked host.now journal.now.entries) result }
+    ensures { Writes (W.holds writer.old) (W.holds writer.new) (W.failures writer.old) (W.failures writer.new)
+        (lines_of_files asked host.now (files host.now journal.now.entries)) result }
 {
     let mut after: Option<Name> = None;
     while let Some(name) = next_changed(host, journal, after.as_ref()) {
@@ -49,7 +50,8 @@ fn write_asked<W: Writer>(
     name: &Name,
 ) -> Result<(), Failed>
     requires { W.failures writer.old < 2 ^ 63 }
-    ensures { Writes (W.holds writer.old) (W.holds writer.new) (W.failures writer.old) (W.failures writer.new) (line_of_file asked host.now journal.now.entries name.now) result }
+    ensures { Writes (W.holds writer.old) (W.holds writer.new) (W.failures writer.old) (W.failures writer.new)
+        (line_of_file asked name.now (told host.now journal.now.entries name.now)) result }
 {
     match asked {
         Asked::All => write_changed(writer, host, journal, name),
@@ -65,7 +67,8 @@ fn write_gone<W: Writer>(
     name: &Name,
 ) -> Result<(), Failed>
     requires { W.failures writer.old < 2 ^ 63 }
-    ensures { Writes (W.holds writer.old) (W.holds writer.new) (W.failures writer.old) (W.failures writer.new) (gone_line host.now journal.now.entries name.now) result }
+    ensures { Writes (W.holds writer.old) (W.holds writer.new) (W.failures writer.old) (W.failures writer.new)
+        (gone_line name.now (told host.now journal.now.entries name.now)) result }
 {
     if told_count(host, journal, &name.key()).is_some() {
         return Ok(());
@@ -81,7 +84,8 @@ fn write_changed<W: Writer>(
     name: &Name,
 ) -> Result<(), Failed>
     requires { W.failures writer.old < 2 ^ 63 }
-    ensures { Writes (W.holds writer.old) (W.holds writer.new) (W.failures writer.old) (W.failures writer.new) (changed_line host.now journal.now.entries name.now) result }
+    ensures { Writes (W.holds writer.old) (W.holds writer.new) (W.failures writer.old) (W.failures writer.new)
+        (changed_line name.now (told host.now journal.now.entries name.now)) result }
 {
     let key = name.key();
     let Some(count) = told_count(host, journal, &key) else {
@@ -97,7 +101,8 @@ fn write_changed<W: Writer>(
 // Writes a word with its blank, and a name.
 fn write_head<W: Writer>(writer: &mut W, word: &[u8], name: &Name) -> Result<(), Failed>
     requires { W.failures writer.old < 2 ^ 63 }
-    ensures { Writes (W.holds writer.old) (W.holds writer.new) (W.failures writer.old) (W.failures writer.new) (word.now ++ printed name.now) result }
+    ensures { Writes (W.holds writer.old) (W.holds writer.new) (W.failures writer.old)
+        (W.failures writer.new) (word.now ++ printed name.now) result }
 {
     write_piece(writer, word)?;
     write_name(writer, name)
@@ -106,7 +111,8 @@ fn write_head<W: Writer>(writer: &mut W, word: &[u8], name: &Name) -> Result<(),
 // Writes a name as it is printed.
 fn write_name<W: Writer>(writer: &mut W, name: &Name) -> Result<(), Failed>
     requires { W.failures writer.old < 2 ^ 63 }
-    ensures { Writes (W.holds writer.old) (W.holds writer.new) (W.failures writer.old) (W.failures writer.new) (printed name.now) result }
+    ensures { Writes (W.holds writer.old) (W.holds writer.new) (W.failures writer.old)
+        (W.failures writer.new) (printed name.now) result }
 {
     let key = name.key();
     write_letter(writer, key[0])?;
@@ -118,7 +124,8 @@ fn write_name<W: Writer>(writer: &mut W, name: &Name) -> Result<(), Failed>
 fn write_letter<W: Writer>(writer: &mut W, drive: u8) -> Result<(), Failed>
     requires room { W.failures writer.old < 2 ^ 63 }
     requires drive { drive < 4 }
-    ensures { Writes (W.holds writer.old) (W.holds writer.new) (W.failures writer.old) (W.failures writer.new) (drive_text drive) result }
+    ensures { Writes (W.holds writer.old) (W.holds writer.new) (W.failures writer.old)
+        (W.failures writer.new) (drive_text drive) result }
 {
     if drive == 0 {
         return Ok(());
@@ -129,7 +136,8 @@ fn write_letter<W: Writer>(writer: &mut W, drive: u8) -> Result<(), Failed>
 // Writes the bytes of a field before its blanks.
 fn write_field<W: Writer>(writer: &mut W, field: &[u8]) -> Result<(), Failed>
     requires { W.failures writer.old < 2 ^ 63 }
-    ensures { Writes (W.holds writer.old) (W.holds writer.new) (W.failures writer.old) (W.failures writer.new) (before_first is_blank field.now) result }
+    ensures { Writes (W.holds writer.old) (W.holds writer.new) (W.failures writer.old)
+        (W.failures writer.new) (before_first is_blank field.now) result }
 {
     let end = first(field, b' ');
     write_piece(writer, &field[..end])
@@ -138,7 +146,8 @@ fn write_field<W: Writer>(writer: &mut W, field: &[u8]) -> Result<(), Failed>
 // Writes `.` and the bytes of a type's field before its blanks; nothing where there is none.
 fn write_type<W: Writer>(writer: &mut W, field: &[u8]) -> Result<(), Failed>
     requires { W.failures writer.old < 2 ^ 63 }
-    ensures { Writes (W.holds writer.old) (W.holds writer.new) (W.failures writer.old) (W.failures writer.new) (type_text (before_first is_blank field.now)) result }
+    ensures { Writes (W.holds writer.old) (W.holds writer.new) (W.failures writer.old)
+        (W.failures writer.new) (type_text (before_first is_blank field.now)) result }
 {
     if first(field, b' ') == 0 {
         return Ok(());
@@ -157,7 +166,9 @@ fn write_records<W: Writer>(
 ) -> Result<(), Failed>
     requires room { W.failures writer.old < 2 ^ 63 }
     requires count { count ≡ length (unwrap_or (told host.now journal.now.entries key.now) []) }
-    ensures { Writes (W.holds writer.old) (W.holds writer.new) (W.failures writer.old) (W.failures writer.new) (records_text (unwrap_or (told host.now journal.now.entries key.now) [])) result }
+    ensures { Writes (W.holds writer.old) (W.holds writer.new) (W.failures writer.old)
+        (W.failures writer.new) (records_text
+        (unwrap_or (told host.now journal.now.entries key.now) [])) result }
 {
     if count == 0 {
         return write_piece(writer, b"-");
@@ -174,7 +185,8 @@ fn write_records<W: Writer>(
 // Writes two digits for each byte of a record.
 fn write_record<W: Writer>(writer: &mut W, bytes: &Record) -> Result<(), Failed>
     requires { W.failures writer.old < 2 ^ 63 }
-    ensures { Writes (W.holds writer.old) (W.holds writer.new) (W.failures writer.old) (W.failures writer.new) (encode_lower bytes.now) result }
+    ensures { Writes (W.holds writer.old) (W.holds writer.new) (W.failures writer.old)
+        (W.failures writer.new) (encode_lower bytes.now) result }
 {
     let mut digits = [0; 256];
     if hex::encode_to_slice(bytes.as_slice(), &mut digits).is_err() {
@@ -186,7 +198,8 @@ fn write_record<W: Writer>(writer: &mut W, bytes: &Record) -> Result<(), Failed>
 /// Writes a piece of a text, or some first part of it where the writer fails.
 pub fn write_piece<W: Writer>(writer: &mut W, text: &[u8]) -> Result<(), Failed>
     requires { W.failures writer.old < 2 ^ 63 }
-    ensures { Writes (W.holds writer.old) (W.holds writer.new) (W.failures writer.old) (W.failures writer.new) text.now result }
+    ensures { Writes (W.holds writer.old) (W.holds writer.new) (W.failures writer.old)
+        (W.failures writer.new) text.now result }
 {
     write_all(writer, text)
 }

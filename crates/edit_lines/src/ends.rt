@@ -108,7 +108,8 @@ impl<T: io::Write> Writer for Over<T> {
 pub fn write_all<W: Writer>(writer: &mut W, text: &[u8]) -> Result<(), Failed>
     requires { W.failures writer.old < 2 ^ 63 }
     ensures ok { OnOk result (Appends (W.holds writer.old) (W.holds writer.new) text.now) }
-    ensures part { OnErr result ((n : ℕ) × Appends (W.holds writer.old) (W.holds writer.new) (take n text.now)) }
+    ensures part { OnErr result
+        ((n : ℕ) × Appends (W.holds writer.old) (W.holds writer.new) (take n text.now)) }
     ensures same { OnOk result (W.failures writer.new ≡ W.failures writer.old) }
     ensures err { OnErr result (W.failures writer.new ≡ W.failures writer.old + 1) }
 {

@@ -32,7 +32,8 @@ pub fn file(
     hex_word: &[u8],
 ) -> Result<Option<(Name, Bytes)>, AllocError>
     ensures found { IfOk result (λ r. IfSome r (λ f. IsFile name_word.now hex_word.now f.0 f.1)) }
-    ensures none { IfOk result (λ r. IfNone r ((key bytes : List ℕ) → IsFile name_word.now hex_word.now key bytes → ⊥)) }
+    ensures none { IfOk result
+        (λ r. IfNone r ((key bytes : List ℕ) → IsFile name_word.now hex_word.now key bytes → ⊥)) }
     ensures memory { OnErr result (NamesFile name_word.now hex_word.now) }
 {
     let Some(name) = name(name_word) else {

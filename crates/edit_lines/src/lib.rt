@@ -1,4 +1,12 @@
 //! Edit lines and their replies, and a replay of edit lines over any reader and writer.
+//!
+//! - `line`, `reply`: the command of a line; the text of a report and of a refusal
+//! - `file_lines`, `changed_lines`: the words of `file NAME HEX` and `gone NAME`; the lines that tell changed files,
+//!   written in pieces
+//! - `carry_out`, `stream`, `ending`: one line carried out; lines cut from a reader and carried out one by one; how a
+//!   replay ends
+//! - `ends`, `limits`: `Reader` and `Writer`, whose failures are counted; the most bytes of a line, and the most
+//!   lines
 #![tactic(auto)]
 
 mod carry_out;

@@ -1,5 +1,6 @@
 ghost use Rattle.std.specs.Prelude.{◌≡◌, ℕ, ◌%◌, ◌<◌, ◌∷◌, [], List, length, IfOk, OnErr, IfSome, IfNone, MatchOption, codes};
-ghost use Rattle.edit_lines.specs.EditLine.{AreSplit, EditLine, IsAddress, IsHexText, IsNumber, IsPaired, IsPlaced, NamesBytes, NamesBytesAt};
+ghost use Rattle.edit_lines.specs.EditLine.{EditLine, IsAddress, IsHexText, IsNumber};
+ghost use Rattle.edit_lines.specs.LineParts.{AreSplit, IsPaired, IsPlaced, NamesBytes, NamesBytesAt};
 ghost use Rattle.edit_lines.specs.Pieces.{first_piece, other_pieces, pieces, words_of};
 ghost use Rattle.edit_lines.specs.declared.line.Command.{Command};
 
@@ -37,7 +38,8 @@ enum Words<'a> {
 /// The first word of a line, and what stands after its blank.
 fn split_word(line: &[u8]) -> (&[u8], Option<&[u8]>)
     ensures word { result.0.now ≡ first_piece 32 line.now }
-    ensures rest { MatchOption result.1 (other_pieces 32 line.now ≡ []) (λ r. other_pieces 32 line.now ≡ pieces 32 r.now) }
+    ensures rest { MatchOption result.1 (other_pieces 32 line.now ≡ [])
+        (λ r. other_pieces 32 line.now ≡ pieces 32 r.now) }
 {
     for i in 0..line.len() {
         if line[i] == b' ' {
@@ -138,7 +140,8 @@ fn paired(verb: &[u8], word: &[u8]) -> Option<Command>
 /// The poke of two words, an address and the bytes.
 fn poke(alloc: Global, at: &[u8], bytes: &[u8]) -> Result<Option<Command>, AllocError>
     ensures found { IfOk result (λ r. IfSome r (IsPlaced (codes "poke") at.now bytes.now)) }
-    ensures none { IfOk result (λ r. IfNone r ((c : Command) → IsPlaced (codes "poke") at.now bytes.now c → ⊥)) }
+    ensures none { IfOk result
+        (λ r. IfNone r ((c : Command) → IsPlaced (codes "poke") at.now bytes.now c → ⊥)) }
     ensures memory { OnErr result (NamesBytesAt (codes "poke") at.now bytes.now) }
 {
     let Some(at) = address(at) else {
@@ -153,7 +156,8 @@ fn poke(alloc: Global, at: &[u8], bytes: &[u8]) -> Result<Option<Command>, Alloc
 /// The insertion of two words, a place and the bytes.
 fn insert(alloc: Global, at: &[u8], bytes: &[u8]) -> Result<Option<Command>, AllocError>
     ensures found { IfOk result (λ r. IfSome r (IsPlaced (codes "insert") at.now bytes.now)) }
-    ensures none { IfOk result (λ r. IfNone r ((c : Command) → IsPlaced (codes "insert") at.now bytes.now c → ⊥)) }
+    ensures none { IfOk result
+        (λ r. IfNone r ((c : Command) → IsPlaced (codes "insert") at.now bytes.now c → ⊥)) }
     ensures memory { OnErr result (NamesBytesAt (codes "insert") at.now bytes.now) }
 {
     let Some(at) = number(at) else {
@@ -168,7 +172,8 @@ fn insert(alloc: Global, at: &[u8], bytes: &[u8]) -> Result<Option<Command>, All
 /// The replacement of two words, a place and the bytes.
 fn replace(alloc: Global, at: &[u8], bytes: &[u8]) -> Result<Option<Command>, AllocError>
     ensures found { IfOk result (λ r. IfSome r (IsPlaced (codes "replace") at.now bytes.now)) }
-    ensures none { IfOk result (λ r. IfNone r ((c : Command) → IsPlaced (codes "replace") at.now bytes.now c → ⊥)) }
+    ensures none { IfOk result
+        (λ r. IfNone r ((c : Command) → IsPlaced (codes "replace") at.now bytes.now c → ⊥)) }
     ensures memory { OnErr result (NamesBytesAt (codes "replace") at.now bytes.now) }
 {
     let Some(at) = number(at) else {
@@ -193,7 +198,8 @@ fn remove(at: &[u8], count: &[u8]) -> Option<Command>
 /// The file of two words, its name and its bytes.
 fn set_file(alloc: Global, name: &[u8], bytes: &[u8]) -> Result<Option<Command>, AllocError>
     ensures found { IfOk result (λ r. IfSome r (IsPlaced (codes "file") name.now bytes.now)) }
-    ensures none { IfOk result (λ r. IfNone r ((c : Command) → IsPlaced (codes "file") name.now bytes.now c → ⊥)) }
+    ensures none { IfOk result
+        (λ r. IfNone r ((c : Command) → IsPlaced (codes "file") name.now bytes.now c → ⊥)) }
     ensures memory { OnErr result (NamesBytesAt (codes "file") name.now bytes.now) }
 {
     match file(alloc, name, bytes)? {

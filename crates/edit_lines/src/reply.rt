@@ -2,7 +2,7 @@ ghost use Rattle.std.specs.Prelude.{◌≡◌, ◌<◌, ◌++◌, IfOk, OnOk, co
 ghost use Rattle.std.specs.Fmt.{decimal};
 ghost use Rattle.edit_lines.specs.ReportText as texts;
 ghost use Rattle.edit_lines.specs.ReportText.{byte_text, word_text, hex_text, line, regs_text, head_text};
-ghost use Rattle.replay.specs.Report.{reported_run};
+ghost use Rattle.replay.specs.Report.{run_of};
 
 use machine::{Cause, Regs};
 use replay::Report;
@@ -109,7 +109,7 @@ fn regs_line(alloc: Global, regs: Regs) -> Result<String, AllocError>
 /// The first lines of the reply to `run`: `stop`, `steps`, `regs` and `text`, each with its 0AH. An
 /// error is want of memory for the text.
 pub fn head_of(alloc: Global, report: &Report<'_>) -> Result<String, AllocError>
-    ensures { IfOk result (λ s. string_bytes s ≡ head_text (reported_run report.now)) }
+    ensures { IfOk result (λ s. string_bytes s ≡ head_text (run_of report.now)) }
 {
     let cause = cause_text(alloc, report.cause())?;
     let steps = report.steps();

@@ -1,13 +1,14 @@
 ghost use Rattle.std.specs.Prelude.{◌≡◌, ℕ, ◌+◌, ◌*◌, ◌^◌, ◌<◌, ◌≤◌, ◌⊎◌, List, Option, ◌∷◌, ◌++◌, [], length, IfOk, OnOk, IfErr, vec_len};
 ghost use Rattle.std.specs.Io.KnownBytes.{Appends, Consumes, IsAtEnd};
-ghost use Rattle.machine.specs.Views.{Session};
+ghost use Rattle.machine.specs.Given.{Session};
 ghost use Rattle.replay.specs.RunnerView.{RunnerView, SameOptions};
 ghost use Rattle.edit_lines.specs.declared.limits.TheConstants.{LINE_LIMIT, LINES_LIMIT};
-ghost use Rattle.edit_lines.specs.EditLine.{MayWantMemory};
+ghost use Rattle.edit_lines.specs.LineParts.{MayWantMemory};
 ghost use Rattle.edit_lines.specs.Effects.{Effects, EffectsAfter, EffectsAtEnd, EffectsAtFault, EffectsSoFar};
 ghost use Rattle.edit_lines.specs.Pieces.{lines_of};
 ghost use Rattle.edit_lines.specs.Replay.{End, Finished, Replays};
-ghost use Rattle.edit_lines.specs.Progress.{Faults, Finishes, Goes, StandsAt};
+ghost use Rattle.edit_lines.specs.Faults.{Faults};
+ghost use Rattle.edit_lines.specs.Progress.{Finishes, Goes, StandsAt};
 
 use crate::carry_out::carry_out;
 use crate::ending::{Ending, ReplayFault};
@@ -38,18 +39,24 @@ fn take_byte<W: Writer>(
     requires writer { W.failures writer.old < 2 ^ 63 }
     requires meter { meter.old ≤ STEP_LIMIT * place.old.lines }
     ensures goes { (first : Session) (held : Option (List ℕ)) (bytes rest : List ℕ)
-        → StandsAt first held bytes runner.old.session (W.holds writer.old) place.old.line.items place.old.lines
-        → Goes first held (bytes ++ byte ∷ []) rest runner.new.session (W.holds writer.new) place.new.line.items place.new.lines result }
+        → StandsAt first held bytes runner.old.session
+        (W.holds writer.old) place.old.line.items place.old.lines
+        → Goes first held (bytes ++ byte ∷ []) rest runner.new.session
+        (W.holds writer.new) place.new.line.items place.new.lines result }
     ensures effects { (first : RunnerView) (begun : ℕ) (bytes rest : List ℕ)
         → EffectsSoFar first begun bytes runner.old meter.old place.old.line.items place.old.lines
-        → EffectsAfter first begun (bytes ++ byte ∷ []) rest runner.new meter.new place.new.line.items place.new.lines result }
+        → EffectsAfter first begun
+        (bytes ++ byte ∷ []) rest runner.new meter.new place.new.line.items place.new.lines result }
     ensures options { SameOptions runner.old runner.new }
     ensures fine { OnOk result (W.failures writer.new ≡ W.failures writer.old) }
     ensures failed { result ≡ Err ReplayFault.Write → W.failures writer.old < W.failures writer.new }
     ensures reads { result ≡ Err ReplayFault.Read → ⊥ }
     ensures meter { OnOk result (meter.new ≤ STEP_LIMIT * place.new.lines) }
-    ensures on { OnOk result (65537 * place.old.lines + vec_len place.old.line < 65537 * place.new.lines + vec_len place.new.line) }
-    ensures memory { result ≡ Err ReplayFault.OutOfMemory → ((byte ≡ 10 → ⊥) × (vec_len place.old.line < LINE_LIMIT)) ⊎ ((byte ≡ 10) × MayWantMemory place.old.line.items) }
+    ensures on { OnOk result (65537 * place.old.lines + vec_len place.old.line
+        < 65537 * place.new.lines + vec_len place.new.line) }
+    ensures memory { result ≡ Err ReplayFault.OutOfMemory
+        → ((byte ≡ 10 → ⊥) × (vec_len place.old.line < LINE_LIMIT))
+        ⊎ ((byte ≡ 10) × MayWantMemory place.old.line.items) }
 {
     if byte != b'\n' {
         if place.line.len() == LINE_LIMIT {
@@ -84,17 +91,21 @@ fn take_piece<W: Writer>(
     requires meter { meter.old ≤ STEP_LIMIT * place.old.lines }
     requires small { length piece.now ≤ 65535 }
     ensures goes { (first : Session) (held : Option (List ℕ)) (bytes : List ℕ)
-        → StandsAt first held bytes runner.old.session (W.holds writer.old) place.old.line.items place.old.lines
-        → Goes first held (bytes ++ piece.now) [] runner.new.session (W.holds writer.new) place.new.line.items place.new.lines result }
+        → StandsAt first held bytes runner.old.session
+        (W.holds writer.old) place.old.line.items place.old.lines
+        → Goes first held (bytes ++ piece.now) [] runner.new.session
+        (W.holds writer.new) place.new.line.items place.new.lines result }
     ensures effects { (first : RunnerView) (begun : ℕ) (bytes : List ℕ)
         → EffectsSoFar first begun bytes runner.old meter.old place.old.line.items place.old.lines
-        → EffectsAfter first begun (bytes ++ piece.now) [] runner.new meter.new place.new.line.items place.new.lines result }
+        → EffectsAfter first begun
+        (bytes ++ piece.now) [] runner.new meter.new place.new.line.items place.new.lines result }
     ensures options { SameOptions runner.old runner.new }
     ensures fine { OnOk result (W.failures writer.new ≡ W.failures writer.old) }
     ensures failed { result ≡ Err ReplayFault.Write → W.failures writer.old < W.failures writer.new }
     ensures reads { result ≡ Err ReplayFault.Read → ⊥ }
     ensures meter { OnOk result (meter.new ≤ STEP_LIMIT * place.new.lines) }
-    ensures on { OnOk result (65537 * place.old.lines + vec_len place.old.line + length piece.now ≤ 65537 * place.new.lines + vec_len place.new.line) }
+    ensures on { OnOk result (65537 * place.old.lines + vec_len place.old.line + length piece.now
+        ≤ 65537 * place.new.lines + vec_len place.new.line) }
 {
     for byte in piece {
         take_byte(alloc, place, runner, meter, writer, *byte)?;
@@ -159,8 +170,10 @@ pub fn replay<R: Reader, W: Writer>(
         × Appends (W.holds writer.old) (W.holds writer.new) text
         × Replays runner.old.session (lines_of bytes) text runner.new.session (Finished e.lines)
         × Effects runner.old meter.old (lines_of bytes) runner.new meter.new) }
-    ensures fault { IfErr result (λ f. (bytes : List ℕ) × Consumes (R.left reader.old) (R.left reader.new) bytes
-        × Faults (R.left reader.new) runner.old.session (W.holds writer.old) bytes runner.new.session (W.holds writer.new) f
+    ensures fault { IfErr result
+        (λ f. (bytes : List ℕ) × Consumes (R.left reader.old) (R.left reader.new) bytes
+        × Faults (R.left reader.new) runner.old.session (W.holds writer.old) bytes runner.new.session
+        (W.holds writer.new) f
         × EffectsAtFault runner.old meter.old bytes runner.new meter.new f) }
     ensures options { SameOptions runner.old runner.new }
     ensures read { result ≡ Err ReplayFault.Read → R.failures reader.old < R.failures reader.new }
@@ -185,7 +198,8 @@ pub fn replay<R: Reader, W: Writer>(
 /// A law: a replay is a function of its first session and its lines. They have one text, one last
 /// session and one end.
 pub fn one_replay()
-    ensures { (first : Session) (lines : List (List ℕ)) (text other_text : List ℕ) (last other_last : Session) (end other_end : End)
+    ensures { (first : Session) (lines : List (List ℕ)) (text other_text : List ℕ)
+        (last other_last : Session) (end other_end : End)
         → Replays first lines text last end → Replays first lines other_text other_last other_end
         → (text ≡ other_text) × (last ≡ other_last) × (end ≡ other_end) }
 {}

@@ -6,9 +6,9 @@ use Rattle.std.specs.Cmp.Lexicographic.{slice_cmp, nat_list_cmp_total}
 use Rattle.std.specs.FinMap.{get, entries, get-insert, get-entries, same_map}
 use Rattle.std.specs.FinMap.Entries.{is_some-find}
 use Rattle.std.proofs.lemmas.Map.Views.{any-filter_same}
-use Rattle.keymaps.proofs.Views.{same_key, key_of}
+use Rattle.hostfiles.proofs.Views.{same_key, key_of}
 use Rattle.directory.proofs.Walk.{is_later}
-use Rattle.directory.specs.Entries.{is_match, fits_name}
+use Rattle.directory.specs.Entries.{Listing, is_match, fits_name}
 use Rattle.hostfiles.specs.Hosts.{Key, Host}
 use Rattle.hostfiles.specs.Files.{Own, has, nothing, deleted, shapes}
 use Rattle.hostfiles.specs.Looks.{look_has, look_directory, Extends}
@@ -16,13 +16,16 @@ use Rattle.std.proofs.Math.Bool.{or-false, and-true, and-false}
 use Rattle.hostfiles.specs.declared.journal.Entry.{Entry}
 use Rattle.hostfiles.proofs.DeleteLemmas.{there}
 use Rattle.cpmfiles.specs.Tables as tables
-use Rattle.cpmfiles.specs.Tables.{is_named, has_wildcard, count_deleted, look_deleted}
+use Rattle.cpmfiles.specs.Tables.{is_named, count_deleted, look_deleted}
+use Rattle.cpmfiles.specs.Renaming.{has_wildcard}
 use Rattle.interaction_trees.specs.Tree.{Query, Return}
 use Rattle.file_calls.specs.declared.block.Block.{Block}
-use Rattle.file_calls.specs.Questions.{Drives, Listing, IsThere, FilesOn, is_on, files_on}
+use Rattle.file_calls.specs.Questions.{IsThere, FilesOn, is_on, files_on}
+use Rattle.file_calls.specs.Answers.{Drives}
 use Rattle.file_calls.specs.FileCalls as calls
 use Rattle.file_calls.specs.FileCalls.{matching, deletion}
-use Rattle.file_calls.specs.Deletes.{Deletes, without, is_some_named}
+use Rattle.file_calls.specs.Deletes.{Deletes, without}
+use Rattle.file_calls.specs.Changes.{is_some_named}
 
 -- whether a key is among some
 abbrev is_listed : Key → List Key → Bool
@@ -115,7 +118,7 @@ module _ (b : Block) (v v' : Drives) (n : ℕ) where
   abbrev key : Key
   key = calls.key_of b
 
-  pub deletes : n ≡ count_deleted v.host v.own key → tables.Deletes v.host v.own key v'.own → v'.looks ≡ look_deleted v.own key v.looks → Extends v.looks v'.looks → v'.host ≡ v.host → v'.lender ≡ v.lender
+  pub deletes : n ≡ count_deleted v.host v.own key → tables.NamedAreGone v.host v.own key v'.own → v'.looks ≡ look_deleted v.own key v.looks → Extends v.looks v'.looks → v'.host ≡ v.host → v'.lender ≡ v.lender
       → Deletes (deletion b) v (Ok (nat_lt 0 n)) v'
   deletes count d looks extends host lender = by_case (has_wildcard key) count d.at looks where
     by_case : (w : Bool) → n ≡ cond w (length (filter (λ e. is_match key e.0) (entries (shapes v.host v.own)))) (cond (has v.host v.own key) 1 0)

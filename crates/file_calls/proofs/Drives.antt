@@ -3,20 +3,16 @@ use Rattle.std.proofs.Common.{◌≡◌, ℕ, Bool, true, false, cond, ◌&&◌,
 use Rattle.std.specs.List.{filter}
 use Rattle.std.specs.FinMap.{entries}
 use Rattle.std.proofs.Math.Bool.{and-false}
-use Rattle.directory.specs.Entries.{Shape, Shapes, first_where, entries_of, is_after, matches, is_match, fits_name, next_entry}
+use Rattle.directory.specs.Entries.{Shape, Shapes, Listing, listed, next_among, first_where, entries_of, is_after, matches, is_match, fits_name, next_entry}
 use Rattle.directory.specs.declared.entry.Entry.{Entry}
 use Rattle.directory.specs.declared.entry.Position.{Position}
 use Rattle.directory.proofs.Walk.{or_else, alike_of, first_append}
-use Rattle.keymaps.specs.Order.{Key}
-use Rattle.file_calls.specs.Questions.{is_on, files_on, Listing}
-use Rattle.file_calls.specs.FileCalls.{next_among}
+use Rattle.hostfiles.specs.Order.{Key}
+use Rattle.file_calls.specs.Questions.{is_on, files_on}
 
 nowhere : (es : List Entry) → first_where (λ e. false) es ≡ None
 nowhere [] = refl
 nowhere (e ∷ es) = nowhere es
-
-abbrev listed : Listing → List Entry
-listed es = flat_map (λ e. entries_of e.0 e.1) es
 
 -- files without a match may be left out
 left_out : (p : Entry → Bool) (q : Key → Bool) → ((k : Key) (s : Shape) → q k ≡ false → first_where p (entries_of k s) ≡ None) → (xs : Listing)

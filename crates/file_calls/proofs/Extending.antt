@@ -4,7 +4,8 @@ use Rattle.hostfiles.specs.Files.{Own}
 use Rattle.hostfiles.specs.Looks.{Extends}
 use Rattle.hostfiles.specs.declared.looks.Looks.{Looks}
 use Rattle.cpmfiles.proofs.LookLaws.{within_has, within_length, within_content, within_directory}
-use Rattle.file_calls.specs.Questions.{FileQuestion, IsThere, ShapeOf, Content, FilesOn, look_for, look_for_all}
+use Rattle.file_calls.specs.Questions.{FileQuestion, IsThere, ShapeOf, Content, FilesOn}
+use Rattle.file_calls.specs.Answers.{look_for, look_for_all}
 pub use Rattle.hostfiles.proofs.LookLemmas.{extends_same, extends_trans, extends_by_directory}
 
 within_one : (own : Own) (q : FileQuestion) (l m : Looks) → Extends l m → Extends l (look_for own q m)

@@ -7,9 +7,11 @@ use Rattle.std.specs.declared.alloc.AllocError.{AllocError}
 use Rattle.interaction_trees.specs.Tree.{Query, Return}
 use Rattle.directory.specs.Entries.{count_at}
 use Rattle.hostfiles.specs.Hosts.{Key, Host}
-use Rattle.hostfiles.specs.Files.{Own, length_at, place_of, shape_of, file_of, entry_at}
+use Rattle.hostfiles.specs.Files.{Own, length_at, place_of, file_of, entry_at}
+use Rattle.hostfiles.specs.File.{shape_of}
 use Rattle.hostfiles.specs.Looks.{look_length, Extends}
-use Rattle.file_calls.specs.Questions.{Drives, ShapeOf, shape_here}
+use Rattle.file_calls.specs.Questions.{ShapeOf}
+use Rattle.file_calls.specs.Answers.{Drives, shape_here}
 use Rattle.file_calls.specs.Asks.{Asks}
 
 pub places : (host : Host) (own : Own) (key : Key) → length_at host own key ≡ length (shape_here host own key)
@@ -18,28 +20,6 @@ places host own key = sym (
     length-map (file_of host key (entry_at own key)) is_some
     ∙ length-map (range_with_len 0 (length_at host own key)) (place_of host key (entry_at own key))
     ∙ length-range_with_len 0 (length_at host own key))
-
-pub asks_length : (key : Key) (v v' : Drives) (result : Result ℕ AllocError) → IfOk result (λ n. n ≡ length_at v.host v.own key) → OnOk result (v'.looks ≡ look_length v.own key v.looks)
-    → Extends v.looks v'.looks → OnErr result (Extends v'.looks (look_length v.own key v.looks))
-    → v'.own ≡ v.own → v'.host ≡ v.host → v'.lender ≡ v.lender → Asks (Query (ShapeOf key) (λ s. Return (length s))) v result v'
-asks_length key v v' (Ok n) found looks extends bound own host lender = record {
-  found = found ∙ places v.host v.own key;
-  looks = looks;
-  extends = extends;
-  bound = tt;
-  own = own;
-  host = host;
-  lender = lender;
-}
-asks_length key v v' (Err e) found looks extends bound own host lender = record {
-  found = tt;
-  looks = tt;
-  extends = extends;
-  bound = bound;
-  own = own;
-  host = host;
-  lender = lender;
-}
 
 pub counted : (host : Host) (own : Own) (key : Key) (extent : ℕ) → count_at (shape_of (file_of host key (entry_at own key))) extent ≡ count_at (shape_here host own key) extent
 unfolding shape_here

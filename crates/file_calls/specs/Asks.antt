@@ -1,17 +1,14 @@
 -- What a function leaves that asks the files, and changes none. (This project's own.)
-use Rattle.std.specs.Prelude.{◌≡◌, IfOk, OnOk, OnErr}
 use Rattle.std.specs.declared.result.Result.{Result}
 use Rattle.std.specs.declared.alloc.AllocError.{AllocError}
 use Rattle.interaction_trees.specs.Tree.{result_of, asked}
-use Rattle.hostfiles.specs.Looks.{Extends}
-use Rattle.file_calls.specs.Questions.{FileTree, Drives, file_answers, look_for_all}
+use Rattle.hostfiles.specs.Hosts.{Host}
+use Rattle.hostfiles.specs.Asking.{Inquires}
+use Rattle.hostfiles.specs.declared.changes.Changes.{Changes}
+use Rattle.file_calls.specs.Questions.{FileTree}
+use Rattle.file_calls.specs.Answers.{file_answers, look_for_all}
 
-pub record Asks {E : Type 0} (t : FileTree E) (v : Drives) (result : Result E AllocError) (v' : Drives) : Type 0 where
-  pub found : IfOk result (λ e. e ≡ result_of (file_answers v.host v.own) t)
-  pub looks : OnOk result (v'.looks ≡ look_for_all v.own (asked (file_answers v.host v.own) t) v.looks)
-  pub extends : Extends v.looks v'.looks
-  -- at a failure: no question but those before and those of the whole tree
-  pub bound : OnErr result (Extends v'.looks (look_for_all v.own (asked (file_answers v.host v.own) t) v.looks))
-  pub own : v'.own ≡ v.own
-  pub host : v'.host ≡ v.host
-  pub lender : v'.lender ≡ v.lender
+-- it finds how a tree of questions ends over the files, and marks what is asked on the way
+abbrev pub Asks : {E : Type 0} → FileTree E → Host → Changes → Result E AllocError → Changes → Type 0
+Asks t host old result new =
+    Inquires result (λ own. result_of (file_answers host own) t) (λ own. look_for_all own (asked (file_answers host own) t)) old new

@@ -1,21 +1,27 @@
--- What a function leaves that deletes files. (This project's own.)
-use Rattle.std.specs.Prelude.{◌≡◌, Bool, true, false, List, [], ◌∷◌, IfOk, OnOk, OnErr}
+-- What a change of files is beside the host files, and what a function leaves that deletes files. (This project's own.)
+use Rattle.std.specs.Prelude.{◌≡◌, Bool, List, [], ◌∷◌, IfOk, OnOk, OnErr}
 use Rattle.std.specs.declared.result.Result.{Result}
 use Rattle.std.specs.declared.alloc.AllocError.{AllocError}
 use Rattle.interaction_trees.specs.Tree.{result_of, asked}
 use Rattle.hostfiles.specs.Hosts.{Key}
-use Rattle.hostfiles.specs.Files.{Own, deleted}
+use Rattle.hostfiles.specs.Files.{Own, deleted, made, renamed, stored}
 use Rattle.hostfiles.specs.Looks.{Extends}
-use Rattle.file_calls.specs.Questions.{FileTree, Drives, file_answers, look_for_all}
+use Rattle.file_calls.specs.Questions.{FileTree}
+use Rattle.file_calls.specs.Answers.{Drives, file_answers, look_for_all}
+use Rattle.file_calls.specs.Changes.{is_some_named, FileChange, Unchanged, Made, Deleted, Renamed, Stored}
 
 -- the names deleted, one after another
 abbrev pub without : Own → List Key → Own
 without own [] = own
 without own (key ∷ keys) = without (deleted own key) keys
 
-abbrev pub is_some_named : List Key → Bool
-is_some_named [] = false
-is_some_named (key ∷ keys) = true
+-- what was done to files, with it
+abbrev pub own_with : FileChange → Own → Own
+own_with Unchanged own = own
+own_with (Made key) own = made own key
+own_with (Deleted keys) own = without own keys
+own_with (Renamed old new) own = renamed own old new
+own_with (Stored w r) own = stored w.filled w.length own w.key w.place r
 
 -- the names are those that a tree ends with, and the answer is whether there are some
 pub record Deletes (t : FileTree (List Key)) (v : Drives) (result : Result Bool AllocError) (v' : Drives) : Type 0 where

@@ -4,11 +4,11 @@ use Rattle.std.specs.Prelude.{◌≢◌, ℕ, ◌+◌, ◌/◌, ◌==◌, ◌&&�
 use Rattle.interaction_trees.specs.Tree.{Return, Query}
 use Rattle.filenames.specs.Names.{is_sayable}
 use Rattle.filenames.specs.ControlBlock.{name_at, place_of, random_of}
-use Rattle.directory.specs.Entries.{Shape, count_at, first_where, entries_of, is_after, matches, position_in, entry_bytes, is_match}
+use Rattle.directory.specs.Entries.{Shape, Listing, count_at, next_among, position_in, entry_bytes, is_match}
 use Rattle.directory.specs.declared.entry.Entry.{Entry}
 use Rattle.directory.specs.declared.entry.Position.{Position}
 use Rattle.hostfiles.specs.Hosts.{Key, Record}
-use Rattle.cpmfiles.specs.Tables.{has_wildcard, is_rename}
+use Rattle.cpmfiles.specs.Renaming.{has_wildcard, is_rename}
 use Rattle.file_calls.specs.declared.block.Block.{Block}
 use Rattle.file_calls.specs.declared.function.FileFunction.{FileFunction}
 use Rattle.file_calls.specs.declared.function.FileFunction.TheVariants.{Open, Close, SearchFirst, ReadSequential, WriteSequential, Make, Rename, ReadRandom, WriteRandom, FileSize, SetRandomRecord, WriteRandomZeroFill}
@@ -16,7 +16,7 @@ use Rattle.directory.specs.declared.entry.Search.{Search}
 use Rattle.file_calls.specs.declared.finding.Write.{Write}
 use Rattle.file_calls.specs.declared.finding.Finding.{Finding}
 use Rattle.file_calls.specs.declared.finding.Finding.TheVariants as finding
-use Rattle.file_calls.specs.Questions.{FileTree, Listing, IsThere, ShapeOf, Content, FilesOn}
+use Rattle.file_calls.specs.Questions.{FileTree, IsThere, ShapeOf, Content, FilesOn}
 
 -- the key at bytes 1 to 11 of a control block, and the new key of a rename, at bytes 17 to 27
 abbrev pub key_of : Block → Key
@@ -45,10 +45,6 @@ close_file b = if_there (key_of b) (Return (finding.Value 0))
 abbrev pub entry_found : Key → ℕ → Option Entry → Finding
 entry_found pattern ex None = finding.NoEntry
 entry_found pattern ex (Some e) = finding.FirstEntry (record { pattern = pattern; extent = ex; last = entry_bytes e })
-
--- the first entry of files that matches, after a position if it is given
-abbrev pub next_among : Key → ℕ → Option Position → Listing → Option Entry
-next_among pattern ex after files = first_where (λ e. is_after after e && matches pattern ex e) (flat_map (λ f. entries_of f.0 f.1) files)
 
 abbrev pub searching : Key → ℕ → Option Position → FileTree Finding
 searching pattern ex after = Query (FilesOn (slice_index pattern 0)) (λ files. Return (entry_found pattern ex (next_among pattern ex after files)))

@@ -1,5 +1,7 @@
 pub mod Questions
+pub mod Answers
 pub mod Asks
 pub mod FileCalls
 pub mod Deletes
 pub mod Changes
+pub mod Passing

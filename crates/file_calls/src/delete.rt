@@ -1,13 +1,13 @@
 ghost use Rattle.file_calls.specs.FileCalls.{deletion};
-ghost use Rattle.file_calls.specs.Questions.{drives_of};
+ghost use Rattle.file_calls.specs.Answers.{drives_of};
 ghost use Rattle.file_calls.specs.Deletes.{Deletes};
 
 use crate::block::Block;
 use cpmfiles::Table;
 use std::alloc::AllocError;
 
-/// Function 19: deletes the files that the control block names, and tells whether there were some. A pattern with `?` names all that match. An
-/// `Err` changes no file.
+/// Function 19: deletes the files that the control block names, and tells whether there were some. A pattern
+/// with `?` names all that match. An `Err` changes no file.
 pub fn delete_files(table: &mut Table<'_>, block: &Block) -> Result<bool, AllocError>
     ensures { Deletes (deletion block.now) (drives_of table.old) result (drives_of table.new) }
 {

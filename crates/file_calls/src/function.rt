@@ -1,6 +1,5 @@
 ghost use Rattle.std.specs.Prelude.{◌≡◌, IfOk, if◌then◌else◌};
 ghost use Rattle.file_calls.specs.FileCalls.{found, block_length, IsApart};
-ghost use Rattle.file_calls.specs.Questions.{drives_of};
 ghost use Rattle.file_calls.specs.Asks.{Asks};
 
 use crate::block::Block;
@@ -9,7 +8,7 @@ use crate::inquiry::{
     close_file, file_size, make_file, open_file, read_random, read_sequential, rename_file,
     search_first, set_random, write_random, write_sequential,
 };
-use cpmfiles::Table;
+use cpmfiles::{Changes, HostFiles};
 use std::alloc::AllocError;
 
 /// A call that names a file by a control block, but for a deletion. (CP/M 2.2 Interface Guide.)
@@ -57,23 +56,28 @@ impl FileFunction {
     }
 
     /// What the call finds.
-    pub fn inquire(self, table: &mut Table<'_>, block: &Block) -> Result<Finding, AllocError>
-        ensures asks { Asks (found self block.now) (drives_of table.old) result (drives_of table.new) }
+    pub fn inquire(
+        self,
+        host: &HostFiles,
+        changes: &mut Changes,
+        block: &Block,
+    ) -> Result<Finding, AllocError>
+        ensures asks { Asks (found self block.now) host.now changes.old result changes.new }
         ensures apart { IfOk result IsApart }
     {
         match self {
-            FileFunction::Open => open_file(table, block),
-            FileFunction::Close => close_file(table, block),
-            FileFunction::SearchFirst => Ok(search_first(table, block)),
-            FileFunction::ReadSequential => read_sequential(table, block),
-            FileFunction::WriteSequential => write_sequential(table, block),
-            FileFunction::Make => make_file(table, block),
-            FileFunction::Rename => rename_file(table, block),
-            FileFunction::ReadRandom => read_random(table, block),
-            FileFunction::WriteRandom => write_random(table, block, false),
-            FileFunction::FileSize => file_size(table, block),
-            FileFunction::SetRandomRecord => Ok(set_random(table, block)),
-            FileFunction::WriteRandomZeroFill => write_random(table, block, true),
+            FileFunction::Open => open_file(host, changes, block),
+            FileFunction::Close => close_file(host, changes, block),
+            FileFunction::SearchFirst => Ok(search_first(host, changes, block)),
+            FileFunction::ReadSequential => read_sequential(host, changes, block),
+            FileFunction::WriteSequential => write_sequential(host, changes, block),
+            FileFunction::Make => make_file(host, changes, block),
+            FileFunction::Rename => rename_file(host, changes, block),
+            FileFunction::ReadRandom => read_random(host, changes, block),
+            FileFunction::WriteRandom => write_random(host, changes, block, false),
+            FileFunction::FileSize => file_size(host, changes, block),
+            FileFunction::SetRandomRecord => Ok(set_random(host, changes, block)),
+            FileFunction::WriteRandomZeroFill => write_random(host, changes, block, true),
         }
     }
 }

@@ -1,4 +1,11 @@
-//! What the file calls of CP/M 2.2 ask of the files, and what they find.
+//! What the file calls of CP/M 2.2 ask of the files, what they find, and which of their questions are passed
+//! on to the host files.
+//!
+//! - `block`: a file control block on its drive, and the keys that it names
+//! - `finding`, `inquiry`: what a call finds, which says what it is to do; what each call asks, with one function for
+//!   each
+//! - `function`, `delete`: the calls that find something, by name; files deleted
+//! - `laws`: the laws that the host files' answers tell the files as they are, and that what a run did stays sound
 #![tactic(auto)]
 
 mod block;
@@ -6,9 +13,11 @@ mod delete;
 mod finding;
 mod function;
 mod inquiry;
+mod laws;
 
 pub use block::Block;
 pub use delete::delete_files;
 pub use finding::{Finding, Write};
 pub use function::FileFunction;
 pub use inquiry::search_next;
+pub use laws::{host_files_answer, what_was_done_is_sound};

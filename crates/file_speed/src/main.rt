@@ -1,4 +1,8 @@
 //! Measures files. Each line is what was measured, how often it was done, and the processor's nanoseconds for all of it.
+//!
+//! - `watch`: all measurements; the processor's time from one mark to the next
+//! - `writes`, `walks`, `files`: records, copies and gaps that are measured; walks through the directory; the files
+//!   for both
 #![tactic(auto)]
 
 mod files;

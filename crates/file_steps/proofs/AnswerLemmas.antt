@@ -14,8 +14,9 @@ use Rattle.hostfiles.specs.Hosts.{Key, Record, Host}
 use Rattle.hostfiles.specs.declared.looks.Ask.{Ask}
 use Rattle.hostfiles.specs.declared.looks.Ask.TheVariants.{Has, Length, Rec, Directory}
 use Rattle.file_calls.specs.Questions.{is_on}
-use Rattle.host_questions.specs.Passing.{names_on, host_answers}
-use Rattle.file_steps.specs.Touch.{with_file, record_of}
+use Rattle.file_calls.specs.Passing.{names_on, host_answers}
+use Rattle.file_steps.specs.Touch.{record_of}
+use Rattle.file_steps.specs.Setting.{with_file}
 
 -- ---- the names of a drive, with their counts of records
 

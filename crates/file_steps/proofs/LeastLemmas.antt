@@ -10,10 +10,11 @@ use Rattle.hostfiles.specs.Hosts.{Key, Record, Host}
 use Rattle.hostfiles.specs.declared.looks.Ask.{Ask}
 use Rattle.hostfiles.specs.declared.looks.Ask.TheVariants.{Has, Length, Rec, Directory}
 use Rattle.file_calls.specs.Questions.{is_on}
-use Rattle.host_questions.specs.Passing.{host_answers}
+use Rattle.file_calls.specs.Passing.{host_answers}
 use Rattle.file_steps.specs.declared.steps.FileSteps.{FileSteps}
 use Rattle.file_steps.specs.Steps.{lesser, step_of_ask}
-use Rattle.file_steps.specs.Touch.{with_file, record_of, IsFileTouch, IsPlaceTouch}
+use Rattle.file_steps.specs.Touch.{record_of, IsFileTouch, IsPlaceTouch}
+use Rattle.file_steps.specs.Setting.{with_file}
 use Rattle.file_steps.proofs.AnswerLemmas.{file_here, cases_key, answers_apart, directory_same, names_tell}
 
 -- ---- one question

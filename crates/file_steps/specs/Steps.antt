@@ -1,33 +1,49 @@
 -- For each question that was asked of the host files the first step that asked it. (This project's own.)
-use Rattle.std.specs.Prelude.{◌≡◌, ℕ, Bool, true, false, Option, Some, None, nat_lt, if◌then◌else◌, get_or}
+use Rattle.std.specs.Prelude.{◌≡◌, ℕ, Bool, true, false, List, Option, Some, None, nat_lt, if◌then◌else◌, get_or}
 use Rattle.std.specs.FinMap.{get}
 use Rattle.hostfiles.specs.declared.looks.Ask.{Ask}
 use Rattle.hostfiles.specs.declared.looks.Ask.TheVariants.{Has, Length, Rec, Directory}
+use Rattle.hostfiles.specs.Looks.{is_same_ask}
 use Rattle.file_steps.specs.declared.steps.FileSteps.{FileSteps}
 
+-- the first step, where there is one, else the second
 abbrev pub or_else : Option ℕ → Option ℕ → Option ℕ
 or_else None b = b
 or_else (Some a) b = Some a
 
+-- a step, if a test passes
 abbrev pub mark : Bool → ℕ → Option ℕ
 mark true n = Some n
 mark false n = None
 
--- what is left of an entry when those from t on are erased
+-- what is left of a step when those from t on are taken away
 abbrev pub erased : ℕ → Option ℕ → Option ℕ
 erased t None = None
 erased t (Some m) = if nat_lt m t then Some m else None
 
+-- the lesser of two steps, the first of which may not be there
 abbrev pub lesser : Option ℕ → ℕ → ℕ
 lesser None n = n
 lesser (Some m) n = if nat_lt m n then m else n
 
--- the step of a question; a number that is no drive's has none
+-- the step of a drive; a number that is no drive's has none
+abbrev pub step_of_drive : List (Option ℕ) → ℕ → Option ℕ
+step_of_drive directories drive = get_or directories drive None
+
+-- of each drive the step is taken away, if it is this one or a later one
+abbrev pub ErasesSteps : ℕ → List (Option ℕ) → List (Option ℕ) → Type 0
+ErasesSteps from old new = (drive : ℕ) → step_of_drive new drive ≡ erased from (step_of_drive old drive)
+
+-- the step of a question
 abbrev pub step_of_ask : FileSteps → Ask → Option ℕ
 step_of_ask s (Has key) = get s.has key
 step_of_ask s (Length key) = get s.lengths key
 step_of_ask s (Rec key k) = get s.records (key, k)
-step_of_ask s (Directory drive) = get_or s.directories drive None
+step_of_ask s (Directory drive) = step_of_drive s.directories drive
+
+-- a question has a step, unless it had one before, and those of all others stay
+abbrev pub NotesStep : FileSteps → Ask → ℕ → FileSteps → Type 0
+NotesStep old ask step new = (q : Ask) → step_of_ask new q ≡ or_else (step_of_ask old q) (mark (is_same_ask q ask) step)
 
 -- a note of this question takes memory: it has no step, and is not about a drive
 abbrev pub TakesMemory : FileSteps → Ask → Type 0

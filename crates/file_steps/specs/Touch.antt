@@ -1,22 +1,21 @@
 -- Which steps the change of a host file touches. (This project's own.)
-use Rattle.std.specs.Prelude.{◌≡◌, ◌<◌, ◌≤◌, ◌⊎◌, ℕ, List, [], Option, Some, None, unwrap_or, slice_get}
-use Rattle.std.specs.FinMap.{get, insert, remove}
+use Rattle.std.specs.Prelude.{◌≡◌, ◌<◌, ◌≤◌, ◌⊎◌, ℕ, List, [], Option, Some, length, option_map, unwrap_or, slice_get}
+use Rattle.std.specs.FinMap.{get}
 use Rattle.hostfiles.specs.Hosts.{Key, Record, Host}
 use Rattle.hostfiles.specs.declared.looks.Ask.{Ask}
-use Rattle.host_questions.specs.Passing.{host_answers}
+use Rattle.file_calls.specs.Passing.{host_answers}
 use Rattle.file_steps.specs.declared.steps.FileSteps.{FileSteps}
 use Rattle.file_steps.specs.Steps.{step_of_ask}
-
--- the host files with these records at the key, or without a file there
-abbrev pub with_file : Host → Key → Option (List Record) → Host
-with_file host key None = remove host key
-with_file host key (Some records) = insert host key records
 
 -- the least step of a question that the new host files answer in another way, or `least`
 pub record IsFileTouch (old new : Host) (steps : FileSteps) (least touch : ℕ) : Type 0 where
   pub within : touch ≤ least
   pub below : (q : Ask) (m : ℕ) → step_of_ask steps q ≡ Some m → m < touch → host_answers old q ≡ host_answers new q
   pub here : (touch ≡ least) ⊎ ((q : Ask) × (step_of_ask steps q ≡ Some touch) × (host_answers old q ≡ host_answers new q → ⊥))
+
+-- how many records a file has, if it is there
+abbrev pub length_of : Option (List Record) → Option ℕ
+length_of file = option_map length file
 
 -- a file that is not there has no record
 abbrev pub record_of : Option (List Record) → ℕ → Option Record

@@ -1,9 +1,8 @@
 // The first steps.
 
-ghost use Rattle.std.specs.Prelude.{◌≡◌, OnOk, OnErr, ℕ, None, get_or};
+ghost use Rattle.std.specs.Prelude.{◌≡◌, OnOk, OnErr, None};
 ghost use Rattle.hostfiles.specs.declared.looks.Ask.{Ask as HostAsk};
-ghost use Rattle.hostfiles.specs.Looks.{is_same_ask};
-ghost use Rattle.file_steps.specs.Steps.{step_of_ask, or_else, mark, erased, TakesMemory};
+ghost use Rattle.file_steps.specs.Steps.{ErasesSteps, NotesStep, TakesMemory, erased, step_of_ask};
 
 use hostfiles::Ask;
 use keymaps::{KeyMap, PlaceMap};
@@ -47,9 +46,10 @@ impl FileSteps {
         }
     }
 
-    /// Gives a question a step, unless it has one. An `Err` changes nothing, and comes only where that takes memory.
+    /// Gives a question a step, unless it has one. An `Err` changes nothing, and comes only where that takes
+    /// memory.
     pub fn note(&mut self, ask: &Ask, step: u64) -> Result<(), AllocError>
-        ensures ok { OnOk result ((q : HostAsk) → step_of_ask self.new q ≡ or_else (step_of_ask self.old q) (mark (is_same_ask q ask.now) step)) }
+        ensures ok { OnOk result (NotesStep self.old ask.now step self.new) }
         ensures err { OnErr result (self.new ≡ self.old) }
         ensures refusal { OnErr result (TakesMemory self.old ask.now) }
     {
@@ -62,7 +62,7 @@ impl FileSteps {
     // Gives a step to a question that has none.
     fn enter(&mut self, ask: &Ask, step: u64) -> Result<(), AllocError>
         requires { step_of_ask self.old ask.now ≡ None }
-        ensures ok { OnOk result ((q : HostAsk) → step_of_ask self.new q ≡ or_else (step_of_ask self.old q) (mark (is_same_ask q ask.now) step)) }
+        ensures ok { OnOk result (NotesStep self.old ask.now step self.new) }
         ensures err { OnErr result (self.new ≡ self.old) }
         ensures refusal { OnErr result (TakesMemory self.old ask.now) }
     {
@@ -90,7 +90,7 @@ impl FileSteps {
 
 // Takes away every step of a drive from this one on.
 fn erase_drives(directories: &mut [Option<u64>], from: u64)
-    ensures { (drive : ℕ) → get_or directories.new drive None ≡ erased from (get_or directories.old drive None) }
+    ensures { ErasesSteps from directories.old directories.new }
 {
     for step in directories.iter_mut() {
         *step = erased(*step, from);

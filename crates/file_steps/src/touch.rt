@@ -1,16 +1,16 @@
 // The first step that a change of a host file touches.
 
-ghost use Rattle.std.specs.Prelude.{◌≡◌, ◌↔◌, IsTrue, length, is_some, option_copied, if◌then◌else◌};
-ghost use Rattle.std.specs.Option.{option_map};
+ghost use Rattle.std.specs.Prelude.{◌≡◌, ◌↔◌, IsTrue, is_some, option_copied, if◌then◌else◌};
 ghost use Rattle.file_steps.specs.Steps.{lesser};
-ghost use Rattle.file_steps.specs.Touch.{IsFileTouch, IsPlaceTouch, record_of, with_file};
+ghost use Rattle.file_steps.specs.Touch.{IsFileTouch, IsPlaceTouch, length_of, record_of};
+ghost use Rattle.file_steps.specs.Setting.{with_file};
 
 use crate::steps::FileSteps;
 use hostfiles::{Ask, HostFile, HostFiles, Key, Record};
 
 impl FileSteps {
-    /// The least noted step of a question that has another answer once the host file of a key is set to this one, or removed
-    /// where there is none; or `least`. Answers are compared by value.
+    /// The least noted step of a question that has another answer once the host file of a key is set to this
+    /// one, or removed where there is none; or `least`. Answers are compared by value.
     pub fn touch_of_change(
         &self,
         least: u64,
@@ -18,7 +18,8 @@ impl FileSteps {
         key: &Key,
         new: Option<&HostFile>,
     ) -> u64
-        ensures { IsFileTouch old.now (with_file old.now key.now (option_copied new.entry)) self.now least result }
+        ensures { IsFileTouch old.now (with_file old.now key.now (option_copied new.entry))
+            self.now least result }
     {
         let before = old.file(key);
         let is_same = is_same_presence(before, new);
@@ -37,7 +38,8 @@ impl FileSteps {
         old: Option<&HostFile>,
         new: Option<&HostFile>,
     ) -> u64
-        ensures { IsPlaceTouch key.now (option_copied old.entry) (option_copied new.entry) self.now least result }
+        ensures { IsPlaceTouch key.now (option_copied old.entry) (option_copied new.entry)
+            self.now least result }
     {
         let mut touch = least;
         let mut after = None;
@@ -59,14 +61,14 @@ fn is_same_presence(old: Option<&HostFile>, new: Option<&HostFile>) -> bool
 
 // Whether two files have as many records, or are both not there.
 fn is_same_length(old: Option<&HostFile>, new: Option<&HostFile>) -> bool
-    ensures { IsTrue result ↔ (option_map length (option_copied old.entry) ≡ option_map length (option_copied new.entry)) }
+    ensures { IsTrue result ↔ (length_of (option_copied old.entry) ≡ length_of (option_copied new.entry)) }
 {
     length_of(old) == length_of(new)
 }
 
 // How many records a file has, if it is there.
 fn length_of(file: Option<&HostFile>) -> Option<u32>
-    ensures { result ≡ option_map length (option_copied file.entry) }
+    ensures { result ≡ length_of (option_copied file.entry) }
 {
     match file {
         Some(file) => Some(file.len()),
@@ -76,7 +78,8 @@ fn length_of(file: Option<&HostFile>) -> Option<u32>
 
 // Whether two files have the same record at a place, or both none.
 fn is_same_record(old: Option<&HostFile>, new: Option<&HostFile>, place: u32) -> bool
-    ensures { IsTrue result ↔ (record_of (option_copied old.entry) place ≡ record_of (option_copied new.entry) place) }
+    ensures { IsTrue result
+        ↔ (record_of (option_copied old.entry) place ≡ record_of (option_copied new.entry) place) }
 {
     record_of(old, place) == record_of(new, place)
 }

@@ -1,5 +1,6 @@
 -- Keys and names.
 use Rattle.std.proofs.Common.{◌≡◌, ◌<◌, ◌≤◌, ◌-◌, ◌+◌, ℕ, zero, suc, Bool, true, cond, List, [], ◌∷◌, ◌++◌, length, map, take, drop, replicate, ◌&&◌, nat_lt, slice_index, refl, ap, sym, ◌∙◌, arith, rules}
+use Rattle.std.specs.Prelude.{slice_set}
 use Rattle.std.specs.List.{list_all, before_first}
 use Rattle.std.proofs.lemmas.Bool.Decides.{nat_tests}
 use Rattle.std.specs.Char.{to_ascii_uppercase}
@@ -96,18 +97,23 @@ sayable_parts key h =
 pub drive_below : (drive : ℕ) → nat_lt drive 4 ≡ true → drive < 4
 drive_below drive h = grind (arith, nat_tests)
 
-pub printed_plain : (key letter name kind : List ℕ) → letter ≡ drive_text (slice_index key 0) → name ≡ before_first is_blank (name_field key) → kind ≡ before_first is_blank (type_field key) → kind ≡ [] → letter ++ name ≡ printed key
-unfolding printed
-printed_plain key letter name kind l n k none =
-    ap (λ x. x ++ name) l ∙ ap (λ x. drive_text (slice_index key 0) ++ x) n ∙ sym (append-nil _) ∙ ap (λ x. drive_text (slice_index key 0) ++ before_first is_blank (name_field key) ++ type_text x) (sym (sym k ∙ none))
+below_four : (drive : ℕ) → drive < 4 → nat_lt drive 4 ≡ true
+below_four drive d = grind (arith, nat_tests)
 
-some_text : (kind : List ℕ) → 0 < length kind → 46 ∷ kind ≡ type_text kind
-some_text [] h = absurd (omega arith)
-some_text (b ∷ bs) h = refl
+-- a name on another drive is a name
+pub moved_is_sayable : (key : Key) (drive : ℕ) → length key ≡ 12 → drive < 4 → is_sayable key ≡ true → is_sayable (slice_set key 0 drive) ≡ true
+unfolding is_sayable
+moved_is_sayable [] drive n d s = absurd (omega arith)
+moved_is_sayable (k ∷ ks) drive n d s =
+    let parts = sayable_parts (k ∷ ks) s in
+    all_four (nat_lt drive 4) (is_allowed (slice_index (drive ∷ ks) 1)) (is_field (name_field (drive ∷ ks))) (is_field (type_field (drive ∷ ks)))
+    (below_four drive d) parts.first parts.name parts.kind
 
-pub printed_dotted : (key letter name kind : List ℕ) → letter ≡ drive_text (slice_index key 0) → name ≡ before_first is_blank (name_field key) → kind ≡ before_first is_blank (type_field key) → 0 < length kind → letter ++ (name ++ (46 ∷ kind)) ≡ printed key
+-- the pieces of a printed name, one after another
+pub printed_pieces : (key drive name dot kind : List ℕ) → drive ≡ drive_text (slice_index key 0) → name ≡ before_first is_blank (name_field key) → kind ≡ before_first is_blank (type_field key) → dot ++ kind ≡ type_text kind
+    → ((drive ++ name) ++ dot) ++ kind ≡ printed key
 unfolding printed
-printed_dotted key letter name kind l n k some =
-    sym (append_assoc letter name (46 ∷ kind))
-    ∙ ap (λ x. (x ++ name) ++ (46 ∷ kind)) l ∙ ap (λ x. (drive_text (slice_index key 0) ++ x) ++ (46 ∷ kind)) n
-    ∙ ap (λ x. (drive_text (slice_index key 0) ++ before_first is_blank (name_field key)) ++ x) (some_text kind some ∙ ap type_text k)
+printed_pieces key drive name dot kind d n k before =
+    append_assoc (drive ++ name) dot kind
+    ∙ ap (λ x. (x ++ name) ++ (dot ++ kind)) d ∙ ap (λ x. (drive_text (slice_index key 0) ++ x) ++ (dot ++ kind)) n
+    ∙ ap (λ x. (drive_text (slice_index key 0) ++ before_first is_blank (name_field key)) ++ x) (before ∙ ap type_text k)

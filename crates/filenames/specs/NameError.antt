@@ -4,7 +4,7 @@ use Rattle.filenames.specs.Names.{Key}
 use Rattle.filenames.specs.declared.name.NameError.{NameError}
 use Rattle.filenames.specs.declared.name.NameError.TheVariants.{Empty, TooLong, BadByte, BadLetter}
 
--- the number that tells a refusal
+-- the number of a refusal
 abbrev pub number_of : NameError → ℕ
 number_of Empty = 1
 number_of TooLong = 2

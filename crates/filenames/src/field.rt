@@ -65,7 +65,7 @@ pub fn fill(field: &mut [u8], text: &[u8])
     }
 }
 
-/// Whether a field holds bytes of a name and blanks behind them.
+/// Whether a field has bytes of a name and blanks behind them.
 pub fn is_field(field: &[u8]) -> bool
     ensures { result ≡ is_field field.now }
 {

@@ -1,14 +1,15 @@
 // Names of files.
 
-ghost use Rattle.std.specs.Prelude.{◌≡◌, ◌<◌, ◌≤◌, ◌↔◌, length, true, IsSome, IfSome};
-ghost use Rattle.filenames.specs.Names.{name_of, plain_name, named, key_of, drive_of, drive_text, is_sayable, SaidAsPrinted};
+ghost use Rattle.std.specs.Prelude.{◌≡◌, ◌<◌, ◌≤◌, ◌++◌, ◌↔◌, length, slice_index, slice_set, true, IsSome, IfSome};
+ghost use Rattle.filenames.specs.Names.{name_of, plain_name, named, key_of, drive_of, drive_text, is_sayable, printed, type_text, SaidAsPrinted};
 
 use crate::field::{all_allowed, field_text, fill, halves, is_allowed, is_field};
 use std::fmt;
 use std::marker::Model;
 use thiserror::Error;
 
-/// The drive of a file, 0 to 3 for A to D, and the eleven bytes of its name: 8 of the name and 3 of the type, each filled up with blanks.
+/// The drive of a file, 0 to 3 for A to D, and the eleven bytes of its name: 8 of the name and 3 of the type,
+/// each filled up with blanks.
 pub type Key = [u8; 12];
 
 /// The name of a file on one of the drives A to D.
@@ -28,6 +29,19 @@ impl Model for Name {
     ghost invariant = { λ a. is_sayable a.key ≡ true };
 
     ghost inverse = { λ key. record { key = key } };
+}
+
+/// The pieces of which a name is printed, one after another.
+#[derive(Clone, Copy)]
+pub struct Pieces<'a> {
+    /// The letter of drive B to D and `:`; empty for drive A.
+    pub drive: &'a str,
+    /// The name without its type.
+    pub name: &'a str,
+    /// A `.` before a type; empty where there is none.
+    pub dot: &'a str,
+    /// The type; empty where there is none.
+    pub kind: &'a str,
 }
 
 /// Why a text is no name.
@@ -66,8 +80,9 @@ impl NameError {
 impl Name {
     ghost use Rattle.filenames.specs.NameError.{NamedAs};
 
-    /// The name that a text says: 1 to 8 bytes, and behind a `.` up to 3 of a type, with a letter A to D and `:` before it
-    /// or on drive A. Letters are raised. Else the refusal: of the letter, else the first of the others that fits.
+    /// The name that a text says: 1 to 8 bytes, and behind a `.` up to 3 of a type, with a letter A to D and
+    /// `:` before it or on drive A. Letters are raised. Else the refusal: of the letter, else the first of
+    /// the others that fits.
     #[tactic(auto, unfolding(crate::specs::Names::name_of))]
     pub fn parse(text: &str) -> Result<Name, NameError>
         ensures { NamedAs (name_of text.now) result }
@@ -125,14 +140,47 @@ impl Name {
         self.key
     }
 
-    /// The name of a key: where its first byte is 0 to 3, and at least one byte of a name and then blanks fill the next eight, and bytes
-    /// of a name and then blanks the last three.
+    /// The name of a key that is one of a name.
+    pub fn of_key(key: &Key) -> Name
+        requires { is_sayable key.now ≡ true }
+        ensures { result ≡ key.now }
+    {
+        Name { key: *key }
+    }
+
+    /// The same name on a drive, 0 to 3 for A to D.
+    pub fn moved_to(&self, drive: u8) -> Name
+        requires { drive < 4 }
+        ensures moved { result ≡ slice_set self.now 0 drive }
+        ensures drive { slice_index result 0 ≡ drive }
+    {
+        let mut key = self.key;
+        key[0] = drive;
+        Name { key }
+    }
+
+    /// The pieces of the name as it is printed.
+    pub fn pieces(&self) -> Pieces<'_>
+        ensures { result.drive.now ++ result.name.now ++ result.dot.now ++ result.kind.now
+            ≡ printed self.now }
+    {
+        let kind = field_text(&self.key[9..12]);
+        Pieces {
+            drive: drive_text(self.key[0]),
+            name: field_text(&self.key[1..9]),
+            dot: dot_before(kind),
+            kind,
+        }
+    }
+
+    /// The name of a key: where its first byte is 0 to 3, and at least one byte of a name and then blanks
+    /// fill the next eight, and bytes of a name and then blanks the last three.
     pub fn from_key(key: &Key) -> Option<Name>
         ensures some { IfSome result (λ name. name ≡ key.now) }
         ensures exactly { IsSome result ↔ (is_sayable key.now ≡ true) }
     {
         if is_sayable(key) {
-            return Some(Name { key: *key });
+            return Some(Name::of_key(key));
         }
         None
     }
@@ -145,13 +193,13 @@ impl fmt::Display for Name {
     ghost output = { λ name. Some (printed name) };
 
     fn fmt<W: fmt::Write>(&self, f: &mut fmt::Formatter<W>) -> fmt::Result {
-        let letter = drive_text(self.key[0]);
-        let name = field_text(&self.key[1..9]);
-        let kind = field_text(&self.key[9..12]);
-        if kind.is_empty() {
-            return write!(f, "{letter}{name}");
-        }
-        write!(f, "{letter}{name}.{kind}")
+        let Pieces {
+            drive,
+            name,
+            dot,
+            kind,
+        } = self.pieces();
+        write!(f, "{drive}{name}{dot}{kind}")
     }
 }
 
@@ -178,12 +226,18 @@ fn drive_text(drive: u8) -> &'static str
     ensures { result.now ≡ drive_text drive }
 {
     match drive {
-        0 => "",
         1 => "B:",
         2 => "C:",
         3 => "D:",
-        _ => unreachable!(),
+        _ => "",
     }
+}
+
+// What is printed between a name and its type.
+fn dot_before(kind: &str) -> &'static str
+    ensures { result.now ++ kind.now ≡ type_text kind.now }
+{
+    if kind.is_empty() { "" } else { "." }
 }
 
 // The drive that a letter names.

@@ -1,30 +1,9 @@
 -- Names of files in the folder of a drive.
-use Rattle.std.proofs.Common.{◌≡◌, ◌<◌, ℕ, Bool, true, false, cond, ◌&&◌, ◌||◌, List, [], ◌∷◌, length, drop, nat_lt, slice_index, Option, Some, None, refl, ap, sym, ◌∙◌, arith}
+use Rattle.std.proofs.Common.{◌≡◌, ℕ, Bool, true, false, cond, ◌&&◌, ◌||◌, List, [], ◌∷◌, length, drop, nat_lt, slice_index, Option, Some, None, refl, ap, sym, ◌∙◌}
 use Rattle.std.specs.Prelude.{Result, Ok, Err, slice_set, ◌==◌}
-use Rattle.std.proofs.lemmas.Bool.Decides.{nat_tests}
 use Rattle.std.specs.List.{before_first, after_first, list_any}
-use Rattle.filenames.proofs.NameLemmas.{sayable_parts}
-use Rattle.filenames.specs.Names.{Key, is_allowed, is_colon, is_dot, is_field, is_sayable, is_valid, key_of, name_field, type_field, named, on_drive, drive_of, plain_name, has_drive, name_of}
+use Rattle.filenames.specs.Names.{Key, is_colon, is_dot, is_valid, key_of, named, on_drive, drive_of, plain_name, has_drive, name_of}
 use Rattle.folders.specs.Entries.{key_in, ok_or_none}
-
-all_four : (a b c d : Bool) → a ≡ true → b ≡ true → c ≡ true → d ≡ true → (a && b && c && d) ≡ true
-all_four true true true true p q r s = refl
-all_four false b c d p q r s = cc
-all_four true false c d p q r s = cc
-all_four true true false d p q r s = cc
-all_four true true true false p q r s = cc
-
-below_four : (drive : ℕ) → drive < 4 → nat_lt drive 4 ≡ true
-below_four drive d = grind (arith, nat_tests)
-
--- a name on another drive is a name
-pub moved_is_sayable : (key : Key) (drive : ℕ) → length key ≡ 12 → drive < 4 → is_sayable key ≡ true → is_sayable (slice_set key 0 drive) ≡ true
-unfolding is_sayable
-moved_is_sayable [] drive n d s = absurd (omega arith)
-moved_is_sayable (k ∷ ks) drive n d s =
-    let parts = sayable_parts (k ∷ ks) s in
-    all_four (nat_lt drive 4) (is_allowed (slice_index (drive ∷ ks) 1)) (is_field (name_field (drive ∷ ks))) (is_field (type_field (drive ∷ ks)))
-    (below_four drive d) parts.first parts.name parts.kind
 
 -- a name without a `:` names no drive
 no_letter : (file : List ℕ) → list_any is_colon file ≡ false → has_drive file ≡ false

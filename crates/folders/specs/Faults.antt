@@ -1,4 +1,4 @@
--- Why folders are not read or a file is not written, and what tells it. (This project's own.)
+-- Why folders are not read or a file is not written, and the text that says so. (This project's own.)
 use Rattle.std.specs.Prelude.{◌≡◌, ℕ, List, ◌++◌, codes, string_bytes}
 use Rattle.std.specs.Fmt.{decimal}
 use Rattle.filenames.specs.Names.{printed}

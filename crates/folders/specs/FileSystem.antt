@@ -1,4 +1,4 @@
--- What a file system holds, where it tells that: the bytes of each regular file by its path. (This project's own.)
+-- What is in a file system, where that is known: the bytes of each regular file by its path. (This project's own.)
 use Rattle.std.specs.Prelude.{◌≡◌, ◌≢◌, ℕ, List, take, Option, Some, None, IsSome, ⊤}
 use Rattle.std.specs.Option.{option_and_then}
 use Rattle.std.specs.Ordering.{nat_cmp}
@@ -13,26 +13,26 @@ Path = List ℕ
 abbrev pub Stored : Type 0
 Stored = FinMap (slice_cmp nat_cmp) (List ℕ)
 
--- the bytes of the file of a path, where they are told
+-- the bytes of the file of a path, where they are known
 abbrev pub text_at : Option Stored → Path → Option (List ℕ)
 text_at stored path = option_and_then (λ files. get files path) stored
 
--- where the files are told, there is one of this path, and a reader has its bytes before it
+-- where the files are known, there is one of this path, and a reader has its bytes before it
 abbrev pub Opens : Option Stored → Path → Option (List ℕ) → Type 0
 Opens None path left = ⊤
 Opens (Some files) path left = (left ≡ get files path) × IsSome left
 
--- where the files are told, there is one of this path, and these are its bytes, or its first n where it has more
+-- where the files are known, there is one of this path, and these are its bytes, or its first n where it has more
 abbrev pub Reads : Option Stored → Path → ℕ → List ℕ → Type 0
 Reads None path n got = ⊤
 Reads (Some files) path n got = (all : List ℕ) × (get files path ≡ Some all) × (got ≡ take n all)
 
--- what is told changes so
+-- where the files are known, they change so
 abbrev pub Becomes : Option Stored → Option Stored → (Stored → Stored) → Type 0
 Becomes None after change = ⊤
 Becomes (Some files) after change = after ≡ Some (change files)
 
--- what is told changes at this path alone, and stays told
+-- where the files are known, they change at this path alone, and stay known
 abbrev pub ChangesAt : Path → Option Stored → Option Stored → Type 0
 ChangesAt path None after = ⊤
 ChangesAt path (Some files) after = (changed : Stored) × (after ≡ Some changed) × ((p : Path) → p ≢ path → get changed p ≡ get files p)
@@ -52,7 +52,7 @@ pub record IsInPlace (before now : Stored) (path temporary : Path) (bytes : List
   pub gone : get now temporary ≡ None
   pub others : (p : Path) → p ≢ path → p ≢ temporary → get now p ≡ get before p
 
--- the same, where the files are told
+-- the same, where the files are known
 abbrev pub PutsInPlace : Option Stored → Option Stored → Path → Path → List ℕ → Type 0
 PutsInPlace None after path temporary bytes = ⊤
 PutsInPlace (Some files) after path temporary bytes = (now : Stored) × (after ≡ Some now) × IsInPlace files now path temporary bytes

@@ -26,6 +26,10 @@ RefusesAs (Some n) name (Err f) = f ≡ Refused name n
 abbrev pub IsRefusal : ℕ → Type 0
 IsRefusal n = (n ≡ 1) ⊎ (n ≡ 2)
 
+-- the host files of such keys stay as they were
+abbrev pub StaysWhere : (Key → Type 0) → Host → Host → Type 0
+StaysWhere Such before after = (k : Key) → Such k → get after k ≡ get before k
+
 -- a host file has the records of the file of a path: of its bytes at most one more is read than a host file has
 pub record IsRead (stored : Stored) (path : Path) (records : Option (List Record)) : Type 0 where
   pub bytes : List ℕ
@@ -38,6 +42,7 @@ IsReadAs files folder None records = ⊤
 IsReadAs None folder (Some file) records = is_some records ≡ true
 IsReadAs (Some stored) folder (Some file) records = IsRead stored (path_text folder (string_bytes file)) records
 
+-- the same of each key of a listing
 abbrev pub AreRead : {Z : Type 0} → Option Stored → Path → FinMap (slice_cmp nat_cmp) (String Z) → Host → Type 0
 AreRead files folder listed host = (key : Key) → IsReadAs files folder (get listed key) (get host key)
 
@@ -49,7 +54,7 @@ FailsFile folder file name (TwoFiles other) = ⊥
 FailsFile folder file name (Refused other n) = (other ≡ name) × IsRefusal n
 FailsFile folder file name OutOfMemory = Unit {0}
 
--- why the folder of a drive, with these names in it where the files are told, is not read: the folder or a file in it can't be, or a
+-- why the folder of a drive, with these names in it where the files are known, is not read: the folder or a file in it can't be, or a
 -- name of the drive is that of two of its files or is refused
 abbrev pub FailsFolder : Option Stored → List Path → ℕ → List ℕ → Fault → Type 0
 FailsFolder files names drive folder (CannotRead p) = (string_bytes p ≡ folder) ⊎ ((file : List ℕ) × (string_bytes p ≡ path_text folder file))

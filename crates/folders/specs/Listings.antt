@@ -1,10 +1,10 @@
 -- The files of a folder by the names that they give. (This project's profile.)
-use Rattle.std.specs.Prelude.{◌≡◌, ℕ, List, ◌∷◌, ◌++◌, Option, Some, None, true, if◌then◌else◌, IfSome, String, string_bytes}
+use Rattle.std.specs.Prelude.{◌≡◌, ℕ, List, ◌∷◌, ◌++◌, Option, Some, None, true, false, if◌then◌else◌, IfSome, String, string_bytes}
 use Rattle.std.specs.List.{Contains}
 use Rattle.std.specs.Option.{option_map}
 use Rattle.std.specs.Ordering.{nat_cmp, is_lt}
 use Rattle.std.specs.Cmp.Lexicographic.{slice_cmp}
-use Rattle.std.specs.FinMap.{FinMap, get, contains_key}
+use Rattle.std.specs.FinMap.{FinMap, get, insert, contains_key}
 use Rattle.filenames.specs.Names.{Key}
 use Rattle.folders.specs.Entries.{key_in, path_text}
 use Rattle.folders.specs.FileSystem.{Path, Stored}
@@ -41,3 +41,11 @@ pub record Lists {Z : Type 0} (stored : Stored) (drive : ℕ) (folder : Path) (n
   pub all : (key : Key) (name : Path) → Contains names name → IsHostFile stored drive folder key name → contains_key files key ≡ true
   pub alone : twice ≡ None → (key : Key) (name : Path) → Contains names name → IsHostFile stored drive folder key name → option_map string_bytes (get files key) ≡ Some name
   pub two : IfSome twice (AreTwo stored drive folder names)
+
+-- a file is listed by a key that no file had, and no key more is that of two
+abbrev pub ListsOnce : {Z : Type 0} → Key → String Z → FinMap (slice_cmp nat_cmp) (String Z) → Option Key → FinMap (slice_cmp nat_cmp) (String Z) → Option Key → Type 0
+ListsOnce key file files twice files' twice' = contains_key files key ≡ false → (files' ≡ insert files key file) × (twice' ≡ twice)
+
+-- a file gives a key that a file had: the first of them stays, and the key is that of two
+abbrev pub ListsAgain : {Z : Type 0} → Key → FinMap (slice_cmp nat_cmp) (String Z) → Option Key → FinMap (slice_cmp nat_cmp) (String Z) → Option Key → Type 0
+ListsAgain key files twice files' twice' = contains_key files key ≡ true → (files' ≡ files) × (twice' ≡ Some (least key twice))

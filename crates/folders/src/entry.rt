@@ -1,27 +1,13 @@
 // Names of files in a folder, and their paths.
 
-ghost use Rattle.std.specs.Prelude.{◌≡◌, ◌<◌, ℕ, None, IfOk, IfSome, slice_index, slice_set, string_bytes};
+ghost use Rattle.std.specs.Prelude.{◌≡◌, ◌<◌, ℕ, None, IfOk, IfSome, slice_index, string_bytes};
 ghost use Rattle.folders.specs.Entries.{key_in, file_text, temporary_text, needs_slash, path_text};
 
 use filenames::Name;
 use std::alloc::{AllocError, Global};
 
-// The same name on another drive, 0 to 3 for A to D.
-fn on_drive(name: &Name, drive: u8) -> Name
-    requires { drive < 4 }
-    ensures moved { result ≡ slice_set name.now 0 drive }
-    ensures drive { slice_index result 0 ≡ drive }
-{
-    let mut key = name.key();
-    key[0] = drive;
-    match Name::from_key(&key) {
-        Some(name) => name,
-        None => unreachable!(),
-    }
-}
-
-/// The name of the host file that a file in the folder of a drive is: drive 0 to 3 for A to D, and the name and the type that the
-/// file's name says. None where that is no name, or has a `:`.
+/// The name of the host file that a file in the folder of a drive is: drive 0 to 3 for A to D, and the name
+/// and the type that the file's name says. None where that is no name, or has a `:`.
 pub fn name_in_folder(drive: u8, file: &str) -> Option<Name>
     requires { drive < 4 }
     ensures key { result ≡ key_in drive file.now }
@@ -31,7 +17,7 @@ pub fn name_in_folder(drive: u8, file: &str) -> Option<Name>
         return None;
     }
     match Name::parse(file) {
-        Ok(name) => Some(on_drive(&name, drive)),
+        Ok(name) => Some(name.moved_to(drive)),
         Err(_) => None,
     }
 }
@@ -40,21 +26,22 @@ pub fn name_in_folder(drive: u8, file: &str) -> Option<Name>
 pub fn file_name(alloc: Global, name: &Name) -> Result<String, AllocError>
     ensures { IfOk result (λ s. string_bytes s ≡ file_text name.now) }
 {
-    let plain = on_drive(name, 0);
+    let plain = name.moved_to(0);
     format!(in alloc; "{plain}")
 }
 
-/// The name that a file has in the folder of its drive while it is written. No host file has it, on any drive: a `.` stands before
-/// its first letter.
+/// The name that a file has in the folder of its drive while it is written. No host file has it, on any
+/// drive: a `.` stands before its first letter.
 pub fn temporary_name(alloc: Global, name: &Name) -> Result<String, AllocError>
     ensures text { IfOk result (λ s. string_bytes s ≡ temporary_text name.now) }
     ensures passed_over { IfOk result (λ s. (drive : ℕ) → key_in drive (string_bytes s) ≡ None) }
 {
-    let plain = on_drive(name, 0);
+    let plain = name.moved_to(0);
     format!(in alloc; ".{plain}.new")
 }
 
-/// The path of a file in a folder: the folder as given, a `/` unless the folder ends with one or is empty, and the file's name.
+/// The path of a file in a folder: the folder as given, a `/` unless the folder ends with one or is empty,
+/// and the file's name.
 pub fn path_in(alloc: Global, folder: &str, file: &str) -> Result<String, AllocError>
     ensures { IfOk result (λ s. string_bytes s ≡ path_text folder.now file.now) }
 {

@@ -16,7 +16,8 @@ pub enum Fault {
     CannotWrite(String),
     /// Two files in a folder have this name, the least such by its key.
     TwoFiles(Name),
-    /// The host file of this name is refused, by the number of `FilesError`: 1 for more than 8,388,608 bytes, 2 for a 513th file.
+    /// The host file of this name is refused, by the number of `FilesError`: 1 for more than 8,388,608 bytes,
+    /// 2 for a 513th file.
     Refused(Name, u8),
     /// Memory was wanted and refused.
     OutOfMemory,

@@ -21,16 +21,16 @@ pub trait Contents {
         ensures { OnOk result (Appends (W.contents writer.old) (W.contents writer.new) (bytes self.now)) };
 }
 
-/// Files by their paths. A contract sees the bytes of each regular file, where the file system tells them; that of an operating
-/// system tells nothing. Paths that differ are different files.
+/// Files by their paths. A contract sees the bytes of each regular file, where the file system gives
+/// them; that of an operating system gives none. Paths that differ are different files.
 pub trait FileSystem {
     /// An open file that is read.
     type Input: Read + Drop;
 
-    /// The bytes of each regular file, where they are told.
+    /// The bytes of each regular file, where they are known.
     ghost files: { Self → Option Stored };
 
-    /// The names of what stands in a folder, in the order in which it is listed, where the files are told.
+    /// The names of what stands in a folder, in the order in which it is listed, where the files are known.
     ghost names: { Self → Path → List Path };
 
     /// The allocator of what it makes, and of what is made of its files.
@@ -42,7 +42,8 @@ pub trait FileSystem {
 
     /// The names of what stands in a folder.
     fn list(&self, folder: &str) -> io::Result<Vec<String>>
-        ensures { IfOk result (λ listed. IfSome (files self.now) (λ _. map string_bytes listed.items ≡ names self.now folder.now)) };
+        ensures { IfOk result (λ listed. IfSome (files self.now) (λ _.
+            map string_bytes listed.items ≡ names self.now folder.now)) };
 
     /// Whether a regular file stands at a path, and no link to one.
     fn is_file(&self, path: &str) -> io::Result<bool>
@@ -50,7 +51,8 @@ pub trait FileSystem {
 
     /// Writes a new file, where nothing stands at the path. An error may leave a part of it there.
     fn write_new<C: Contents>(&mut self, path: &str, contents: &C) -> io::Result<()>
-        ensures written { OnOk result (Becomes (files self.old) (files self.new) (λ stored. insert stored path.now (C.bytes contents.now))) }
+        ensures written { OnOk result (Becomes (files self.old) (files self.new)
+            (λ stored. insert stored path.now (C.bytes contents.now))) }
         ensures others { ChangesAt path.now (files self.old) (files self.new) };
 
     /// Puts the file of one path at another, in place of what stands there.
@@ -69,7 +71,7 @@ fn write_whole<W: Write + Drop, C: Contents>(
     writer: W,
     contents: &C,
 ) -> io::Result<W>
-    ensures { IfOk result (λ written. Appends (W.contents writer) (W.contents written) (C.bytes contents.now)) }
+    ensures { IfOk result (λ after. Appends (W.contents writer) (W.contents after) (C.bytes contents.now)) }
 {
     let mut buffered = BufWriter::new(alloc, writer)?;
     contents.write_to(&mut buffered)?;
@@ -79,7 +81,7 @@ fn write_whole<W: Write + Drop, C: Contents>(
     }
 }
 
-/// The files of the operating system, which tells a contract nothing of them.
+/// The files of the operating system, of which a contract knows nothing.
 #[derive(Drop)]
 pub struct SystemFiles<'a, R> {
     rt: &'a R,

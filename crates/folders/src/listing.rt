@@ -1,12 +1,12 @@
 // The files of a folder by the names that they give.
 
-ghost use Rattle.std.specs.Prelude.{◌≡◌, ◌<◌, ℕ, List, true, false, None, Some, OnOk, OnErr, slice_index};
+ghost use Rattle.std.specs.Prelude.{◌≡◌, ℕ, List, true, None, OnOk, OnErr, slice_index};
 ghost use Rattle.std.specs.FinMap as finmap;
 ghost use Rattle.std.specs.Option.{ForSome};
 ghost use Rattle.filenames.specs.Names.{is_sayable};
-ghost use Rattle.folders.specs.Listings.{least};
+ghost use Rattle.folders.specs.Listings.{ListsAgain, ListsOnce, least};
 
-use filenames::{Key, Name};
+use filenames::Name;
 use keymaps::KeyMap;
 use std::alloc::{AllocError, Global};
 use std::cmp::Ordering;
@@ -18,8 +18,8 @@ pub struct Listing {
     pub drive: u8,
     /// The name in the folder of the file of each key: of two files of one key, that of the one listed first.
     pub files: KeyMap<String>,
-    /// The least key that two files have.
-    pub twice: Option<Key>,
+    /// The least name that two files have.
+    pub twice: Option<Name>,
     ghost names: { (k : List ℕ) → finmap.contains_key files k ≡ true → is_sayable k ≡ true },
     ghost on_drive: { (k : List ℕ) → finmap.contains_key files k ≡ true → slice_index k 0 ≡ drive },
     ghost twice_there: { ForSome twice (λ k. finmap.contains_key files k ≡ true) },
@@ -39,32 +39,35 @@ impl Listing {
         }
     }
 
-    /// Adds a file by the name that it gives, on the listing's drive, and its name in the folder. An error changes nothing.
+    /// Adds a file by the name that it gives, on the listing's drive, and its name in the folder. An error
+    /// changes nothing.
     pub fn add(&mut self, name: &Name, file: String) -> Result<(), AllocError>
         requires { slice_index name.now 0 ≡ self.old.drive }
         ensures drive { self.new.drive ≡ self.old.drive }
-        ensures once { OnOk result (finmap.contains_key self.old.files name.now ≡ false → (self.new.files ≡ finmap.insert self.old.files name.now file) × (self.new.twice ≡ self.old.twice)) }
-        ensures again { OnOk result (finmap.contains_key self.old.files name.now ≡ true → (self.new.files ≡ self.old.files) × (self.new.twice ≡ Some (least name.now self.old.twice))) }
+        ensures once { OnOk result (ListsOnce name.now file
+            self.old.files self.old.twice self.new.files self.new.twice) }
+        ensures again { OnOk result (ListsAgain name.now
+            self.old.files self.old.twice self.new.files self.new.twice) }
         ensures err { OnErr result (self.new ≡ self.old) }
     {
         let key = name.key();
         if self.files.contains_key(&key) {
-            self.twice = Some(least(key, self.twice));
+            self.twice = Some(least(name, self.twice));
             return Ok(());
         }
         self.files.insert(key, file)
     }
 }
 
-// The lesser of two keys, where there are two.
-fn least(key: Key, other: Option<Key>) -> Key
-    ensures { result ≡ least key other }
+// The lesser of two names by their keys, where there are two.
+fn least(name: &Name, other: Option<Name>) -> Name
+    ensures { result ≡ least name.now other }
 {
     let Some(other) = other else {
-        return key;
+        return *name;
     };
-    match other.cmp(&key) {
+    match other.key().cmp(&name.key()) {
         Ordering::Less => other,
-        _ => key,
+        _ => *name,
     }
 }

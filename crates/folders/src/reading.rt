@@ -5,7 +5,7 @@ ghost use Rattle.std.specs.FinMap as finmap;
 ghost use Rattle.hostfiles.specs.Hosts.{records_in, refusal_of};
 ghost use Rattle.folders.specs.Entries.{key_in, path_text};
 ghost use Rattle.folders.specs.FileSystem.{Reads};
-ghost use Rattle.folders.specs.Folders.{AreFromFolders, AreOf, FailsFile, FailsFolder, FailsFolders, AreRead, IsRead, RefusesAs};
+ghost use Rattle.folders.specs.Folders.{AreFromFolders, AreOf, FailsFile, FailsFolder, FailsFolders, AreRead, IsRead, RefusesAs, StaysWhere};
 ghost use Rattle.folders.specs.Listings.{Finds, Lists};
 
 use crate::entry::{name_in_folder, path_in};
@@ -19,12 +19,14 @@ use std::alloc::Global;
 use std::io;
 use std::io::Read;
 
-/// The most bytes of a file that are read: one more than a host file has, so that a longer one is refused and not read on.
+/// The most bytes of a file that are read: one more than a host file has, so that a longer one is refused and
+/// not read on.
 const MOST_READ: u64 = FILE_LIMIT as u64 + 1;
 
 // The bytes of a file, as many as are read.
 fn read_bytes<T: Read + Drop>(alloc: Global, source: T) -> io::Result<Vec<u8>>
-    ensures { IfOk result (λ bytes. IfSome (T.remaining source) (λ all. bytes.items ≡ take (FILE_LIMIT + 1) all)) }
+    ensures { IfOk result (λ bytes. IfSome (T.remaining source) (λ all.
+        bytes.items ≡ take (FILE_LIMIT + 1) all)) }
 {
     let mut bytes = Vec::new(alloc);
     source.take(MOST_READ).read_to_end(&mut bytes)?;
@@ -52,7 +54,8 @@ fn set(files: &mut HostFiles, name: Name, bytes: &[u8]) -> Result<(), Fault>
     }
 }
 
-// The name of the host file that a file of this name in a drive's folder is, if it is one: a regular file, and no link to one.
+// The name of the host file that a file of this name in a drive's folder is, if it is one: a regular file,
+// and no link to one.
 fn host_file<S: FileSystem>(
     system: &S,
     drive: u8,
@@ -61,7 +64,8 @@ fn host_file<S: FileSystem>(
 ) -> io::Result<Option<Name>>
     requires { drive < 4 }
     ensures drive { IfOk result (λ found. IfSome found (λ name. slice_index name 0 ≡ drive)) }
-    ensures finds { IfOk result (λ found. IfSome (S.files system.now) (λ stored. Finds stored drive folder.now file.now found)) }
+    ensures finds { IfOk result (λ found. IfSome (S.files system.now) (λ stored.
+        Finds stored drive folder.now file.now found)) }
 {
     let Some(name) = name_in_folder(drive, file) else {
         return Ok(None);
@@ -84,7 +88,8 @@ fn add_file<S: FileSystem>(
     ensures drive { listing.new.drive ≡ listing.old.drive }
     ensures lists { OnOk result (IfSome (S.files system.now) (λ stored. (names : List (List ℕ))
         → Lists stored listing.old.drive folder.now names listing.old.files listing.old.twice
-        → Lists stored listing.old.drive folder.now (names ++ file.now ∷ []) listing.new.files listing.new.twice)) }
+        → Lists stored listing.old.drive folder.now (names ++ file.now ∷ [])
+        listing.new.files listing.new.twice)) }
 {
     if let Some(name) = host_file(system, listing.drive, folder, file)? {
         let file = String::from_str(system.alloc(), file)?;
@@ -117,9 +122,10 @@ fn read_one<S: FileSystem>(
     name: Name,
     files: &mut HostFiles,
 ) -> Result<(), Fault>
-    ensures others { (k : List ℕ) → k ≢ name → finmap.get files.new k ≡ finmap.get files.old k }
+    ensures others { StaysWhere (λ k. k ≢ name) files.old files.new }
     ensures there { OnOk result (finmap.contains_key files.new name ≡ true) }
-    ensures read { OnOk result (IfSome (S.files system.now) (λ stored. IsRead stored (path_text folder.now file.now) (finmap.get files.new name))) }
+    ensures read { OnOk result (IfSome (S.files system.now) (λ stored.
+        IsRead stored (path_text folder.now file.now) (finmap.get files.new name))) }
     ensures fault { IfErr result (FailsFile folder.now file.now name) }
 {
     let Ok(path) = path_in(system.alloc(), folder, file) else {
@@ -139,25 +145,23 @@ fn read_listed<S: FileSystem>(
     files: &mut HostFiles,
 ) -> Result<(), Fault>
     requires { listing.now.twice ≡ None }
-    ensures others { (k : List ℕ) → finmap.contains_key listing.now.files k ≡ false → finmap.get files.new k ≡ finmap.get files.old k }
+    ensures others { StaysWhere (λ k. finmap.contains_key listing.now.files k ≡ false) files.old files.new }
     ensures read { OnOk result (AreRead (S.files system.now) folder.now listing.now.files files.new) }
-    ensures fault { IfErr result (FailsFolder (S.files system.now) (S.names system.now folder.now) listing.now.drive folder.now) }
+    ensures fault { IfErr result (FailsFolder (S.files system.now) (S.names system.now folder.now)
+        listing.now.drive folder.now) }
 {
     let mut after: Option<Key> = None;
-    while let Some(key) = listing.files.next_key(after) {
-        match (Name::from_key(&key), listing.files.get(&key)) {
-            (Some(name), Some(file)) => read_one(system, folder, file.as_str(), name, files)?,
-            _ => unreachable!(),
-        }
-        after = Some(key);
+    while let Some((key, file)) = listing.files.next_key_value(after) {
+        read_one(system, folder, file.as_str(), Name::of_key(key), files)?;
+        after = Some(*key);
     }
     Ok(())
 }
 
-/// Reads the folder of a drive, 0 to 3 for A to D, of which there are no files yet: each regular file in it whose name says a name,
-/// and no link. All else is passed over, but an entry that can't be listed, as one whose name is no UTF-8, is a fault of the folder.
-/// Two files of one name are a fault before any file is read. Files are set in the order of their keys. Names of other drives stay
-/// as they were.
+/// Reads the folder of a drive, 0 to 3 for A to D, of which there are no files yet: each regular file in it
+/// whose name says a name, and no link. All else is passed over, but an entry that can't be listed, as one
+/// whose name is no UTF-8, is a fault of the folder. Two files of one name are a fault before any file is
+/// read. Files are set in the order of their keys. Names of other drives stay as they were.
 pub fn read_folder<S: FileSystem>(
     system: &S,
     drive: u8,
@@ -166,25 +170,24 @@ pub fn read_folder<S: FileSystem>(
 ) -> Result<(), Fault>
     requires drive { drive < 4 }
     requires none { (k : List ℕ) → slice_index k 0 ≡ drive → finmap.contains_key files.old k ≡ false }
-    ensures others { (k : List ℕ) → slice_index k 0 ≢ drive → finmap.get files.new k ≡ finmap.get files.old k }
-    ensures read { OnOk result (IfSome (S.files system.now) (λ stored. AreOf stored (S.names system.now folder.now) drive folder.now files.new)) }
-    ensures fault { IfErr result (FailsFolder (S.files system.now) (S.names system.now folder.now) drive folder.now) }
+    ensures others { StaysWhere (λ k. slice_index k 0 ≢ drive) files.old files.new }
+    ensures read { OnOk result (IfSome (S.files system.now) (λ stored.
+        AreOf stored (S.names system.now folder.now) drive folder.now files.new)) }
+    ensures fault { IfErr result (FailsFolder (S.files system.now) (S.names system.now folder.now)
+        drive folder.now) }
 {
     let listing = match list(system, drive, folder) {
         Ok(listing) => listing,
         Err(error) => return Err(unread(system.alloc(), error, folder)),
     };
-    if let Some(key) = listing.twice {
-        return match Name::from_key(&key) {
-            Some(name) => Err(Fault::TwoFiles(name)),
-            None => unreachable!(),
-        };
+    if let Some(name) = listing.twice {
+        return Err(Fault::TwoFiles(name));
     }
     read_listed(system, folder, &listing, files)
 }
 
-/// The host files of the folders of the drives A to D, where they have any, read in this order: exactly the files of the folders.
-/// The files of a folder are all listed before one of them is read.
+/// The host files of the folders of the drives A to D, where they have any, read in this order: exactly the
+/// files of the folders. The files of a folder are all listed before one of them is read.
 pub fn read_folders<S: FileSystem>(
     system: &S,
     folders: &[Option<&str>; 4],

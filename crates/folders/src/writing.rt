@@ -36,15 +36,16 @@ impl Contents for ChangedFile<'_> {
     }
 }
 
-/// Writes the records of a file as it is after what was done to it, one after another; a hole as zeros. An error is the writer's, which
-/// then has a part of them.
+/// Writes the records of a file as it is after what was done to it, one after another; a hole as zeros. An
+/// error is the writer's, which then has a part of them.
 pub fn write_records<W: Write>(
     host: &HostFiles,
     journal: &Journal,
     name: &Name,
     writer: &mut W,
 ) -> io::Result<()>
-    ensures { OnOk result (Appends (W.contents writer.old) (W.contents writer.new) (bytes_of host.now journal.now.entries name.now)) }
+    ensures { OnOk result (Appends (W.contents writer.old) (W.contents writer.new)
+        (bytes_of host.now journal.now.entries name.now)) }
 {
     let key = name.key();
     let Some(count) = told_count(host, journal, &key) else {
@@ -58,8 +59,8 @@ pub fn write_records<W: Write>(
     Ok(())
 }
 
-// Writes a file under one path and renames it to another. What stands under the first path, as a file that was left there or a link,
-// is removed and not written into.
+// Writes a file under one path and renames it to another. What stands under the first path, as a file that
+// was left there or a link, is removed and not written into.
 fn write_and_rename<S: FileSystem, C: Contents>(
     system: &mut S,
     contents: &C,
@@ -67,7 +68,8 @@ fn write_and_rename<S: FileSystem, C: Contents>(
     path: &str,
 ) -> io::Result<()>
     requires { temporary.now ≢ path.now }
-    ensures written { OnOk result (PutsInPlace (S.files system.old) (S.files system.new) path.now temporary.now (C.bytes contents.now)) }
+    ensures written { OnOk result (PutsInPlace (S.files system.old) (S.files system.new)
+        path.now temporary.now (C.bytes contents.now)) }
     ensures err { OnErr result (ChangesAt temporary.now (S.files system.old) (S.files system.new)) }
 {
     let _ = system.remove(temporary);
@@ -75,17 +77,20 @@ fn write_and_rename<S: FileSystem, C: Contents>(
     system.rename(temporary, path)
 }
 
-/// Writes a file into a folder, by its name without the letter and `:`, in place of a file of this name. It is written under another
-/// name in that folder, which no host file has, and then renamed: so a file that can't be written whole is not there, and one that
-/// stood there before still is. A fault is of the file's path, or want of memory.
+/// Writes a file into a folder, by its name without the letter and `:`, in place of a file of this name. It
+/// is written under another name in that folder, which no host file has, and then renamed: so a file that
+/// can't be written whole is not there, and one that stood there before still is. A fault is of the file's
+/// path, or want of memory.
 pub fn write_file<S: FileSystem, C: Contents>(
     system: &mut S,
     folder: &str,
     name: &Name,
     contents: &C,
 ) -> Result<(), Fault>
-    ensures written { OnOk result (WritesInto (Some folder.now) (S.files system.old) (S.files system.new) name.now (C.bytes contents.now)) }
-    ensures err { OnErr result (LeavesIn (Some folder.now) (S.files system.old) (S.files system.new) name.now) }
+    ensures written { OnOk result (WritesInto (Some folder.now) (S.files system.old) (S.files system.new)
+        name.now (C.bytes contents.now)) }
+    ensures err { OnErr result (LeavesIn (Some folder.now) (S.files system.old) (S.files system.new)
+        name.now) }
     ensures fault { IfErr result (Unwritten (path_text folder.now (file_text name.now))) }
 {
     let Ok((path, temporary)) = paths(system.alloc(), folder, name) else {
@@ -121,7 +126,8 @@ fn drive_of(name: &Name) -> usize
     name.key()[0] as usize
 }
 
-/// Writes a file into the folder of its drive, A to D, as `write_file` does, where that drive has a folder; else it is not written.
+/// Writes a file into the folder of its drive, A to D, as `write_file` does, where that drive has a folder;
+/// else it is not written.
 pub fn write_to_drive<S: FileSystem, C: Contents>(
     system: &mut S,
     folders: &[Option<&str>; 4],

@@ -7,7 +7,8 @@ use Rattle.std.specs.Prelude.{◌==◌}
 use Rattle.std.specs.List.{range_with_len}
 use Rattle.directory.specs.Entries.{Shape, count_of, count_at, count_in, count_by}
 use Rattle.hostfiles.specs.Hosts.{Key, Host}
-use Rattle.hostfiles.specs.Files.{Own, has, length_at, place_of, entry_at, file_of, shape_of, shape_at}
+use Rattle.hostfiles.specs.Files.{Own, has, length_at, place_of, entry_at, file_of, shape_at}
+use Rattle.hostfiles.specs.File.{shape_of}
 
 -- no record
 pub count_none : (xs : Shape) → ((k : ℕ) → get_or xs k false ≡ false) → count_of xs ≡ 0

@@ -13,7 +13,8 @@ use Rattle.keymaps.proofs.Rising.{here, begins, ends}
 use Rattle.keymaps.proofs.Left.{rises}
 use Rattle.directory.specs.Entries.{Shape, is_match}
 use Rattle.hostfiles.specs.Hosts.{Key, Host}
-use Rattle.hostfiles.specs.Files.{Own, has, nothing, shapes, shape_of, file_of, entry_at, deleted}
+use Rattle.hostfiles.specs.Files.{Own, has, nothing, shapes, file_of, entry_at, deleted}
+use Rattle.hostfiles.specs.File.{shape_of}
 use Rattle.hostfiles.specs.declared.journal.Entry.{Entry}
 use Rattle.hostfiles.proofs.FileLemmas.{get-shapes, no_file, nothing_listed}
 

@@ -11,10 +11,12 @@ use Rattle.std.proofs.lemmas.Option.{unwrap_or-slice_get}
 use Rattle.std.specs.Ordering.{nat_cmp}
 use Rattle.records.specs.Extents.{zeros}
 use Rattle.hostfiles.specs.Hosts.{Key, Record, Host}
-use Rattle.hostfiles.specs.Files.{Own, has, untouched, entry_at, is_there, place_of, place_by, is_below, length_of, length_at, file_of, records_of, stands_on, told, told_records}
+use Rattle.hostfiles.specs.Files.{Own, has, untouched, entry_at, is_there, place_of, place_by, is_below, length_of, length_at, file_of, records_of, stands_on, told}
+use Rattle.hostfiles.specs.File.{told_records}
 use Rattle.hostfiles.specs.declared.journal.Entry.{Entry}
 use Rattle.hostfiles.specs.declared.journal.Base.TheVariants.{Same}
-use Rattle.hostfiles.specs.Changed.{is_same, is_changed, ChangedIsOther}
+use Rattle.hostfiles.specs.Changed.{is_changed, ChangedIsOther}
+use Rattle.hostfiles.specs.File.{is_same}
 
 pub records_decide : (a b : List Record) → Decides (pointwise bytes_eq a b) (a ≡ b)
 records_decide = pointwise_decides bytes_decides

@@ -9,7 +9,8 @@ use Rattle.std.specs.Ordering.{nat_cmp, eq_by_cmp}
 use Rattle.std.specs.Cmp.Lexicographic.{slice_cmp, nat_list_cmp_total}
 use Rattle.std.specs.FinMap.{FinMap, get, insert, keys, contains_key-keys, get-insert, get-remove, get-empty, remove, same_map}
 use Rattle.hostfiles.specs.Hosts.{Key, Host}
-use Rattle.hostfiles.specs.Files.{Own, among, file_at, files, shape_of, shape_at, shapes, is_there, file_of, untouched, fresh, nothing, made, deleted}
+use Rattle.hostfiles.specs.Files.{Own, among, file_at, files, shape_at, shapes, is_there, file_of, untouched, fresh, nothing, made, deleted}
+use Rattle.hostfiles.specs.File.{shape_of}
 use Rattle.hostfiles.specs.declared.journal.Entry.{Entry}
 use Rattle.keymaps.proofs.Views.{same_key, key_of, absent_of}
 

@@ -7,8 +7,9 @@ use Rattle.std.specs.FinMap.{get, insert}
 use Rattle.records.specs.Extents.{Kept, zeros, zeros_at}
 use Rattle.records.proofs.KeptLemmas.{get_insert}
 use Rattle.hostfiles.specs.Hosts.{Key, Record, Host}
-use Rattle.hostfiles.specs.Files.{File, Own, place_by, is_below, is_there, under, place_of, length_of, length_at, file_of, files, entry_at, grown_by, filled_gap, wrote_filled_entry, wrote_filled}
-use Rattle.hostfiles.specs.Laid.{written_filled}
+use Rattle.hostfiles.specs.Files.{Own, place_by, is_below, is_there, under, place_of, length_of, length_at, file_of, files, entry_at, grown_by, filled_gap, wrote_filled_entry, wrote_filled}
+use Rattle.hostfiles.specs.File.{File}
+use Rattle.hostfiles.specs.File.{written_filled}
 use Rattle.hostfiles.specs.declared.journal.Entry.{Entry}
 use Rattle.hostfiles.proofs.FileLemmas.{get-files}
 use Rattle.hostfiles.proofs.LaidLemmas.{below, not_below, grown_kept, taken, length_wrote, list_written, files-insert, some_cond}

@@ -14,8 +14,10 @@ use Rattle.records.proofs.KeptLemmas.{get_insert}
 use Rattle.records.proofs.Laws.{set_read}
 use Rattle.keymaps.proofs.Views.{same_key, key_of}
 use Rattle.hostfiles.specs.Hosts.{Key, Record, Host}
-use Rattle.hostfiles.specs.Files.{File, Own, place_by, is_below, grown_by, limit_by, length_by, under, records_of, stands_on, is_there, place_of, length_of, length_at, file_of, has, records, place, files, untouched, entry_at, deleted, moved, moved_base, renamed, wrote, wrote_entry}
-use Rattle.hostfiles.specs.Laid.{written, Ends}
+use Rattle.hostfiles.specs.Files.{Own, place_by, is_below, grown_by, limit_by, length_by, under, records_of, stands_on, is_there, place_of, length_of, length_at, file_of, has, records, place, files, untouched, entry_at, deleted, moved, moved_base, renamed, wrote, wrote_entry}
+use Rattle.hostfiles.specs.File.{File}
+use Rattle.hostfiles.specs.Laid.{Ends}
+use Rattle.hostfiles.specs.File.{written}
 use Rattle.hostfiles.specs.declared.journal.Base.{Base}
 use Rattle.hostfiles.specs.declared.journal.Base.TheVariants.{Same, Gone, New, Moved}
 use Rattle.hostfiles.proofs.FileLemmas.{get-files, files-deleted}

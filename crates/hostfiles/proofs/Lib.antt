@@ -11,3 +11,4 @@ pub mod FilledLemmas
 pub mod Differences
 pub mod ChangedWalk
 pub mod ToldLemmas
+pub use Rattle.keymaps.proofs.Views

@@ -115,3 +115,10 @@ with_directory l drive (Directory d) h = looked_still l.directories drive d h
 
 pub extends_by_directory : (drive : ℕ) (l m : Looks) → m ≡ look_directory drive l → Extends l m
 extends_by_directory drive l m e = record { kept = subst (Keeps l) (sym e) (with_directory l drive) }
+
+-- a question was marked, or answered itself
+pub ruleset noted_has = (extends_by_has, extends_same)
+
+pub ruleset noted_length = (extends_by_length, extends_same)
+
+pub ruleset noted_record = (extends_by_record, extends_same)

@@ -5,7 +5,8 @@ use Rattle.std.specs.List.{slice_get}
 use Rattle.std.proofs.lemmas.Option.{slice_get-get_or, slice_get_past}
 use Rattle.records.specs.Extents.{zeros}
 use Rattle.hostfiles.specs.Hosts.{Key, Record, Host}
-use Rattle.hostfiles.specs.Files.{Own, has, entry_at, place_of, length_at, file_of, records, told, told_records}
+use Rattle.hostfiles.specs.Files.{Own, has, entry_at, place_of, length_at, file_of, records, told}
+use Rattle.hostfiles.specs.File.{told_records}
 use Rattle.hostfiles.proofs.Differences.{length_told, record_told}
 
 pub told_length : (host : Host) (own : Own) (key : Key) → records host own key ≡ option_map length (told host own key)

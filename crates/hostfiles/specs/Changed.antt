@@ -1,21 +1,14 @@
 -- Which files a run left otherwise than the host files have them: this project's profile. Records alone are compared: where a file was
 -- deleted and made again with the same records, it is not changed.
-use Rattle.std.specs.Prelude.{◌≡◌, Bool, true, false, not, ◌&&◌, List, Option, Some, None}
-use Rattle.std.specs.Str.{bytes_eq}
+use Rattle.std.specs.Prelude.{◌≡◌, Bool, false, not, ◌&&◌, List}
 use Rattle.std.specs.Ordering.{nat_cmp}
-use Rattle.std.specs.Cmp.Lexicographic.{pointwise, slice_cmp}
+use Rattle.std.specs.Cmp.Lexicographic.{slice_cmp}
 use Rattle.std.specs.FinMap.{FinMap, get, contains_key, keys, retain_keys}
 use Rattle.filenames.specs.Names.{is_sayable}
-use Rattle.hostfiles.specs.Hosts.{Key, Record, Host}
+use Rattle.hostfiles.specs.Hosts.{Key, Host}
 use Rattle.hostfiles.specs.Files.{Own, told}
 use Rattle.hostfiles.specs.declared.journal.Entry.{Entry}
-
--- both are lacking, or both have the same records
-abbrev pub is_same : Option (List Record) → Option (List Record) → Bool
-is_same None None = true
-is_same None (Some b) = false
-is_same (Some a) None = false
-is_same (Some a) (Some b) = pointwise bytes_eq a b
+use Rattle.hostfiles.specs.File.{is_same}
 
 -- whether the file of a key is told otherwise than the host files have it
 abbrev pub is_changed : Host → Own → Key → Bool

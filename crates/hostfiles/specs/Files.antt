@@ -1,21 +1,18 @@
 -- The files that a program sees: what a run did to them, laid over the host files. (This project's profile.)
-use Rattle.std.specs.Prelude.{ℕ, ◌+◌, ◌-◌, Bool, true, false, ◌&&◌, List, [], ◌∷◌, ◌++◌, length, map, Option, Some, None, unwrap_or, slice_get, nat_lt, if◌then◌else◌, option_map, is_some}
+use Rattle.std.specs.Prelude.{ℕ, ◌+◌, ◌-◌, Bool, true, false, ◌&&◌, List, [], ◌∷◌, ◌++◌, length, map, Option, Some, None, unwrap_or, slice_get, nat_lt, if◌then◌else◌, option_map}
 use Rattle.std.specs.Ordering.{nat_cmp}
 use Rattle.std.specs.List.{range_with_len}
 use Rattle.std.specs.Cmp.Lexicographic.{slice_cmp}
 use Rattle.std.specs.FinMap.{FinMap, get, insert, empty, contains_key, keys}
-use Rattle.directory.specs.Entries.{Shape, Shapes, count_at}
+use Rattle.directory.specs.Entries.{Shape, Shapes}
 use Rattle.filenames.specs.Names.{is_sayable}
-use Rattle.records.specs.Extents.{Kept, zeros, zeros_at}
+use Rattle.records.specs.Extents.{Kept, zeros_at}
 use Rattle.hostfiles.specs.Hosts.{Key, Record, Host}
 use Rattle.hostfiles.specs.declared.journal.Base.{Base}
 use Rattle.hostfiles.specs.declared.journal.Base.TheVariants.{Same, Gone, New, Moved}
 use Rattle.hostfiles.specs.declared.journal.Grown.{Grown}
 use Rattle.hostfiles.specs.declared.journal.Entry.{Entry}
-
--- a file's places, in order; no record stands in a hole
-abbrev pub File : Type 0
-File = List (Option Record)
+use Rattle.hostfiles.specs.File.{File, told_records, shape_of}
 
 -- what a run did to the files, by their keys; nothing to a file without an entry
 abbrev pub Own : Type 0
@@ -118,6 +115,10 @@ filled_gap n k m = if nat_lt n k then zeros_at m n (k - n) else m
 abbrev pub wrote_filled_entry : ℕ → ℕ → Record → Entry → Entry
 wrote_filled_entry n k r e = record { base = e.base; grown = grown_by n k e.grown; records = insert (filled_gap n k e.records) k r }
 
+-- the one or the other
+abbrev pub written_entry : Bool → ℕ → ℕ → Record → Entry → Entry
+written_entry filled n k r e = if filled then wrote_filled_entry n k r e else wrote_entry n k r e
+
 abbrev pub made : Own → Key → Own
 made own key = insert own key fresh
 
@@ -133,6 +134,10 @@ wrote n own key k r = insert own key (wrote_entry n k r (entry_at own key))
 
 abbrev pub wrote_filled : ℕ → Own → Key → ℕ → Record → Own
 wrote_filled n own key k r = insert own key (wrote_filled_entry n k r (entry_at own key))
+
+-- the one or the other
+abbrev pub stored : Bool → ℕ → Own → Key → ℕ → Record → Own
+stored filled n own key k r = if filled then wrote_filled n own key k r else wrote n own key k r
 
 -- ---- the files that both give
 
@@ -155,10 +160,6 @@ records host own key = if has host own key then Some (length_at host own key) el
 abbrev pub place : Host → Own → Key → ℕ → Option Record
 place host own key k = if has host own key then place_at host own key k else None
 
--- the records of a file as they are told, in order: a hole as zeros
-abbrev pub told_records : File → List Record
-told_records file = map (λ place. unwrap_or place zeros) file
-
 -- the file of a key as it is told, if there is one
 abbrev pub told : Host → Own → Key → Option (List Record)
 told host own key = option_map told_records (file_at host own key)
@@ -176,17 +177,9 @@ among f (key ∷ ks) = unwrap_or (option_map (insert (among f ks) key) (f key)) 
 unfoldable pub files : Host → Own → FinMap (slice_cmp nat_cmp) File
 files host own = among (file_at host own) (keys host ++ keys own)
 
--- for each place of a file whether a record stands there
-abbrev pub shape_of : File → Shape
-shape_of f = map is_some f
-
 abbrev pub shape_at : Host → Own → Key → Option Shape
 shape_at host own key = option_map shape_of (file_at host own key)
 
 -- the shapes of all files
 unfoldable pub shapes : Host → Own → Shapes
 shapes host own = among (shape_at host own) (keys host ++ keys own)
-
--- of the file of a key, the greatest place of an extent that holds a record, plus one
-abbrev pub extent_count : Host → Own → Key → ℕ → Option ℕ
-extent_count host own key e = option_map (λ s. count_at s e) (shape_at host own key)

@@ -1,18 +1,10 @@
 -- How the map of all files changes by what a run does. (This project's profile.)
-use Rattle.std.specs.Prelude.{◌≡◌, ℕ, ◌+◌, ◌-◌, ◌≤◌, [], ◌++◌, length, replicate, slice_set, get_or, Some, None}
+use Rattle.std.specs.Prelude.{◌≡◌, ℕ, ◌≤◌, [], length, get_or, Some, None}
 use Rattle.std.specs.Option.{option_map, option_and_then}
 use Rattle.std.specs.FinMap.{insert, remove, empty, get}
-use Rattle.records.specs.Extents.{zeros}
 use Rattle.hostfiles.specs.Hosts.{Key, Record, Host}
-use Rattle.hostfiles.specs.Files.{File, Own, entry_at, place_of, length_at, file_at, records, place, files, made, deleted, renamed, wrote, wrote_filled}
-
--- a record written into a file: a file that is too short is made longer by holes
-abbrev pub written : ℕ → Record → File → File
-written k r f = slice_set (f ++ replicate (k + 1 - length f) None) k (Some r)
-
--- the same, made longer by zeros
-abbrev pub written_filled : ℕ → Record → File → File
-written_filled k r f = slice_set (f ++ replicate (k + 1 - length f) (Some zeros)) k (Some r)
+use Rattle.hostfiles.specs.Files.{Own, entry_at, place_of, length_at, file_at, records, place, files, made, deleted, renamed, wrote, wrote_filled}
+use Rattle.hostfiles.specs.File.{File, written, written_filled}
 
 -- no record stands at or past the end of the file of a key
 abbrev pub Ends : Host → Own → Key → Type 0

@@ -1,6 +1,15 @@
 pub mod Hosts
 pub mod FilesError
 pub mod Files
+pub mod File
 pub mod Looks
+pub mod Above
+pub mod Seen
+pub mod Asking
 pub mod Laid
 pub mod Changed
+pub use Rattle.keymaps.specs.Order
+pub use Rattle.filenames.specs.Names
+pub use Rattle.filenames.specs.ControlBlock
+pub use Rattle.directory.specs.Entries
+pub use Rattle.directory.specs.declared.entry.Search

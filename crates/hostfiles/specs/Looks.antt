@@ -27,6 +27,9 @@ is_looked l (Directory drive) = get_or l.directories drive false
 abbrev pub asks_nothing : Looks → Bool
 asks_nothing l = len l.has == 0 && len l.lengths == 0 && len l.records == 0 && not (list_any (λ marked. marked) l.directories)
 
+abbrev pub IsUnasked : Looks → Type 0
+IsUnasked l = (q : Ask) → is_looked l q ≡ false
+
 -- whether two questions are the same
 abbrev pub is_same_ask : Ask → Ask → Bool
 is_same_ask (Has key) (Has other) = eq_by_cmp (slice_cmp nat_cmp) key other

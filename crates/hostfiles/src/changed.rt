@@ -1,11 +1,12 @@
 // Whether the file of a key is changed.
 
-ghost use Rattle.std.specs.Prelude.{◌≡◌, ◌<◌, true, Some, None, not, get_or, length, slice_get, unwrap_or};
+ghost use Rattle.std.specs.Prelude.{◌≡◌, ◌<◌, true, Some, None, not, get_or, length, unwrap_or};
 ghost use Rattle.std.specs.FinMap as finmap;
 ghost use Rattle.std.specs.Str.{bytes_eq};
 ghost use Rattle.std.specs.Cmp.Lexicographic.{pointwise};
 ghost use Rattle.records.specs.Extents.{zeros};
-ghost use Rattle.hostfiles.specs.Files.{entry_at, file_of, place_of, length_at, told_records};
+ghost use Rattle.hostfiles.specs.Files.{entry_at, file_of, place_of, length_at};
+ghost use Rattle.hostfiles.specs.File.{told_records};
 ghost use Rattle.hostfiles.specs.Changed.{is_changed, ChangedIsOther};
 
 use crate::host::{HostFile, HostFiles};
@@ -14,8 +15,9 @@ use crate::journal::{Base, Entry, Journal};
 use crate::told::told_content;
 use filenames::Key;
 
-/// Whether the file of a key is told otherwise than the host files have it: it is there in one of them alone, or has another length, or
-/// another record at some place, where a hole counts as zeros. The comparison ends at the first difference.
+/// Whether the file of a key is told otherwise than the host files have it: it is there in one of them alone,
+/// or has another length, or another record at some place, where a hole counts as zeros. The comparison ends
+/// at the first difference.
 pub fn is_changed(host: &HostFiles, journal: &Journal, key: &Key) -> bool
     ensures { result ≡ is_changed host.now journal.now.entries key.now }
 {
@@ -45,7 +47,8 @@ fn has_other_record(
     requires entry { entry_at journal.now.entries key.now ≡ entry.now }
     requires file { finmap.get host.now key.now ≡ Some file.now }
     requires length { length_at host.now journal.now.entries key.now ≡ length file.now }
-    ensures { result ≡ not (pointwise bytes_eq (told_records (file_of host.now key.now (entry_at journal.now.entries key.now))) file.now) }
+    ensures { let seen = file_of host.now key.now (entry_at journal.now.entries key.now) in
+        result ≡ not (pointwise bytes_eq (told_records seen) file.now) }
 {
     for place in 0..file.len() {
         if is_other_record(host, journal, key, entry, file, place) {
@@ -55,8 +58,8 @@ fn has_other_record(
     false
 }
 
-// Whether the record at a place of a host file differs. Where the file stands on that host file and was not made longer, this is asked
-// only of a record that was written.
+// Whether the record at a place of a host file differs. Where the file stands on that host file and was not
+// made longer, this is asked only of a record that was written.
 fn is_other_record(
     host: &HostFiles,
     journal: &Journal,
@@ -68,7 +71,8 @@ fn is_other_record(
     requires entry { entry_at journal.now.entries key.now ≡ entry.now }
     requires file { finmap.get host.now key.now ≡ Some file.now }
     requires within { place < length file.now }
-    ensures { result ≡ not (bytes_eq (unwrap_or (place_of host.now key.now (entry_at journal.now.entries key.now) place) zeros) (get_or file.now place zeros)) }
+    ensures { let seen = place_of host.now key.now (entry_at journal.now.entries key.now) place in
+        result ≡ not (bytes_eq (unwrap_or seen zeros) (get_or file.now place zeros)) }
 {
     if is_unwritten(entry, place) {
         return false;

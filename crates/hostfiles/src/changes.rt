@@ -2,7 +2,7 @@
 
 ghost use Rattle.std.specs.Prelude.{◌≡◌, true, false, IfOk, IfSome, IfNone};
 ghost use Rattle.std.specs.FinMap as finmap;
-ghost use Rattle.hostfiles.specs.Looks.{no_looks, is_looked, asks_nothing, forgot};
+ghost use Rattle.hostfiles.specs.Looks.{no_looks, is_looked, asks_nothing, forgot, IsUnasked};
 
 use crate::journal::Journal;
 use crate::looks::{Ask, Looks};
@@ -49,7 +49,7 @@ impl Changes {
     /// Whether no question was asked.
     pub fn asks_nothing(&self) -> bool
         ensures value { result ≡ asks_nothing self.now.looks }
-        ensures none { result ≡ true → (q : Ask) → is_looked self.now.looks q ≡ false }
+        ensures none { result ≡ true → IsUnasked self.now.looks }
     {
         self.looks.is_empty()
     }
@@ -58,7 +58,7 @@ impl Changes {
     pub fn take_look(&mut self) -> Option<Ask>
         ensures there { IfSome result (λ q. is_looked self.old.looks q ≡ true) }
         ensures some { IfSome result (λ q. self.new.looks ≡ forgot q self.old.looks) }
-        ensures none { IfNone result ((self.new.looks ≡ self.old.looks) × ((q : Ask) → is_looked self.old.looks q ≡ false)) }
+        ensures none { IfNone result ((self.new.looks ≡ self.old.looks) × IsUnasked self.old.looks) }
         ensures stays { self.new.journal ≡ self.old.journal }
     {
         self.looks.take()

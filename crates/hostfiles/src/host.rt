@@ -1,12 +1,11 @@
 // The host files of a session.
 
-ghost use Rattle.std.specs.Prelude.{◌≡◌, ◌<◌, ◌≤◌, ◌*◌, ℕ, List, true, false, length, IfOk, OnOk, OnErr, IfSome, IfNone, None, slice_get, option_copied};
+ghost use Rattle.std.specs.Prelude.{◌≡◌, ◌<◌, ◌≤◌, ◌*◌, true, false, None, length, slice_get, option_copied};
+ghost use Rattle.std.specs.Prelude.{IfOk, OnOk, OnErr, IfSome, IfNone};
 ghost use Rattle.std.specs.Option.{option_map, option_and_then};
-ghost use Rattle.std.specs.declared.cmp.Ordering.TheVariants.{Less};
 ghost use Rattle.std.specs.FinMap as finmap;
-ghost use Rattle.std.specs.Ordering.{nat_cmp};
-ghost use Rattle.std.specs.Cmp.Lexicographic.{slice_cmp};
 ghost use Rattle.keymaps.specs.Order.{is_above};
+ghost use Rattle.hostfiles.specs.Above.{AllAbove, AllBetween};
 ghost use Rattle.hostfiles.specs.Files.{told, is_listed};
 ghost use Rattle.hostfiles.specs.Hosts.{records_in, record_in, filled_up, refusal_of, has_room, IsHost};
 
@@ -47,8 +46,8 @@ impl Model for HostFile {
 }
 
 impl HostFile {
-    /// The records of these bytes, at most 8,388,608, the last filled up with 1AH to 128 bytes. No bytes give no record. `Err` where
-    /// memory is refused.
+    /// The records of these bytes, at most 8,388,608, the last filled up with 1AH to 128 bytes. No bytes give
+    /// no record. `Err` where memory is refused.
     pub fn new(alloc: Global, bytes: &[u8]) -> Result<HostFile, AllocError>
         requires { length bytes.now ≤ 8388608 }
         ensures { IfOk result (λ file. file ≡ records_in bytes.now) }
@@ -253,8 +252,10 @@ impl HostFiles {
     pub fn next(&self, after: Option<&Name>) -> Option<Name>
         ensures above { IfSome result (λ k. is_above (option_copied after.entry) k ≡ true) }
         ensures there { IfSome result (λ k. finmap.contains_key self.now k ≡ true) }
-        ensures least { IfSome result (λ k. (x : List ℕ) → is_above (option_copied after.entry) x ≡ true → slice_cmp nat_cmp x k ≡ Less → finmap.get self.now x ≡ None) }
-        ensures none { IfNone result ((x : List ℕ) → is_above (option_copied after.entry) x ≡ true → finmap.get self.now x ≡ None) }
+        ensures least { IfSome result (λ k. AllBetween (option_copied after.entry) k
+            (λ x. finmap.get self.now x ≡ None)) }
+        ensures none { IfNone result (AllAbove (option_copied after.entry)
+            (λ x. finmap.get self.now x ≡ None)) }
     {
         let Some(key) = self.files.next_key(key_if_any(after)) else {
             return None;
@@ -272,19 +273,24 @@ impl HostFiles {
         told_count(self, &changes.journal, &name.key())
     }
 
-    /// A record of a file after these changes, zeros in a hole; none where the file is not there or has fewer. No look is marked.
+    /// A record of a file after these changes, zeros in a hole; none where the file is not there or has
+    /// fewer. No look is marked.
     pub fn record_with(&self, changes: &Changes, name: &Name, place: u32) -> Option<Record>
-        ensures { result ≡ option_and_then (λ records. slice_get records place) (told self.now changes.now.journal.entries name.now) }
+        ensures { let seen = told self.now changes.now.journal.entries name.now in
+            result ≡ option_and_then (λ records. slice_get records place) seen }
     {
         told_record(self, &changes.journal, &name.key(), place)
     }
 
-    /// The least name of a file after these changes, by key, after the one given if there is one. No look is marked.
+    /// The least name of a file after these changes, by key, after the one given if there is one. No look is
+    /// marked.
     pub fn next_with(&self, changes: &Changes, after: Option<&Name>) -> Option<Name>
         ensures above { IfSome result (λ k. is_above (option_copied after.entry) k ≡ true) }
         ensures there { IfSome result (λ k. is_listed self.now changes.now.journal.entries k ≡ true) }
-        ensures least { IfSome result (λ k. (x : List ℕ) → is_above (option_copied after.entry) x ≡ true → slice_cmp nat_cmp x k ≡ Less → is_listed self.now changes.now.journal.entries x ≡ false) }
-        ensures none { IfNone result ((x : List ℕ) → is_above (option_copied after.entry) x ≡ true → is_listed self.now changes.now.journal.entries x ≡ false) }
+        ensures least { IfSome result (λ k. AllBetween (option_copied after.entry) k
+            (λ x. is_listed self.now changes.now.journal.entries x ≡ false)) }
+        ensures none { IfNone result (AllAbove (option_copied after.entry)
+            (λ x. is_listed self.now changes.now.journal.entries x ≡ false)) }
     {
         next_name(self, &changes.journal, key_if_any(after))
     }

@@ -1,5 +1,5 @@
-// The files that a program sees, each asked for one thing by its key. Nothing here is a look. Who asks for more finds the file once, as a
-// `SeenFile`.
+// The files that a program sees, each asked for one thing by its key. Nothing here is a look. Who asks for
+// more finds the file once, as a `SeenFile`.
 
 ghost use Rattle.std.specs.Prelude.{◌≡◌};
 ghost use Rattle.hostfiles.specs.Files.{has, length_at, place_of, records, entry_at};

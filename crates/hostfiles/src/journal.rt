@@ -1,8 +1,9 @@
 // What a run did to the files.
 
-ghost use Rattle.std.specs.Prelude.{◌≡◌, ◌≢◌, ◌<◌, ℕ, true, if◌then◌else◌, IfOk, OnOk, OnErr};
+ghost use Rattle.std.specs.Prelude.{◌≡◌, ◌≢◌, ◌<◌, ℕ, true, IfOk, OnOk, OnErr};
 ghost use Rattle.std.specs.FinMap as finmap;
-ghost use Rattle.hostfiles.specs.Files.{untouched, nothing, fresh, wrote_entry, wrote_filled_entry, grown_by, moved, wrote, wrote_filled, made, deleted, renamed};
+ghost use Rattle.hostfiles.specs.Files.{untouched, nothing, fresh, written_entry, grown_by, moved};
+ghost use Rattle.hostfiles.specs.Files.{stored, made, deleted, renamed};
 
 use filenames::Key;
 use keymaps::KeyMap;
@@ -96,11 +97,11 @@ impl Entry {
         }
     }
 
-    /// Writes a record of a file of `n` places. Between its end and the record it leaves holes, or fills the places with zeros. An `Err`
-    /// changes nothing.
+    /// Writes a record of a file of `n` places. Between its end and the record it leaves holes, or fills the
+    /// places with zeros. An `Err` changes nothing.
     pub fn write(&mut self, n: u32, k: u32, bytes: &Record, filled: bool) -> Result<(), AllocError>
         requires { k < 65536 }
-        ensures ok { OnOk result (self.new ≡ (if filled then wrote_filled_entry n k bytes.now self.old else wrote_entry n k bytes.now self.old)) }
+        ensures ok { OnOk result (self.new ≡ written_entry filled n k bytes.now self.old) }
         ensures err { OnErr result (self.new ≡ self.old) }
     {
         if filled && k > n {
@@ -181,8 +182,8 @@ impl Journal {
         self.entries.insert(*key, Entry::nothing(self.alloc))
     }
 
-    /// Writes a record of a file of `n` places. Between its end and the record it leaves holes, or fills the places with zeros. An `Err`
-    /// changes nothing.
+    /// Writes a record of a file of `n` places. Between its end and the record it leaves holes, or fills the
+    /// places with zeros. An `Err` changes nothing.
     pub fn write(
         &mut self,
         key: &Key,
@@ -192,7 +193,7 @@ impl Journal {
         filled: bool,
     ) -> Result<(), AllocError>
         requires { k < 65536 }
-        ensures ok { OnOk result (self.new.entries ≡ (if filled then wrote_filled n self.old.entries key.now k bytes.now else wrote n self.old.entries key.now k bytes.now)) }
+        ensures ok { OnOk result (self.new.entries ≡ stored filled n self.old.entries key.now k bytes.now) }
         ensures err { OnErr result (self.new.entries ≡ self.old.entries) }
     {
         let alloc = self.alloc;

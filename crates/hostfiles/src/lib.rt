@@ -1,4 +1,12 @@
 //! Host files, what a run does to them and asks of them, the files that both give, and which of them a run changed.
+//!
+//! - `host`, `journal`, `looks`, `changes`: host files; what a run did to files; what it asked of host files; both
+//!   together
+//! - `seen`: `SeenFile`: the file of a key as a program sees it, found once, with what it is asked
+//! - `joined`, `listed`, `laid`: one thing of the file of a key; the directory; the laws of what was done, laid over
+//!   host files
+//! - `told`, `changed`, `names`: a file as it is told, with zeros in its holes; whether a file is changed; the
+//!   changed names in order
 #![tactic(auto)]
 
 pub mod changed;

@@ -1,12 +1,11 @@
 // The directory of host files with what was done to them.
 
-ghost use Rattle.std.specs.Prelude.{◌≡◌, ◌<◌, ◌≤◌, ◌&&◌, None, ℕ, List, true, false, Some, IfOk, IfSome, IfNone, if◌then◌else◌, filter, length};
-ghost use Rattle.std.specs.declared.cmp.Ordering.TheVariants.{Less};
+ghost use Rattle.std.specs.Prelude.{◌≡◌, ◌<◌, ◌≤◌, ◌&&◌, ℕ, List, true, false, None, Some, filter, length};
+ghost use Rattle.std.specs.Prelude.{if◌then◌else◌, IfOk, IfSome, IfNone};
 ghost use Rattle.std.specs.FinMap as finmap;
-ghost use Rattle.std.specs.Ordering.{nat_cmp};
-ghost use Rattle.std.specs.Cmp.Lexicographic.{slice_cmp};
 ghost use Rattle.keymaps.specs.Order.{is_above};
 ghost use Rattle.directory.specs.Entries.{count_by, is_match};
+ghost use Rattle.hostfiles.specs.Above.{AllAbove, AllBetween};
 ghost use Rattle.hostfiles.specs.Files.{has, is_listed, nothing, shape_at, shapes};
 
 use crate::host::HostFiles;
@@ -50,10 +49,12 @@ impl Files for Listed<'_> {
     }
 }
 
-// An extent from which on the file of a key has no entry: that behind the file's last place, and 1 where it has none.
+// An extent from which on the file of a key has no entry: that behind the file's last place, and 1 where it
+// has none.
 fn extents_of(host: &HostFiles, journal: &Journal, key: &Key) -> u32
     ensures within { result ≤ 512 }
-    ensures none { (e : ℕ) → result ≤ e → e < 512 → count_by (shape_at host.now journal.now.entries key.now) e ≡ None }
+    ensures none { (e : ℕ) → result ≤ e → e < 512 →
+        count_by (shape_at host.now journal.now.entries key.now) e ≡ None }
 {
     let n = joined::length(host, journal, key);
     if n == 0 {
@@ -84,12 +85,14 @@ fn entry_count(host: &HostFiles, journal: &Journal, key: &Key, extent: u32) -> O
     Some(count)
 }
 
-/// The least name of a file by key, after the key given if there is one. A file whose key is that of no name is passed over.
+/// The least name of a file by key, after the key given if there is one. A file whose key is that of no name
+/// is passed over.
 pub fn next_name(host: &HostFiles, journal: &Journal, after: Option<Key>) -> Option<Name>
     ensures above { IfSome result (λ k. is_above after k ≡ true) }
     ensures there { IfSome result (λ k. is_listed host.now journal.now.entries k ≡ true) }
-    ensures least { IfSome result (λ k. (x : List ℕ) → is_above after x ≡ true → slice_cmp nat_cmp x k ≡ Less → is_listed host.now journal.now.entries x ≡ false) }
-    ensures none { IfNone result ((x : List ℕ) → is_above after x ≡ true → is_listed host.now journal.now.entries x ≡ false) }
+    ensures least { IfSome result (λ k. AllBetween after k
+        (λ x. is_listed host.now journal.now.entries x ≡ false)) }
+    ensures none { IfNone result (AllAbove after (λ x. is_listed host.now journal.now.entries x ≡ false)) }
 {
     let mut low = after;
     while let Some(key) = next_of_both(host.files(), &journal.entries, low) {
@@ -103,7 +106,8 @@ pub fn next_name(host: &HostFiles, journal: &Journal, after: Option<Key>) -> Opt
 
 // The name of a key, where there is a file of it.
 fn name_of(host: &HostFiles, journal: &Journal, key: &Key) -> Option<Name>
-    ensures some { IfSome result (λ name. (name ≡ key.now) × (is_listed host.now journal.now.entries key.now ≡ true)) }
+    ensures name { IfSome result (λ name. name ≡ key.now) }
+    ensures some { IfSome result (λ name. is_listed host.now journal.now.entries key.now ≡ true) }
     ensures none { IfNone result (is_listed host.now journal.now.entries key.now ≡ false) }
 {
     if !joined::has(host, journal, key) {
@@ -115,14 +119,19 @@ fn name_of(host: &HostFiles, journal: &Journal, key: &Key) -> Option<Name>
     Name::from_key(key)
 }
 
-/// What was done to the files, and beside it each file whose key matches a pattern deleted; and how many these are.
+/// What was done to the files, and beside it each file whose key matches a pattern deleted; and how many
+/// these are.
 pub fn without_matches(
     host: &HostFiles,
     journal: &Journal,
     pattern: &Key,
 ) -> Result<(Journal, u64), AllocError>
-    ensures done { IfOk result (λ r. (q : List ℕ) → finmap.get r.0.entries q ≡ (if is_match pattern.now q && has host.now journal.now.entries q then Some nothing else finmap.get journal.now.entries q)) }
-    ensures count { IfOk result (λ r. r.1 ≡ length (filter (λ e. is_match pattern.now e.0) (finmap.entries (shapes host.now journal.now.entries)))) }
+    ensures done { IfOk result (λ r. (q : List ℕ) → finmap.get r.0.entries q ≡
+        (if is_match pattern.now q && has host.now journal.now.entries q then Some nothing
+        else finmap.get journal.now.entries q)) }
+    ensures count { IfOk result (λ r. r.1 ≡
+        length (filter (λ e. is_match pattern.now e.0)
+        (finmap.entries (shapes host.now journal.now.entries)))) }
 {
     // This bounds the count, which is at most the count of all keys.
     let most = host.files().len() + journal.entries.len();

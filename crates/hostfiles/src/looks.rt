@@ -1,8 +1,10 @@
 // The questions that a run asked of the host files.
 
-ghost use Rattle.std.specs.Prelude.{◌≡◌, ℕ, true, false, OnOk, OnErr, IfOk, IfSome, IfNone, get_or, length, slice_set};
+ghost use Rattle.std.specs.Prelude.{◌≡◌, ℕ, true, false, OnOk, OnErr, IfOk, IfSome, IfNone};
+ghost use Rattle.std.specs.Prelude.{get_or, length, slice_set};
 ghost use Rattle.std.specs.List.{list_any};
-ghost use Rattle.hostfiles.specs.Looks.{is_looked, asks_nothing, look_has_by, look_length_by, look_record_by, look_directory, no_looks, forgot};
+ghost use Rattle.hostfiles.specs.Looks.{is_looked, asks_nothing, no_looks, forgot, IsUnasked};
+ghost use Rattle.hostfiles.specs.Looks.{look_has_by, look_length_by, look_record_by, look_directory};
 
 use crate::journal::{Base, Grown};
 use filenames::Key;
@@ -78,7 +80,8 @@ impl Looks {
             && !is_some_marked(&self.directories)
     }
 
-    /// Whether there is a file of the key: a question where the file stands on its own host file. An `Err` changes nothing.
+    /// Whether there is a file of the key: a question where the file stands on its own host file. An `Err`
+    /// changes nothing.
     pub fn mark_has(&mut self, base: Base, key: &Key) -> Result<(), AllocError>
         ensures ok { OnOk result (self.new ≡ look_has_by base key.now self.old) }
         ensures err { OnErr result (self.new ≡ self.old) }
@@ -91,7 +94,8 @@ impl Looks {
         }
     }
 
-    /// The length of a file: a question where it stands on a host file and was not made longer. An `Err` changes nothing.
+    /// The length of a file: a question where it stands on a host file and was not made longer. An `Err`
+    /// changes nothing.
     pub fn mark_length(
         &mut self,
         base: Base,
@@ -148,7 +152,7 @@ impl Looks {
     pub fn take(&mut self) -> Option<Ask>
         ensures there { IfSome result (λ q. is_looked self.old q ≡ true) }
         ensures some { IfSome result (λ q. self.new ≡ forgot q self.old) }
-        ensures none { IfNone result ((self.new ≡ self.old) × ((q : Ask) → is_looked self.old q ≡ false)) }
+        ensures none { IfNone result ((self.new ≡ self.old) × IsUnasked self.old) }
     {
         if let Some(key) = self.has.pop() {
             return Some(Ask::Has(key));
@@ -172,7 +176,8 @@ fn take_drive(directories: &mut [bool]) -> Option<u8>
     requires { length directories.old ≡ 256 }
     ensures there { IfSome result (λ drive. get_or directories.old drive false ≡ true) }
     ensures some { IfSome result (λ drive. directories.new ≡ slice_set directories.old drive false) }
-    ensures none { IfNone result ((directories.new ≡ directories.old) × ((drive : ℕ) → get_or directories.old drive false ≡ false)) }
+    ensures none { IfNone result (directories.new ≡ directories.old) }
+    ensures unmarked { IfNone result ((drive : ℕ) → get_or directories.old drive false ≡ false) }
 {
     if !is_some_marked(directories) {
         return None;

@@ -1,10 +1,8 @@
 // The names of changed files, in order.
 
-ghost use Rattle.std.specs.Prelude.{◌≡◌, List, ℕ, true, false, IfSome, IfNone, option_copied};
-ghost use Rattle.std.specs.declared.cmp.Ordering.TheVariants.{Less};
-ghost use Rattle.std.specs.Ordering.{nat_cmp};
-ghost use Rattle.std.specs.Cmp.Lexicographic.{slice_cmp};
+ghost use Rattle.std.specs.Prelude.{◌≡◌, true, false, IfSome, IfNone, option_copied};
 ghost use Rattle.keymaps.specs.Order.{is_above};
+ghost use Rattle.hostfiles.specs.Above.{AllAbove, AllBetween};
 ghost use Rattle.hostfiles.specs.Changed.{is_changed_name, AreAllChanged};
 
 use crate::changed::is_changed;
@@ -12,13 +10,15 @@ use crate::host::HostFiles;
 use crate::journal::Journal;
 use filenames::{Key, Name};
 
-/// The least name of a changed file by key, after the one given if there is one. Only files are looked at to which something was done.
-/// A file whose key is that of no name is passed over.
+/// The least name of a changed file by key, after the one given if there is one. Only files are looked at to
+/// which something was done. A file whose key is that of no name is passed over.
 pub fn next_changed(host: &HostFiles, journal: &Journal, after: Option<&Name>) -> Option<Name>
     ensures above { IfSome result (λ k. is_above (option_copied after.entry) k ≡ true) }
     ensures changed { IfSome result (λ k. is_changed_name host.now journal.now.entries k ≡ true) }
-    ensures least { IfSome result (λ k. (x : List ℕ) → is_above (option_copied after.entry) x ≡ true → slice_cmp nat_cmp x k ≡ Less → is_changed_name host.now journal.now.entries x ≡ false) }
-    ensures none { IfNone result ((x : List ℕ) → is_above (option_copied after.entry) x ≡ true → is_changed_name host.now journal.now.entries x ≡ false) }
+    ensures least { IfSome result (λ k. AllBetween (option_copied after.entry) k
+        (λ x. is_changed_name host.now journal.now.entries x ≡ false)) }
+    ensures none { IfNone result (AllAbove (option_copied after.entry)
+        (λ x. is_changed_name host.now journal.now.entries x ≡ false)) }
 {
     next_above(host, journal, key_if_any(after))
 }
@@ -37,8 +37,10 @@ pub(crate) fn key_if_any(name: Option<&Name>) -> Option<Key>
 fn next_above(host: &HostFiles, journal: &Journal, after: Option<Key>) -> Option<Name>
     ensures above { IfSome result (λ k. is_above after k ≡ true) }
     ensures changed { IfSome result (λ k. is_changed_name host.now journal.now.entries k ≡ true) }
-    ensures least { IfSome result (λ k. (x : List ℕ) → is_above after x ≡ true → slice_cmp nat_cmp x k ≡ Less → is_changed_name host.now journal.now.entries x ≡ false) }
-    ensures none { IfNone result ((x : List ℕ) → is_above after x ≡ true → is_changed_name host.now journal.now.entries x ≡ false) }
+    ensures least { IfSome result (λ k. AllBetween after k
+        (λ x. is_changed_name host.now journal.now.entries x ≡ false)) }
+    ensures none { IfNone result (AllAbove after
+        (λ x. is_changed_name host.now journal.now.entries x ≡ false)) }
 {
     let mut low = after;
     while let Some(key) = journal.entries.next_key(low) {
@@ -52,7 +54,8 @@ fn next_above(host: &HostFiles, journal: &Journal, after: Option<Key>) -> Option
 
 // The name of a key, where its file is changed.
 fn changed_name(host: &HostFiles, journal: &Journal, key: &Key) -> Option<Name>
-    ensures some { IfSome result (λ name. (name ≡ key.now) × (is_changed_name host.now journal.now.entries key.now ≡ true)) }
+    ensures name { IfSome result (λ name. name ≡ key.now) }
+    ensures some { IfSome result (λ name. is_changed_name host.now journal.now.entries key.now ≡ true) }
     ensures none { IfNone result (is_changed_name host.now journal.now.entries key.now ≡ false) }
 {
     let name = Name::from_key(key)?;

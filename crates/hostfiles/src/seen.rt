@@ -1,10 +1,12 @@
 // The file of a key, found once.
 
-ghost use Rattle.std.specs.Prelude.{◌≡◌, ◌<◌, ◌≤◌, ◌+◌, ◌*◌, ◌&&◌, not, ℕ, length, get_or, is_some, false, option_copied, unwrap_or, OnOk, OnErr, IfOk};
+ghost use Rattle.std.specs.Prelude.{◌≡◌, ◌<◌, ◌≤◌, ◌+◌, ◌*◌, ◌&&◌, not, ℕ, length, get_or, is_some, false};
+ghost use Rattle.std.specs.Prelude.{option_copied, unwrap_or};
 ghost use Rattle.std.specs.FinMap as finmap;
 ghost use Rattle.directory.specs.Entries.{count_at};
-ghost use Rattle.hostfiles.specs.Files.{has, is_below, length_at, records, place_of, entry_at, untouched, file_of, shape_of, host_file, stands_on};
-ghost use Rattle.hostfiles.specs.Looks.{look_has, look_length, look_content, Extends};
+ghost use Rattle.hostfiles.specs.Files.{is_below, records, entry_at, untouched, host_file, stands_on};
+ghost use Rattle.hostfiles.specs.Looks.{look_has, look_length, look_content};
+ghost use Rattle.hostfiles.specs.Asking.{AsksFor};
 
 use crate::host::{HostFile, HostFiles};
 use crate::journal::{Base, Entry, Grown, Journal};
@@ -13,8 +15,8 @@ use filenames::Key;
 use records::{EXTENT_RECORDS, Record};
 use std::alloc::AllocError;
 
-/// The file of a key as a program sees it: what the run did to it, and the host file that it stands on, both found already. What is read of it
-/// here is no look, but for what is asked with `Looks`.
+/// The file of a key as a program sees it: what the run did to it, and the host file that it stands on, both
+/// found already. What is read of it here is no look, but for what is asked with `Looks`.
 #[derive(Clone, Copy)]
 pub struct SeenFile<'a> {
     /// The host files.
@@ -28,11 +30,13 @@ pub struct SeenFile<'a> {
     /// The host file that the file stands on, if there is one.
     pub beneath: Option<&'a HostFile>,
     pub ghost own: { option_copied entry ≡ finmap.get journal.now.entries key },
-    pub ghost stands: { option_copied beneath ≡ host_file host.now (stands_on key (entry_at journal.now.entries key).base) },
+    pub ghost stands: { option_copied beneath ≡
+        host_file host.now (stands_on key (entry_at journal.now.entries key).base) },
 }
 
 impl<'a> SeenFile<'a> {
-    /// Finds the file of a key: one search of what was done, and one of the host files where the file may stand on one.
+    /// Finds the file of a key: one search of what was done, and one of the host files where the file may
+    /// stand on one.
     pub fn find(host: &'a HostFiles, journal: &'a Journal, key: &Key) -> SeenFile<'a>
         ensures host { result.host ≡ host.entry }
         ensures journal { result.journal ≡ journal.entry }
@@ -72,16 +76,18 @@ fn beneath<'a>(host: &'a HostFiles, key: &Key, base: Base) -> Option<&'a HostFil
 }
 
 impl SeenFile<'_> {
+    ghost use Rattle.hostfiles.specs.Seen.{own_of, entry_of, is_seen, length_seen, record_seen, shape_seen};
+
     /// What the file stands on.
     pub fn base(&self) -> Base
-        ensures { result ≡ (entry_at self.now.journal.now.entries self.now.key).base }
+        ensures { result ≡ (entry_of self.now).base }
     {
         base_of(self.entry)
     }
 
     /// How the file has grown.
     pub fn grown(&self) -> Option<Grown>
-        ensures { result ≡ (entry_at self.now.journal.now.entries self.now.key).grown }
+        ensures { result ≡ (entry_of self.now).grown }
     {
         match self.entry {
             Some(entry) => entry.grown,
@@ -91,7 +97,7 @@ impl SeenFile<'_> {
 
     // The record that was written at a place.
     fn written(&self, k: u32) -> Option<&Record>
-        ensures { option_copied result ≡ finmap.get (entry_at self.now.journal.now.entries self.now.key).records k }
+        ensures { option_copied result ≡ finmap.get (entry_of self.now).records k }
     {
         match self.entry {
             Some(entry) => entry.records.get(k),
@@ -101,7 +107,7 @@ impl SeenFile<'_> {
 
     /// Whether there is a file.
     pub fn is_there(&self) -> bool
-        ensures { result ≡ has self.now.host.now self.now.journal.now.entries self.now.key }
+        ensures { result ≡ is_seen self.now }
     {
         match self.base() {
             Base::Same => self.beneath.is_some(),
@@ -113,7 +119,7 @@ impl SeenFile<'_> {
 
     /// How many places the file has; 0 where there is none.
     pub fn length(&self) -> u32
-        ensures { result ≡ length_at self.now.host.now self.now.journal.now.entries self.now.key }
+        ensures { result ≡ length_seen self.now }
     {
         if let Some(grown) = self.grown() {
             return grown.to;
@@ -126,7 +132,7 @@ impl SeenFile<'_> {
 
     /// How many places the file has, if it is there.
     pub fn records(&self) -> Option<u32>
-        ensures { result ≡ records self.now.host.now self.now.journal.now.entries self.now.key }
+        ensures { result ≡ records self.now.host.now (own_of self.now) self.now.key }
     {
         if !self.is_there() {
             return None;
@@ -136,7 +142,7 @@ impl SeenFile<'_> {
 
     /// The record at a place below the length; none in a hole.
     pub fn record(&self, k: u32) -> Option<&Record>
-        ensures { option_copied result ≡ place_of self.now.host.now self.now.key (entry_at self.now.journal.now.entries self.now.key) k }
+        ensures { option_copied result ≡ record_seen self.now k }
     {
         if let Some(record) = self.written(k) {
             return Some(record);
@@ -154,7 +160,7 @@ impl SeenFile<'_> {
 
     /// Whether a record stands at a place.
     pub fn is_written(&self, place: u64) -> bool
-        ensures { result ≡ get_or (shape_of (file_of self.now.host.now self.now.key (entry_at self.now.journal.now.entries self.now.key))) place false }
+        ensures { result ≡ get_or (shape_seen self.now) place false }
     {
         if place >= self.length() as u64 {
             return false;
@@ -164,7 +170,7 @@ impl SeenFile<'_> {
 
     /// The greatest place of an extent that holds a record, plus one; 0 where none does.
     pub fn count(&self, extent: u32) -> u8
-        ensures value { result ≡ count_at (shape_of (file_of self.now.host.now self.now.key (entry_at self.now.journal.now.entries self.now.key))) extent }
+        ensures value { result ≡ count_at (shape_seen self.now) extent }
         ensures within { result ≤ 128 }
     {
         let mut i = places_in(self.length(), extent);
@@ -178,36 +184,30 @@ impl SeenFile<'_> {
     }
 
     /// Asks whether there is a file. An `Err` has asked nothing else.
-    #[tactic(auto, using(crate::proofs::LookLemmas::extends_by_has, crate::proofs::LookLemmas::extends_same))]
+    #[tactic(auto, using(crate::proofs::LookLemmas::noted_has))]
     pub fn ask_presence(&self, looks: &mut Looks) -> Result<bool, AllocError>
-        ensures answer { IfOk result (λ b. b ≡ has self.now.host.now self.now.journal.now.entries self.now.key) }
-        ensures looks { OnOk result (looks.new ≡ look_has self.now.journal.now.entries self.now.key looks.old) }
-        ensures extends { Extends looks.old looks.new }
-        ensures bound { OnErr result (Extends looks.new (look_has self.now.journal.now.entries self.now.key looks.old)) }
+        ensures { AsksFor result (is_seen self.now)
+            (look_has (own_of self.now) self.now.key) looks.old looks.new }
     {
         looks.mark_has(self.base(), &self.key)?;
         Ok(self.is_there())
     }
 
     /// Asks how many places the file has; 0 where there is none. An `Err` has asked nothing else.
-    #[tactic(auto, using(crate::proofs::LookLemmas::extends_by_length, crate::proofs::LookLemmas::extends_same))]
+    #[tactic(auto, using(crate::proofs::LookLemmas::noted_length))]
     pub fn ask_length(&self, looks: &mut Looks) -> Result<u32, AllocError>
-        ensures answer { IfOk result (λ n. n ≡ length_at self.now.host.now self.now.journal.now.entries self.now.key) }
-        ensures looks { OnOk result (looks.new ≡ look_length self.now.journal.now.entries self.now.key looks.old) }
-        ensures extends { Extends looks.old looks.new }
-        ensures bound { OnErr result (Extends looks.new (look_length self.now.journal.now.entries self.now.key looks.old)) }
+        ensures { AsksFor result (length_seen self.now)
+            (look_length (own_of self.now) self.now.key) looks.old looks.new }
     {
         looks.mark_length(self.base(), self.grown(), &self.key)?;
         Ok(self.length())
     }
 
     /// Asks for the record at a place below the length; none in a hole. An `Err` has asked nothing else.
-    #[tactic(auto, using(crate::proofs::LookLemmas::extends_by_record, crate::proofs::LookLemmas::extends_same))]
+    #[tactic(auto, using(crate::proofs::LookLemmas::noted_record))]
     pub fn ask_record(&self, looks: &mut Looks, k: u32) -> Result<Option<Record>, AllocError>
-        ensures answer { IfOk result (λ r. r ≡ place_of self.now.host.now self.now.key (entry_at self.now.journal.now.entries self.now.key) k) }
-        ensures looks { OnOk result (looks.new ≡ look_content self.now.journal.now.entries self.now.key k looks.old) }
-        ensures extends { Extends looks.old looks.new }
-        ensures bound { OnErr result (Extends looks.new (look_content self.now.journal.now.entries self.now.key k looks.old)) }
+        ensures { AsksFor result (record_seen self.now k)
+            (look_content (own_of self.now) self.now.key k) looks.old looks.new }
     {
         if self.is_of_host(k) {
             looks.mark_record(self.base(), &self.key, k)?;
@@ -217,7 +217,8 @@ impl SeenFile<'_> {
 
     // Whether a place is the host file's: it was not written, and is no hole that a write past the end left.
     fn is_of_host(&self, k: u32) -> bool
-        ensures { result ≡ (not (is_some (finmap.get (entry_at self.now.journal.now.entries self.now.key).records k)) && is_below k (entry_at self.now.journal.now.entries self.now.key).grown) }
+        ensures { let e = entry_of self.now in
+            result ≡ (not (is_some (finmap.get e.records k)) && is_below k e.grown) }
     {
         if self.written(k).is_some() {
             return false;

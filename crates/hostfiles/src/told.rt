@@ -19,9 +19,11 @@ pub fn told_count(host: &HostFiles, journal: &Journal, key: &Key) -> Option<u32>
     joined::records(host, journal, key)
 }
 
-/// A record of the file of a key as it is told, zeros in a hole; none where there is no such file or it has fewer.
+/// A record of the file of a key as it is told, zeros in a hole; none where there is no such file or it has
+/// fewer.
 pub fn told_record(host: &HostFiles, journal: &Journal, key: &Key, place: u32) -> Option<Record>
-    ensures { result ≡ option_and_then (λ records. slice_get records place) (told host.now journal.now.entries key.now) }
+    ensures { let seen = told host.now journal.now.entries key.now in
+        result ≡ option_and_then (λ records. slice_get records place) seen }
 {
     if !joined::has(host, journal, key) {
         return None;
@@ -34,7 +36,8 @@ pub fn told_record(host: &HostFiles, journal: &Journal, key: &Key, place: u32) -
 
 // The record at a place below the length, zeros in a hole.
 pub(crate) fn told_content(host: &HostFiles, journal: &Journal, key: &Key, place: u32) -> Record
-    ensures { result ≡ unwrap_or (place_of host.now key.now (entry_at journal.now.entries key.now) place) zeros }
+    ensures { result ≡ unwrap_or
+        (place_of host.now key.now (entry_at journal.now.entries key.now) place) zeros }
 {
     match joined::content(host, journal, key, place) {
         Some(content) => content,

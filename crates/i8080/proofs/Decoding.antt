@@ -11,7 +11,7 @@ use Rattle.i8080.specs.declared.opcode.Op.{Op}
 use Rattle.i8080.specs.declared.opcode.Op.TheVariants.{Mov, MovToMemory, Mvi, Lxi, Ldax, Stax, Accumulate, Inr, Dcr, Inx, Dcx, Dad, Rotate, JumpIf, CallIf, RetIf, Rst, Push, Pop}
 use Rattle.i8080.specs.declared.opcode.Register.{Register}
 use Rattle.i8080.specs.declared.opcode.Register.TheVariants.{B, C, D, E, H, L, A}
-use Rattle.i8080.specs.declared.opcode.Place.TheVariants.{Held, Memory}
+use Rattle.i8080.specs.declared.opcode.Place.TheVariants.{InRegister, Memory}
 use Rattle.i8080.specs.declared.opcode.Pair.{Pair}
 use Rattle.i8080.specs.declared.opcode.Pair.TheVariants.{Bc}
 use Rattle.i8080.specs.declared.opcode.Saved.{Saved}
@@ -32,37 +32,37 @@ use Rattle.i8080.specs.declared.opcode.Restart.TheVariants.{Rst0}
 abbrev Found : Op → Type 0
 Found op = decoded (opcode_of op) ≡ Some op
 
-to_B : (x : Register) → Found (Mov B (Held x))
+to_B : (x : Register) → Found (Mov B (InRegister x))
 unfolding decoded
 to_B B = refl
 to_B _ = refl
 
-to_C : (x : Register) → Found (Mov C (Held x))
+to_C : (x : Register) → Found (Mov C (InRegister x))
 unfolding decoded
 to_C B = refl
 to_C _ = refl
 
-to_D : (x : Register) → Found (Mov D (Held x))
+to_D : (x : Register) → Found (Mov D (InRegister x))
 unfolding decoded
 to_D B = refl
 to_D _ = refl
 
-to_E : (x : Register) → Found (Mov E (Held x))
+to_E : (x : Register) → Found (Mov E (InRegister x))
 unfolding decoded
 to_E B = refl
 to_E _ = refl
 
-to_H : (x : Register) → Found (Mov H (Held x))
+to_H : (x : Register) → Found (Mov H (InRegister x))
 unfolding decoded
 to_H B = refl
 to_H _ = refl
 
-to_L : (x : Register) → Found (Mov L (Held x))
+to_L : (x : Register) → Found (Mov L (InRegister x))
 unfolding decoded
 to_L B = refl
 to_L _ = refl
 
-to_A : (x : Register) → Found (Mov A (Held x))
+to_A : (x : Register) → Found (Mov A (InRegister x))
 unfolding decoded
 to_A B = refl
 to_A _ = refl
@@ -72,45 +72,45 @@ unfolding decoded
 from_memory B = refl
 from_memory _ = refl
 
-add_held : (x : Register) → Found (Accumulate Add (At (Held x)))
+add_register : (x : Register) → Found (Accumulate Add (At (InRegister x)))
 unfolding decoded
-add_held B = refl
-add_held _ = refl
+add_register B = refl
+add_register _ = refl
 
-adc_held : (x : Register) → Found (Accumulate Adc (At (Held x)))
+adc_register : (x : Register) → Found (Accumulate Adc (At (InRegister x)))
 unfolding decoded
-adc_held B = refl
-adc_held _ = refl
+adc_register B = refl
+adc_register _ = refl
 
-sub_held : (x : Register) → Found (Accumulate Sub (At (Held x)))
+sub_register : (x : Register) → Found (Accumulate Sub (At (InRegister x)))
 unfolding decoded
-sub_held B = refl
-sub_held _ = refl
+sub_register B = refl
+sub_register _ = refl
 
-sbb_held : (x : Register) → Found (Accumulate Sbb (At (Held x)))
+sbb_register : (x : Register) → Found (Accumulate Sbb (At (InRegister x)))
 unfolding decoded
-sbb_held B = refl
-sbb_held _ = refl
+sbb_register B = refl
+sbb_register _ = refl
 
-ana_held : (x : Register) → Found (Accumulate Ana (At (Held x)))
+ana_register : (x : Register) → Found (Accumulate Ana (At (InRegister x)))
 unfolding decoded
-ana_held B = refl
-ana_held _ = refl
+ana_register B = refl
+ana_register _ = refl
 
-xra_held : (x : Register) → Found (Accumulate Xra (At (Held x)))
+xra_register : (x : Register) → Found (Accumulate Xra (At (InRegister x)))
 unfolding decoded
-xra_held B = refl
-xra_held _ = refl
+xra_register B = refl
+xra_register _ = refl
 
-ora_held : (x : Register) → Found (Accumulate Ora (At (Held x)))
+ora_register : (x : Register) → Found (Accumulate Ora (At (InRegister x)))
 unfolding decoded
-ora_held B = refl
-ora_held _ = refl
+ora_register B = refl
+ora_register _ = refl
 
-cmp_held : (x : Register) → Found (Accumulate Cmp (At (Held x)))
+cmp_register : (x : Register) → Found (Accumulate Cmp (At (InRegister x)))
 unfolding decoded
-cmp_held B = refl
-cmp_held _ = refl
+cmp_register B = refl
+cmp_register _ = refl
 
 on_memory : (x : Arithmetic) → Found (Accumulate x (At Memory))
 unfolding decoded
@@ -122,20 +122,20 @@ unfolding decoded
 on_immediate Add = refl
 on_immediate _ = refl
 
-mvi_held : (x : Register) → Found (Mvi (Held x))
+mvi_register : (x : Register) → Found (Mvi (InRegister x))
 unfolding decoded
-mvi_held B = refl
-mvi_held _ = refl
+mvi_register B = refl
+mvi_register _ = refl
 
-inr_held : (x : Register) → Found (Inr (Held x))
+inr_register : (x : Register) → Found (Inr (InRegister x))
 unfolding decoded
-inr_held B = refl
-inr_held _ = refl
+inr_register B = refl
+inr_register _ = refl
 
-dcr_held : (x : Register) → Found (Dcr (Held x))
+dcr_register : (x : Register) → Found (Dcr (InRegister x))
 unfolding decoded
-dcr_held B = refl
-dcr_held _ = refl
+dcr_register B = refl
+dcr_register _ = refl
 
 store_found : (x : Register) → Found (MovToMemory x)
 unfolding decoded
@@ -209,29 +209,29 @@ pop_found _ = refl
 
 pub found : (op : Op) → Found op
 unfolding decoded
-found (Mov B (Held x)) = to_B x
-found (Mov C (Held x)) = to_C x
-found (Mov D (Held x)) = to_D x
-found (Mov E (Held x)) = to_E x
-found (Mov H (Held x)) = to_H x
-found (Mov L (Held x)) = to_L x
-found (Mov A (Held x)) = to_A x
+found (Mov B (InRegister x)) = to_B x
+found (Mov C (InRegister x)) = to_C x
+found (Mov D (InRegister x)) = to_D x
+found (Mov E (InRegister x)) = to_E x
+found (Mov H (InRegister x)) = to_H x
+found (Mov L (InRegister x)) = to_L x
+found (Mov A (InRegister x)) = to_A x
 found (Mov x Memory) = from_memory x
-found (Accumulate Add (At (Held x))) = add_held x
-found (Accumulate Adc (At (Held x))) = adc_held x
-found (Accumulate Sub (At (Held x))) = sub_held x
-found (Accumulate Sbb (At (Held x))) = sbb_held x
-found (Accumulate Ana (At (Held x))) = ana_held x
-found (Accumulate Xra (At (Held x))) = xra_held x
-found (Accumulate Ora (At (Held x))) = ora_held x
-found (Accumulate Cmp (At (Held x))) = cmp_held x
+found (Accumulate Add (At (InRegister x))) = add_register x
+found (Accumulate Adc (At (InRegister x))) = adc_register x
+found (Accumulate Sub (At (InRegister x))) = sub_register x
+found (Accumulate Sbb (At (InRegister x))) = sbb_register x
+found (Accumulate Ana (At (InRegister x))) = ana_register x
+found (Accumulate Xra (At (InRegister x))) = xra_register x
+found (Accumulate Ora (At (InRegister x))) = ora_register x
+found (Accumulate Cmp (At (InRegister x))) = cmp_register x
 found (Accumulate x (At Memory)) = on_memory x
 found (Accumulate x Immediate) = on_immediate x
-found (Mvi (Held x)) = mvi_held x
+found (Mvi (InRegister x)) = mvi_register x
 found (Mvi Memory) = refl
-found (Inr (Held x)) = inr_held x
+found (Inr (InRegister x)) = inr_register x
 found (Inr Memory) = refl
-found (Dcr (Held x)) = dcr_held x
+found (Dcr (InRegister x)) = dcr_register x
 found (Dcr Memory) = refl
 found (MovToMemory x) = store_found x
 found (Lxi x) = lxi_found x

@@ -1,13 +1,7 @@
--- How an instruction ends, and what it leaves. (This project's own.)
-use Rattle.std.specs.Prelude.{ℕ, ◌≡◌, List, [], ◌∷◌, IfOk, OnOk, OnErr}
-use Rattle.std.specs.declared.result.Result.{Result}
-use Rattle.std.specs.declared.alloc.AllocError.{AllocError}
+-- How an instruction ends. (This project's own.)
+use Rattle.std.specs.Prelude.{ℕ, List, [], ◌∷◌}
 use Rattle.i8080.specs.declared.registers.Regs.{Regs}
-use Rattle.i8080.specs.declared.outcome.Did.{Did}
-use Rattle.i8080.specs.declared.outcome.Did.TheVariants as did
-use Rattle.i8080.specs.Memory.{Own, Memory, bytes, write_all}
 use Rattle.i8080.specs.Registers.{onward}
-use Rattle.i8080.specs.Reading.{Reading, end_of, looks_after}
 
 -- it went on with these registers, after these writes; or it stopped, and changed nothing: HLT and a byte that stands for no
 -- instruction stop a run
@@ -16,58 +10,7 @@ pub data End : Type 0 where
   Halt : End
   Undefined : ℕ → End
 
-abbrev pub did_of : End → Did
-did_of (Went r writes) = did.Went
-did_of Halt = did.Halt
-did_of (Undefined byte) = did.Undefined byte
-
-abbrev pub regs_after : End → Regs → Regs
-regs_after (Went r writes) old = r
-regs_after Halt old = old
-regs_after (Undefined byte) old = old
-
-abbrev pub own_after : End → Own → Own
-own_after (Went r writes) own = write_all own writes
-own_after Halt own = own
-own_after (Undefined byte) own = own
-
--- it ends with a write
-abbrev pub IsWriting : End → Type 0
-IsWriting (Went r []) = ⊥
-IsWriting (Went r (w ∷ rest)) = Unit {0}
-IsWriting Halt = ⊥
-IsWriting (Undefined byte) = ⊥
-
--- what a call leaves that carries out a tree of reads and its end: memory may be refused only where something is to be written,
--- and then all was read
-pub record Performs (t : Reading End) (r : Regs) (m : Memory) (result : Result Did AllocError) (r' : Regs) (m' : Memory) : Type 0 where
-  pub did : IfOk result (λ did. did ≡ did_of (end_of t (bytes m)))
-  pub regs : OnOk result (r' ≡ regs_after (end_of t (bytes m)) r)
-  pub own : OnOk result (m'.own ≡ own_after (end_of t (bytes m)) m.own)
-  pub err_writes : OnErr result (IsWriting (end_of t (bytes m)))
-  pub err_regs : OnErr result (r' ≡ r)
-  pub err_own : OnErr result (m'.own ≡ m.own)
-  pub looks : m'.looks ≡ looks_after t m
-  pub beneath : m'.beneath ≡ m.beneath
-  pub lender : m'.lender ≡ m.lender
-
 -- bytes in the cells from an address on
 abbrev pub cells_from : ℕ → List ℕ → List (ℕ × ℕ)
 cells_from at [] = []
 cells_from at (byte ∷ rest) = (at, byte) ∷ cells_from (onward at 1) rest
-
--- what a call leaves that only reads, and gives a value
-pub record Reads {E : Type 0} (t : Reading E) (m : Memory) (result : E) (m' : Memory) : Type 0 where
-  pub value : result ≡ end_of t (bytes m)
-  pub looks : m'.looks ≡ looks_after t m
-  pub own : m'.own ≡ m.own
-  pub beneath : m'.beneath ≡ m.beneath
-  pub lender : m'.lender ≡ m.lender
-
--- what a call leaves that only writes
-pub record Writes (writes : List (ℕ × ℕ)) (m : Memory) (result : Result (Unit {0}) AllocError) (m' : Memory) : Type 0 where
-  pub own : OnOk result (m'.own ≡ write_all m.own writes)
-  pub err_own : OnErr result (m'.own ≡ m.own)
-  pub looks : m'.looks ≡ m.looks
-  pub beneath : m'.beneath ≡ m.beneath
-  pub lender : m'.lender ≡ m.lender

@@ -6,7 +6,7 @@ use Rattle.i8080.specs.declared.flags.Flags.{Flags}
 use Rattle.i8080.specs.declared.opcode.Op.{Op}
 use Rattle.i8080.specs.declared.opcode.Op.TheVariants.{Nop, Hlt, Mov, MovToMemory, Mvi, Lxi, Lda, Sta, Lhld, Shld, Ldax, Stax, Xchg, Accumulate, Inr, Dcr, Inx, Dcx, Dad, Rotate, Daa, Cma, Stc, Cmc, Jmp, JumpIf, Call, CallIf, Ret, RetIf, Rst, Pchl, Push, Pop, Xthl, Sphl, In, Out, Di, Ei}
 use Rattle.i8080.specs.declared.opcode.Place.{Place}
-use Rattle.i8080.specs.declared.opcode.Place.TheVariants.{Held, Memory}
+use Rattle.i8080.specs.declared.opcode.Place.TheVariants.{InRegister, Memory}
 use Rattle.i8080.specs.declared.opcode.Pair.TheVariants.{Bc, De, Hl}
 use Rattle.i8080.specs.declared.opcode.Base.{Base}
 use Rattle.i8080.specs.declared.opcode.Base.TheVariants.{InBc, InDe}
@@ -104,15 +104,15 @@ abbrev pub with_carry : Bool → Regs → Regs
 with_carry cy r = let f = r.flags in record r { flags = record f { cy = cy } }
 
 -- the condition of a jump, a call or a return
-abbrev pub holds : Condition → Flags → Bool
-holds NotZero f = not f.z
-holds Zero f = f.z
-holds NoCarry f = not f.cy
-holds Carry f = f.cy
-holds ParityOdd f = not f.p
-holds ParityEven f = f.p
-holds Plus f = not f.s
-holds Minus f = f.s
+abbrev pub is_met : Condition → Flags → Bool
+is_met NotZero f = not f.z
+is_met Zero f = f.z
+is_met NoCarry f = not f.cy
+is_met Carry f = f.cy
+is_met ParityOdd f = not f.p
+is_met ParityEven f = f.p
+is_met Plus f = not f.s
+is_met Minus f = f.s
 
 -- a write of one byte, and of a word
 abbrev pub one_byte : ℕ → ℕ → List (ℕ × ℕ)
@@ -138,11 +138,11 @@ operand_word r k = word_at (onward r.pc 1) k
 
 -- a register, or the cell at HL, read or written
 abbrev pub from_place : {E : Type 0} → Place → Regs → (ℕ → Reading E) → Reading E
-from_place (Held x) r k = k (value_of x r)
+from_place (InRegister x) r k = k (value_of x r)
 from_place Memory r k = Cell (pair_of Hl r) k
 
 abbrev pub to_place : Place → ℕ → Regs → Reading End
-to_place (Held x) v r = went (with_value x v r)
+to_place (InRegister x) v r = went (with_value x v r)
 to_place Memory v r = storing (one_byte (pair_of Hl r) v) r
 
 -- the address of LDAX and STAX
@@ -188,11 +188,11 @@ operation Cma r = went (advance 1 (record r { a = 255 - r.a }))
 operation Stc r = went (advance 1 (with_carry true r))
 operation Cmc r = went (advance 1 (with_carry (not r.flags.cy) r))
 operation Jmp r = operand_word r (λ w. went (jumped w r))
-operation (JumpIf c) r = operand_word r (λ w. went (if holds c r.flags then jumped w r else advance 3 r))
+operation (JumpIf c) r = operand_word r (λ w. went (if is_met c r.flags then jumped w r else advance 3 r))
 operation Call r = operand_word r (λ w. pushing (onward r.pc 3) (jumped w r))
-operation (CallIf c) r = operand_word r (λ w. if holds c r.flags then pushing (onward r.pc 3) (jumped w r) else went (advance 3 r))
+operation (CallIf c) r = operand_word r (λ w. if is_met c r.flags then pushing (onward r.pc 3) (jumped w r) else went (advance 3 r))
 operation Ret r = word_at r.sp (λ w. went (jumped w (popped r)))
-operation (RetIf c) r = if holds c r.flags then word_at r.sp (λ w. went (jumped w (popped r))) else went (advance 1 r)
+operation (RetIf c) r = if is_met c r.flags then word_at r.sp (λ w. went (jumped w (popped r))) else went (advance 1 r)
 operation (Rst n) r = pushing (onward r.pc 1) (jumped (8 * restart_code n) r)
 operation Pchl r = went (jumped (pair_of Hl r) r)
 operation (Push s) r = pushing (saved_of s r) (advance 1 r)

@@ -6,7 +6,7 @@ use Rattle.i8080.specs.declared.opcode.Op.TheVariants.{Nop, Hlt, Mov, MovToMemor
 use Rattle.i8080.specs.declared.opcode.Register.{Register}
 use Rattle.i8080.specs.declared.opcode.Register.TheVariants.{B, C, D, E, H, L, A}
 use Rattle.i8080.specs.declared.opcode.Place.{Place}
-use Rattle.i8080.specs.declared.opcode.Place.TheVariants.{Held, Memory}
+use Rattle.i8080.specs.declared.opcode.Place.TheVariants.{InRegister, Memory}
 use Rattle.i8080.specs.declared.opcode.Pair.{Pair}
 use Rattle.i8080.specs.declared.opcode.Pair.TheVariants.{Bc, De, Hl, Sp}
 use Rattle.i8080.specs.declared.opcode.Saved.{Saved}
@@ -34,7 +34,7 @@ register_code L = 5
 register_code A = 7
 
 abbrev pub place_code : Place → ℕ
-place_code (Held x) = register_code x
+place_code (InRegister x) = register_code x
 place_code Memory = 6
 
 abbrev pub pair_code : Pair → ℕ
@@ -138,7 +138,7 @@ abbrev pub registers : List Register
 registers = B ∷ C ∷ D ∷ E ∷ H ∷ L ∷ A ∷ []
 
 abbrev pub places : List Place
-places = map Held registers ++ Memory ∷ []
+places = map InRegister registers ++ Memory ∷ []
 
 abbrev pub pairs : List Pair
 pairs = Bc ∷ De ∷ Hl ∷ Sp ∷ []

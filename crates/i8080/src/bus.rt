@@ -3,7 +3,8 @@ ghost use Rattle.i8080.specs.Memory.{Memory, bytes, look, write, write_all};
 ghost use Rattle.i8080.specs.Reading.{Cell, Done};
 ghost use Rattle.i8080.specs.Registers.{onward};
 ghost use Rattle.i8080.specs.Instruction.{word_at};
-ghost use Rattle.i8080.specs.End.{Reads, cells_from};
+ghost use Rattle.i8080.specs.End.{cells_from};
+ghost use Rattle.i8080.specs.Performs.{Reads};
 
 use crate::registers::word_of;
 use std::alloc::AllocError;
@@ -50,7 +51,8 @@ pub fn fetch<B: Bus>(bus: &mut B, a: u16) -> u8
     bus.read(a)
 }
 
-/// The word at an address: its low byte there, its high byte in the next cell. The cell after 0FFFFH is 0000H.
+/// The word at an address: its low byte there, its high byte in the next cell. The cell after 0FFFFH is
+/// 0000H.
 #[inline(always)]
 pub fn fetch_word<B: Bus>(bus: &mut B, a: u16) -> u16
     ensures { Reads (word_at a Done) (B.memory bus.old) result (B.memory bus.new) }

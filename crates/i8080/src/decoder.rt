@@ -11,14 +11,14 @@ fn place(code: u8) -> Place
     ensures { place_code result ≡ code }
 {
     match code {
-        0 => Place::Held(Register::B),
-        1 => Place::Held(Register::C),
-        2 => Place::Held(Register::D),
-        3 => Place::Held(Register::E),
-        4 => Place::Held(Register::H),
-        5 => Place::Held(Register::L),
+        0 => Place::InRegister(Register::B),
+        1 => Place::InRegister(Register::C),
+        2 => Place::InRegister(Register::D),
+        3 => Place::InRegister(Register::E),
+        4 => Place::InRegister(Register::H),
+        5 => Place::InRegister(Register::L),
         6 => Place::Memory,
-        _ => Place::Held(Register::A),
+        _ => Place::InRegister(Register::A),
     }
 }
 
@@ -172,8 +172,8 @@ pub fn decode(byte: u8) -> Option<Op>
     match byte / 64 {
         0 => first_quarter(byte),
         1 => Some(match (place(byte / 8 % 8), place(byte % 8)) {
-            (Place::Held(to), from) => Op::Mov(to, from),
-            (Place::Memory, Place::Held(from)) => Op::MovToMemory(from),
+            (Place::InRegister(to), from) => Op::Mov(to, from),
+            (Place::Memory, Place::InRegister(from)) => Op::MovToMemory(from),
             (Place::Memory, Place::Memory) => Op::Hlt,
         }),
         2 => Some(Op::Accumulate(arithmetic(byte / 8 % 8), Source::At(place(byte % 8)))),

@@ -2,9 +2,9 @@
 // operands are constants and it takes few machine instructions.
 
 ghost use Rattle.std.specs.Prelude.{◌≡◌, ◌/◌};
-ghost use Rattle.i8080.specs.Opcodes.{decoded};
-ghost use Rattle.i8080.specs.End.{Performs};
-ghost use Rattle.i8080.specs.Instruction.{decided, instruction};
+ghost use Rattle.i8080.specs.Performs.{Performs};
+ghost use Rattle.i8080.specs.Instruction.{instruction};
+ghost use Rattle.i8080.specs.Executes.{ExecutesByte};
 
 use crate::bus::{Bus, fetch};
 use crate::instructions::{
@@ -56,40 +56,40 @@ pub fn execute<B: Bus>(regs: &mut Regs, bus: &mut B) -> Result<Did, AllocError>
 #[inline(always)]
 fn part_0<B: Bus>(regs: &mut Regs, bus: &mut B, byte: u8) -> Result<Did, AllocError>
     requires { byte / 32 ≡ 0 }
-    ensures { Performs (decided byte (decoded byte) regs.old) regs.old (B.memory bus.old) result regs.new (B.memory bus.new) }
+    ensures { ExecutesByte byte regs.old (B.memory bus.old) result regs.new (B.memory bus.new) }
 {
     match byte {
         0x00 => nop(regs, bus),
         0x01 => lxi(regs, bus, Pair::Bc),
         0x02 => stax(regs, bus, Base::InBc),
         0x03 => inx(regs, bus, Pair::Bc),
-        0x04 => inr(regs, bus, Place::Held(Register::B)),
-        0x05 => dcr(regs, bus, Place::Held(Register::B)),
-        0x06 => mvi(regs, bus, Place::Held(Register::B)),
+        0x04 => inr(regs, bus, Place::InRegister(Register::B)),
+        0x05 => dcr(regs, bus, Place::InRegister(Register::B)),
+        0x06 => mvi(regs, bus, Place::InRegister(Register::B)),
         0x07 => rotate(regs, bus, Rotation::Rlc),
         0x08 => Ok(Did::Undefined(0x08)),
         0x09 => dad(regs, bus, Pair::Bc),
         0x0a => ldax(regs, bus, Base::InBc),
         0x0b => dcx(regs, bus, Pair::Bc),
-        0x0c => inr(regs, bus, Place::Held(Register::C)),
-        0x0d => dcr(regs, bus, Place::Held(Register::C)),
-        0x0e => mvi(regs, bus, Place::Held(Register::C)),
+        0x0c => inr(regs, bus, Place::InRegister(Register::C)),
+        0x0d => dcr(regs, bus, Place::InRegister(Register::C)),
+        0x0e => mvi(regs, bus, Place::InRegister(Register::C)),
         0x0f => rotate(regs, bus, Rotation::Rrc),
         0x10 => Ok(Did::Undefined(0x10)),
         0x11 => lxi(regs, bus, Pair::De),
         0x12 => stax(regs, bus, Base::InDe),
         0x13 => inx(regs, bus, Pair::De),
-        0x14 => inr(regs, bus, Place::Held(Register::D)),
-        0x15 => dcr(regs, bus, Place::Held(Register::D)),
-        0x16 => mvi(regs, bus, Place::Held(Register::D)),
+        0x14 => inr(regs, bus, Place::InRegister(Register::D)),
+        0x15 => dcr(regs, bus, Place::InRegister(Register::D)),
+        0x16 => mvi(regs, bus, Place::InRegister(Register::D)),
         0x17 => rotate(regs, bus, Rotation::Ral),
         0x18 => Ok(Did::Undefined(0x18)),
         0x19 => dad(regs, bus, Pair::De),
         0x1a => ldax(regs, bus, Base::InDe),
         0x1b => dcx(regs, bus, Pair::De),
-        0x1c => inr(regs, bus, Place::Held(Register::E)),
-        0x1d => dcr(regs, bus, Place::Held(Register::E)),
-        0x1e => mvi(regs, bus, Place::Held(Register::E)),
+        0x1c => inr(regs, bus, Place::InRegister(Register::E)),
+        0x1d => dcr(regs, bus, Place::InRegister(Register::E)),
+        0x1e => mvi(regs, bus, Place::InRegister(Register::E)),
         0x1f => rotate(regs, bus, Rotation::Rar),
         _ => unreachable!(),
     }
@@ -99,24 +99,24 @@ fn part_0<B: Bus>(regs: &mut Regs, bus: &mut B, byte: u8) -> Result<Did, AllocEr
 #[inline(always)]
 fn part_1<B: Bus>(regs: &mut Regs, bus: &mut B, byte: u8) -> Result<Did, AllocError>
     requires { byte / 32 ≡ 1 }
-    ensures { Performs (decided byte (decoded byte) regs.old) regs.old (B.memory bus.old) result regs.new (B.memory bus.new) }
+    ensures { ExecutesByte byte regs.old (B.memory bus.old) result regs.new (B.memory bus.new) }
 {
     match byte {
         0x20 => Ok(Did::Undefined(0x20)),
         0x21 => lxi(regs, bus, Pair::Hl),
         0x22 => shld(regs, bus),
         0x23 => inx(regs, bus, Pair::Hl),
-        0x24 => inr(regs, bus, Place::Held(Register::H)),
-        0x25 => dcr(regs, bus, Place::Held(Register::H)),
-        0x26 => mvi(regs, bus, Place::Held(Register::H)),
+        0x24 => inr(regs, bus, Place::InRegister(Register::H)),
+        0x25 => dcr(regs, bus, Place::InRegister(Register::H)),
+        0x26 => mvi(regs, bus, Place::InRegister(Register::H)),
         0x27 => daa(regs, bus),
         0x28 => Ok(Did::Undefined(0x28)),
         0x29 => dad(regs, bus, Pair::Hl),
         0x2a => lhld(regs, bus),
         0x2b => dcx(regs, bus, Pair::Hl),
-        0x2c => inr(regs, bus, Place::Held(Register::L)),
-        0x2d => dcr(regs, bus, Place::Held(Register::L)),
-        0x2e => mvi(regs, bus, Place::Held(Register::L)),
+        0x2c => inr(regs, bus, Place::InRegister(Register::L)),
+        0x2d => dcr(regs, bus, Place::InRegister(Register::L)),
+        0x2e => mvi(regs, bus, Place::InRegister(Register::L)),
         0x2f => cma(regs, bus),
         0x30 => Ok(Did::Undefined(0x30)),
         0x31 => lxi(regs, bus, Pair::Sp),
@@ -130,9 +130,9 @@ fn part_1<B: Bus>(regs: &mut Regs, bus: &mut B, byte: u8) -> Result<Did, AllocEr
         0x39 => dad(regs, bus, Pair::Sp),
         0x3a => lda(regs, bus),
         0x3b => dcx(regs, bus, Pair::Sp),
-        0x3c => inr(regs, bus, Place::Held(Register::A)),
-        0x3d => dcr(regs, bus, Place::Held(Register::A)),
-        0x3e => mvi(regs, bus, Place::Held(Register::A)),
+        0x3c => inr(regs, bus, Place::InRegister(Register::A)),
+        0x3d => dcr(regs, bus, Place::InRegister(Register::A)),
+        0x3e => mvi(regs, bus, Place::InRegister(Register::A)),
         0x3f => cmc(regs, bus),
         _ => unreachable!(),
     }
@@ -142,41 +142,41 @@ fn part_1<B: Bus>(regs: &mut Regs, bus: &mut B, byte: u8) -> Result<Did, AllocEr
 #[inline(always)]
 fn part_2<B: Bus>(regs: &mut Regs, bus: &mut B, byte: u8) -> Result<Did, AllocError>
     requires { byte / 32 ≡ 2 }
-    ensures { Performs (decided byte (decoded byte) regs.old) regs.old (B.memory bus.old) result regs.new (B.memory bus.new) }
+    ensures { ExecutesByte byte regs.old (B.memory bus.old) result regs.new (B.memory bus.new) }
 {
     match byte {
-        0x40 => mov(regs, bus, Register::B, Place::Held(Register::B)),
-        0x41 => mov(regs, bus, Register::B, Place::Held(Register::C)),
-        0x42 => mov(regs, bus, Register::B, Place::Held(Register::D)),
-        0x43 => mov(regs, bus, Register::B, Place::Held(Register::E)),
-        0x44 => mov(regs, bus, Register::B, Place::Held(Register::H)),
-        0x45 => mov(regs, bus, Register::B, Place::Held(Register::L)),
+        0x40 => mov(regs, bus, Register::B, Place::InRegister(Register::B)),
+        0x41 => mov(regs, bus, Register::B, Place::InRegister(Register::C)),
+        0x42 => mov(regs, bus, Register::B, Place::InRegister(Register::D)),
+        0x43 => mov(regs, bus, Register::B, Place::InRegister(Register::E)),
+        0x44 => mov(regs, bus, Register::B, Place::InRegister(Register::H)),
+        0x45 => mov(regs, bus, Register::B, Place::InRegister(Register::L)),
         0x46 => mov(regs, bus, Register::B, Place::Memory),
-        0x47 => mov(regs, bus, Register::B, Place::Held(Register::A)),
-        0x48 => mov(regs, bus, Register::C, Place::Held(Register::B)),
-        0x49 => mov(regs, bus, Register::C, Place::Held(Register::C)),
-        0x4a => mov(regs, bus, Register::C, Place::Held(Register::D)),
-        0x4b => mov(regs, bus, Register::C, Place::Held(Register::E)),
-        0x4c => mov(regs, bus, Register::C, Place::Held(Register::H)),
-        0x4d => mov(regs, bus, Register::C, Place::Held(Register::L)),
+        0x47 => mov(regs, bus, Register::B, Place::InRegister(Register::A)),
+        0x48 => mov(regs, bus, Register::C, Place::InRegister(Register::B)),
+        0x49 => mov(regs, bus, Register::C, Place::InRegister(Register::C)),
+        0x4a => mov(regs, bus, Register::C, Place::InRegister(Register::D)),
+        0x4b => mov(regs, bus, Register::C, Place::InRegister(Register::E)),
+        0x4c => mov(regs, bus, Register::C, Place::InRegister(Register::H)),
+        0x4d => mov(regs, bus, Register::C, Place::InRegister(Register::L)),
         0x4e => mov(regs, bus, Register::C, Place::Memory),
-        0x4f => mov(regs, bus, Register::C, Place::Held(Register::A)),
-        0x50 => mov(regs, bus, Register::D, Place::Held(Register::B)),
-        0x51 => mov(regs, bus, Register::D, Place::Held(Register::C)),
-        0x52 => mov(regs, bus, Register::D, Place::Held(Register::D)),
-        0x53 => mov(regs, bus, Register::D, Place::Held(Register::E)),
-        0x54 => mov(regs, bus, Register::D, Place::Held(Register::H)),
-        0x55 => mov(regs, bus, Register::D, Place::Held(Register::L)),
+        0x4f => mov(regs, bus, Register::C, Place::InRegister(Register::A)),
+        0x50 => mov(regs, bus, Register::D, Place::InRegister(Register::B)),
+        0x51 => mov(regs, bus, Register::D, Place::InRegister(Register::C)),
+        0x52 => mov(regs, bus, Register::D, Place::InRegister(Register::D)),
+        0x53 => mov(regs, bus, Register::D, Place::InRegister(Register::E)),
+        0x54 => mov(regs, bus, Register::D, Place::InRegister(Register::H)),
+        0x55 => mov(regs, bus, Register::D, Place::InRegister(Register::L)),
         0x56 => mov(regs, bus, Register::D, Place::Memory),
-        0x57 => mov(regs, bus, Register::D, Place::Held(Register::A)),
-        0x58 => mov(regs, bus, Register::E, Place::Held(Register::B)),
-        0x59 => mov(regs, bus, Register::E, Place::Held(Register::C)),
-        0x5a => mov(regs, bus, Register::E, Place::Held(Register::D)),
-        0x5b => mov(regs, bus, Register::E, Place::Held(Register::E)),
-        0x5c => mov(regs, bus, Register::E, Place::Held(Register::H)),
-        0x5d => mov(regs, bus, Register::E, Place::Held(Register::L)),
+        0x57 => mov(regs, bus, Register::D, Place::InRegister(Register::A)),
+        0x58 => mov(regs, bus, Register::E, Place::InRegister(Register::B)),
+        0x59 => mov(regs, bus, Register::E, Place::InRegister(Register::C)),
+        0x5a => mov(regs, bus, Register::E, Place::InRegister(Register::D)),
+        0x5b => mov(regs, bus, Register::E, Place::InRegister(Register::E)),
+        0x5c => mov(regs, bus, Register::E, Place::InRegister(Register::H)),
+        0x5d => mov(regs, bus, Register::E, Place::InRegister(Register::L)),
         0x5e => mov(regs, bus, Register::E, Place::Memory),
-        0x5f => mov(regs, bus, Register::E, Place::Held(Register::A)),
+        0x5f => mov(regs, bus, Register::E, Place::InRegister(Register::A)),
         _ => unreachable!(),
     }
 }
@@ -185,25 +185,25 @@ fn part_2<B: Bus>(regs: &mut Regs, bus: &mut B, byte: u8) -> Result<Did, AllocEr
 #[inline(always)]
 fn part_3<B: Bus>(regs: &mut Regs, bus: &mut B, byte: u8) -> Result<Did, AllocError>
     requires { byte / 32 ≡ 3 }
-    ensures { Performs (decided byte (decoded byte) regs.old) regs.old (B.memory bus.old) result regs.new (B.memory bus.new) }
+    ensures { ExecutesByte byte regs.old (B.memory bus.old) result regs.new (B.memory bus.new) }
 {
     match byte {
-        0x60 => mov(regs, bus, Register::H, Place::Held(Register::B)),
-        0x61 => mov(regs, bus, Register::H, Place::Held(Register::C)),
-        0x62 => mov(regs, bus, Register::H, Place::Held(Register::D)),
-        0x63 => mov(regs, bus, Register::H, Place::Held(Register::E)),
-        0x64 => mov(regs, bus, Register::H, Place::Held(Register::H)),
-        0x65 => mov(regs, bus, Register::H, Place::Held(Register::L)),
+        0x60 => mov(regs, bus, Register::H, Place::InRegister(Register::B)),
+        0x61 => mov(regs, bus, Register::H, Place::InRegister(Register::C)),
+        0x62 => mov(regs, bus, Register::H, Place::InRegister(Register::D)),
+        0x63 => mov(regs, bus, Register::H, Place::InRegister(Register::E)),
+        0x64 => mov(regs, bus, Register::H, Place::InRegister(Register::H)),
+        0x65 => mov(regs, bus, Register::H, Place::InRegister(Register::L)),
         0x66 => mov(regs, bus, Register::H, Place::Memory),
-        0x67 => mov(regs, bus, Register::H, Place::Held(Register::A)),
-        0x68 => mov(regs, bus, Register::L, Place::Held(Register::B)),
-        0x69 => mov(regs, bus, Register::L, Place::Held(Register::C)),
-        0x6a => mov(regs, bus, Register::L, Place::Held(Register::D)),
-        0x6b => mov(regs, bus, Register::L, Place::Held(Register::E)),
-        0x6c => mov(regs, bus, Register::L, Place::Held(Register::H)),
-        0x6d => mov(regs, bus, Register::L, Place::Held(Register::L)),
+        0x67 => mov(regs, bus, Register::H, Place::InRegister(Register::A)),
+        0x68 => mov(regs, bus, Register::L, Place::InRegister(Register::B)),
+        0x69 => mov(regs, bus, Register::L, Place::InRegister(Register::C)),
+        0x6a => mov(regs, bus, Register::L, Place::InRegister(Register::D)),
+        0x6b => mov(regs, bus, Register::L, Place::InRegister(Register::E)),
+        0x6c => mov(regs, bus, Register::L, Place::InRegister(Register::H)),
+        0x6d => mov(regs, bus, Register::L, Place::InRegister(Register::L)),
         0x6e => mov(regs, bus, Register::L, Place::Memory),
-        0x6f => mov(regs, bus, Register::L, Place::Held(Register::A)),
+        0x6f => mov(regs, bus, Register::L, Place::InRegister(Register::A)),
         0x70 => mov_to_memory(regs, bus, Register::B),
         0x71 => mov_to_memory(regs, bus, Register::C),
         0x72 => mov_to_memory(regs, bus, Register::D),
@@ -212,14 +212,14 @@ fn part_3<B: Bus>(regs: &mut Regs, bus: &mut B, byte: u8) -> Result<Did, AllocEr
         0x75 => mov_to_memory(regs, bus, Register::L),
         0x76 => Ok(Did::Halt),
         0x77 => mov_to_memory(regs, bus, Register::A),
-        0x78 => mov(regs, bus, Register::A, Place::Held(Register::B)),
-        0x79 => mov(regs, bus, Register::A, Place::Held(Register::C)),
-        0x7a => mov(regs, bus, Register::A, Place::Held(Register::D)),
-        0x7b => mov(regs, bus, Register::A, Place::Held(Register::E)),
-        0x7c => mov(regs, bus, Register::A, Place::Held(Register::H)),
-        0x7d => mov(regs, bus, Register::A, Place::Held(Register::L)),
+        0x78 => mov(regs, bus, Register::A, Place::InRegister(Register::B)),
+        0x79 => mov(regs, bus, Register::A, Place::InRegister(Register::C)),
+        0x7a => mov(regs, bus, Register::A, Place::InRegister(Register::D)),
+        0x7b => mov(regs, bus, Register::A, Place::InRegister(Register::E)),
+        0x7c => mov(regs, bus, Register::A, Place::InRegister(Register::H)),
+        0x7d => mov(regs, bus, Register::A, Place::InRegister(Register::L)),
         0x7e => mov(regs, bus, Register::A, Place::Memory),
-        0x7f => mov(regs, bus, Register::A, Place::Held(Register::A)),
+        0x7f => mov(regs, bus, Register::A, Place::InRegister(Register::A)),
         _ => unreachable!(),
     }
 }
@@ -228,41 +228,41 @@ fn part_3<B: Bus>(regs: &mut Regs, bus: &mut B, byte: u8) -> Result<Did, AllocEr
 #[inline(always)]
 fn part_4<B: Bus>(regs: &mut Regs, bus: &mut B, byte: u8) -> Result<Did, AllocError>
     requires { byte / 32 ≡ 4 }
-    ensures { Performs (decided byte (decoded byte) regs.old) regs.old (B.memory bus.old) result regs.new (B.memory bus.new) }
+    ensures { ExecutesByte byte regs.old (B.memory bus.old) result regs.new (B.memory bus.new) }
 {
     match byte {
-        0x80 => accumulate(regs, bus, Arithmetic::Add, Place::Held(Register::B)),
-        0x81 => accumulate(regs, bus, Arithmetic::Add, Place::Held(Register::C)),
-        0x82 => accumulate(regs, bus, Arithmetic::Add, Place::Held(Register::D)),
-        0x83 => accumulate(regs, bus, Arithmetic::Add, Place::Held(Register::E)),
-        0x84 => accumulate(regs, bus, Arithmetic::Add, Place::Held(Register::H)),
-        0x85 => accumulate(regs, bus, Arithmetic::Add, Place::Held(Register::L)),
+        0x80 => accumulate(regs, bus, Arithmetic::Add, Place::InRegister(Register::B)),
+        0x81 => accumulate(regs, bus, Arithmetic::Add, Place::InRegister(Register::C)),
+        0x82 => accumulate(regs, bus, Arithmetic::Add, Place::InRegister(Register::D)),
+        0x83 => accumulate(regs, bus, Arithmetic::Add, Place::InRegister(Register::E)),
+        0x84 => accumulate(regs, bus, Arithmetic::Add, Place::InRegister(Register::H)),
+        0x85 => accumulate(regs, bus, Arithmetic::Add, Place::InRegister(Register::L)),
         0x86 => accumulate(regs, bus, Arithmetic::Add, Place::Memory),
-        0x87 => accumulate(regs, bus, Arithmetic::Add, Place::Held(Register::A)),
-        0x88 => accumulate(regs, bus, Arithmetic::Adc, Place::Held(Register::B)),
-        0x89 => accumulate(regs, bus, Arithmetic::Adc, Place::Held(Register::C)),
-        0x8a => accumulate(regs, bus, Arithmetic::Adc, Place::Held(Register::D)),
-        0x8b => accumulate(regs, bus, Arithmetic::Adc, Place::Held(Register::E)),
-        0x8c => accumulate(regs, bus, Arithmetic::Adc, Place::Held(Register::H)),
-        0x8d => accumulate(regs, bus, Arithmetic::Adc, Place::Held(Register::L)),
+        0x87 => accumulate(regs, bus, Arithmetic::Add, Place::InRegister(Register::A)),
+        0x88 => accumulate(regs, bus, Arithmetic::Adc, Place::InRegister(Register::B)),
+        0x89 => accumulate(regs, bus, Arithmetic::Adc, Place::InRegister(Register::C)),
+        0x8a => accumulate(regs, bus, Arithmetic::Adc, Place::InRegister(Register::D)),
+        0x8b => accumulate(regs, bus, Arithmetic::Adc, Place::InRegister(Register::E)),
+        0x8c => accumulate(regs, bus, Arithmetic::Adc, Place::InRegister(Register::H)),
+        0x8d => accumulate(regs, bus, Arithmetic::Adc, Place::InRegister(Register::L)),
         0x8e => accumulate(regs, bus, Arithmetic::Adc, Place::Memory),
-        0x8f => accumulate(regs, bus, Arithmetic::Adc, Place::Held(Register::A)),
-        0x90 => accumulate(regs, bus, Arithmetic::Sub, Place::Held(Register::B)),
-        0x91 => accumulate(regs, bus, Arithmetic::Sub, Place::Held(Register::C)),
-        0x92 => accumulate(regs, bus, Arithmetic::Sub, Place::Held(Register::D)),
-        0x93 => accumulate(regs, bus, Arithmetic::Sub, Place::Held(Register::E)),
-        0x94 => accumulate(regs, bus, Arithmetic::Sub, Place::Held(Register::H)),
-        0x95 => accumulate(regs, bus, Arithmetic::Sub, Place::Held(Register::L)),
+        0x8f => accumulate(regs, bus, Arithmetic::Adc, Place::InRegister(Register::A)),
+        0x90 => accumulate(regs, bus, Arithmetic::Sub, Place::InRegister(Register::B)),
+        0x91 => accumulate(regs, bus, Arithmetic::Sub, Place::InRegister(Register::C)),
+        0x92 => accumulate(regs, bus, Arithmetic::Sub, Place::InRegister(Register::D)),
+        0x93 => accumulate(regs, bus, Arithmetic::Sub, Place::InRegister(Register::E)),
+        0x94 => accumulate(regs, bus, Arithmetic::Sub, Place::InRegister(Register::H)),
+        0x95 => accumulate(regs, bus, Arithmetic::Sub, Place::InRegister(Register::L)),
         0x96 => accumulate(regs, bus, Arithmetic::Sub, Place::Memory),
-        0x97 => accumulate(regs, bus, Arithmetic::Sub, Place::Held(Register::A)),
-        0x98 => accumulate(regs, bus, Arithmetic::Sbb, Place::Held(Register::B)),
-        0x99 => accumulate(regs, bus, Arithmetic::Sbb, Place::Held(Register::C)),
-        0x9a => accumulate(regs, bus, Arithmetic::Sbb, Place::Held(Register::D)),
-        0x9b => accumulate(regs, bus, Arithmetic::Sbb, Place::Held(Register::E)),
-        0x9c => accumulate(regs, bus, Arithmetic::Sbb, Place::Held(Register::H)),
-        0x9d => accumulate(regs, bus, Arithmetic::Sbb, Place::Held(Register::L)),
+        0x97 => accumulate(regs, bus, Arithmetic::Sub, Place::InRegister(Register::A)),
+        0x98 => accumulate(regs, bus, Arithmetic::Sbb, Place::InRegister(Register::B)),
+        0x99 => accumulate(regs, bus, Arithmetic::Sbb, Place::InRegister(Register::C)),
+        0x9a => accumulate(regs, bus, Arithmetic::Sbb, Place::InRegister(Register::D)),
+        0x9b => accumulate(regs, bus, Arithmetic::Sbb, Place::InRegister(Register::E)),
+        0x9c => accumulate(regs, bus, Arithmetic::Sbb, Place::InRegister(Register::H)),
+        0x9d => accumulate(regs, bus, Arithmetic::Sbb, Place::InRegister(Register::L)),
         0x9e => accumulate(regs, bus, Arithmetic::Sbb, Place::Memory),
-        0x9f => accumulate(regs, bus, Arithmetic::Sbb, Place::Held(Register::A)),
+        0x9f => accumulate(regs, bus, Arithmetic::Sbb, Place::InRegister(Register::A)),
         _ => unreachable!(),
     }
 }
@@ -271,41 +271,41 @@ fn part_4<B: Bus>(regs: &mut Regs, bus: &mut B, byte: u8) -> Result<Did, AllocEr
 #[inline(always)]
 fn part_5<B: Bus>(regs: &mut Regs, bus: &mut B, byte: u8) -> Result<Did, AllocError>
     requires { byte / 32 ≡ 5 }
-    ensures { Performs (decided byte (decoded byte) regs.old) regs.old (B.memory bus.old) result regs.new (B.memory bus.new) }
+    ensures { ExecutesByte byte regs.old (B.memory bus.old) result regs.new (B.memory bus.new) }
 {
     match byte {
-        0xa0 => accumulate(regs, bus, Arithmetic::Ana, Place::Held(Register::B)),
-        0xa1 => accumulate(regs, bus, Arithmetic::Ana, Place::Held(Register::C)),
-        0xa2 => accumulate(regs, bus, Arithmetic::Ana, Place::Held(Register::D)),
-        0xa3 => accumulate(regs, bus, Arithmetic::Ana, Place::Held(Register::E)),
-        0xa4 => accumulate(regs, bus, Arithmetic::Ana, Place::Held(Register::H)),
-        0xa5 => accumulate(regs, bus, Arithmetic::Ana, Place::Held(Register::L)),
+        0xa0 => accumulate(regs, bus, Arithmetic::Ana, Place::InRegister(Register::B)),
+        0xa1 => accumulate(regs, bus, Arithmetic::Ana, Place::InRegister(Register::C)),
+        0xa2 => accumulate(regs, bus, Arithmetic::Ana, Place::InRegister(Register::D)),
+        0xa3 => accumulate(regs, bus, Arithmetic::Ana, Place::InRegister(Register::E)),
+        0xa4 => accumulate(regs, bus, Arithmetic::Ana, Place::InRegister(Register::H)),
+        0xa5 => accumulate(regs, bus, Arithmetic::Ana, Place::InRegister(Register::L)),
         0xa6 => accumulate(regs, bus, Arithmetic::Ana, Place::Memory),
-        0xa7 => accumulate(regs, bus, Arithmetic::Ana, Place::Held(Register::A)),
-        0xa8 => accumulate(regs, bus, Arithmetic::Xra, Place::Held(Register::B)),
-        0xa9 => accumulate(regs, bus, Arithmetic::Xra, Place::Held(Register::C)),
-        0xaa => accumulate(regs, bus, Arithmetic::Xra, Place::Held(Register::D)),
-        0xab => accumulate(regs, bus, Arithmetic::Xra, Place::Held(Register::E)),
-        0xac => accumulate(regs, bus, Arithmetic::Xra, Place::Held(Register::H)),
-        0xad => accumulate(regs, bus, Arithmetic::Xra, Place::Held(Register::L)),
+        0xa7 => accumulate(regs, bus, Arithmetic::Ana, Place::InRegister(Register::A)),
+        0xa8 => accumulate(regs, bus, Arithmetic::Xra, Place::InRegister(Register::B)),
+        0xa9 => accumulate(regs, bus, Arithmetic::Xra, Place::InRegister(Register::C)),
+        0xaa => accumulate(regs, bus, Arithmetic::Xra, Place::InRegister(Register::D)),
+        0xab => accumulate(regs, bus, Arithmetic::Xra, Place::InRegister(Register::E)),
+        0xac => accumulate(regs, bus, Arithmetic::Xra, Place::InRegister(Register::H)),
+        0xad => accumulate(regs, bus, Arithmetic::Xra, Place::InRegister(Register::L)),
         0xae => accumulate(regs, bus, Arithmetic::Xra, Place::Memory),
-        0xaf => accumulate(regs, bus, Arithmetic::Xra, Place::Held(Register::A)),
-        0xb0 => accumulate(regs, bus, Arithmetic::Ora, Place::Held(Register::B)),
-        0xb1 => accumulate(regs, bus, Arithmetic::Ora, Place::Held(Register::C)),
-        0xb2 => accumulate(regs, bus, Arithmetic::Ora, Place::Held(Register::D)),
-        0xb3 => accumulate(regs, bus, Arithmetic::Ora, Place::Held(Register::E)),
-        0xb4 => accumulate(regs, bus, Arithmetic::Ora, Place::Held(Register::H)),
-        0xb5 => accumulate(regs, bus, Arithmetic::Ora, Place::Held(Register::L)),
+        0xaf => accumulate(regs, bus, Arithmetic::Xra, Place::InRegister(Register::A)),
+        0xb0 => accumulate(regs, bus, Arithmetic::Ora, Place::InRegister(Register::B)),
+        0xb1 => accumulate(regs, bus, Arithmetic::Ora, Place::InRegister(Register::C)),
+        0xb2 => accumulate(regs, bus, Arithmetic::Ora, Place::InRegister(Register::D)),
+        0xb3 => accumulate(regs, bus, Arithmetic::Ora, Place::InRegister(Register::E)),
+        0xb4 => accumulate(regs, bus, Arithmetic::Ora, Place::InRegister(Register::H)),
+        0xb5 => accumulate(regs, bus, Arithmetic::Ora, Place::InRegister(Register::L)),
         0xb6 => accumulate(regs, bus, Arithmetic::Ora, Place::Memory),
-        0xb7 => accumulate(regs, bus, Arithmetic::Ora, Place::Held(Register::A)),
-        0xb8 => accumulate(regs, bus, Arithmetic::Cmp, Place::Held(Register::B)),
-        0xb9 => accumulate(regs, bus, Arithmetic::Cmp, Place::Held(Register::C)),
-        0xba => accumulate(regs, bus, Arithmetic::Cmp, Place::Held(Register::D)),
-        0xbb => accumulate(regs, bus, Arithmetic::Cmp, Place::Held(Register::E)),
-        0xbc => accumulate(regs, bus, Arithmetic::Cmp, Place::Held(Register::H)),
-        0xbd => accumulate(regs, bus, Arithmetic::Cmp, Place::Held(Register::L)),
+        0xb7 => accumulate(regs, bus, Arithmetic::Ora, Place::InRegister(Register::A)),
+        0xb8 => accumulate(regs, bus, Arithmetic::Cmp, Place::InRegister(Register::B)),
+        0xb9 => accumulate(regs, bus, Arithmetic::Cmp, Place::InRegister(Register::C)),
+        0xba => accumulate(regs, bus, Arithmetic::Cmp, Place::InRegister(Register::D)),
+        0xbb => accumulate(regs, bus, Arithmetic::Cmp, Place::InRegister(Register::E)),
+        0xbc => accumulate(regs, bus, Arithmetic::Cmp, Place::InRegister(Register::H)),
+        0xbd => accumulate(regs, bus, Arithmetic::Cmp, Place::InRegister(Register::L)),
         0xbe => accumulate(regs, bus, Arithmetic::Cmp, Place::Memory),
-        0xbf => accumulate(regs, bus, Arithmetic::Cmp, Place::Held(Register::A)),
+        0xbf => accumulate(regs, bus, Arithmetic::Cmp, Place::InRegister(Register::A)),
         _ => unreachable!(),
     }
 }
@@ -314,7 +314,7 @@ fn part_5<B: Bus>(regs: &mut Regs, bus: &mut B, byte: u8) -> Result<Did, AllocEr
 #[inline(always)]
 fn part_6<B: Bus>(regs: &mut Regs, bus: &mut B, byte: u8) -> Result<Did, AllocError>
     requires { byte / 32 ≡ 6 }
-    ensures { Performs (decided byte (decoded byte) regs.old) regs.old (B.memory bus.old) result regs.new (B.memory bus.new) }
+    ensures { ExecutesByte byte regs.old (B.memory bus.old) result regs.new (B.memory bus.new) }
 {
     match byte {
         0xc0 => ret_if(regs, bus, Condition::NotZero),
@@ -357,7 +357,7 @@ fn part_6<B: Bus>(regs: &mut Regs, bus: &mut B, byte: u8) -> Result<Did, AllocEr
 #[inline(always)]
 fn part_7<B: Bus>(regs: &mut Regs, bus: &mut B, byte: u8) -> Result<Did, AllocError>
     requires { byte / 32 ≡ 7 }
-    ensures { Performs (decided byte (decoded byte) regs.old) regs.old (B.memory bus.old) result regs.new (B.memory bus.new) }
+    ensures { ExecutesByte byte regs.old (B.memory bus.old) result regs.new (B.memory bus.new) }
 {
     match byte {
         0xe0 => ret_if(regs, bus, Condition::ParityOdd),

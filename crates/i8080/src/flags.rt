@@ -1,6 +1,6 @@
 ghost use Rattle.std.specs.Prelude.{◌≡◌};
 ghost use Rattle.i8080.specs.Flags.{byte_of, flags_in, flags_after};
-ghost use Rattle.i8080.specs.Instruction.{holds};
+ghost use Rattle.i8080.specs.Instruction.{is_met};
 
 use crate::opcode::Condition;
 
@@ -56,8 +56,8 @@ impl Flags {
 impl Condition {
     // Whether the flags meet the condition.
     #[inline(always)]
-    pub(crate) fn holds(self, flags: Flags) -> bool
-        ensures { result ≡ holds self flags }
+    pub(crate) fn is_met(self, flags: Flags) -> bool
+        ensures { result ≡ is_met self flags }
     {
         match self {
             Condition::NotZero => !flags.z,

@@ -4,8 +4,9 @@
 ghost use Rattle.std.specs.Prelude.{◌≡◌, Ok};
 ghost use Rattle.i8080.specs.Reading.{Done};
 ghost use Rattle.i8080.specs.Registers.{advance};
-ghost use Rattle.i8080.specs.End.{Performs, Reads, Writes};
-ghost use Rattle.i8080.specs.Instruction.{operation, from_place, to_place, base_of, word_at, one_byte, one_word, pushing};
+ghost use Rattle.i8080.specs.Performs.{Performs, Reads, Writes};
+ghost use Rattle.i8080.specs.Instruction.{from_place, to_place, base_of, one_byte, one_word, pushing};
+ghost use Rattle.i8080.specs.Executes.{Executes};
 ghost use Rattle.i8080.specs.declared.opcode.Source.TheVariants.{At, Immediate};
 ghost use Rattle.i8080.specs.declared.opcode.Op.TheVariants.{Nop, Mov, MovToMemory, Mvi, Lxi, Lda, Sta, Lhld, Shld, Ldax, Stax, Xchg, Accumulate, Inr, Dcr, Inx, Dcx, Dad, Rotate, Daa, Cma, Stc, Cmc, Jmp, JumpIf, Call, CallIf, Ret, RetIf, Rst, Pchl, Push, Pop, Xthl, Sphl, In, Out};
 
@@ -19,9 +20,9 @@ use std::alloc::AllocError;
 // How an instruction ended, or that memory ran out.
 type Ended = Result<Did, AllocError>;
 
-// What is rare and long stands apart, in functions that end in `_apart`, so that the rest fits into one piece of a step. Each
-// is called by a function that lends it a copy of the registers and takes its answer out of memory, so that the registers and
-// the answers of all others need not lie in memory.
+// What is rare and long stands apart, in functions that end in `_apart`, so that the rest fits into one piece
+// of a step. Each is called by a function that lends it a copy of the registers and takes its answer out of
+// memory, so that the registers and the answers of all others need not lie in memory.
 
 // The byte in a register, or in the cell at HL.
 #[inline(always)]
@@ -29,7 +30,7 @@ fn operand<B: Bus>(regs: &Regs, bus: &mut B, place: Place) -> u8
     ensures { Reads (from_place place regs.now Done) (B.memory bus.old) result (B.memory bus.new) }
 {
     match place {
-        Place::Held(register) => regs.get(register),
+        Place::InRegister(register) => regs.get(register),
         Place::Memory => fetch(bus, regs.pair(Pair::Hl)),
     }
 }
@@ -60,10 +61,11 @@ fn store_word<B: Bus>(bus: &mut B, a: u16, value: u16) -> Result<(), AllocError>
 // Sets a register, or writes the cell at HL.
 #[inline(always)]
 fn put<B: Bus>(regs: &mut Regs, bus: &mut B, place: Place, value: u8) -> Ended
-    ensures { Performs (to_place place value regs.old) regs.old (B.memory bus.old) result regs.new (B.memory bus.new) }
+    ensures { Performs (to_place place value regs.old)
+        regs.old (B.memory bus.old) result regs.new (B.memory bus.new) }
 {
     match place {
-        Place::Held(register) => regs.set(register, value),
+        Place::InRegister(register) => regs.set(register, value),
         Place::Memory => store(bus, regs.pair(Pair::Hl), value)?,
     }
     Ok(Did::Went)
@@ -72,7 +74,8 @@ fn put<B: Bus>(regs: &mut Regs, bus: &mut B, place: Place, value: u8) -> Ended
 // Pushes a word.
 #[inline(always)]
 fn push_word<B: Bus>(regs: &mut Regs, bus: &mut B, value: u16) -> Ended
-    ensures { Performs (pushing value regs.old) regs.old (B.memory bus.old) result regs.new (B.memory bus.new) }
+    ensures { Performs (pushing value regs.old)
+        regs.old (B.memory bus.old) result regs.new (B.memory bus.new) }
 {
     let top = regs.sp.wrapping_sub(2);
     store_word(bus, top, value)?;
@@ -103,14 +106,14 @@ fn address(regs: &Regs, base: Base) -> u16
 // NOP, and DI and EI, which do nothing here.
 #[inline(always)]
 pub fn nop<B: Bus>(regs: &mut Regs, _bus: &mut B) -> Ended
-    ensures { Performs (operation Nop regs.old) regs.old (B.memory _bus.old) result regs.new (B.memory _bus.new) }
+    ensures { Executes Nop regs.old (B.memory _bus.old) result regs.new (B.memory _bus.new) }
 {
     advance(regs, 1)
 }
 
 #[inline(always)]
 pub fn mov<B: Bus>(regs: &mut Regs, bus: &mut B, to: Register, from: Place) -> Ended
-    ensures { Performs (operation (Mov to from) regs.old) regs.old (B.memory bus.old) result regs.new (B.memory bus.new) }
+    ensures { Executes (Mov to from) regs.old (B.memory bus.old) result regs.new (B.memory bus.new) }
 {
     let value = operand(regs, bus, from);
     regs.set(to, value);
@@ -119,7 +122,7 @@ pub fn mov<B: Bus>(regs: &mut Regs, bus: &mut B, to: Register, from: Place) -> E
 
 #[inline(always)]
 pub fn mov_to_memory<B: Bus>(regs: &mut Regs, bus: &mut B, from: Register) -> Ended
-    ensures { Performs (operation (MovToMemory from) regs.old) regs.old (B.memory bus.old) result regs.new (B.memory bus.new) }
+    ensures { Executes (MovToMemory from) regs.old (B.memory bus.old) result regs.new (B.memory bus.new) }
 {
     store(bus, regs.pair(Pair::Hl), regs.get(from))?;
     advance(regs, 1)
@@ -127,7 +130,7 @@ pub fn mov_to_memory<B: Bus>(regs: &mut Regs, bus: &mut B, from: Register) -> En
 
 #[inline(always)]
 pub fn mvi<B: Bus>(regs: &mut Regs, bus: &mut B, to: Place) -> Ended
-    ensures { Performs (operation (Mvi to) regs.old) regs.old (B.memory bus.old) result regs.new (B.memory bus.new) }
+    ensures { Executes (Mvi to) regs.old (B.memory bus.old) result regs.new (B.memory bus.new) }
 {
     let value = fetch(bus, regs.pc.wrapping_add(1));
     put(regs, bus, to, value)?;
@@ -136,7 +139,7 @@ pub fn mvi<B: Bus>(regs: &mut Regs, bus: &mut B, to: Place) -> Ended
 
 #[inline(always)]
 pub fn lxi<B: Bus>(regs: &mut Regs, bus: &mut B, to: Pair) -> Ended
-    ensures { Performs (operation (Lxi to) regs.old) regs.old (B.memory bus.old) result regs.new (B.memory bus.new) }
+    ensures { Executes (Lxi to) regs.old (B.memory bus.old) result regs.new (B.memory bus.new) }
 {
     let value = fetch_word(bus, regs.pc.wrapping_add(1));
     regs.set_pair(to, value);
@@ -145,7 +148,7 @@ pub fn lxi<B: Bus>(regs: &mut Regs, bus: &mut B, to: Pair) -> Ended
 
 #[inline(always)]
 pub fn lda<B: Bus>(regs: &mut Regs, bus: &mut B) -> Ended
-    ensures { Performs (operation Lda regs.old) regs.old (B.memory bus.old) result regs.new (B.memory bus.new) }
+    ensures { Executes Lda regs.old (B.memory bus.old) result regs.new (B.memory bus.new) }
 {
     let from = fetch_word(bus, regs.pc.wrapping_add(1));
     regs.a = fetch(bus, from);
@@ -154,7 +157,7 @@ pub fn lda<B: Bus>(regs: &mut Regs, bus: &mut B) -> Ended
 
 #[inline(always)]
 pub fn sta<B: Bus>(regs: &mut Regs, bus: &mut B) -> Ended
-    ensures { Performs (operation Sta regs.old) regs.old (B.memory bus.old) result regs.new (B.memory bus.new) }
+    ensures { Executes Sta regs.old (B.memory bus.old) result regs.new (B.memory bus.new) }
 {
     let to = fetch_word(bus, regs.pc.wrapping_add(1));
     store(bus, to, regs.a)?;
@@ -163,7 +166,7 @@ pub fn sta<B: Bus>(regs: &mut Regs, bus: &mut B) -> Ended
 
 #[inline(always)]
 pub fn lhld<B: Bus>(regs: &mut Regs, bus: &mut B) -> Ended
-    ensures { Performs (operation Lhld regs.old) regs.old (B.memory bus.old) result regs.new (B.memory bus.new) }
+    ensures { Executes Lhld regs.old (B.memory bus.old) result regs.new (B.memory bus.new) }
 {
     let mut copy = *regs;
     let did = lhld_apart(&mut copy, bus)?;
@@ -173,7 +176,7 @@ pub fn lhld<B: Bus>(regs: &mut Regs, bus: &mut B) -> Ended
 
 #[inline(never)]
 fn lhld_apart<B: Bus>(regs: &mut Regs, bus: &mut B) -> Ended
-    ensures { Performs (operation Lhld regs.old) regs.old (B.memory bus.old) result regs.new (B.memory bus.new) }
+    ensures { Executes Lhld regs.old (B.memory bus.old) result regs.new (B.memory bus.new) }
 {
     let from = fetch_word(bus, regs.pc.wrapping_add(1));
     let value = fetch_word(bus, from);
@@ -183,7 +186,7 @@ fn lhld_apart<B: Bus>(regs: &mut Regs, bus: &mut B) -> Ended
 
 #[inline(always)]
 pub fn shld<B: Bus>(regs: &mut Regs, bus: &mut B) -> Ended
-    ensures { Performs (operation Shld regs.old) regs.old (B.memory bus.old) result regs.new (B.memory bus.new) }
+    ensures { Executes Shld regs.old (B.memory bus.old) result regs.new (B.memory bus.new) }
 {
     let mut copy = *regs;
     let did = shld_apart(&mut copy, bus)?;
@@ -193,7 +196,7 @@ pub fn shld<B: Bus>(regs: &mut Regs, bus: &mut B) -> Ended
 
 #[inline(never)]
 fn shld_apart<B: Bus>(regs: &mut Regs, bus: &mut B) -> Ended
-    ensures { Performs (operation Shld regs.old) regs.old (B.memory bus.old) result regs.new (B.memory bus.new) }
+    ensures { Executes Shld regs.old (B.memory bus.old) result regs.new (B.memory bus.new) }
 {
     let to = fetch_word(bus, regs.pc.wrapping_add(1));
     store_word(bus, to, regs.pair(Pair::Hl))?;
@@ -202,7 +205,7 @@ fn shld_apart<B: Bus>(regs: &mut Regs, bus: &mut B) -> Ended
 
 #[inline(always)]
 pub fn ldax<B: Bus>(regs: &mut Regs, bus: &mut B, base: Base) -> Ended
-    ensures { Performs (operation (Ldax base) regs.old) regs.old (B.memory bus.old) result regs.new (B.memory bus.new) }
+    ensures { Executes (Ldax base) regs.old (B.memory bus.old) result regs.new (B.memory bus.new) }
 {
     regs.a = fetch(bus, address(regs, base));
     advance(regs, 1)
@@ -210,7 +213,7 @@ pub fn ldax<B: Bus>(regs: &mut Regs, bus: &mut B, base: Base) -> Ended
 
 #[inline(always)]
 pub fn stax<B: Bus>(regs: &mut Regs, bus: &mut B, base: Base) -> Ended
-    ensures { Performs (operation (Stax base) regs.old) regs.old (B.memory bus.old) result regs.new (B.memory bus.new) }
+    ensures { Executes (Stax base) regs.old (B.memory bus.old) result regs.new (B.memory bus.new) }
 {
     store(bus, address(regs, base), regs.a)?;
     advance(regs, 1)
@@ -218,7 +221,7 @@ pub fn stax<B: Bus>(regs: &mut Regs, bus: &mut B, base: Base) -> Ended
 
 #[inline(always)]
 pub fn xchg<B: Bus>(regs: &mut Regs, _bus: &mut B) -> Ended
-    ensures { Performs (operation Xchg regs.old) regs.old (B.memory _bus.old) result regs.new (B.memory _bus.new) }
+    ensures { Executes Xchg regs.old (B.memory _bus.old) result regs.new (B.memory _bus.new) }
 {
     let (hl, de) = (regs.pair(Pair::Hl), regs.pair(Pair::De));
     regs.set_pair(Pair::Hl, de);
@@ -228,7 +231,8 @@ pub fn xchg<B: Bus>(regs: &mut Regs, _bus: &mut B) -> Ended
 
 #[inline(always)]
 pub fn accumulate<B: Bus>(regs: &mut Regs, bus: &mut B, function: Arithmetic, from: Place) -> Ended
-    ensures { Performs (operation (Accumulate function (At from)) regs.old) regs.old (B.memory bus.old) result regs.new (B.memory bus.new) }
+    ensures { Executes (Accumulate function (At from))
+        regs.old (B.memory bus.old) result regs.new (B.memory bus.new) }
 {
     let value = operand(regs, bus, from);
     regs.accumulate(function, value);
@@ -237,7 +241,8 @@ pub fn accumulate<B: Bus>(regs: &mut Regs, bus: &mut B, function: Arithmetic, fr
 
 #[inline(always)]
 pub fn accumulate_immediate<B: Bus>(regs: &mut Regs, bus: &mut B, function: Arithmetic) -> Ended
-    ensures { Performs (operation (Accumulate function Immediate) regs.old) regs.old (B.memory bus.old) result regs.new (B.memory bus.new) }
+    ensures { Executes (Accumulate function Immediate)
+        regs.old (B.memory bus.old) result regs.new (B.memory bus.new) }
 {
     let value = fetch(bus, regs.pc.wrapping_add(1));
     regs.accumulate(function, value);
@@ -246,7 +251,7 @@ pub fn accumulate_immediate<B: Bus>(regs: &mut Regs, bus: &mut B, function: Arit
 
 #[inline(always)]
 pub fn inr<B: Bus>(regs: &mut Regs, bus: &mut B, at: Place) -> Ended
-    ensures { Performs (operation (Inr at) regs.old) regs.old (B.memory bus.old) result regs.new (B.memory bus.new) }
+    ensures { Executes (Inr at) regs.old (B.memory bus.old) result regs.new (B.memory bus.new) }
 {
     let value = operand(regs, bus, at);
     let more = value.wrapping_add(1);
@@ -257,7 +262,7 @@ pub fn inr<B: Bus>(regs: &mut Regs, bus: &mut B, at: Place) -> Ended
 
 #[inline(always)]
 pub fn dcr<B: Bus>(regs: &mut Regs, bus: &mut B, at: Place) -> Ended
-    ensures { Performs (operation (Dcr at) regs.old) regs.old (B.memory bus.old) result regs.new (B.memory bus.new) }
+    ensures { Executes (Dcr at) regs.old (B.memory bus.old) result regs.new (B.memory bus.new) }
 {
     let value = operand(regs, bus, at);
     let less = value.wrapping_sub(1);
@@ -268,7 +273,7 @@ pub fn dcr<B: Bus>(regs: &mut Regs, bus: &mut B, at: Place) -> Ended
 
 #[inline(always)]
 pub fn inx<B: Bus>(regs: &mut Regs, _bus: &mut B, at: Pair) -> Ended
-    ensures { Performs (operation (Inx at) regs.old) regs.old (B.memory _bus.old) result regs.new (B.memory _bus.new) }
+    ensures { Executes (Inx at) regs.old (B.memory _bus.old) result regs.new (B.memory _bus.new) }
 {
     let value = regs.pair(at).wrapping_add(1);
     regs.set_pair(at, value);
@@ -277,7 +282,7 @@ pub fn inx<B: Bus>(regs: &mut Regs, _bus: &mut B, at: Pair) -> Ended
 
 #[inline(always)]
 pub fn dcx<B: Bus>(regs: &mut Regs, _bus: &mut B, at: Pair) -> Ended
-    ensures { Performs (operation (Dcx at) regs.old) regs.old (B.memory _bus.old) result regs.new (B.memory _bus.new) }
+    ensures { Executes (Dcx at) regs.old (B.memory _bus.old) result regs.new (B.memory _bus.new) }
 {
     let value = regs.pair(at).wrapping_sub(1);
     regs.set_pair(at, value);
@@ -286,7 +291,7 @@ pub fn dcx<B: Bus>(regs: &mut Regs, _bus: &mut B, at: Pair) -> Ended
 
 #[inline(always)]
 pub fn dad<B: Bus>(regs: &mut Regs, _bus: &mut B, from: Pair) -> Ended
-    ensures { Performs (operation (Dad from) regs.old) regs.old (B.memory _bus.old) result regs.new (B.memory _bus.new) }
+    ensures { Executes (Dad from) regs.old (B.memory _bus.old) result regs.new (B.memory _bus.new) }
 {
     let whole = u32::from(regs.pair(Pair::Hl)) + u32::from(regs.pair(from));
     regs.flags.cy = whole >= 65536;
@@ -296,7 +301,7 @@ pub fn dad<B: Bus>(regs: &mut Regs, _bus: &mut B, from: Pair) -> Ended
 
 #[inline(always)]
 pub fn rotate<B: Bus>(regs: &mut Regs, _bus: &mut B, way: Rotation) -> Ended
-    ensures { Performs (operation (Rotate way) regs.old) regs.old (B.memory _bus.old) result regs.new (B.memory _bus.new) }
+    ensures { Executes (Rotate way) regs.old (B.memory _bus.old) result regs.new (B.memory _bus.new) }
 {
     let a = regs.a;
     let doubled = (u16::from(a) * 2 % 256) as u8;
@@ -312,7 +317,7 @@ pub fn rotate<B: Bus>(regs: &mut Regs, _bus: &mut B, way: Rotation) -> Ended
 
 #[inline(always)]
 pub fn daa<B: Bus>(regs: &mut Regs, _bus: &mut B) -> Ended
-    ensures { Performs (operation Daa regs.old) regs.old (B.memory _bus.old) result regs.new (B.memory _bus.new) }
+    ensures { Executes Daa regs.old (B.memory _bus.old) result regs.new (B.memory _bus.new) }
 {
     let six = if regs.a % 16 > 9 || regs.flags.ac {
         6
@@ -329,7 +334,7 @@ pub fn daa<B: Bus>(regs: &mut Regs, _bus: &mut B) -> Ended
 
 #[inline(always)]
 pub fn cma<B: Bus>(regs: &mut Regs, _bus: &mut B) -> Ended
-    ensures { Performs (operation Cma regs.old) regs.old (B.memory _bus.old) result regs.new (B.memory _bus.new) }
+    ensures { Executes Cma regs.old (B.memory _bus.old) result regs.new (B.memory _bus.new) }
 {
     regs.a = 255 - regs.a;
     advance(regs, 1)
@@ -337,7 +342,7 @@ pub fn cma<B: Bus>(regs: &mut Regs, _bus: &mut B) -> Ended
 
 #[inline(always)]
 pub fn stc<B: Bus>(regs: &mut Regs, _bus: &mut B) -> Ended
-    ensures { Performs (operation Stc regs.old) regs.old (B.memory _bus.old) result regs.new (B.memory _bus.new) }
+    ensures { Executes Stc regs.old (B.memory _bus.old) result regs.new (B.memory _bus.new) }
 {
     regs.flags.cy = true;
     advance(regs, 1)
@@ -345,7 +350,7 @@ pub fn stc<B: Bus>(regs: &mut Regs, _bus: &mut B) -> Ended
 
 #[inline(always)]
 pub fn cmc<B: Bus>(regs: &mut Regs, _bus: &mut B) -> Ended
-    ensures { Performs (operation Cmc regs.old) regs.old (B.memory _bus.old) result regs.new (B.memory _bus.new) }
+    ensures { Executes Cmc regs.old (B.memory _bus.old) result regs.new (B.memory _bus.new) }
 {
     regs.flags.cy = !regs.flags.cy;
     advance(regs, 1)
@@ -353,7 +358,7 @@ pub fn cmc<B: Bus>(regs: &mut Regs, _bus: &mut B) -> Ended
 
 #[inline(always)]
 pub fn jmp<B: Bus>(regs: &mut Regs, bus: &mut B) -> Ended
-    ensures { Performs (operation Jmp regs.old) regs.old (B.memory bus.old) result regs.new (B.memory bus.new) }
+    ensures { Executes Jmp regs.old (B.memory bus.old) result regs.new (B.memory bus.new) }
 {
     regs.pc = fetch_word(bus, regs.pc.wrapping_add(1));
     Ok(Did::Went)
@@ -361,10 +366,10 @@ pub fn jmp<B: Bus>(regs: &mut Regs, bus: &mut B) -> Ended
 
 #[inline(always)]
 pub fn jump_if<B: Bus>(regs: &mut Regs, bus: &mut B, condition: Condition) -> Ended
-    ensures { Performs (operation (JumpIf condition) regs.old) regs.old (B.memory bus.old) result regs.new (B.memory bus.new) }
+    ensures { Executes (JumpIf condition) regs.old (B.memory bus.old) result regs.new (B.memory bus.new) }
 {
     let to = fetch_word(bus, regs.pc.wrapping_add(1));
-    if !condition.holds(regs.flags) {
+    if !condition.is_met(regs.flags) {
         return advance(regs, 3);
     }
     regs.pc = to;
@@ -373,7 +378,7 @@ pub fn jump_if<B: Bus>(regs: &mut Regs, bus: &mut B, condition: Condition) -> En
 
 #[inline(always)]
 pub fn call<B: Bus>(regs: &mut Regs, bus: &mut B) -> Ended
-    ensures { Performs (operation Call regs.old) regs.old (B.memory bus.old) result regs.new (B.memory bus.new) }
+    ensures { Executes Call regs.old (B.memory bus.old) result regs.new (B.memory bus.new) }
 {
     let to = fetch_word(bus, regs.pc.wrapping_add(1));
     push_word(regs, bus, regs.pc.wrapping_add(3))?;
@@ -383,7 +388,7 @@ pub fn call<B: Bus>(regs: &mut Regs, bus: &mut B) -> Ended
 
 #[inline(always)]
 pub fn call_if<B: Bus>(regs: &mut Regs, bus: &mut B, condition: Condition) -> Ended
-    ensures { Performs (operation (CallIf condition) regs.old) regs.old (B.memory bus.old) result regs.new (B.memory bus.new) }
+    ensures { Executes (CallIf condition) regs.old (B.memory bus.old) result regs.new (B.memory bus.new) }
 {
     let mut copy = *regs;
     let did = call_if_apart(&mut copy, bus, condition)?;
@@ -393,10 +398,10 @@ pub fn call_if<B: Bus>(regs: &mut Regs, bus: &mut B, condition: Condition) -> En
 
 #[inline(never)]
 fn call_if_apart<B: Bus>(regs: &mut Regs, bus: &mut B, condition: Condition) -> Ended
-    ensures { Performs (operation (CallIf condition) regs.old) regs.old (B.memory bus.old) result regs.new (B.memory bus.new) }
+    ensures { Executes (CallIf condition) regs.old (B.memory bus.old) result regs.new (B.memory bus.new) }
 {
     let to = fetch_word(bus, regs.pc.wrapping_add(1));
-    if !condition.holds(regs.flags) {
+    if !condition.is_met(regs.flags) {
         return advance(regs, 3); // not called
     }
     push_word(regs, bus, regs.pc.wrapping_add(3))?;
@@ -406,7 +411,7 @@ fn call_if_apart<B: Bus>(regs: &mut Regs, bus: &mut B, condition: Condition) -> 
 
 #[inline(always)]
 pub fn ret<B: Bus>(regs: &mut Regs, bus: &mut B) -> Ended
-    ensures { Performs (operation Ret regs.old) regs.old (B.memory bus.old) result regs.new (B.memory bus.new) }
+    ensures { Executes Ret regs.old (B.memory bus.old) result regs.new (B.memory bus.new) }
 {
     regs.pc = fetch_word(bus, regs.sp);
     regs.sp = regs.sp.wrapping_add(2);
@@ -415,7 +420,7 @@ pub fn ret<B: Bus>(regs: &mut Regs, bus: &mut B) -> Ended
 
 #[inline(always)]
 pub fn ret_if<B: Bus>(regs: &mut Regs, bus: &mut B, condition: Condition) -> Ended
-    ensures { Performs (operation (RetIf condition) regs.old) regs.old (B.memory bus.old) result regs.new (B.memory bus.new) }
+    ensures { Executes (RetIf condition) regs.old (B.memory bus.old) result regs.new (B.memory bus.new) }
 {
     let mut copy = *regs;
     let did = ret_if_apart(&mut copy, bus, condition)?;
@@ -425,9 +430,9 @@ pub fn ret_if<B: Bus>(regs: &mut Regs, bus: &mut B, condition: Condition) -> End
 
 #[inline(never)]
 fn ret_if_apart<B: Bus>(regs: &mut Regs, bus: &mut B, condition: Condition) -> Ended
-    ensures { Performs (operation (RetIf condition) regs.old) regs.old (B.memory bus.old) result regs.new (B.memory bus.new) }
+    ensures { Executes (RetIf condition) regs.old (B.memory bus.old) result regs.new (B.memory bus.new) }
 {
-    if condition.holds(regs.flags) {
+    if condition.is_met(regs.flags) {
         return ret(regs, bus);
     }
     advance(regs, 1)
@@ -435,7 +440,7 @@ fn ret_if_apart<B: Bus>(regs: &mut Regs, bus: &mut B, condition: Condition) -> E
 
 #[inline(always)]
 pub fn rst<B: Bus>(regs: &mut Regs, bus: &mut B, restart: Restart) -> Ended
-    ensures { Performs (operation (Rst restart) regs.old) regs.old (B.memory bus.old) result regs.new (B.memory bus.new) }
+    ensures { Executes (Rst restart) regs.old (B.memory bus.old) result regs.new (B.memory bus.new) }
 {
     let mut copy = *regs;
     let did = rst_apart(&mut copy, bus, restart)?;
@@ -445,7 +450,7 @@ pub fn rst<B: Bus>(regs: &mut Regs, bus: &mut B, restart: Restart) -> Ended
 
 #[inline(never)]
 fn rst_apart<B: Bus>(regs: &mut Regs, bus: &mut B, restart: Restart) -> Ended
-    ensures { Performs (operation (Rst restart) regs.old) regs.old (B.memory bus.old) result regs.new (B.memory bus.new) }
+    ensures { Executes (Rst restart) regs.old (B.memory bus.old) result regs.new (B.memory bus.new) }
 {
     push_word(regs, bus, regs.pc.wrapping_add(1))?;
     regs.pc = 8 * u16::from(restart as u8);
@@ -454,7 +459,7 @@ fn rst_apart<B: Bus>(regs: &mut Regs, bus: &mut B, restart: Restart) -> Ended
 
 #[inline(always)]
 pub fn pchl<B: Bus>(regs: &mut Regs, _bus: &mut B) -> Ended
-    ensures { Performs (operation Pchl regs.old) regs.old (B.memory _bus.old) result regs.new (B.memory _bus.new) }
+    ensures { Executes Pchl regs.old (B.memory _bus.old) result regs.new (B.memory _bus.new) }
 {
     regs.pc = regs.pair(Pair::Hl);
     Ok(Did::Went)
@@ -462,7 +467,7 @@ pub fn pchl<B: Bus>(regs: &mut Regs, _bus: &mut B) -> Ended
 
 #[inline(always)]
 pub fn push<B: Bus>(regs: &mut Regs, bus: &mut B, what: Saved) -> Ended
-    ensures { Performs (operation (Push what) regs.old) regs.old (B.memory bus.old) result regs.new (B.memory bus.new) }
+    ensures { Executes (Push what) regs.old (B.memory bus.old) result regs.new (B.memory bus.new) }
 {
     let value = match what {
         Saved::BcPair => regs.pair(Pair::Bc),
@@ -476,7 +481,7 @@ pub fn push<B: Bus>(regs: &mut Regs, bus: &mut B, what: Saved) -> Ended
 
 #[inline(always)]
 pub fn pop<B: Bus>(regs: &mut Regs, bus: &mut B, what: Saved) -> Ended
-    ensures { Performs (operation (Pop what) regs.old) regs.old (B.memory bus.old) result regs.new (B.memory bus.new) }
+    ensures { Executes (Pop what) regs.old (B.memory bus.old) result regs.new (B.memory bus.new) }
 {
     let value = fetch_word(bus, regs.sp);
     match what {
@@ -494,7 +499,7 @@ pub fn pop<B: Bus>(regs: &mut Regs, bus: &mut B, what: Saved) -> Ended
 
 #[inline(always)]
 pub fn xthl<B: Bus>(regs: &mut Regs, bus: &mut B) -> Ended
-    ensures { Performs (operation Xthl regs.old) regs.old (B.memory bus.old) result regs.new (B.memory bus.new) }
+    ensures { Executes Xthl regs.old (B.memory bus.old) result regs.new (B.memory bus.new) }
 {
     let mut copy = *regs;
     let did = xthl_apart(&mut copy, bus)?;
@@ -504,7 +509,7 @@ pub fn xthl<B: Bus>(regs: &mut Regs, bus: &mut B) -> Ended
 
 #[inline(never)]
 fn xthl_apart<B: Bus>(regs: &mut Regs, bus: &mut B) -> Ended
-    ensures { Performs (operation Xthl regs.old) regs.old (B.memory bus.old) result regs.new (B.memory bus.new) }
+    ensures { Executes Xthl regs.old (B.memory bus.old) result regs.new (B.memory bus.new) }
 {
     let value = fetch_word(bus, regs.sp);
     store_word(bus, regs.sp, regs.pair(Pair::Hl))?;
@@ -514,7 +519,7 @@ fn xthl_apart<B: Bus>(regs: &mut Regs, bus: &mut B) -> Ended
 
 #[inline(always)]
 pub fn sphl<B: Bus>(regs: &mut Regs, _bus: &mut B) -> Ended
-    ensures { Performs (operation Sphl regs.old) regs.old (B.memory _bus.old) result regs.new (B.memory _bus.new) }
+    ensures { Executes Sphl regs.old (B.memory _bus.old) result regs.new (B.memory _bus.new) }
 {
     regs.sp = regs.pair(Pair::Hl);
     advance(regs, 1)
@@ -522,7 +527,7 @@ pub fn sphl<B: Bus>(regs: &mut Regs, _bus: &mut B) -> Ended
 
 #[inline(always)]
 pub fn input<B: Bus>(regs: &mut Regs, bus: &mut B) -> Ended
-    ensures { Performs (operation In regs.old) regs.old (B.memory bus.old) result regs.new (B.memory bus.new) }
+    ensures { Executes In regs.old (B.memory bus.old) result regs.new (B.memory bus.new) }
 {
     let mut copy = *regs;
     let did = input_apart(&mut copy, bus)?;
@@ -532,7 +537,7 @@ pub fn input<B: Bus>(regs: &mut Regs, bus: &mut B) -> Ended
 
 #[inline(never)]
 fn input_apart<B: Bus>(regs: &mut Regs, bus: &mut B) -> Ended
-    ensures { Performs (operation In regs.old) regs.old (B.memory bus.old) result regs.new (B.memory bus.new) }
+    ensures { Executes In regs.old (B.memory bus.old) result regs.new (B.memory bus.new) }
 {
     fetch(bus, regs.pc.wrapping_add(1));
     regs.a = 255;
@@ -541,7 +546,7 @@ fn input_apart<B: Bus>(regs: &mut Regs, bus: &mut B) -> Ended
 
 #[inline(always)]
 pub fn output<B: Bus>(regs: &mut Regs, bus: &mut B) -> Ended
-    ensures { Performs (operation Out regs.old) regs.old (B.memory bus.old) result regs.new (B.memory bus.new) }
+    ensures { Executes Out regs.old (B.memory bus.old) result regs.new (B.memory bus.new) }
 {
     let mut copy = *regs;
     let did = output_apart(&mut copy, bus)?;
@@ -551,7 +556,7 @@ pub fn output<B: Bus>(regs: &mut Regs, bus: &mut B) -> Ended
 
 #[inline(never)]
 fn output_apart<B: Bus>(regs: &mut Regs, bus: &mut B) -> Ended
-    ensures { Performs (operation Out regs.old) regs.old (B.memory bus.old) result regs.new (B.memory bus.new) }
+    ensures { Executes Out regs.old (B.memory bus.old) result regs.new (B.memory bus.new) }
 {
     fetch(bus, regs.pc.wrapping_add(1));
     advance(regs, 2)

@@ -13,7 +13,7 @@ pub enum Register {
 /// A register, or the memory cell at HL.
 #[derive(Clone, Copy, Debug, PartialEq, Eq)]
 pub enum Place {
-    Held(Register),
+    InRegister(Register),
     Memory,
 }
 
@@ -97,8 +97,8 @@ pub enum Restart {
     Rst7,
 }
 
-/// An instruction, by its mnemonic. `Accumulate` is ADD to CMP and ADI to CPI, `Rotate` is RLC to RAR, and `JumpIf`,
-/// `CallIf` and `RetIf` are the conditional JMP, CALL and RET.
+/// An instruction, by its mnemonic. `Accumulate` is ADD to CMP and ADI to CPI, `Rotate` is RLC to RAR, and
+/// `JumpIf`, `CallIf` and `RetIf` are the conditional JMP, CALL and RET.
 #[derive(Clone, Copy, Debug, PartialEq, Eq)]
 pub enum Op {
     Nop,

@@ -1,7 +1,8 @@
 -- What no step looks at has no influence, whatever the machine.
 use Rattle.std.proofs.Common.{◌≡◌, ℕ, zero, suc, ◌<◌, List, [], ◌∷◌, ◌++◌, refl, ap, sym, ◌∙◌, arith, Option, Some, None}
 use Rattle.interaction_trees.specs.Tree.{Tree, Return, Query, result_of, asked, AgreeOn, returning}
-use Rattle.interaction_trees.specs.Dependence.{Outcome, state_of, laid, passed_on}
+use Rattle.interaction_trees.specs.Outcome.{Outcome}
+use Rattle.interaction_trees.specs.Dependence.{state_of, laid, passed_on}
 use Rattle.interaction_trees.specs.Dependence as dependence
 
 module _ {S : Type 0} {B : S → Type 0} where

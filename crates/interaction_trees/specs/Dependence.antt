@@ -4,6 +4,7 @@
 -- S, B: the session's questions and their answers. Q, A: the state's. W: what a run wrote. St: a state. R: what a step
 -- makes of its answers. X: why a run stops.
 use Rattle.std.specs.Prelude.{◌≡◌, ℕ, zero, suc, ◌<◌, List, [], ◌∷◌, ◌++◌, Option, Some, None}
+use Rattle.interaction_trees.specs.Outcome.{Outcome, Step, Stop}
 use Rattle.interaction_trees.specs.Tree.{Tree, result_of, asked, AgreeOn}
 
 -- The state answers each question by a small tree over the session: of what it wrote itself it asks nothing.
@@ -16,11 +17,6 @@ module _ {S : Type 0} {B : S → Type 0} {Q : Type 0} {A : Q → Type 0} {W : Ty
   abbrev pub passed_on : W → ((s : S) → B s) → List Q → List S
   passed_on w f [] = []
   passed_on w f (q ∷ qs) = asked f (part w q) ++ passed_on w f qs
-
--- what follows a state: a step to another, or a stop
-pub data Outcome (St X : Type 0) : Type 0 where
-  Step : St → Outcome St X
-  Stop : X → Outcome St X
 
 abbrev pub state_of : {St X : Type 0} → Outcome St X → Option St
 state_of (Step st) = Some st

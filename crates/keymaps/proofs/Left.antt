@@ -4,12 +4,13 @@ use Rattle.std.specs.declared.cmp.Ordering.{Ordering}
 use Rattle.std.specs.declared.cmp.Ordering.TheVariants.{Less, Equal, Greater}
 use Rattle.std.specs.Ordering.{is_lt, nat_cmp, ordering_reverse}
 use Rattle.std.specs.Option.{IfSome}
+use Rattle.std.specs.Borrow.{Bor}
 use Rattle.std.specs.Prelude.{IfNone}
 use Rattle.std.specs.Cmp.Lexicographic.{slice_cmp, nat_list_cmp_total}
 use Rattle.std.specs.List.{filter}
 use Rattle.std.specs.FinMap.{FinMap, find, get, len, len-entries, entries, entries_sorted, get-entries}
 use Rattle.keymaps.specs.Order.{Key}
-use Rattle.keymaps.specs.Order.{is_above, left, lesser}
+use Rattle.keymaps.specs.Order.{EachAbove, EachBetween, IsAbsent, IsInNeither, is_above, left, lesser}
 use Rattle.keymaps.proofs.Rising.{here, begins}
 use Rattle.keymaps.proofs.Views.{same_key}
 
@@ -65,20 +66,14 @@ below_other q x y h l = elim (slice_cmp nat_cmp x y) as (λ r. slice_cmp nat_cmp
   | Greater ↦ λ r e. nat_list_cmp_total.trans q y x l (nat_list_cmp_total.antisymm y x ∙ ap ordering_reverse r)
 ] refl h
 
-abbrev Least : {X : Type 0} → FinMap (slice_cmp nat_cmp) X → Option Key → Key → Type 0
-Least m after k = (x : Key) → is_above after x ≡ true → slice_cmp nat_cmp x k ≡ Less → get m x ≡ None
-
-abbrev Nothing : {X : Type 0} → FinMap (slice_cmp nat_cmp) X → Option Key → Type 0
-Nothing m after = (x : Key) → is_above after x ≡ true → get m x ≡ None
-
 pub both_least : {X Y : Type 0} (m : FinMap (slice_cmp nat_cmp) X) (n : FinMap (slice_cmp nat_cmp) Y) (after a b : Option Key)
-    → IfSome a (Least m after) → IfNone a (Nothing m after) → IfSome b (Least n after) → IfNone b (Nothing n after)
-    → IfSome (lesser a b) (λ k. (x : Key) → is_above after x ≡ true → slice_cmp nat_cmp x k ≡ Less → (get m x ≡ None) × (get n x ≡ None))
+    → IfSome a (λ k. EachBetween after k (IsAbsent m)) → IfNone a (EachAbove after (IsAbsent m)) → IfSome b (λ k. EachBetween after k (IsAbsent n)) → IfNone b (EachAbove after (IsAbsent n))
+    → IfSome (lesser a b) (λ k. EachBetween after k (IsInNeither m n))
 both_least m n after None None am an bm bn = tt
 both_least m n after None (Some y) am an bm bn = λ x px l. (an x px, bm x px l)
 both_least m n after (Some x) None am an bm bn = λ z pz l. (am z pz l, bn z pz)
 both_least m n after (Some x) (Some y) am an bm bn =
-    elim (is_lt (slice_cmp nat_cmp x y)) as (λ b. is_lt (slice_cmp nat_cmp x y) ≡ b → IfSome (cond b (Some x) (Some y)) (λ k. (z : Key) → is_above after z ≡ true → slice_cmp nat_cmp z k ≡ Less → (get m z ≡ None) × (get n z ≡ None))) [
+    elim (is_lt (slice_cmp nat_cmp x y)) as (λ b. is_lt (slice_cmp nat_cmp x y) ≡ b → IfSome (cond b (Some x) (Some y)) (λ k. EachBetween after k (IsInNeither m n))) [
       | true ↦ λ e z pz l. (am z pz l, bm z pz (nat_list_cmp_total.trans z x y l (is_less (slice_cmp nat_cmp x y) e)))
       | false ↦ λ e z pz l. (am z pz (below_other z x y e l), bm z pz l)
     ] refl
@@ -94,14 +89,15 @@ both_fewer m n after (Some x) (Some y) pa pb fa fb =
     let k = no_more n after x pa in
     elim (is_lt (slice_cmp nat_cmp x y)) as (λ b. IfSome (cond b (Some x) (Some y)) (λ k. left m (Some k) + left n (Some k) < left m after + left n after)) [ true ↦ omega (arith, k, fa) | false ↦ omega (arith, h, fb) ]
 
-pub fewer_first : {X : Type 0} (m : FinMap (slice_cmp nat_cmp) X) (r : Option Key) → IfSome r (λ k. is_some (get m k) ≡ true) → IfSome r (λ k. (x : Key) → slice_cmp nat_cmp x k ≡ Less → get m x ≡ None) → IfSome r (λ k. left m (Some k) < left m None)
-fewer_first m None there none = tt
-fewer_first m (Some k) there none = fewer m None k refl there (λ x px l. none x l)
+-- above no bound lies every key
+pub every : {X : Type 0} (r : Option (Bor Key × X)) → IfSome r (λ e. is_above None e.0.now ≡ true)
+every None = tt
+every (Some e) = refl
 
-pub fewer_above : {X : Type 0} (m : FinMap (slice_cmp nat_cmp) X) (low : Key) (r : Option Key) → IfSome r (λ k. slice_cmp nat_cmp low k ≡ Less) → IfSome r (λ k. is_some (get m k) ≡ true)
-    → IfSome r (λ k. (x : Key) → slice_cmp nat_cmp low x ≡ Less → slice_cmp nat_cmp x k ≡ Less → get m x ≡ None) → IfSome r (λ k. left m (Some k) < left m (Some low))
-fewer_above m low None p there none = tt
-fewer_above m low (Some k) p there none = fewer m (Some low) k (ap is_lt p) there (λ x px l. none x (is_less (slice_cmp nat_cmp low x) px) l)
+pub fewer_past : {X : Type 0} (m : FinMap (slice_cmp nat_cmp) X) (after : Option Key) (r : Option (Bor Key × Bor X)) → IfSome r (λ e. is_above after e.0.now ≡ true) → IfSome r (λ e. get m e.0.now ≡ Some e.1.now)
+    → IfSome r (λ e. EachBetween after e.0.now (IsAbsent m)) → IfSome r (λ e. left m (Some e.0.now) < left m after)
+fewer_past m after None above there none = tt
+fewer_past m after (Some e) above there none = fewer m after e.0.now above (ap is_some there) none
 
 all_pass : {X : Type 0} (es : List (Key × X)) → filter (λ e. true) es ≡ es
 all_pass [] = refl

@@ -1,4 +1,7 @@
 //! Ordered maps from the keys of files, seen by contracts as finite maps.
+//!
+//! - `map`, `places`, `place_map`: maps by the keys of files, in order; sets of a key and a number; maps from these
+//!   to numbers
 #![tactic(auto)]
 
 pub mod map;

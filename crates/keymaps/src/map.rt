@@ -1,11 +1,8 @@
 // A map from keys.
 
-ghost use Rattle.std.specs.Prelude.{◌≡◌, ◌<◌, ◌+◌, ℕ, List, true, IfOk, OnOk, OnErr, IfSome, IfNone, IsSome, None, option_copied};
-ghost use Rattle.std.specs.declared.cmp.Ordering.TheVariants.{Less};
+ghost use Rattle.std.specs.Prelude.{◌≡◌, ◌<◌, ◌+◌, ℕ, List, true, IfOk, OnOk, OnErr, IfSome, IfNone, IsSome, None, Some, option_copied};
 ghost use Rattle.std.specs.FinMap as finmap;
-ghost use Rattle.std.specs.Ordering.{nat_cmp};
-ghost use Rattle.std.specs.Cmp.Lexicographic.{slice_cmp};
-ghost use Rattle.keymaps.specs.Order.{is_above, left, lesser, if_below};
+ghost use Rattle.keymaps.specs.Order.{EachAbove, EachBetween, IsAbsent, IsInNeither, is_above, left, lesser, if_below};
 
 use std::alloc::{AllocError, Global};
 use std::cmp::Ordering;
@@ -120,39 +117,54 @@ impl<V: Drop> KeyMap<V> {
     pub fn pop(&mut self) -> Option<Key>
         ensures there { IfSome result (λ key. finmap.contains_key self.old key ≡ true) }
         ensures some { IfSome result (λ key. self.new ≡ finmap.remove self.old key) }
-        ensures none { IfNone result ((self.new ≡ self.old) × ((x : List ℕ) → finmap.get self.old x ≡ None)) }
+        ensures none { IfNone result ((self.new ≡ self.old) × ((x : List ℕ) → IsAbsent self.old x)) }
     {
-        let Some(key) = self.first() else {
+        let Some((first, _)) = self.first() else {
             return None;
         };
+        let key = *first;
         self.remove(&key);
         Some(key)
     }
 
-    // The least key.
-    fn first(&self) -> Option<Key>
-        ensures there { IfSome result (λ k. finmap.contains_key self.now k ≡ true) }
-        ensures least { IfSome result (λ k. (x : List ℕ) → slice_cmp nat_cmp x k ≡ Less → finmap.get self.now x ≡ None) }
-        ensures none { IfNone result ((x : List ℕ) → finmap.get self.now x ≡ None) }
+    // The least key, with its value.
+    fn first(&self) -> Option<(&Key, &V)>
+        ensures there { IfSome result (λ e. finmap.get self.now e.0.now ≡ Some e.1.now) }
+        ensures least { IfSome result (λ e. EachBetween None e.0.now (IsAbsent self.now)) }
+        ensures none { IfNone result (EachAbove None (IsAbsent self.now)) }
     {
         let mut all = self.map.range(..);
         match all.next() {
-            Some((key, _)) => Some(*key),
+            Some((key, value)) => Some((key, value)),
             None => None,
         }
     }
 
-    // The least key above one.
-    fn above(&self, low: Key) -> Option<Key>
-        ensures above { IfSome result (λ k. slice_cmp nat_cmp low k ≡ Less) }
-        ensures there { IfSome result (λ k. finmap.contains_key self.now k ≡ true) }
-        ensures least { IfSome result (λ k. (x : List ℕ) → slice_cmp nat_cmp low x ≡ Less → slice_cmp nat_cmp x k ≡ Less → finmap.get self.now x ≡ None) }
-        ensures none { IfNone result ((x : List ℕ) → slice_cmp nat_cmp low x ≡ Less → finmap.get self.now x ≡ None) }
+    // The least key above one, with its value.
+    fn above(&self, low: Key) -> Option<(&Key, &V)>
+        ensures above { IfSome result (λ e. is_above (Some low) e.0.now ≡ true) }
+        ensures there { IfSome result (λ e. finmap.get self.now e.0.now ≡ Some e.1.now) }
+        ensures least { IfSome result (λ e. EachBetween (Some low) e.0.now (IsAbsent self.now)) }
+        ensures none { IfNone result (EachAbove (Some low) (IsAbsent self.now)) }
     {
         let mut rest = self.map.range((Bound::Excluded(low), Bound::Unbounded));
         match rest.next() {
-            Some((key, _)) => Some(*key),
+            Some((key, value)) => Some((key, value)),
             None => None,
+        }
+    }
+
+    /// The least key, above the one given if there is one, and its value.
+    pub fn next_key_value(&self, after: Option<Key>) -> Option<(&Key, &V)>
+        ensures above { IfSome result (λ e. is_above after e.0.now ≡ true) }
+        ensures there { IfSome result (λ e. finmap.get self.now e.0.now ≡ Some e.1.now) }
+        ensures least { IfSome result (λ e. EachBetween after e.0.now (IsAbsent self.now)) }
+        ensures fewer { IfSome result (λ e. left self.now (Some e.0.now) < left self.now after) }
+        ensures none { IfNone result (EachAbove after (IsAbsent self.now)) }
+    {
+        match after {
+            None => self.first(),
+            Some(low) => self.above(low),
         }
     }
 
@@ -160,13 +172,13 @@ impl<V: Drop> KeyMap<V> {
     pub fn next_key(&self, after: Option<Key>) -> Option<Key>
         ensures above { IfSome result (λ k. is_above after k ≡ true) }
         ensures there { IfSome result (λ k. finmap.contains_key self.now k ≡ true) }
-        ensures least { IfSome result (λ k. (x : List ℕ) → is_above after x ≡ true → slice_cmp nat_cmp x k ≡ Less → finmap.get self.now x ≡ None) }
+        ensures least { IfSome result (λ k. EachBetween after k (IsAbsent self.now)) }
         ensures fewer { IfSome result (λ k. left self.now (Some k) < left self.now after) }
-        ensures none { IfNone result ((x : List ℕ) → is_above after x ≡ true → finmap.get self.now x ≡ None) }
+        ensures none { IfNone result (EachAbove after (IsAbsent self.now)) }
     {
-        match after {
-            None => self.first(),
-            Some(low) => self.above(low),
+        match self.next_key_value(after) {
+            Some((key, _)) => Some(*key),
+            None => None,
         }
     }
 }
@@ -203,9 +215,10 @@ pub fn next_of_both<V: Drop, W: Drop>(
     after: Option<Key>,
 ) -> Option<Key>
     ensures above { IfSome result (λ k. is_above after k ≡ true) }
-    ensures least { IfSome result (λ k. (x : List ℕ) → is_above after x ≡ true → slice_cmp nat_cmp x k ≡ Less → (finmap.get first.now x ≡ None) × (finmap.get second.now x ≡ None)) }
-    ensures fewer { IfSome result (λ k. left first.now (Some k) + left second.now (Some k) < left first.now after + left second.now after) }
-    ensures none { IfNone result ((x : List ℕ) → is_above after x ≡ true → (finmap.get first.now x ≡ None) × (finmap.get second.now x ≡ None)) }
+    ensures least { IfSome result (λ k. EachBetween after k (IsInNeither first.now second.now)) }
+    ensures fewer { IfSome result (λ k.
+        left first.now (Some k) + left second.now (Some k) < left first.now after + left second.now after) }
+    ensures none { IfNone result (EachAbove after (IsInNeither first.now second.now)) }
 {
     lesser(first.next_key(after), second.next_key(after))
 }

@@ -1,9 +1,8 @@
 // A map from keys with places.
 
-ghost use Rattle.std.specs.Prelude.{◌≡◌, ◌<◌, OnOk, OnErr, IfSome, IfNone, ℕ, List, Some, None, true};
-ghost use Rattle.std.specs.declared.cmp.Ordering.TheVariants.{Less};
+ghost use Rattle.std.specs.Prelude.{◌≡◌, OnOk, OnErr, IfSome, IfNone, ℕ, List, Some, None, true};
 ghost use Rattle.std.specs.FinMap as finmap;
-ghost use Rattle.keymaps.specs.Order.{place_cmp, is_past, is_beyond, if_below};
+ghost use Rattle.keymaps.specs.Order.{EachPast, EachPastBelow, EachBeyond, EachBeyondBelow, IsAbsent, is_past, is_beyond, if_below};
 
 use crate::map::Key;
 use std::alloc::{AllocError, Global};
@@ -67,8 +66,8 @@ impl PlaceMap {
     pub fn next_place(&self, key: &Key, after: Option<u32>) -> Option<(u32, u64)>
         ensures past { IfSome result (λ e. is_past after e.0 ≡ true) }
         ensures there { IfSome result (λ e. finmap.get self.now (key.now, e.0) ≡ Some e.1) }
-        ensures least { IfSome result (λ e. (p : ℕ) → is_past after p ≡ true → p < e.0 → finmap.get self.now (key.now, p) ≡ None) }
-        ensures none { IfNone result ((p : ℕ) → is_past after p ≡ true → finmap.get self.now (key.now, p) ≡ None) }
+        ensures least { IfSome result (λ e. EachPastBelow after e.0 (λ p. IsAbsent self.now (key.now, p))) }
+        ensures none { IfNone result (EachPast after (λ p. IsAbsent self.now (key.now, p))) }
     {
         let Some((place, number)) = self.first_past(*key, after) else {
             return None;
@@ -84,8 +83,8 @@ impl PlaceMap {
     fn first_past(&self, key: Key, after: Option<u32>) -> Option<((Key, u32), u64)>
         ensures beyond { IfSome result (λ e. is_beyond key after e.0 ≡ true) }
         ensures there { IfSome result (λ e. finmap.get self.now e.0 ≡ Some e.1) }
-        ensures least { IfSome result (λ e. (x : List ℕ × ℕ) → is_beyond key after x ≡ true → place_cmp x e.0 ≡ Less → finmap.get self.now x ≡ None) }
-        ensures none { IfNone result ((x : List ℕ × ℕ) → is_beyond key after x ≡ true → finmap.get self.now x ≡ None) }
+        ensures least { IfSome result (λ e. EachBeyondBelow key after e.0 (IsAbsent self.now)) }
+        ensures none { IfNone result (EachBeyond key after (IsAbsent self.now)) }
     {
         match after {
             None => self.first_from(key),
@@ -97,8 +96,8 @@ impl PlaceMap {
     fn first_from(&self, key: Key) -> Option<((Key, u32), u64)>
         ensures beyond { IfSome result (λ e. is_beyond key None e.0 ≡ true) }
         ensures there { IfSome result (λ e. finmap.get self.now e.0 ≡ Some e.1) }
-        ensures least { IfSome result (λ e. (x : List ℕ × ℕ) → is_beyond key None x ≡ true → place_cmp x e.0 ≡ Less → finmap.get self.now x ≡ None) }
-        ensures none { IfNone result ((x : List ℕ × ℕ) → is_beyond key None x ≡ true → finmap.get self.now x ≡ None) }
+        ensures least { IfSome result (λ e. EachBeyondBelow key None e.0 (IsAbsent self.now)) }
+        ensures none { IfNone result (EachBeyond key None (IsAbsent self.now)) }
     {
         let low = (key, 0);
         let mut rest = self.map.range((Bound::Included(low), Bound::Unbounded));
@@ -112,8 +111,8 @@ impl PlaceMap {
     fn first_above(&self, key: Key, low: u32) -> Option<((Key, u32), u64)>
         ensures beyond { IfSome result (λ e. is_beyond key (Some low) e.0 ≡ true) }
         ensures there { IfSome result (λ e. finmap.get self.now e.0 ≡ Some e.1) }
-        ensures least { IfSome result (λ e. (x : List ℕ × ℕ) → is_beyond key (Some low) x ≡ true → place_cmp x e.0 ≡ Less → finmap.get self.now x ≡ None) }
-        ensures none { IfNone result ((x : List ℕ × ℕ) → is_beyond key (Some low) x ≡ true → finmap.get self.now x ≡ None) }
+        ensures least { IfSome result (λ e. EachBeyondBelow key (Some low) e.0 (IsAbsent self.now)) }
+        ensures none { IfNone result (EachBeyond key (Some low) (IsAbsent self.now)) }
     {
         let place = (key, low);
         let mut rest = self.map.range((Bound::Excluded(place), Bound::Unbounded));

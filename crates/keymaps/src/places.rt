@@ -1,7 +1,8 @@
 // A set of keys with places.
 
-ghost use Rattle.std.specs.Prelude.{◌≡◌, OnOk, OnErr, IfOk, IfSome, IfNone, ℕ, List, None, true};
+ghost use Rattle.std.specs.Prelude.{◌≡◌, OnOk, OnErr, IfOk, IfSome, IfNone, ℕ, List, true};
 ghost use Rattle.std.specs.FinMap as finmap;
+ghost use Rattle.keymaps.specs.Order.{IsAbsent};
 
 use crate::map::Key;
 use std::alloc::{AllocError, Global};
@@ -74,7 +75,7 @@ impl PlaceSet {
     pub fn pop(&mut self) -> Option<(Key, u32)>
         ensures there { IfSome result (λ p. finmap.contains_key self.old p ≡ true) }
         ensures some { IfSome result (λ p. self.new ≡ finmap.remove self.old p) }
-        ensures none { IfNone result ((self.new ≡ self.old) × ((p : List ℕ × ℕ) → finmap.get self.old p ≡ None)) }
+        ensures none { IfNone result ((self.new ≡ self.old) × ((p : List ℕ × ℕ) → IsAbsent self.old p)) }
     {
         let Some((place, _)) = self.map.pop_first() else {
             return None;

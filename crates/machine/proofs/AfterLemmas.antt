@@ -1,10 +1,12 @@
 -- The states of a run.
 use Rattle.std.proofs.Common.{◌≡◌, ℕ, ◌+◌, Option, Some, None, refl, ap, ◌∙◌, add-one}
-use Rattle.interaction_trees.specs.Dependence.{Outcome, Step, Stop, state_of}
+use Rattle.interaction_trees.specs.Outcome.{Outcome, Step, Stop}
+use Rattle.interaction_trees.specs.Dependence.{state_of}
 use Rattle.interaction_trees.specs.Dependence as dependence
 use Rattle.console_calls.specs.declared.cause.Cause.{Cause}
 use Rattle.machine.specs.Views.{State}
-use Rattle.machine.specs.Machine.{Answers, next, part, made, start, outcome, after}
+use Rattle.machine.specs.Step.{next}
+use Rattle.machine.specs.Machine.{Answers, part, made, start, outcome, after}
 
 abbrev pub then_step : Answers → Option State → Option State
 then_step = dependence.then_step part (λ (st : State). st.own) (λ (st : State). next st.core) made start

@@ -1,8 +1,8 @@
 -- What a step does to the files fits them: a file that is written or renamed is there, a write knows the length, and a rename stays on
 -- its drive. So what was done stays sound along a run.
-use Rattle.std.proofs.Common.{◌≡◌, ℕ, zero, suc, ◌<◌, ◌+◌, ◌-◌, ◌==◌, ◌&&◌, not, Bool, true, false, cond, List, [], ◌∷◌, length, Option, Some, None, slice_index, nat_le, nat_lt, refl, sym, ap, subst, ◌∙◌}
+use Rattle.std.proofs.Common.{◌≡◌, ℕ, zero, suc, ◌+◌, ◌==◌, ◌&&◌, not, Bool, true, false, cond, [], length, Option, Some, None, slice_index, nat_le, nat_lt, refl, sym, ap, subst, ◌∙◌}
 use Rattle.interaction_trees.specs.Tree.{Return, Query, result_of, returning}
-use Rattle.interaction_trees.specs.Dependence.{Outcome, Step, Stop}
+use Rattle.interaction_trees.specs.Outcome.{Outcome, Step, Stop}
 use Rattle.interaction_trees.specs.Dependence as dependence
 use Rattle.interaction_trees.proofs.DependenceLemmas.{same_everywhere, result_of-returning}
 use Rattle.i8080.specs.declared.registers.Regs.{Regs}
@@ -10,39 +10,42 @@ use Rattle.i8080.specs.Reading.{Reading, Done, Cell}
 use Rattle.i8080.specs.Registers.{word}
 use Rattle.i8080.specs.Instruction.{instruction, word_at}
 use Rattle.i8080.specs.End as end
-use Rattle.console_calls.specs.declared.cause.Cause.{Cause}
 use Rattle.console_calls.specs.declared.cause.Cause.TheVariants.{WarmBoot, SystemArea}
 use Rattle.console_calls.specs.declared.desk.Spot.{Spot}
 use Rattle.console_calls.specs.Calls.{CallEnd, Completed}
 use Rattle.console_calls.specs.Calls as calls
-use Rattle.filenames.specs.Names.{is_sayable}
-use Rattle.filenames.specs.ControlBlock.{place_of, random_of}
-use Rattle.directory.specs.Entries.{count_at}
-use Rattle.directory.specs.declared.entry.Search.{Search}
+use Rattle.hostfiles.specs.Names.{is_sayable}
+use Rattle.hostfiles.specs.ControlBlock.{place_of, random_of}
+use Rattle.hostfiles.specs.Entries.{count_at, next_among}
+use Rattle.hostfiles.specs.Search.{Search}
 use Rattle.hostfiles.specs.Hosts.{Key, Host}
 use Rattle.hostfiles.specs.Files.{Own, has, length_at}
-use Rattle.cpmfiles.specs.Tables.{has_wildcard, is_rename}
+use Rattle.cpmfiles.specs.Renaming.{is_rename}
 use Rattle.file_calls.specs.declared.block.Block.{Block}
 use Rattle.file_calls.specs.declared.function.FileFunction.{FileFunction}
 use Rattle.file_calls.specs.declared.function.FileFunction.TheVariants.{Open, Close, SearchFirst, ReadSequential, WriteSequential, Make, Rename, ReadRandom, WriteRandom, FileSize, SetRandomRecord, WriteRandomZeroFill}
 use Rattle.file_calls.specs.declared.finding.Finding.{Finding}
 use Rattle.file_calls.specs.declared.finding.Finding.TheVariants as finding
-use Rattle.file_calls.specs.Questions.{FileQuestion, FileAnswers, FileTree, IsThere, ShapeOf, Content, FilesOn, file_answers}
-use Rattle.file_calls.specs.FileCalls.{found, block_length, deletion, search_next, key_of, new_key_of, absent, if_there, if_in_range, record_found, missing, writing, entry_found, next_among}
-use Rattle.file_calls.specs.Changes.{FileChange, Unchanged, Made, Deleted, Renamed, Stored, own_with}
+use Rattle.file_calls.specs.Questions.{FileQuestion, FileAnswers, FileTree, IsThere, ShapeOf, Content, FilesOn}
+use Rattle.file_calls.specs.Answers.{file_answers}
+use Rattle.file_calls.specs.FileCalls.{found, block_length, deletion, search_next, key_of, new_key_of, absent, if_there, if_in_range, record_found, missing, writing, entry_found}
+use Rattle.file_calls.specs.Changes.{FileChange, Unchanged, Made, Deleted, Renamed, Stored}
+use Rattle.file_calls.specs.Deletes.{own_with}
 use Rattle.file_calls.proofs.Shapes.{places}
-use Rattle.bdos.specs.Questions.{SystemQuestion, OfState, OfFiles, SystemAnswers, SystemTree, reading_first, asking_state, asking_files}
+use Rattle.bdos.specs.Questions.{SystemQuestion, OfState, OfFiles, SystemAnswers, SystemTree, reading_first, asking_files}
 use Rattle.bdos.specs.FileCalls.{SystemEnd, back, value_of, bytes_at, block_read, drive_named, carried_on, with_block, on_drive}
 use Rattle.bdos.specs.declared.function.SystemFunction.{SystemFunction}
 use Rattle.bdos.specs.declared.function.SystemFunction.TheVariants.{OfFile, SearchNext, DeleteFile, OfDesk}
 use Rattle.bdos.specs.Calls.{call, called, system_function}
 use Rattle.bdos.proofs.Trees.{result-reading, result-state, result-files}
-use Rattle.host_questions.specs.Passing.{IsSound, IsFitting}
-use Rattle.host_questions.specs.Passing as passing
-use Rattle.host_questions.proofs.Answering.{answers_are}
-use Rattle.host_questions.proofs.Soundness.{starts_sound, stays_sound}
-use Rattle.machine.specs.Views.{Session, Core, State}
-use Rattle.machine.specs.Machine.{Answers, ask, Reached, Went, Stopped, reached, reached_with, reached_by_call, script_limit, next, part, laid, desk_with, stored_all, made, start, outcome, after, IsReached}
+use Rattle.file_calls.specs.Passing.{IsSound, IsFitting}
+use Rattle.file_calls.specs.Passing as passing
+use Rattle.file_calls.proofs.Answering.{answers_are}
+use Rattle.file_calls.proofs.Soundness.{starts_sound, stays_sound}
+use Rattle.machine.specs.Given.{Session, Core}
+use Rattle.machine.specs.Views.{State}
+use Rattle.machine.specs.Step.{Reached, Went, Stopped, reached, reached_with, reached_by_call, script_limit, next, desk_with}
+use Rattle.machine.specs.Machine.{ask, laid, stored_all, made, start, after, IsReached}
 use Rattle.machine.proofs.AfterLemmas.{step_before}
 use Rattle.machine.proofs.HostLemmas.{result_of-asking_host}
 

@@ -1,5 +1,5 @@
 -- Questions about files that are passed on to the host files, and the looks that mark them.
-use Rattle.std.proofs.Common.{◌≡◌, ℕ, zero, suc, ◌<◌, Bool, true, false, ◌||◌, ◌&&◌, ◌==◌, List, [], ◌∷◌, ◌++◌, length, Option, Some, None, cond, is_some, get_or, slice_set, replicate, length-set, get_or-set_same, get_or-set_other, inl, inr, refl, sym, ap, subst, ◌∙◌, arith}
+use Rattle.std.proofs.Common.{◌≡◌, ℕ, ◌<◌, Bool, true, false, ◌||◌, ◌&&◌, ◌==◌, List, [], ◌∷◌, length, Option, Some, None, cond, is_some, get_or, slice_set, replicate, length-set, get_or-set_same, get_or-set_other, inl, inr, refl, sym, ap, ◌∙◌}
 use Rattle.std.proofs.Math.Bool.{or-false}
 use Rattle.std.proofs.lemmas.Bool.Decides.{eqb_tells, leb_tells}
 use Rattle.std.proofs.lemmas.List.{get_or-replicate, get_or_past, length-replicate}
@@ -8,10 +8,10 @@ use Rattle.std.specs.declared.cmp.Ordering.TheVariants.{Less, Equal, Greater}
 use Rattle.std.specs.Cmp.{unsigned_tied}
 use Rattle.std.specs.Cmp.Lexicographic.{slice_cmp, nat_list_cmp_total}
 use Rattle.std.specs.FinMap.{FinMap, get, insert, contains_key, get-insert, get-empty}
-use Rattle.interaction_trees.specs.Tree.{Tree, Return, Query, result_of, asked}
-use Rattle.keymaps.specs.Order.{place_cmp}
-use Rattle.keymaps.proofs.Views.{places_total}
-use Rattle.hostfiles.specs.Hosts.{Key, Host}
+use Rattle.interaction_trees.specs.Tree.{Return, Query, result_of, asked}
+use Rattle.hostfiles.specs.Order.{place_cmp}
+use Rattle.hostfiles.proofs.Views.{places_total}
+use Rattle.hostfiles.specs.Hosts.{Key}
 use Rattle.hostfiles.specs.Files.{Own, entry_at, is_below}
 use Rattle.hostfiles.specs.Looks.{is_looked, is_same_ask, no_looks, look_has_by, look_length_by, look_record_by, look_directory}
 use Rattle.hostfiles.specs.declared.journal.Base.{Base}
@@ -21,11 +21,12 @@ use Rattle.hostfiles.specs.declared.journal.Entry.{Entry}
 use Rattle.hostfiles.specs.declared.looks.Looks.{Looks}
 use Rattle.hostfiles.specs.declared.looks.Ask.{Ask}
 use Rattle.hostfiles.specs.declared.looks.Ask.TheVariants.{Has, Length, Rec, Directory}
-use Rattle.file_calls.specs.Questions.{FileQuestion, IsThere, ShapeOf, Content, FilesOn, look_for}
+use Rattle.file_calls.specs.Questions.{FileQuestion, IsThere, ShapeOf, Content, FilesOn}
+use Rattle.file_calls.specs.Answers.{look_for}
 use Rattle.bdos.specs.Drives.{IsDrive, AreDrives}
-use Rattle.host_questions.specs.Passing.{HostAnswer, HostTree, there_part, shape_part, host_part, content_part}
-use Rattle.host_questions.specs.Passing as passing
-use Rattle.machine.specs.Machine.{Question, Cell, Script, OfHost, Answers, is_in, asking_host}
+use Rattle.file_calls.specs.Passing.{HostAnswer, HostTree, there_part, shape_part, host_part, content_part}
+use Rattle.file_calls.specs.Passing as passing
+use Rattle.machine.specs.Machine.{Cell, Script, OfHost, Answers, is_in, asking_host}
 
 -- ---- the host files' trees over a session
 

@@ -6,6 +6,9 @@ pub mod StepLemmas
 pub mod StretchLemmas
 pub mod TidyFiles
 pub mod WholeFiles
+pub mod ChangedFileLemmas
 pub mod WholeLemmas
 pub mod TextLemmas
 pub mod SpliceLemmas
+pub use Rattle.i8080.proofs.LookLemmas
+pub use Rattle.interaction_trees.proofs.DependenceLemmas

@@ -1,5 +1,5 @@
 -- A splice is an insertion or a removal, and what is written over the rest.
-use Rattle.std.proofs.Common.{◌≡◌, ℕ, ◌+◌, ◌-◌, ◌<◌, ◌≤◌, List, [], ◌++◌, length, take, drop, refl, sym, ◌∙◌, ap, subst, arith, append_assoc, take-append-drop, length-append}
+use Rattle.std.proofs.Common.{◌≡◌, ℕ, ◌+◌, ◌-◌, ◌<◌, ◌≤◌, List, [], ◌++◌, length, take, drop, refl, sym, ◌∙◌, ap, arith, append_assoc, take-append-drop, length-append}
 use Rattle.std.proofs.lemmas.List.{take_all, take_at, drop_at, length-take-le, length-drop, append-nil}
 use Rattle.machine.specs.Session.{spliced, written_over}
 

@@ -11,7 +11,7 @@ use Rattle.std.specs.declared.result.Result.{Result}
 use Rattle.std.specs.declared.result.Result.TheVariants.{Ok, Err}
 use Rattle.std.specs.declared.alloc.AllocError.{AllocError}
 use Rattle.interaction_trees.specs.Tree.{Return, result_of, asked, AgreeOn, returning}
-use Rattle.interaction_trees.specs.Dependence.{Outcome, Step, Stop}
+use Rattle.interaction_trees.specs.Outcome.{Outcome, Step, Stop}
 use Rattle.interaction_trees.specs.Dependence as dependence
 use Rattle.interaction_trees.proofs.DependenceLemmas.{same_result, same_asked, result_of-returning, asked-returning}
 use Rattle.i8080.specs.declared.registers.Regs.{Regs}
@@ -22,6 +22,7 @@ use Rattle.i8080.specs.Reading.{Reading, Done}
 use Rattle.i8080.specs.Reading as reading
 use Rattle.i8080.specs.Instruction.{instruction}
 use Rattle.i8080.specs.End as end
+use Rattle.i8080.specs.Performs as end_left
 use Rattle.i8080.proofs.LookLemmas.{is_among-append}
 use Rattle.i8080.proofs.WriteLookLemmas.{extends_by}
 use Rattle.i8080.proofs.BoundLemmas.{bound_here}
@@ -36,6 +37,7 @@ use Rattle.console_calls.specs.Desk.{Desk}
 use Rattle.console_calls.specs.Places.{Watched, is_within}
 use Rattle.console_calls.specs.Questions.{Byte, Input, addresses, script_places}
 use Rattle.console_calls.specs.Calls as calls
+use Rattle.console_calls.specs.Serves as calls_left
 use Rattle.hostfiles.specs.Files as files
 use Rattle.hostfiles.specs.Hosts.{Host}
 use Rattle.hostfiles.specs.Looks.{is_looked}
@@ -44,22 +46,26 @@ use Rattle.hostfiles.proofs.LookLemmas.{extends_same}
 use Rattle.hostfiles.specs.declared.changes.Changes.{Changes}
 use Rattle.hostfiles.specs.declared.looks.Looks as file_questions_asked
 use Rattle.hostfiles.specs.declared.looks.Ask.{Ask}
-use Rattle.file_calls.specs.Changes.{FileChange, Unchanged, own_with}
-use Rattle.file_calls.specs.Questions.{FileQuestion, Drives, look_for, look_for_all}
+use Rattle.file_calls.specs.Deletes.{own_with}
+use Rattle.file_calls.specs.Answers.{Drives, look_for, look_for_all}
 use Rattle.file_calls.proofs.Extending.{within_all}
-use Rattle.bdos.specs.Questions.{SystemQuestion, OfState, OfFiles, SystemAnswers, SystemTree, system_answers, reading_first, state_questions, file_questions}
+use Rattle.bdos.specs.Questions.{SystemQuestion, OfState, OfFiles, SystemAnswers, SystemTree, reading_first}
+use Rattle.bdos.specs.Fulfils.{system_answers, state_questions, file_questions}
 use Rattle.bdos.specs.FileCalls.{SystemEnd}
-use Rattle.bdos.specs.Calls.{Serves, call}
+use Rattle.bdos.specs.Calls.{call}
+use Rattle.bdos.specs.Fulfils.{Serves}
 use Rattle.bdos.specs.Drives.{AsksDrives}
-use Rattle.bdos.specs.Fulfils.{FulfilsBy}
+use Rattle.bdos.specs.Fulfils.{scene}
 use Rattle.bdos.proofs.Trees.{result-reading, cells-reading, places-reading, files-reading}
-use Rattle.host_questions.specs.Passing.{IsSound}
-use Rattle.host_questions.specs.Passing as passing
-use Rattle.host_questions.proofs.Answering.{answers_are}
-use Rattle.machine.specs.Views.{Session, Own, Looked, Running}
+use Rattle.file_calls.specs.Passing.{IsSound}
+use Rattle.file_calls.specs.Passing as passing
+use Rattle.file_calls.proofs.Answering.{answers_are}
+use Rattle.machine.specs.Given.{Session}
+use Rattle.machine.specs.Views.{Own, Looked, Running}
 use Rattle.machine.specs.declared.session.TheConstants.{SCRIPT_LIMIT}
 use Rattle.machine.specs.Session.{image_of}
-use Rattle.machine.specs.Machine.{Question, Cell, Script, OfHost, Answers, ask, same_question, is_in, Reached, Went, Stopped, reached, reached_with, reached_by_call, script_limit, script_limit-is, next, own_or_ask, asking_host, part, laid, desk_with, made, outcome, looks_at, looked_at, IsBounded}
+use Rattle.machine.specs.Step.{Reached, Went, Stopped, reached, reached_by_call, script_limit, script_limit-is, next, desk_with}
+use Rattle.machine.specs.Machine.{Question, Cell, Script, OfHost, Answers, ask, same_question, is_in, own_or_ask, asking_host, part, laid, made, outcome, looks_at, looked_at, IsBounded}
 use Rattle.machine.specs.WrittenCells.{written_cells, Devices, devices_of, state_with}
 use Rattle.machine.specs.Stops.{stop_of_instruction, stop_of_call}
 use Rattle.machine.specs.Steps.{told, seen, drives_in, looked_in, running_with, TakesStep}
@@ -322,12 +328,12 @@ at_instruction r d low = rw (ne_eqb r.pc 0xff03 (omega arith), ne_eqb r.pc 0xfe0
 sent_nothing : (d : Desk) → d ≡ desk_with d d.spot []
 sent_nothing d = ap (λ text. record { spot = d.spot; text = text }) (sym (append-nil d.text))
 
-end_leaves : (r r' : Regs) (d : Devices) (own own' : ℕ → Option ℕ) (e : end.End) → r' ≡ end.regs_after e r → own' ≡ end.own_after e own → Leaves (reached d.desk.spot e) r d own r' d own'
+end_leaves : (r r' : Regs) (d : Devices) (own own' : ℕ → Option ℕ) (e : end.End) → r' ≡ end_left.regs_after e r → own' ≡ end_left.own_after e own → Leaves (reached d.desk.spot e) r d own r' d own'
 end_leaves r r' d own own' (end.Went t ws) regs wrote = (regs, sent_nothing d.desk, wrote, refl)
 end_leaves r r' d own own' end.Halt regs wrote = (regs, refl, wrote, refl)
 end_leaves r r' d own own' (end.Undefined byte) regs wrote = (regs, refl, wrote, refl)
 
-end_stops : (d : Desk) (e : end.End) → stop_of (reached d.spot e) ≡ stop_of_instruction (end.did_of e)
+end_stops : (d : Desk) (e : end.End) → stop_of (reached d.spot e) ≡ stop_of_instruction (end_left.did_of e)
 end_stops d (end.Went t ws) = refl
 end_stops d end.Halt = refl
 end_stops d (end.Undefined byte) = refl
@@ -339,7 +345,7 @@ module _ (s : Session) (r r' : Regs) (d : Devices) (o o' : Overlay) (sound : IsS
   abbrev ends_with : end.End → SystemTree Reached
   ends_with e = Return (reached d.desk.spot e)
 
-  pub instructed : (did : Did) → end.Performs (instruction r) r (seen s o) (Ok did) r' (seen s o') → Takes s r d o (Ok (stop_of_instruction did)) r' d o'
+  pub instructed : (did : Did) → end_left.Performs (instruction r) r (seen s o) (Ok did) r' (seen s o') → Takes s r d o (Ok (stop_of_instruction did)) r' d o'
   instructed did p =
       let t = reading_first (instruction r) ends_with in
       let ends : result_of answers_here t ≡ reached d.desk.spot (reading.end_of (instruction r) (over (own_of o) (image_of s))) = result-reading answers_here ends_with (instruction r) in
@@ -357,7 +363,7 @@ module _ (s : Session) (r r' : Regs) (d : Devices) (o o' : Overlay) (sound : IsS
       }) in
       subst (λ (x : Option Cause). Takes s r d o (Ok x) r' d o') (ap stop_of ends ∙ end_stops d.desk _ ∙ ap stop_of_instruction (sym p.did)) all
 
-  pub instruction_fails : (e : AllocError) → end.Performs (instruction r) r (seen s o) (Err e) r' (seen s o') → Takes s r d o (Err e) r' d o'
+  pub instruction_fails : (e : AllocError) → end_left.Performs (instruction r) r (seen s o) (Err e) r' (seen s o') → Takes s r d o (Err e) r' d o'
   instruction_fails e p =
       let t = reading_first (instruction r) ends_with in
       let asks : addresses (state_questions (asked answers_here t)) ≡ reading.asked (instruction r) (over (own_of o) (image_of s)) = cells-reading answers_here ends_with (instruction r) ∙ append-nil _ in
@@ -373,12 +379,12 @@ at_call : (r : Regs) (d : Desk) → r.pc ≡ 0xfe06 → next (record { regs = r;
 unfolding next
 at_call r d e = rw e refl
 
-call_leaves : (host : Host) (done : files.Own) (r r' : Regs) (d d' : Devices) (own own' : ℕ → Option ℕ) (e : SystemEnd) → r' ≡ calls.regs_after e.0 r → d'.desk ≡ calls.desk_after e.0 d.desk → own' ≡ calls.own_after e.0 own
+call_leaves : (host : Host) (done : files.Own) (r r' : Regs) (d d' : Devices) (own own' : ℕ → Option ℕ) (e : SystemEnd) → r' ≡ calls_left.regs_after e.0 r → d'.desk ≡ calls_left.desk_after e.0 d.desk → own' ≡ calls_left.own_after e.0 own
     → d'.files ≡ own_with e.1 d.files → IsStill host done e.0 e.1 → Leaves (reached_by_call e) r d own r' d' own'
 call_leaves host done r r' d d' own own' (calls.Completed t spot bytes wrote, change) regs desk cells files stays = (regs, desk, cells, files)
 call_leaves host done r r' d d' own own' (calls.Stopped cause, change) regs desk cells files stays = (regs, desk, cells, files ∙ ap (λ x. own_with x d.files) stays)
 
-call_stops : (e : SystemEnd) → stop_of (reached_by_call e) ≡ stop_of_call (calls.served_of e.0)
+call_stops : (e : SystemEnd) → stop_of (reached_by_call e) ≡ stop_of_call (calls_left.served_of e.0)
 call_stops (calls.Completed t spot bytes wrote, change) = refl
 call_stops (calls.Stopped cause, change) = refl
 
@@ -390,7 +396,7 @@ module _ (s : Session) (r r' : Regs) (d d' : Watched) (c c' : Changes) (o o' : O
   tree = call script_limit r d.desk.spot
 
   pub called : (served : Served) → length c.looks.directories ≡ 256 → AsksDrives tree
-      → Serves script_limit s.script r (seen s o) d (drives_in s c g) (Ok served) r' (seen s o') d' (drives_in s c' g) → Takes s r (devices_of d c) o (Ok (stop_of_call served)) r' (devices_of d' c') o'
+      → Serves script_limit s.script (scene r (seen s o) d (drives_in s c g)) (Ok served) (scene r' (seen s o') d' (drives_in s c' g)) → Takes s r (devices_of d c) o (Ok (stop_of_call served)) r' (devices_of d' c') o'
   called served whole drives p =
       let ends : result_of answers_called (returning reached_by_call tree) ≡ reached_by_call (result_of answers_called tree) = result_of-returning answers_called reached_by_call tree in
       let asks : asked answers_called (returning reached_by_call tree) ≡ asked answers_called tree = asked-returning answers_called reached_by_call tree in
@@ -407,7 +413,7 @@ module _ (s : Session) (r r' : Regs) (d d' : Watched) (c c' : Changes) (o o' : O
       subst (λ (x : Option Cause). Takes s r (devices_of d c) o (Ok x) r' (devices_of d' c') o') (ap stop_of ends ∙ call_stops _ ∙ ap stop_of_call (sym p.served)) all
 
   pub call_fails : (e : AllocError) → length c.looks.directories ≡ 256 → AsksDrives tree
-      → Serves script_limit s.script r (seen s o) d (drives_in s c g) (Err e) r' (seen s o') d' (drives_in s c' g) → Takes s r (devices_of d c) o (Err e) r' (devices_of d' c') o'
+      → Serves script_limit s.script (scene r (seen s o) d (drives_in s c g)) (Err e) (scene r' (seen s o') d' (drives_in s c' g)) → Takes s r (devices_of d c) o (Err e) r' (devices_of d' c') o'
   call_fails e whole drives p =
       let asks : asked answers_called (returning reached_by_call tree) ≡ asked answers_called tree = asked-returning answers_called reached_by_call tree in
       broken_off s r r' (devices_of d c) (devices_of d' c') o o' (returning reached_by_call tree) e sound (at_call r d.desk at)
@@ -456,19 +462,19 @@ pub record AreDrivesAs (m v : Drives) : Type 0 where
   pub looks : m.looks ≡ v.looks
 
 pub at_limit : (d d' : Watched) {script other : List ℕ} {r r' : Regs} {m m' v v' : Memory} {f f' w w' : Drives} {result : Result Served AllocError}
-    → script ≡ other → length script ≤ SCRIPT_LIMIT → ((n : ℕ) → length script ≤ n → Serves n script r m d f result r' m' d' f')
+    → script ≡ other → length script ≤ SCRIPT_LIMIT → ((n : ℕ) → length script ≤ n → Serves n script (scene r m d f) result (scene r' m' d' f'))
     → IsSeenAs m v → IsSeenAs m' v' → v'.lender ≡ v.lender → AreDrivesAs f w → AreDrivesAs f' w' → w'.lender ≡ w.lender
-    → Serves script_limit other r v d w result r' v' d' w'
+    → Serves script_limit other (scene r v d w) result (scene r' v' d' w')
 at_limit d d' {script = script} {other = other} {r = r} {r' = r'} {m = m} {m' = m'} {v = v} {v' = v'} {f = f} {f' = f'} {w = w} {w' = w'} {result = result} same short h seen seen' lender drives drives' lends =
     let before : m ≡ record v { lender = m.lender } = λ i. record { own = seen.own i; beneath = seen.beneath i; looks = seen.looks i; lender = m.lender } in
     let after : m' ≡ record v' { lender = m'.lender } = λ i. record { own = seen'.own i; beneath = seen'.beneath i; looks = seen'.looks i; lender = m'.lender } in
     let files : f ≡ record w { lender = f.lender } = λ i. record { host = drives.host i; own = drives.own i; looks = drives.looks i; lender = f.lender } in
     let files' : f' ≡ record w' { lender = f'.lender } = λ i. record { host = drives'.host i; own = drives'.own i; looks = drives'.looks i; lender = f'.lender } in
-    let p = subst (λ (x : Drives). Serves script_limit other r (record v { lender = m.lender }) d (record w { lender = f.lender }) result r' (record v' { lender = m'.lender }) d' x) files'
-    (subst (λ (x : Drives). Serves script_limit other r (record v { lender = m.lender }) d x result r' (record v' { lender = m'.lender }) d' f') files
-    (subst (λ (x : Memory). Serves script_limit other r (record v { lender = m.lender }) d f result r' x d' f') after
-    (subst (λ (x : Memory). Serves script_limit other r x d f result r' m' d' f') before
-    (subst (λ (l : List ℕ). Serves script_limit l r m d f result r' m' d' f') same (h script_limit (rw script_limit-is short)))))) in
+    let p = subst (λ (x : Drives). Serves script_limit other (scene r (record v { lender = m.lender }) d (record w { lender = f.lender })) result (scene r' (record v' { lender = m'.lender }) d' x)) files'
+    (subst (λ (x : Drives). Serves script_limit other (scene r (record v { lender = m.lender }) d x) result (scene r' (record v' { lender = m'.lender }) d' f')) files
+    (subst (λ (x : Memory). Serves script_limit other (scene r (record v { lender = m.lender }) d f) result (scene r' x d' f')) after
+    (subst (λ (x : Memory). Serves script_limit other (scene r x d f) result (scene r' m' d' f')) before
+    (subst (λ (l : List ℕ). Serves script_limit l (scene r m d f) result (scene r' m' d' f')) same (h script_limit (rw script_limit-is short)))))) in
     record {
       served = p.served;
       regs = p.regs;

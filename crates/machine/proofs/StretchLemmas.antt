@@ -1,33 +1,35 @@
 -- Steps one after another of which none but the last looks at anything new.
-use Rattle.std.proofs.Common.{inl, inr, ◌≡◌, ℕ, ◌<◌, ◌≤◌, ◌+◌, ◌-◌, ◌||◌, ◌⊎◌, Bool, true, false, List, length, take, Option, Some, None, Ok, Err, refl, sym, ◌∙◌, ap, subst, arith, add-one, IfOk, IfNone, IfSome, OnErr, ◌≢◌}
+use Rattle.std.proofs.Common.{inl, inr, ◌≡◌, ℕ, ◌<◌, ◌≤◌, ◌+◌, ◌-◌, ◌||◌, Bool, true, false, List, length, Option, Some, None, Ok, Err, refl, sym, ◌∙◌, ap, subst, arith, add-one, IfOk, IfNone, IfSome, OnErr, ◌≢◌}
 use Rattle.std.proofs.lemmas.Bool.Decides.{eqb_tells}
 use Rattle.std.proofs.Math.Bool.{or-false}
 use Rattle.std.proofs.lemmas.List.{take_all}
 use Rattle.std.specs.declared.alloc.AllocError.{AllocError}
 use Rattle.std.specs.Result.{IsErr}
-use Rattle.interaction_trees.specs.Dependence.{Stop}
+use Rattle.interaction_trees.specs.Outcome.{Stop}
 use Rattle.interaction_trees.specs.Dependence as dependence
 use Rattle.i8080.specs.declared.registers.Regs.{Regs}
 use Rattle.i8080.specs.Reading.{asked}
 use Rattle.i8080.proofs.WriteLookLemmas.{extends_itself, extends_by}
 use Rattle.console_calls.specs.declared.cause.Cause.{Cause}
 use Rattle.hostfiles.proofs.LookLemmas.{extends_same}
-use Rattle.host_questions.specs.Passing.{IsSound}
+use Rattle.file_calls.specs.Passing.{IsSound}
 use Rattle.pagemem.specs.declared.overlay.Overlay.{Overlay}
 use Rattle.pagemem.specs.Overlay.{own_of, looks_of}
-use Rattle.machine.specs.Views.{Session, State, Looked, Running}
+use Rattle.machine.specs.Given.{Session}
+use Rattle.machine.specs.Views.{State, Looked, Running}
 use Rattle.std.specs.Borrow.{GName}
 use Rattle.std.specs.declared.result.Result.{Result}
 use Rattle.i8080.specs.declared.outcome.Did.{Did}
-use Rattle.i8080.specs.End.{Performs}
+use Rattle.i8080.specs.Performs.{Performs}
 use Rattle.i8080.specs.Instruction.{instruction}
 use Rattle.i8080.specs.Memory as memory
 use Rattle.machine.specs.Session.{image_of}
 use Rattle.machine.specs.Stops.{stop_of_instruction}
 use Rattle.machine.proofs.StepLemmas.{Takes, instructed, instruction_fails}
-use Rattle.machine.specs.Machine.{Question, Answers, ask, next, part, made, start, after, outcome, looks, looks_at, looked_at, is_in, LooksAlso, Extends, IsBounded}
+use Rattle.machine.specs.Step.{next}
+use Rattle.machine.specs.Machine.{Question, Answers, ask, part, made, start, after, outcome, looks, looks_at, looked_at, is_in, LooksAlso, Extends, IsBounded}
 use Rattle.machine.specs.WrittenCells.{Devices, state_with}
-use Rattle.machine.specs.Steps.{seen, looked_in, running_with, TakesStep}
+use Rattle.machine.specs.Steps.{seen, looked_in, TakesStep}
 use Rattle.machine.specs.Stretch.{LooksAtNothingNew, Stretches, ended_of, RunsTo}
 use Rattle.machine.proofs.AfterLemmas.{then_step, step_before, after_step}
 

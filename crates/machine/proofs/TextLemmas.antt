@@ -4,11 +4,12 @@ use native.Mathlib.Nat.{suc-add}
 use Rattle.std.proofs.lemmas.List.{append-nil}
 use Rattle.std.proofs.Math.Seq.{take-append_seam}
 use Rattle.interaction_trees.specs.Tree.{result_of}
-use Rattle.interaction_trees.specs.Dependence.{Step}
+use Rattle.interaction_trees.specs.Outcome.{Step}
 use Rattle.interaction_trees.specs.Dependence as dependence
-use Rattle.file_calls.specs.Changes.{own_with}
+use Rattle.file_calls.specs.Deletes.{own_with}
 use Rattle.machine.specs.Views.{State}
-use Rattle.machine.specs.Machine.{Answers, Reached, Went, Stopped, desk_with, next, laid, stored_all, made, outcome, after}
+use Rattle.machine.specs.Step.{Reached, Went, Stopped, desk_with, next}
+use Rattle.machine.specs.Machine.{Answers, laid, stored_all, made, outcome, after}
 use Rattle.machine.proofs.AfterLemmas.{step_before}
 
 abbrev Longer : List ℕ → List ℕ → Type 0

@@ -4,9 +4,9 @@ use Rattle.std.specs.Ordering.{nat_cmp, eq_by_cmp}
 use Rattle.std.specs.Cmp.Lexicographic.{slice_cmp, nat_list_cmp_total}
 use Rattle.std.specs.FinMap.{get, insert, empty, get-empty, get-insert}
 use Rattle.interaction_trees.specs.Tree.{result_of}
-use Rattle.interaction_trees.specs.Dependence.{Step}
+use Rattle.interaction_trees.specs.Outcome.{Step}
 use Rattle.interaction_trees.specs.Dependence as dependence
-use Rattle.keymaps.proofs.Views.{same_key, key_of}
+use Rattle.hostfiles.proofs.Views.{same_key, key_of}
 use Rattle.hostfiles.specs.Hosts.{Key, Record, Host}
 use Rattle.hostfiles.specs.Files.{Own, entry_at, untouched, fresh, nothing, moved, moved_base, is_there, length_of, length_at, has, deleted, wrote, wrote_filled, wrote_entry, wrote_filled_entry}
 use Rattle.hostfiles.specs.Laid.{Ends}
@@ -14,10 +14,13 @@ use Rattle.hostfiles.specs.declared.journal.Base.{Base}
 use Rattle.hostfiles.specs.declared.journal.Base.TheVariants.{Same, Gone, New, Moved}
 use Rattle.hostfiles.specs.declared.journal.Entry.{Entry}
 use Rattle.hostfiles.proofs.EndLemmas.{ends_start, ends_made, ends_deleted, ends_wrote, ends_filled, ends_renamed}
-use Rattle.file_calls.specs.Changes.{FileChange, Unchanged, Made, Deleted, Renamed, Stored, own_with}
+use Rattle.file_calls.specs.Changes.{FileChange, Unchanged, Made, Deleted, Renamed, Stored}
+use Rattle.file_calls.specs.Deletes.{own_with}
 use Rattle.file_calls.specs.Deletes.{without}
-use Rattle.machine.specs.Views.{Session, State}
-use Rattle.machine.specs.Machine.{ask, Reached, Went, Stopped, next, laid, desk_with, stored_all, made, start, after}
+use Rattle.machine.specs.Given.{Session}
+use Rattle.machine.specs.Views.{State}
+use Rattle.machine.specs.Step.{Reached, Went, Stopped, next, desk_with}
+use Rattle.machine.specs.Machine.{ask, laid, stored_all, made, start, after}
 use Rattle.machine.proofs.AfterLemmas.{step_before}
 use Rattle.machine.proofs.FitLemmas.{IsFit, FitsReached, reached_fits, sound_after}
 

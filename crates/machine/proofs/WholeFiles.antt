@@ -10,17 +10,20 @@ use Rattle.std.specs.Ordering.{nat_cmp, is_lt}
 use Rattle.std.specs.Cmp.Lexicographic.{slice_cmp, nat_list_cmp_total}
 use Rattle.std.specs.FinMap.{get, insert, empty, entries, entries_sorted, get-entries, get-empty, get-from_entries, same_map}
 use Rattle.std.specs.FinMap.Entries.{below_all, is_sorted, find-where_key, is_sorted-where_key, same_entries}
-use Rattle.keymaps.proofs.Views.{same_key}
+use Rattle.hostfiles.proofs.Views.{same_key}
 use Rattle.hostfiles.specs.Hosts.{Key, Record, Host}
-use Rattle.hostfiles.specs.Files.{File, Own, has, entry_at, length_at, place_at, place_by, place_of, file_of, file_at, shape_of, shapes, files, deleted, wrote, wrote_filled}
-use Rattle.hostfiles.specs.Laid.{written, written_filled}
+use Rattle.hostfiles.specs.Files.{Own, has, entry_at, length_at, place_at, place_by, place_of, file_of, file_at, shapes, files, deleted, wrote, wrote_filled}
+use Rattle.hostfiles.specs.File.{File, shape_of}
+use Rattle.hostfiles.specs.File.{written, written_filled}
 use Rattle.hostfiles.proofs.FileLemmas.{get-files, get-shapes, files-made, files-deleted}
 use Rattle.hostfiles.proofs.LaidLemmas.{below, not_below, entry_file, files-wrote, files-renamed, files-read}
 use Rattle.hostfiles.proofs.FilledLemmas.{files-filled}
-use Rattle.file_calls.specs.Questions.{FileQuestion, IsThere, ShapeOf, Content, FilesOn, is_on, files_on, file_answers, shape_here}
-use Rattle.file_calls.specs.Changes.{FileChange, Unchanged, Made, Deleted, Renamed, Stored, own_with}
+use Rattle.file_calls.specs.Questions.{FileQuestion, IsThere, ShapeOf, Content, FilesOn, is_on, files_on}
+use Rattle.file_calls.specs.Answers.{file_answers, shape_here}
+use Rattle.file_calls.specs.Changes.{FileChange, Unchanged, Made, Deleted, Renamed, Stored}
+use Rattle.file_calls.specs.Deletes.{own_with}
 use Rattle.file_calls.specs.Deletes.{without}
-use Rattle.host_questions.proofs.Names.{find-mapped, alike}
+use Rattle.file_calls.proofs.Names.{find-mapped, alike}
 use Rattle.machine.specs.WholeFiles.{without_holes, loaded_files, file_in, answers_of, removed, changed}
 use Rattle.machine.proofs.FitLemmas.{IsFit}
 use Rattle.machine.proofs.TidyFiles.{IsTidy}
@@ -55,7 +58,7 @@ module _ {A B : Type 0} (g : A → B) where
   below-mapped x [] = refl
   below-mapped x (e ∷ es) = ap (λ b. is_lt (slice_cmp nat_cmp x e.0) && b) (below-mapped x es)
 
-  sorted-mapped : (es : List (Key × A)) → is_sorted (slice_cmp nat_cmp) (map (λ e. (e.0, g e.1)) es) ≡ is_sorted (slice_cmp nat_cmp) es
+  pub sorted-mapped : (es : List (Key × A)) → is_sorted (slice_cmp nat_cmp) (map (λ e. (e.0, g e.1)) es) ≡ is_sorted (slice_cmp nat_cmp) es
   sorted-mapped [] = refl
   sorted-mapped (e ∷ es) = λ i. below-mapped e.0 es i && sorted-mapped es i
 

@@ -8,22 +8,26 @@ use Rattle.std.proofs.lemmas.Bool.Decides.{eqb_tells, leb_tells}
 use Rattle.std.proofs.lemmas.List.{get_or_past}
 use Rattle.std.proofs.lemmas.List.FromFn.{get_or-map-range_with_len, length-map-range_with_len, fill_by_all}
 use Rattle.interaction_trees.specs.Tree.{result_of}
-use Rattle.interaction_trees.specs.Dependence.{Outcome, Step, Stop, state_of}
+use Rattle.interaction_trees.specs.Outcome.{Outcome, Step, Stop}
+use Rattle.interaction_trees.specs.Dependence.{state_of}
 use Rattle.interaction_trees.specs.Dependence as dependence
 use Rattle.interaction_trees.proofs.DependenceLemmas.{same_everywhere}
 use Rattle.console_calls.specs.declared.cause.Cause.{Cause}
 use Rattle.console_calls.specs.Questions.{Byte, Input}
 use Rattle.hostfiles.specs.Files as files
-use Rattle.host_questions.specs.Passing.{IsSound}
-use Rattle.host_questions.specs.Passing as passing
-use Rattle.host_questions.proofs.Answering.{answers_are}
-use Rattle.file_calls.specs.Changes.{own_with}
+use Rattle.file_calls.specs.Passing.{IsSound}
+use Rattle.file_calls.specs.Passing as passing
+use Rattle.file_calls.proofs.Answering.{answers_are}
+use Rattle.file_calls.specs.Deletes.{own_with}
 use Rattle.bdos.specs.Questions.{SystemQuestion, OfState, OfFiles}
-use Rattle.machine.specs.Views.{Session, Cells, State}
+use Rattle.machine.specs.Given.{Session}
+use Rattle.machine.specs.Views.{Cells, State}
 use Rattle.machine.specs.Session.{image_of, IsSession}
-use Rattle.machine.specs.Machine.{Answers, ask, Reached, Went, Stopped, desk_with, next, part, laid, stored, stored_all, made, start, outcome, after}
-use Rattle.machine.specs.WrittenCells.{cell_count, cell_count-is}
-use Rattle.machine.specs.Whole.{Whole, memory_of, tells, written, whole_made, whole_outcome, whole_then, whole_after, laid_over, whole_of, WholeIsLaid}
+use Rattle.machine.specs.Step.{Reached, Went, Stopped, desk_with, next}
+use Rattle.machine.specs.Machine.{Answers, ask, part, laid, cell_at, stored, stored_all, made, start, outcome, after}
+use Rattle.machine.specs.CellCount.{cell_count, cell_count-is}
+use Rattle.machine.specs.Whole.{Whole, memory_of, tells, written, whole_made, whole_outcome}
+use Rattle.machine.specs.LaidOver.{whole_then, whole_after, laid_over, whole_of, WholeIsLaid}
 use Rattle.machine.proofs.WrittenCellLemmas.{get_stored, stored_past}
 use Rattle.machine.proofs.AfterLemmas.{step_before}
 use Rattle.machine.proofs.StepLemmas.{answered}
@@ -76,6 +80,10 @@ same_tell s m own limits inside sound tidy (OfState (Byte a)) = elim (leb_tells 
 ]
 same_tell s m own limits inside sound tidy (OfState (Input k)) = refl
 same_tell s m own limits inside sound tidy (OfFiles q) = answer_is s.files own tidy q ∙ sym (result_of-asking_host (ask s) (passing.part own q) ∙ answers_are s.files own sound q)
+
+-- a cell of a state is the one of its memory
+pub cell_is : (s : Session) (st : State) (a : ℕ) → a < 65536 → slice_index (laid_over s st).memory a ≡ cell_at s st a
+cell_is s st a below = get_memory (cell_of s st.own.cells) a below ∙ sym (answered (ask s) (finmap.get st.own.cells a) a)
 
 get_set : (m : List ℕ) (a v q : ℕ) → q < length m → get_or (slice_set m a v) q 0 ≡ cond (eqb q a) v (get_or m q 0)
 get_set m a v q h = elim (eqb_tells q a) [

@@ -12,7 +12,8 @@ use Rattle.pagemem.specs.declared.page.Slot.{Slot}
 use Rattle.pagemem.specs.declared.page.Slot.TheVariants.{Empty}
 use Rattle.machine.specs.Views.{Cells}
 use Rattle.machine.specs.Machine.{stored, stored_all}
-use Rattle.machine.specs.WrittenCells.{written_cells, written_below, with_entry, cell_count, cell_count-is}
+use Rattle.machine.specs.CellCount.{cell_count, cell_count-is}
+use Rattle.machine.specs.WrittenCells.{written_cells, written_below, with_entry}
 
 pub get_insert : (m : Cells) (a v q : ℕ) → map.get (map.insert m a v) q ≡ cond (eqb q a) (Some v) (map.get m q)
 get_insert m a v q = map.get-insert nat_cmp_total m a v q ∙ ap (λ b. cond b (Some v) (map.get m q)) (unsigned_tied q a)

@@ -1,11 +1,27 @@
+pub mod Given
+pub mod CellCount
 pub mod Views
 pub mod Session
 pub mod SessionError
+pub mod Step
 pub mod Machine
 pub mod Kept
 pub mod Steps
 pub mod Stretch
 pub mod WholeFiles
+pub mod ChangedFiles
 pub mod Whole
+pub mod LaidOver
 pub mod Stops
 pub mod WrittenCells
+pub use Rattle.console_calls.specs.Places
+pub use Rattle.console_calls.specs.declared.cause.Cause
+pub use Rattle.console_calls.specs.declared.places.Places as PlacesType
+pub use Rattle.pagemem.specs.Image
+pub use Rattle.i8080.specs.Memory
+pub use Rattle.interaction_trees.specs.Outcome
+pub use Rattle.interaction_trees.specs.Tree
+pub use Rattle.interaction_trees.specs.Dependence
+pub use Rattle.command_tail.specs.PageZero
+pub use Rattle.i8080.specs.Flags
+pub use Rattle.i8080.specs.declared.registers.Regs

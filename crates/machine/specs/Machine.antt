@@ -1,35 +1,26 @@
--- The machine: what a step asks, and what it makes of the answers. (Intel 8080 Microcomputer Systems User's Manual; CP/M 2.2
--- Interface Guide; what is looked at, why a run stops, and where the system's area lies: this project's profile.)
-use Rattle.std.specs.Prelude.{◌≡◌, ℕ, ◌==◌, ◌||◌, nat_le, nat_lt, if◌then◌else◌, refl, Bool, true, false, List, [], ◌∷◌, ◌++◌, Option, Some, None, slice_get}
+-- The machine that tells apart what a run wrote and what its session has: what of a step's questions is asked of the session.
+-- (What is looked at: this project's profile.)
+use Rattle.std.specs.Prelude.{◌≡◌, ℕ, ◌==◌, ◌||◌, nat_lt, if◌then◌else◌, Bool, true, false, List, [], ◌∷◌, Option, Some, None, slice_get}
 use Rattle.std.specs.FinMap as map
-use Rattle.interaction_trees.specs.Tree.{Tree, Return, Query, returning}
-use Rattle.interaction_trees.specs.Dependence.{Outcome, Step, Stop}
+use Rattle.interaction_trees.specs.Tree.{Tree, Return, Query}
+use Rattle.interaction_trees.specs.Outcome.{Outcome, Step, Stop}
 use Rattle.interaction_trees.specs.Dependence as dependence
-use Rattle.i8080.specs.declared.registers.Regs.{Regs}
-use Rattle.i8080.specs.End as end
 use Rattle.i8080.specs.Memory.{is_among}
 use Rattle.i8080.specs.Memory as memory
-use Rattle.i8080.specs.Instruction.{instruction}
 use Rattle.console_calls.specs.declared.cause.Cause.{Cause}
-use Rattle.console_calls.specs.declared.cause.Cause.TheVariants.{WarmBoot, Halt, Undefined, SystemArea}
-use Rattle.console_calls.specs.declared.desk.Spot.{Spot}
-use Rattle.console_calls.specs.Desk.{Desk, first_desk}
 use Rattle.console_calls.specs.Places.{is_within}
 use Rattle.console_calls.specs.Questions.{Byte, Input}
-use Rattle.console_calls.specs.Calls.{Written}
-use Rattle.console_calls.specs.Calls as calls
 use Rattle.hostfiles.specs.Looks.{is_looked, is_same_ask}
 use Rattle.hostfiles.specs.Looks as file_looks
 use Rattle.hostfiles.specs.declared.looks.Ask.{Ask}
-use Rattle.file_calls.specs.Changes.{FileChange, Unchanged, own_with}
-use Rattle.bdos.specs.Questions.{SystemQuestion, OfState, OfFiles, SystemAnswer, SystemAnswers, SystemTree, reading_first}
-use Rattle.bdos.specs.FileCalls.{SystemEnd}
-use Rattle.bdos.specs.Calls.{call}
-use Rattle.host_questions.specs.Passing.{HostAnswer, HostTree, host_answers}
-use Rattle.host_questions.specs.Passing as passing
-use Rattle.machine.specs.Views.{Session, Core, Cells, Own, State, Looked}
-use Rattle.machine.specs.declared.session.TheConstants.{SCRIPT_LIMIT}
+use Rattle.file_calls.specs.Deletes.{own_with}
+use Rattle.bdos.specs.Questions.{SystemQuestion, OfState, OfFiles, SystemAnswer, SystemAnswers}
+use Rattle.file_calls.specs.Passing.{HostAnswer, HostTree, host_answers}
+use Rattle.file_calls.specs.Passing as passing
+use Rattle.machine.specs.Given.{Session}
+use Rattle.machine.specs.Views.{Cells, Own, State, Looked}
 use Rattle.machine.specs.Session.{image_of}
+use Rattle.machine.specs.Step.{Reached, Went, Stopped, first_core, desk_with, next}
 
 -- ---- what the session is asked
 
@@ -62,45 +53,6 @@ same_question q x = false
 abbrev pub is_in : Question → List Question → Bool
 is_in q [] = false
 is_in q (x ∷ xs) = same_question q x || is_in q xs
-
--- ---- a step
-
--- what a step makes of its answers: it goes on with these registers and this spot, after these bytes sent, this written and this
--- done to the files, or it stops and changes nothing
-pub data Reached : Type 0 where
-  Went : Regs → Spot → List ℕ → Written → FileChange → Reached
-  Stopped : Cause → Reached
-
--- the end of an instruction: HLT and a byte that is no opcode stop (which bytes are opcodes: 8080 manual)
-abbrev pub reached : Spot → end.End → Reached
-reached spot (end.Went r writes) = Went r spot [] (record { cells = writes }) Unchanged
-reached spot end.Halt = Stopped Halt
-reached spot (end.Undefined byte) = Stopped (Undefined byte)
-
--- the end of a call
-abbrev pub reached_with : calls.CallEnd → FileChange → Reached
-reached_with (calls.Completed r spot bytes written) change = Went r spot bytes written change
-reached_with (calls.Stopped cause) change = Stopped cause
-
-abbrev pub reached_by_call : SystemEnd → Reached
-reached_by_call e = reached_with e.0 e.1
-
--- the most bytes that a script may have; a word of its own, so that nothing counts up to it
-pub script_limit : ℕ
-script_limit = SCRIPT_LIMIT
-
-pub script_limit-is : script_limit ≡ SCRIPT_LIMIT
-unfolding script_limit
-script_limit-is = refl
-
--- What a step asks of the state, and what it makes of the answers: the first line that fits decides. (That a jump to 0000H
--- is the warm start and a call to 0005H the BDOS: CP/M 2.2 Interface Guide. Page zero leads there to 0FF03H and to 0FE06H.)
-unfoldable pub next : Core → SystemTree Reached
-next c =
-    if c.regs.pc == 0xff03 then Return (Stopped WarmBoot)
-    else if c.regs.pc == 0xfe06 then returning reached_by_call (call script_limit c.regs c.desk.spot)
-    else if nat_le 0xfe00 c.regs.pc then Return (Stopped (SystemArea c.regs.pc))
-    else reading_first (instruction c.regs) (λ e. Return (reached c.desk.spot e))
 
 -- ---- what was written, and what is asked instead
 
@@ -135,10 +87,6 @@ abbrev pub stored_all : Cells → List (ℕ × ℕ) → Cells
 stored_all m [] = m
 stored_all m (w ∷ rest) = stored_all (stored m w.0 w.1) rest
 
--- the desk of a spot, after it sent some bytes more
-abbrev pub desk_with : Desk → Spot → List ℕ → Desk
-desk_with d spot bytes = record { spot = spot; text = d.text ++ bytes }
-
 abbrev pub made : State → Reached → Outcome State Cause
 made st (Went r spot bytes written change) =
     Step (record {
@@ -149,13 +97,9 @@ made st (Stopped cause) = Stop cause
 
 -- ---- a run
 
--- the registers of a loaded program (that it begins at 0100H: CP/M 2.2 Interface Guide)
-abbrev pub first_regs : Regs
-first_regs = record { a = 0; b = 0; c = 0; d = 0; e = 0; h = 0; l = 0; sp = 0xfdfe; pc = 0x0100; flags = record { s = false; z = false; ac = false; p = false; cy = false } }
-
 -- the loaded state: nothing is written yet
 abbrev pub start : State
-start = record { core = record { regs = first_regs; desk = first_desk }; own = record { cells = map.empty; files = map.empty } }
+start = record { core = first_core; own = record { cells = map.empty; files = map.empty } }
 
 -- what follows a state, without regard to the limit
 abbrev pub outcome : Answers → State → Outcome State Cause

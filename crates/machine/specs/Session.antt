@@ -7,7 +7,7 @@ use Rattle.command_tail.specs.declared.page.TheConstants.{TAIL_LIMIT}
 use Rattle.command_tail.specs.PageZero.{page_zero}
 use Rattle.hostfiles.specs.Hosts.{Host, IsHost}
 use Rattle.machine.specs.declared.session.TheConstants.{PROGRAM_LIMIT, SCRIPT_LIMIT, STEP_LIMIT}
-use Rattle.machine.specs.Views.{Session}
+use Rattle.machine.specs.Given.{Session}
 
 -- a byte that may stand in a command tail (this project's profile)
 abbrev pub is_tail_byte : ℕ → Bool

@@ -1,6 +1,6 @@
 -- Why a session is refused. (This project's own.)
 use Rattle.std.specs.Prelude.{◌≡◌, ℕ, Result, Ok, Err}
-use Rattle.machine.specs.Views.{Session}
+use Rattle.machine.specs.Given.{Session}
 use Rattle.machine.specs.declared.session.SessionError.{SessionError}
 use Rattle.machine.specs.declared.session.SessionError.TheVariants.{ProgramTooLong, TailTooLong, TailByte, ScriptTooLong, LimitTooLarge}
 

@@ -2,7 +2,7 @@
 use Rattle.std.specs.Prelude.{◌≡◌, Option, Some, None, IfOk, OnOk, OnErr, IfSome}
 use Rattle.std.specs.declared.result.Result.{Result}
 use Rattle.std.specs.declared.alloc.AllocError.{AllocError}
-use Rattle.interaction_trees.specs.Dependence.{Outcome, Step, Stop}
+use Rattle.interaction_trees.specs.Outcome.{Outcome, Step, Stop}
 use Rattle.i8080.specs.declared.registers.Regs.{Regs}
 use Rattle.i8080.specs.Memory.{Memory}
 use Rattle.pagemem.specs.declared.overlay.Overlay.{Overlay}
@@ -10,8 +10,9 @@ use Rattle.pagemem.specs.Overlay.{own_of, looks_of}
 use Rattle.console_calls.specs.declared.cause.Cause.{Cause}
 use Rattle.std.specs.Borrow.{GName}
 use Rattle.hostfiles.specs.declared.changes.Changes.{Changes}
-use Rattle.file_calls.specs.Questions.{Drives}
-use Rattle.machine.specs.Views.{Session, State, Looked, Running}
+use Rattle.file_calls.specs.Answers.{Drives}
+use Rattle.machine.specs.Given.{Session}
+use Rattle.machine.specs.Views.{State, Looked, Running}
 use Rattle.machine.specs.Session.{image_of}
 use Rattle.machine.specs.Machine.{ask, outcome, looks_at, LooksAlso, Extends, IsBounded}
 use Rattle.machine.specs.WrittenCells.{Devices, state_with}

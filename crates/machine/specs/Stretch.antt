@@ -2,13 +2,14 @@
 use Rattle.std.specs.Prelude.{◌≡◌, ℕ, ◌+◌, ◌<◌, ◌≤◌, ◌-◌, true, Option, Some, Ok, Err, IfOk, IfNone, IfSome, OnErr}
 use Rattle.std.specs.declared.result.Result.{Result}
 use Rattle.std.specs.declared.alloc.AllocError.{AllocError}
-use Rattle.interaction_trees.specs.Dependence.{Stop}
+use Rattle.interaction_trees.specs.Outcome.{Stop}
 use Rattle.i8080.specs.declared.registers.Regs.{Regs}
 use Rattle.pagemem.specs.declared.overlay.Overlay.{Overlay}
 use Rattle.pagemem.specs.declared.view.View.{View}
 use Rattle.pagemem.specs.ViewParts.{overlay_in, image_in}
 use Rattle.console_calls.specs.declared.cause.Cause.{Cause}
-use Rattle.machine.specs.Views.{Session, State, Looked, Running}
+use Rattle.machine.specs.Given.{Session}
+use Rattle.machine.specs.Views.{Looked, Running}
 use Rattle.machine.specs.Session.{image_of}
 use Rattle.machine.specs.WrittenCells.{Devices}
 use Rattle.machine.specs.Steps.{running_with}

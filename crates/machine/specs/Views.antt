@@ -1,14 +1,12 @@
--- What contracts see of a session and of a state. (This project's own.)
+-- What contracts see of a state, and how its parts are stored. (This project's own.)
 use Rattle.std.specs.Prelude.{◌≡◌, refl, ℕ, Bool, List, Option, Some, None}
 use Rattle.std.specs.Ordering.{nat_cmp}
 use Rattle.std.specs.FinMap.{FinMap, code}
 use Rattle.std.specs.Cmp.Lexicographic.{slice_cmp}
 use Rattle.std.specs.Coded.{Coded, code_by, coded_ℕ, coded_bool, coded_list, coded_option, coded×}
 use base.Stored.{coded_unit}
-use Rattle.keymaps.specs.Order.{place_cmp}
-use Rattle.i8080.specs.declared.registers.Regs.{Regs}
+use Rattle.hostfiles.specs.Order.{place_cmp}
 use Rattle.console_calls.specs.declared.places.Places.{Places}
-use Rattle.console_calls.specs.Desk.{Desk}
 use Rattle.hostfiles.specs.Hosts.{Host}
 use Rattle.hostfiles.specs.Files as files
 use Rattle.hostfiles.specs.declared.looks.Looks.{Looks}
@@ -16,14 +14,7 @@ use Rattle.hostfiles.specs.declared.journal.Base.{Base}
 use Rattle.hostfiles.specs.declared.journal.Base.TheVariants.{Same, Gone, New, Moved}
 use Rattle.hostfiles.specs.declared.journal.Grown.{Grown}
 use Rattle.hostfiles.specs.declared.journal.Entry.{Entry}
-
--- what is handed in
-pub record Session : Type 0 where
-  pub program : List ℕ
-  pub tail : List ℕ
-  pub files : Host
-  pub script : List ℕ
-  pub limit : ℕ
+use Rattle.machine.specs.Given.{Core}
 
 abbrev pub files_code : Coded Host
 files_code = code (coded_list coded_ℕ) (coded_list (coded_list coded_ℕ))
@@ -63,11 +54,6 @@ abbrev pub looks_code : Coded Looks
 looks_code = code_by (FinMap (slice_cmp nat_cmp) (Unit {0}) × (FinMap (slice_cmp nat_cmp) (Unit {0}) × (FinMap place_cmp (Unit {0}) × List Bool)))
     (coded× (code (coded_list coded_ℕ) coded_unit) (coded× (code (coded_list coded_ℕ) coded_unit) (coded× (code (coded× (coded_list coded_ℕ) coded_ℕ) coded_unit) (coded_list coded_bool))))
     (λ l. (l.has, (l.lengths, (l.records, l.directories)))) (λ p. record { has = p.0; lengths = p.1.0; records = p.1.1.0; directories = p.1.1.1 }) (λ _. refl)
-
--- what a step depends on beside its answers
-pub record Core : Type 0 where
-  pub regs : Regs
-  pub desk : Desk
 
 abbrev pub Cells : Type 0
 Cells = FinMap nat_cmp ℕ

@@ -5,8 +5,8 @@ use Rattle.std.specs.Ordering.{nat_cmp}
 use Rattle.std.specs.Cmp.Lexicographic.{slice_cmp}
 use Rattle.std.specs.FinMap.{FinMap, get, insert, remove, contains_key, entries, from_entries}
 use Rattle.hostfiles.specs.Hosts.{Key, Record, Host}
-use Rattle.hostfiles.specs.Files.{File, shape_of}
-use Rattle.hostfiles.specs.Laid.{written, written_filled}
+use Rattle.hostfiles.specs.File.{File, shape_of}
+use Rattle.hostfiles.specs.File.{written, written_filled}
 use Rattle.file_calls.specs.declared.finding.Write.{Write}
 use Rattle.file_calls.specs.Questions.{FileAnswers, IsThere, ShapeOf, Content, FilesOn, is_on}
 use Rattle.file_calls.specs.Changes.{FileChange, Unchanged, Made, Deleted, Renamed, Stored}

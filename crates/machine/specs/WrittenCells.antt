@@ -1,5 +1,5 @@
 -- What pages hold, as data. (This project's own.)
-use Rattle.std.specs.Prelude.{◌≡◌, refl, ℕ, zero, suc, Option, Some, None}
+use Rattle.std.specs.Prelude.{ℕ, zero, suc, Option, Some, None}
 use Rattle.std.specs.FinMap as map
 use Rattle.i8080.specs.declared.registers.Regs.{Regs}
 use Rattle.console_calls.specs.declared.places.Places.{Places}
@@ -8,15 +8,8 @@ use Rattle.console_calls.specs.Places.{Watched}
 use Rattle.hostfiles.specs.Files as files
 use Rattle.hostfiles.specs.declared.looks.Looks.{Looks}
 use Rattle.hostfiles.specs.declared.changes.Changes.{Changes}
+use Rattle.machine.specs.CellCount.{cell_count}
 use Rattle.machine.specs.Views.{Cells, State}
-
--- how many cells there are (8080 manual); a word of its own, so that nothing counts up to it
-pub cell_count : ℕ
-cell_count = 65536
-
-pub cell_count-is : cell_count ≡ 65536
-unfolding cell_count
-cell_count-is = refl
 
 abbrev pub with_entry : Cells → ℕ → Option ℕ → Cells
 with_entry m a None = m

@@ -1,4 +1,11 @@
 //! A session of one program, the state of its run, and its steps: one by one, or a stretch of them.
+//!
+//! - `session`, `bytes`: a session, its limits and its edits; bytes as a value
+//! - `running`: what runs: the registers, the overlay, the desk, and what was done to the files
+//! - `system_area`: what follows in the system's area: the calls, and the stops there
+//! - `stretch`, `laws`: `run_from`: a stretch of steps; `step`, which is one of at most one step; the law that the
+//!   plain machine goes the same way
+//! - `kept`, `meter`: what is kept of a state, and the state again; the count of steps carried out
 #![tactic(auto)]
 
 mod bytes;

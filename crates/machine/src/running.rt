@@ -32,7 +32,10 @@ impl Model for Running {
 
     ghost coded = { Prim.hlevel (codes, cells_code, changes_code, looks_code) };
 
-    ghost view = { λ r. record { state = state_with r.regs (devices_of r.desk r.changes) (own_of r.overlay); looked = looked_in r.overlay (devices_of r.desk r.changes) } };
+    ghost view = { λ r. record {
+      state = state_with r.regs (devices_of r.desk r.changes) (own_of r.overlay);
+      looked = looked_in r.overlay (devices_of r.desk r.changes);
+    } };
 }
 
 impl Running {
@@ -90,7 +93,8 @@ impl Running {
         ensures cells { self.new.looked.cells ≡ self.old.looked.cells }
         ensures files { self.new.looked.files ≡ self.old.looked.files }
         ensures one { IfSome result (λ k. is_within self.old.looked.places k ≡ true) }
-        ensures taken { IfSome result (λ k. (j : ℕ) → is_within self.new.looked.places j ≡ (is_within self.old.looked.places j && not (j == k))) }
+        ensures taken { IfSome result (λ k. (j : ℕ) → is_within self.new.looked.places j
+            ≡ (is_within self.old.looked.places j && not (j == k))) }
         ensures none { IfNone result ((j : ℕ) → is_within self.old.looked.places j ≡ false) }
         ensures same { IfNone result (self.new ≡ self.old) }
     {

@@ -36,16 +36,29 @@ impl Model for Session {
     ghost use Rattle.std.specs.Prelude.{◌≡◌};
     ghost use Rattle.std.specs.Coded.{codes};
     ghost use Rattle.command_tail.specs.PageZero.{page_zero};
-    ghost use Rattle.machine.specs.Views.{Session as SessionView, files_code};
+    ghost use Rattle.machine.specs.Given.{Session as SessionView};
+    ghost use Rattle.machine.specs.Views.{files_code};
     ghost use Rattle.machine.specs.Session.{IsSession};
 
     ghost Value = { SessionView };
 
     ghost coded = { Prim.hlevel (codes, files_code) };
 
-    ghost view = { λ s. record { program = s.program.items; tail = s.tail.items; files = s.files; script = s.script.items; limit = s.limit } };
+    ghost view = { λ s. record {
+      program = s.program.items;
+      tail = s.tail.items;
+      files = s.files;
+      script = s.script.items;
+      limit = s.limit;
+    } };
 
-    ghost invariant = { λ s. (s.first_page ≡ page_zero s.tail.items) × IsSession (record { program = s.program.items; tail = s.tail.items; files = s.files; script = s.script.items; limit = s.limit }) };
+    ghost invariant = { λ s. (s.first_page ≡ page_zero s.tail.items) × IsSession (record {
+      program = s.program.items;
+      tail = s.tail.items;
+      files = s.files;
+      script = s.script.items;
+      limit = s.limit;
+    }) };
 }
 
 /// Why a session is refused.
@@ -190,7 +203,8 @@ impl Session {
     ) -> Result<(), AllocError>
         requires inside { at + removed ≤ length self.old.script }
         requires room { length self.old.script + length bytes.now ≤ SCRIPT_LIMIT + removed }
-        ensures ok { OnOk result (self.new ≡ record self.old { script = spliced self.old.script at removed bytes.now }) }
+        ensures ok { OnOk result (self.new
+            ≡ record self.old { script = spliced self.old.script at removed bytes.now }) }
         ensures err { OnErr result (self.new ≡ self.old) }
         ensures memory { OnErr result (removed < length bytes.now) }
     {
@@ -200,7 +214,8 @@ impl Session {
     /// Sets or exchanges a host file for which there is room. `Err` where memory is refused: the session is as it was.
     pub fn set_file(&mut self, name: Name, file: HostFile) -> Result<(), AllocError>
         requires { has_room self.old.files name ≡ true }
-        ensures ok { OnOk result (self.new ≡ record self.old { files = finmap.insert self.old.files name file }) }
+        ensures ok { OnOk result (self.new
+            ≡ record self.old { files = finmap.insert self.old.files name file }) }
         ensures err { OnErr result (self.new ≡ self.old) }
     {
         let set = self.files.put(name, file);

@@ -2,10 +2,12 @@
 
 ghost use Rattle.std.specs.Prelude.{◌≡◌, ◌≤◌, length};
 ghost use Rattle.std.specs.Borrow.{GName};
-ghost use Rattle.host_questions.specs.Passing.{IsSound};
-ghost use Rattle.bdos.specs.Calls.{Serves, call};
+ghost use Rattle.file_calls.specs.Passing.{IsSound};
+ghost use Rattle.bdos.specs.Calls.{call};
+ghost use Rattle.bdos.specs.Fulfils.{Serves};
+ghost use Rattle.bdos.specs.Fulfils.{scene};
 ghost use Rattle.bdos.specs.Drives.{AsksDrives};
-ghost use Rattle.machine.specs.Machine.{script_limit};
+ghost use Rattle.machine.specs.Step.{script_limit};
 ghost use Rattle.machine.specs.Steps.{seen, drives_in, TakesStep};
 ghost use Rattle.machine.specs.Stops.{stop_of_call};
 
@@ -36,7 +38,9 @@ fn serve(
     changes: &mut Changes,
     session: &Session,
 ) -> Result<Served, AllocError>
-    ensures serves { (g : GName) → Serves script_limit session.now.script regs.old (seen session.now overlay.old) desk.old (drives_in session.now changes.old g) result regs.new (seen session.now overlay.new) desk.new (drives_in session.now changes.new g) }
+    ensures serves { (g : GName) → Serves script_limit session.now.script
+        (scene regs.old (seen session.now overlay.old) desk.old (drives_in session.now changes.old g)) result
+        (scene regs.new (seen session.now overlay.new) desk.new (drives_in session.now changes.new g)) }
     ensures drives { AsksDrives (call script_limit regs.old desk.old.desk.spot) }
     ensures marks { length changes.old.looks.directories ≡ 256 }
 {

@@ -136,3 +136,6 @@ shared_kept slots i slot h e j r = elim (eqb_tells j i) [
   | inl same ↦ rw (set_read slots i slot Empty h j, same.0) e
   | inr other ↦ rw (set_read slots i slot Empty h j, other.0) r
 ]
+
+-- one slot whose page is made owned
+pub ruleset one_slot_owned = (own_same, ready_kept, ready_same)

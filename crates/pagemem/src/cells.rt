@@ -1,5 +1,5 @@
-ghost use Rattle.std.specs.Prelude.{◌≡◌, false, ◌<◌, ℕ, vec_len, IsTrue, IfOk, OnOk, OnErr, None, get_or, length};
-ghost use Rattle.pagemem.specs.Pages.{own_at, ready_at, is_owned};
+ghost use Rattle.std.specs.Prelude.{◌≡◌, false, ◌<◌, ℕ, vec_len, IsTrue, IfOk, OnOk, OnErr, None, length};
+ghost use Rattle.pagemem.specs.Pages.{IsNotOwned, own_at, ready_at, is_owned_at};
 ghost use Rattle.i8080.specs.Memory.{write};
 
 use crate::page::Slot;
@@ -25,7 +25,8 @@ impl Cells {
         Ok(Cells { slots, alloc })
     }
 
-    /// Makes the page of a cell owned, so that the cell may be written. No byte changes, and at `Err` nothing does.
+    /// Makes the page of a cell owned, so that the cell may be written. No byte changes, and at `Err` nothing
+    /// does.
     #[inline(always)]
     pub fn ready(&mut self, a: u16) -> Result<(), AllocError>
         ensures ready { OnOk result (IsTrue (is_ready_in self.new a)) }
@@ -67,7 +68,8 @@ impl Cells {
         }
     }
 
-    /// Makes the owned pages shared, so that a snapshot costs a reference for each. No byte changes, also at `Err`.
+    /// Makes the owned pages shared, so that a snapshot costs a reference for each. No byte changes, also at
+    /// `Err`.
     pub fn share(&mut self) -> Result<(), AllocError>
         ensures shared { OnOk result ((q : ℕ) → is_ready_in self.new q ≡ false) }
         ensures own { own_in self.new ≡ own_in self.old }
@@ -90,12 +92,12 @@ impl Cells {
 }
 
 // Makes one slot owned.
-#[tactic(auto, using(crate::proofs::Laws::own_same, crate::proofs::Laws::ready_kept, crate::proofs::Laws::ready_same))]
+#[tactic(auto, using(crate::proofs::Laws::one_slot_owned))]
 #[inline(always)]
 fn make_ready(slots: &mut Vec<Slot>, at: usize, alloc: Global) -> Result<(), AllocError>
     requires { at < vec_len slots.old }
     ensures len { vec_len slots.new ≡ vec_len slots.old }
-    ensures ready { OnOk result (IsTrue (is_owned (get_or slots.new.items at Slot.Empty))) }
+    ensures ready { OnOk result (IsTrue (is_owned_at slots.new.items at)) }
     ensures err { OnErr result (ready_at slots.new.items ≡ ready_at slots.old.items) }
     ensures kept { (q : ℕ) → IsTrue (ready_at slots.old.items q) → IsTrue (ready_at slots.new.items q) }
     ensures own { own_at slots.new.items ≡ own_at slots.old.items }
@@ -109,8 +111,8 @@ fn make_ready(slots: &mut Vec<Slot>, at: usize, alloc: Global) -> Result<(), All
 fn make_shared(slots: &mut [Slot], at: usize, alloc: Global) -> Result<(), AllocError>
     requires { at < length slots.old }
     ensures len { length slots.new ≡ length slots.old }
-    ensures shared { OnOk result (is_owned (get_or slots.new at Slot.Empty) ≡ false) }
-    ensures others { (i : ℕ) → is_owned (get_or slots.old i Slot.Empty) ≡ false → OnOk result (is_owned (get_or slots.new i Slot.Empty) ≡ false) }
+    ensures shared { OnOk result (IsNotOwned slots.new at) }
+    ensures others { (i : ℕ) → IsNotOwned slots.old i → OnOk result (IsNotOwned slots.new i) }
     ensures own { own_at slots.new ≡ own_at slots.old }
 {
     let slot = &mut slots[at];

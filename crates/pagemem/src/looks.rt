@@ -4,8 +4,8 @@ ghost use Rattle.i8080.specs.Memory.{is_among};
 use std::alloc::{AllocError, Global};
 use std::marker::Model;
 
-/// The cells that were looked at, each once, in the order of their first looks. None of the calls but `new` and `snapshot`
-/// takes memory, and none takes longer for what was looked at before.
+/// The cells that were looked at, each once, in the order of their first looks. None of the calls but `new`
+/// and `snapshot` takes memory, and none takes longer for what was looked at before.
 #[derive(Drop)]
 pub struct Looks {
     // for each cell whether it stands in the order

@@ -57,8 +57,8 @@ impl Overlay {
         cells
     }
 
-    /// What was written, in pages that are shared with the overlay from now on: each costs a reference. Nothing that was written
-    /// or looked at changes, also at `Err`; cells may have to be made ready again.
+    /// What was written, in pages that are shared with the overlay from now on: each costs a reference.
+    /// Nothing that was written or looked at changes, also at `Err`; cells may have to be made ready again.
     pub fn shared_cells(&mut self) -> Result<Cells, AllocError>
         ensures cells { IfOk result (λ c. own_in c ≡ own_of self.old) }
         ensures shared { IfOk result (λ c. (q : ℕ) → is_ready_in c q ≡ false) }
@@ -168,8 +168,8 @@ impl Overlay {
         Some(last)
     }
 
-    /// Makes the owned pages shared, so that a snapshot costs a reference for each. Nothing that was written or looked at
-    /// changes, also at `Err`; cells may have to be made ready again.
+    /// Makes the owned pages shared, so that a snapshot costs a reference for each. Nothing that was written
+    /// or looked at changes, also at `Err`; cells may have to be made ready again.
     pub fn share(&mut self) -> Result<(), AllocError>
         ensures shared { OnOk result ((q : ℕ) → is_ready_at self.new q ≡ false) }
         ensures own { own_of self.new ≡ own_of self.old }

@@ -103,7 +103,8 @@ impl Slot {
         Ok(())
     }
 
-    /// Another slot of the same content: a page that is shared has one more owner, one that is owned is copied.
+    /// Another slot of the same content: a page that is shared has one more owner, one that is owned is
+    /// copied.
     pub fn snapshot(&self, alloc: Global) -> Result<Slot, AllocError>
         ensures own { IfOk result (λ s. slot_own s ≡ slot_own self.now) }
         ensures owned { IfOk result (λ s. is_owned s ≡ is_owned self.now) }

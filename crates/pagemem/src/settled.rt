@@ -3,8 +3,8 @@ ghost use Rattle.std.specs.Prelude.{◌≡◌, ◌==◌, ℕ, true, false, if◌
 use crate::looks::{CELLS, blank_marks};
 use std::alloc::{AllocError, Global};
 
-/// Cells that are settled. A read of such a cell is known to give the image's byte and to change nothing, so it needs to ask
-/// neither the pages nor the looks.
+/// Cells that are settled. A read of such a cell is known to give the image's byte and to change nothing, so
+/// it needs to ask neither the pages nor the looks.
 #[derive(Drop)]
 pub struct Settled {
     marks: Vec<bool>,

@@ -1,11 +1,12 @@
 -- What extents hold, by place, and as data. (CP/M 2.2 Interface Guide: a file has at most 65,536 records, and an extent is 128 of
 -- them.)
-use Rattle.std.specs.Prelude.{◌≡◌, refl, ℕ, zero, suc, ◌+◌, ◌/◌, ◌%◌, List, Option, Some, None, get_or, replicate}
+use Rattle.std.specs.Prelude.{◌≡◌, refl, ℕ, zero, suc, ◌+◌, ◌/◌, ◌%◌, ◌==◌, List, Option, Some, None, cond, get_or, replicate}
 use Rattle.std.specs.FinMap as finmap
 use Rattle.std.specs.Map.{lookup}
 use Rattle.std.specs.BTreeMap.{is_at}
 use Rattle.std.specs.Ordering.{nat_cmp}
 
+-- the bytes of a record
 abbrev pub Record : Type 0
 Record = List ℕ
 
@@ -13,6 +14,7 @@ Record = List ℕ
 abbrev pub Kept : Type 0
 Kept = finmap.FinMap nat_cmp Record
 
+-- a record of zeros
 abbrev pub zeros : Record
 zeros = replicate 128 0
 
@@ -26,6 +28,10 @@ abbrev pub place_in : Option (List (Option Record)) → ℕ → Option Record
 place_in None i = None
 place_in (Some places) i = get_or places i None
 
+-- a record is put at a place of an extent, and the others stay
+abbrev pub PutsRecord : List (Option Record) → ℕ → Record → List (Option Record) → Type 0
+PutsRecord old at content new = (q : ℕ) → get_or new q None ≡ cond (q == at) (Some content) (get_or old q None)
+
 -- the record at each place, by extents of 128
 unfoldable pub own_of : List (ℕ × List (Option Record)) → ℕ → Option Record
 own_of extents place = place_in (lookup (is_at (nat_cmp (place / 128))) extents) (place % 128)
@@ -38,6 +44,7 @@ pub place_count-is : place_count ≡ 65536
 unfolding place_count
 place_count-is = refl
 
+-- a record with the others, if there is one
 abbrev pub with_entry : Kept → ℕ → Option Record → Kept
 with_entry m a None = m
 with_entry m a (Some r) = finmap.insert m a r

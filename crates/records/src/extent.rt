@@ -1,13 +1,15 @@
 // 128 places of a file.
 
 ghost use Rattle.std.specs.Prelude.{◌≡◌, ◌<◌, ◌==◌, ℕ, OnOk, OnErr, IfOk, None, Some, cond, get_or, option_copied};
+ghost use Rattle.records.specs.Extents.{PutsRecord};
 
 use crate::written::{EXTENT_RECORDS, Record};
 use std::alloc::{AllocError, Global};
 use std::marker::Model;
 use std::rc::Rc;
 
-/// The records at the 128 places of an extent. A snapshot shares them, and the first write after it copies them.
+/// The records at the 128 places of an extent. A snapshot shares them, and the first write after it copies
+/// them.
 #[derive(Drop)]
 pub struct Extent {
     places: Rc<[Option<Record>; EXTENT_RECORDS as usize]>,
@@ -58,7 +60,7 @@ impl Extent {
     /// The record at a place of the extent, instead of the one before. An `Err` changes nothing.
     pub fn put(&mut self, alloc: Global, at: usize, content: &Record) -> Result<(), AllocError>
         requires { at < 128 }
-        ensures ok { OnOk result ((q : ℕ) → get_or self.new q None ≡ cond (q == at) (Some content.now) (get_or self.old q None)) }
+        ensures ok { OnOk result (PutsRecord self.old at content.now self.new) }
         ensures err { OnErr result (self.new ≡ self.old) }
     {
         if let Some(places) = Rc::get_mut(&mut self.places) {
@@ -78,7 +80,7 @@ impl Extent {
         content: &Record,
     ) -> Result<(), AllocError>
         requires { at < 128 }
-        ensures ok { OnOk result ((q : ℕ) → get_or self.new q None ≡ cond (q == at) (Some content.now) (get_or self.old q None)) }
+        ensures ok { OnOk result (PutsRecord self.old at content.now self.new) }
         ensures err { OnErr result (self.new ≡ self.old) }
     {
         let mut places = *self.places;

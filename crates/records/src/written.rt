@@ -1,6 +1,6 @@
 // What a run wrote into a file.
 
-ghost use Rattle.std.specs.Prelude.{◌≡◌, ◌<◌, ◌≤◌, ◌+◌, ◌-◌, OnOk, OnErr, IfOk, option_copied};
+ghost use Rattle.std.specs.Prelude.{◌≡◌, ◌<◌, ◌≤◌, ◌-◌, OnOk, OnErr, IfOk, option_copied};
 ghost use Rattle.std.specs.FinMap as finmap;
 ghost use Rattle.records.specs.Extents.{zeros_at};
 
@@ -83,7 +83,8 @@ impl Records {
         Ok(())
     }
 
-    /// These records with zeros at the places from `from` on, below `to`; at `Err` nothing is known of what was made.
+    /// These records with zeros at the places from `from` on, below `to`; at `Err` nothing is known of what
+    /// was made.
     pub fn with_zeros(&self, from: u32, to: u32) -> Result<Records, AllocError>
         requires ordered { from ≤ to }
         requires within { to < 65536 }

@@ -7,7 +7,7 @@ use Rattle.std.specs.Cmp.Lexicographic.{nat_list_cmp_total}
 use Rattle.std.specs.Cmp.{IsTotalOrder, eq_by_cmp_equiv}
 use Rattle.std.specs.declared.cmp.Ordering.{Ordering}
 use Rattle.std.specs.FinMap.{FinMap, IsAntisymmetric, get, len, insert, remove, contains_key, get-insert, get-remove, len-insert, same_map}
-use Rattle.keymaps.proofs.Views.{places_total, same_key, same_place, insert_same, key_of}
+use Rattle.hostfiles.proofs.Views.{places_total, same_key, same_place, insert_same, key_of}
 use Rattle.hostfiles.specs.Looks.{is_looked, is_same_ask, forgot}
 use Rattle.hostfiles.specs.declared.looks.Looks.{Looks}
 use Rattle.hostfiles.specs.declared.looks.Ask.{Ask}

@@ -1,10 +1,12 @@
 -- Where a cold run ends.
 use Rattle.std.proofs.Common.{◌≡◌, ℕ, zero, suc, ◌+◌, ◌-◌, ◌<◌, refl, ap, sym, ◌∙◌, arith, Some}
-use Rattle.interaction_trees.specs.Dependence.{Outcome, Step, Stop, state_of}
-use Rattle.interaction_trees.specs.Dependence as dependence
-use Rattle.console_calls.specs.declared.cause.Cause.{Cause}
-use Rattle.console_calls.specs.declared.cause.Cause.TheVariants.{Limit}
-use Rattle.machine.specs.Views.{State, Session}
+use Rattle.machine.specs.Outcome.{Outcome, Step, Stop}
+use Rattle.machine.specs.Dependence.{state_of}
+use Rattle.machine.specs.Dependence as dependence
+use Rattle.machine.specs.Cause.{Cause}
+use Rattle.machine.specs.Cause.TheVariants.{Limit}
+use Rattle.machine.specs.Given.{Session}
+use Rattle.machine.specs.Views.{State}
 use Rattle.machine.specs.Machine.{Answers, ask, start, after, outcome}
 use Rattle.machine.proofs.AfterLemmas.{step_before}
 use Rattle.replay.specs.Cold.{cold, cold_from}

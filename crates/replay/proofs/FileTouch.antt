@@ -1,13 +1,10 @@
 -- What the change of a host file touches.
-use Rattle.std.proofs.Common.{◌≡◌, ℕ, ◌≤◌, ◌<◌, Bool, true, false, ◌||◌, cond, List, length, Option, Some, None, inl, inr, refl, subst, nat_lt}
-use Rattle.std.proofs.lemmas.Bool.{le-ltb}
-use Rattle.std.specs.Cmp.Lexicographic.{nat_list_cmp_total}
-use Rattle.std.specs.FinMap.{empty, get, insert, contains_key, len, len-empty}
-use Rattle.keymaps.proofs.Views.{same_key, get_here}
-use Rattle.hostfiles.specs.Hosts.{Key, Record, Host, refusal_of}
+use Rattle.std.proofs.Common.{◌≡◌, ℕ, ◌<◌, List, Option, Some, inl, inr, refl, subst}
+use Rattle.hostfiles.specs.Hosts.{Key, Record, Host}
 use Rattle.file_steps.specs.declared.steps.FileSteps.{FileSteps}
-use Rattle.file_steps.specs.Touch.{with_file, IsFileTouch}
-use Rattle.machine.specs.Views.{Session}
+use Rattle.file_steps.specs.Touch.{IsFileTouch}
+use Rattle.file_steps.specs.Setting.{with_file}
+use Rattle.machine.specs.Given.{Session}
 use Rattle.machine.specs.Machine.{Question, Cell, Script, OfHost, ask}
 use Rattle.replay.specs.FirstLooks.{Noted, step_of}
 use Rattle.replay.specs.Edits.{with_host_file}

@@ -4,11 +4,12 @@ use Rattle.std.proofs.lemmas.Bool.{lt-ltb}
 use Rattle.std.proofs.lemmas.Bool.Decides.{nat_tests}
 use Rattle.std.proofs.Math.Nat.{eq-or-lt_of_le}
 use Rattle.machine.specs.Machine.{Question}
-use Rattle.interaction_trees.specs.Tree.{AgreeOn}
-use Rattle.interaction_trees.specs.Dependence as dependence
-use Rattle.interaction_trees.proofs.DependenceLemmas as lemmas
+use Rattle.machine.specs.Tree.{AgreeOn}
+use Rattle.machine.specs.Dependence as dependence
+use Rattle.machine.proofs.DependenceLemmas as lemmas
 use Rattle.machine.specs.Views.{State}
-use Rattle.machine.specs.Machine.{Answers, is_in, part, next, made, start, looks_at, looks, after}
+use Rattle.machine.specs.Step.{next}
+use Rattle.machine.specs.Machine.{Answers, is_in, part, made, start, looks_at, looks, after}
 use Rattle.replay.specs.FirstLooks.{Noted, or_else, mark, first, erased, step_of, IsFirstLooks}
 
 -- an entry below n

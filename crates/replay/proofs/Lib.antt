@@ -1,5 +1,6 @@
 pub mod ColdLemmas
 pub mod PlainLemmas
+pub mod ReportLemmas
 pub mod FirstLemmas
 pub mod RingLemmas
 pub mod StartLemmas

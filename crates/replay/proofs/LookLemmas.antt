@@ -2,9 +2,9 @@
 use Rattle.std.proofs.Common.{◌≡◌, ℕ, suc, ◌+◌, ◌<◌, ◌≤◌, Bool, true, false, ◌||◌, length, take, drop, take-append-drop, Option, Some, None, ◌⊎◌, inl, inr, refl, ap, sym, ◌∙◌, subst, arith, add-one}
 use Rattle.std.proofs.lemmas.Bool.{cases_lt, or_cases}
 use Rattle.std.proofs.Math.Nat.{eq-or-lt_of_le}
-use Rattle.i8080.proofs.LookLemmas.{is_among-append}
-use Rattle.i8080.specs.Memory.{is_among}
-use Rattle.console_calls.specs.Places.{is_within}
+use Rattle.machine.proofs.LookLemmas.{is_among-append}
+use Rattle.machine.specs.Memory.{is_among}
+use Rattle.machine.specs.Places.{is_within}
 use Rattle.hostfiles.specs.Looks.{is_looked}
 use Rattle.machine.specs.Views.{State, Looked}
 use Rattle.machine.specs.Machine.{Question, Cell, Script, OfHost, Answers, is_in, looked_at, NothingLooked, Extends, after, looks_at}

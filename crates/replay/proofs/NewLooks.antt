@@ -1,9 +1,9 @@
 -- What is new of what was looked at, once a place and a question were taken out.
 use Rattle.std.proofs.Common.{◌≡◌, ℕ, Bool, true, false, ◌||◌, ◌&&◌, ◌==◌, not, drop, List, Option, Some, None, Result, Ok, Err, OnOk, IfSome, IfNone, refl, sym, ap, ◌∙◌, inl, inr}
 use Rattle.std.proofs.lemmas.Bool.Decides.{eqb_tells}
-use Rattle.i8080.specs.Memory.{is_among}
-use Rattle.console_calls.specs.declared.places.Places.{Places}
-use Rattle.console_calls.specs.Places.{is_within}
+use Rattle.machine.specs.Memory.{is_among}
+use Rattle.machine.specs.PlacesType.{Places}
+use Rattle.machine.specs.Places.{is_within}
 use Rattle.hostfiles.specs.Looks.{is_looked}
 use Rattle.hostfiles.specs.declared.looks.Looks.{Looks}
 use Rattle.hostfiles.specs.declared.looks.Ask.{Ask}

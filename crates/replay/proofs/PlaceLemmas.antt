@@ -1,6 +1,6 @@
 -- Script places that are taken one after the other.
 use Rattle.std.proofs.Common.{ℕ, suc, ◌-◌, Option, Some, None}
-use Rattle.console_calls.specs.declared.places.Places.{Places}
+use Rattle.machine.specs.PlacesType.{Places}
 
 -- how many places there are yet to be noted
 abbrev pub left_count : Option ℕ → Places → ℕ

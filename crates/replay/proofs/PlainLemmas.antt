@@ -1,18 +1,21 @@
 -- The run of the plain machine is the cold run, laid over its session.
-use Rattle.std.proofs.Common.{◌≡◌, ℕ, zero, suc, ◌+◌, refl, sym, ap, ◌∙◌, arith, Some, unwrap_or}
+use Rattle.std.proofs.Common.{◌≡◌, ℕ, zero, suc, ◌+◌, refl, sym, ap, subst, ◌∙◌, arith, Some, unwrap_or}
 use Rattle.std.specs.Ordering.{nat_cmp}
 use Rattle.std.specs.FinMap as finmap
-use Rattle.interaction_trees.specs.Dependence.{Outcome, Step, Stop}
-use Rattle.console_calls.specs.declared.cause.Cause.{Cause}
-use Rattle.machine.specs.Views.{Session, State}
+use Rattle.machine.specs.Outcome.{Outcome, Step, Stop}
+use Rattle.machine.specs.Cause.{Cause}
+use Rattle.machine.specs.Given.{Session}
+use Rattle.machine.specs.Views.{State}
 use Rattle.machine.specs.Session.{image_of, IsSession}
 use Rattle.machine.specs.Machine.{Answers, ask, start, after, outcome}
-use Rattle.machine.specs.Whole.{Whole, memory_of, whole_outcome, laid_over, whole_of}
+use Rattle.machine.specs.Whole.{Whole, memory_of, whole_outcome}
+use Rattle.machine.specs.LaidOver.{laid_over, whole_of}
 use Rattle.machine.proofs.WholeLemmas.{whole_goes_as_laid}
 use Rattle.machine.proofs.WholeFiles.{loaded_is}
 use Rattle.machine.proofs.AfterLemmas.{after_step}
 use Rattle.replay.specs.Cold.{Cold, cold, cold_from}
-use Rattle.replay.specs.Plain.{PlainRun, plain_from, plain_run, loaded_machine, plainly, PlainRunIsCold}
+use Rattle.replay.specs.Plain.{PlainRun, plain_from, plain_run, loaded_machine}
+use Rattle.replay.specs.PlainIsCold.{plainly, PlainRunIsCold}
 use Rattle.replay.proofs.ColdLemmas.{after_none}
 
 next_after : (f : Answers) (n : ℕ) (st next : State) → after f n ≡ Some st → outcome f st ≡ Step next → after f (suc n) ≡ Some next
@@ -41,3 +44,9 @@ loaded_is_laid s = λ i. record {
 pub plain_run_is_cold : PlainRunIsCold
 unfolding plain_run cold
 plain_run_is_cold s limits = ap (plain_from s s.limit 0) (loaded_is_laid s) ∙ along s limits s.limit 0 start (after_none (ask s) start refl)
+
+-- a report of the cold run is one of the plain run
+pub reports_run : (s t : Session) (st : State) (steps : ℕ) (cause : Cause) → IsSession s → t ≡ s → cold s ≡ record { state = st; steps = steps; cause = cause }
+    → plainly t (record { state = st; steps = steps; cause = cause }) ≡ plain_run t
+reports_run s t st steps cause limits same is =
+    sym (subst (λ (x : Session). plain_run x ≡ plainly x (cold x)) (sym same) (plain_run_is_cold s limits) ∙ ap (plainly t) (ap cold same ∙ is))

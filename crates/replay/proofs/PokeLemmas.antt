@@ -4,9 +4,9 @@ use Rattle.std.specs.Prelude.{slice_index}
 use Rattle.std.proofs.Math.ListN.{get_or-append}
 use Rattle.std.proofs.lemmas.List.{get_or-append-add, get_or-append_right, get_or-take, get_or-drop, length-take-le}
 use Rattle.std.proofs.lemmas.Bool.{lt-ltb, le-ltb, cases_lt}
-use Rattle.pagemem.specs.Image.{image_at}
-use Rattle.machine.specs.Views.{Session}
-use Rattle.command_tail.specs.PageZero.{page_zero}
+use Rattle.machine.specs.Image.{image_at}
+use Rattle.machine.specs.Given.{Session}
+use Rattle.machine.specs.PageZero.{page_zero}
 use Rattle.machine.specs.Session.{written_over}
 use Rattle.machine.specs.Machine.{Question, Cell, Script, OfHost, ask}
 use Rattle.replay.specs.FirstLooks.{Noted}

@@ -205,10 +205,15 @@ pub begins_below : (from newest : ℕ) (xs : List Checkpoint) → (from ≡ 0) �
 begins_below from newest xs (inl e) b = omega arith
 begins_below from newest xs (inr h) b = some_below from newest xs h b
 
+-- nothing is added
+pub none_added : (old : List Checkpoint) (slots from upto last spacing : ℕ) → length old ≤ slots → Adds old old slots from upto last spacing
+none_added old slots from upto last spacing short = record { made = []; kept = rw append-nil (sym (keep_last-all slots old short)); due = tt; rising = tt }
+
 -- a run begins with nothing made
 pub none_made : (old : List Checkpoint) (slots from last spacing newest : ℕ) → length old ≤ slots → Each (λ c. c.step ≤ newest) old → (from ≡ 0) ⊎ SomeStep old from → Adding old old slots from from last spacing newest
+unfolding none_added
 none_made old slots from last spacing newest short below start = record {
-  adds = record { made = []; kept = rw append-nil (sym (keep_last-all slots old short)); due = tt; rising = tt };
+  adds = none_added old slots from from last spacing short;
   old_below = below;
   made_below = tt;
   start_below = begins_below from newest old start below;

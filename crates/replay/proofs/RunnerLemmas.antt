@@ -3,11 +3,12 @@ use Rattle.std.proofs.Common.{◌≡◌, ◌==◌, ◌||◌, Bool, true, false, 
 use Rattle.std.specs.Prelude.{slice_get, slice_index_or}
 use Rattle.std.proofs.lemmas.Bool.{eqb-false, ltb-false}
 use Rattle.circular_buffer.specs.Buffer.{Buffer, buffer, keep_last}
-use Rattle.machine.specs.Views.{Session}
+use Rattle.machine.specs.Given.{Session}
 use Rattle.hostfiles.specs.declared.looks.Ask.{Ask}
 use Rattle.file_steps.specs.Steps.{step_of_ask}
 use Rattle.machine.specs.Machine.{Question, Cell, Script, OfHost, Answers, ask, looks}
 use Rattle.replay.specs.declared.ring.Checkpoint.{Checkpoint as KeptCheckpoint}
+use Rattle.replay.specs.declared.ring.Checkpoints.{Checkpoints}
 use Rattle.replay.specs.FirstLooks.{Noted, step_of, first, erased, IsFirstLooks}
 use Rattle.replay.specs.declared.options.Options.{Options}
 use Rattle.replay.specs.Options.{refusal_of}
@@ -51,41 +52,42 @@ spacing_within o h =
     by_tests false true c h = cc
     by_tests false false c h = (refl, refl)
 
-pub sound_start : (s : Session) (text : List ℕ) (spacing : ℕ) (ring : Buffer KeptCheckpoint) (looks : Noted) → ring.items ≡ [] → IsEmpty looks → 0 < spacing → spacing ≤ 1000000000 → IsSound s text spacing ring looks
-sound_start s text spacing ring looks e k b h = record {
+pub sound_start : (s : Session) (text : List ℕ) (made : Checkpoints) → made.ring.items ≡ [] → IsEmpty made.notes.looks → (0 < made.spacing) × (made.spacing ≤ 1000000000) → IsSound s text made
+sound_start s text made e k within = record {
   stands = rw e tt;
   rising = rw e tt;
   below = rw e tt;
-  noted = nothing_noted (ask s) looks k;
-  spacing_in = (b, h);
-  seen_in = let z : looks.seen ≡ 0 = k.seen in omega (arith, z);
+  noted = nothing_noted (ask s) made.notes.looks k;
+  spacing_in = within;
+  seen_in = let z : made.notes.looks.seen ≡ 0 = k.seen in omega (arith, z);
 }
 
 -- an edit of the session, with the checkpoints and the looks cut at the noted touch
-pub sound_edit : (s s' : Session) (text : List ℕ) (spacing t : ℕ) (ring ring' : Buffer KeptCheckpoint) (looks looks' : Noted) → IsSound s text spacing ring looks
-    → IsNotedTouch (ask s) (ask s') looks t → KeptUpTo t ring.items ring'.items
-    → ((q : Question) → step_of looks' q ≡ erased t (step_of looks q)) → looks'.seen ≡ t → IsSound s' text spacing ring' looks'
-sound_edit s s' text spacing t ring ring' looks looks' sound touch kept steps seen = record {
-  stands = still_stand (ask s) (ask s') text t ring'.items (untouched (ask s) (ask s') looks t sound.noted touch) kept.left (Each-left _ ring'.items kept.gone (rw kept.parts at sound.stands));
-  rising = Rising-left ring'.items kept.gone (rw kept.parts at sound.rising);
+pub sound_edit : (s s' : Session) (text : List ℕ) (t : ℕ) (old new : Checkpoints) → IsSound s text old
+    → IsNotedTouch (ask s) (ask s') old.notes.looks t → KeptUpTo t old.ring.items new.ring.items
+    → ((q : Question) → step_of new.notes.looks q ≡ erased t (step_of old.notes.looks q)) → new.notes.looks.seen ≡ t → new.spacing ≡ old.spacing → IsSound s' text new
+sound_edit s s' text t old new sound touch kept steps seen spacing = record {
+  stands = still_stand (ask s) (ask s') text t new.ring.items (untouched (ask s) (ask s') old.notes.looks t sound.noted touch) kept.left (Each-left _ new.ring.items kept.gone (rw kept.parts at sound.stands));
+  rising = Rising-left new.ring.items kept.gone (rw kept.parts at sound.rising);
   below = rw seen kept.left;
-  noted = edited_known (ask s) (ask s') looks looks' t sound.noted touch steps seen;
-  spacing_in = sound.spacing_in;
+  noted = edited_known (ask s) (ask s') old.notes.looks new.notes.looks t sound.noted touch steps seen;
+  spacing_in = rw spacing sound.spacing_in;
   seen_in = let w = touch.within in let l = sound.seen_in in omega (arith, seen, w, l);
 }
 
-pub keeps_edit : (s s' : Session) (text : List ℕ) (spacing t : ℕ) (ring ring' : Buffer KeptCheckpoint) (looks : Noted) → IsSound s text spacing ring looks
-    → IsNotedTouch (ask s) (ask s') looks t → KeptUpTo t ring.items ring'.items → KeepsUntouched (ask s) (ask s') (map (seen_with text) ring.items) (map (seen_with text) ring'.items)
-keeps_edit s s' text spacing t ring ring' looks sound touch kept =
-    keeps_untouched (ask s) (ask s') text looks t ring.items ring'.items kept.gone sound.noted touch sound.below kept.parts kept.left kept.past
+pub keeps_edit : (s s' : Session) (text : List ℕ) (t : ℕ) (old : Checkpoints) (ring : Buffer KeptCheckpoint) → IsSound s text old
+    → IsNotedTouch (ask s) (ask s') old.notes.looks t → KeptUpTo t old.ring.items ring.items → KeepsUntouched (ask s) (ask s') (map (seen_with text) old.ring.items) (map (seen_with text) ring.items)
+keeps_edit s s' text t old ring sound touch kept =
+    keeps_untouched (ask s) (ask s') text old.notes.looks t old.ring.items ring.items kept.gone sound.noted touch sound.below kept.parts kept.left kept.past
 
 -- ---- the newest checkpoints alone
 
-pub sound_last : (s : Session) (text : List ℕ) (spacing n : ℕ) (ring ring' : Buffer KeptCheckpoint) (looks : Noted) (slots : ℕ) → IsSound s text spacing ring looks → ring' ≡ buffer (keep_last n ring.items) slots → IsSound s text spacing ring' looks
-sound_last s text spacing n ring ring' looks slots sound e = record {
-  stands = rw e (Each-keep_last _ n ring.items sound.stands);
-  rising = rw e (Rising-drop (length ring.items - n) ring.items sound.rising);
-  below = rw e (Each-keep_last _ n ring.items sound.below);
+pub sound_last : (s : Session) (text : List ℕ) (n : ℕ) (old : Checkpoints) (ring : Buffer KeptCheckpoint) (slots : ℕ) → IsSound s text old → ring ≡ buffer (keep_last n old.ring.items) slots
+    → IsSound s text (record old { ring = ring })
+sound_last s text n old ring slots sound e = record {
+  stands = rw e (Each-keep_last _ n old.ring.items sound.stands);
+  rising = rw e (Rising-drop (length old.ring.items - n) old.ring.items sound.rising);
+  below = rw e (Each-keep_last _ n old.ring.items sound.below);
   noted = sound.noted;
   spacing_in = sound.spacing_in;
   seen_in = sound.seen_in;

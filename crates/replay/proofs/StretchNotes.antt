@@ -2,8 +2,9 @@
 use Rattle.std.proofs.Common.{◌≡◌, ℕ, zero, suc, ◌+◌, ◌-◌, ◌<◌, ◌≤◌, Bool, true, false, ◌||◌, List, length, Option, Some, None, Ok, ◌⊎◌, inl, inr, refl, ap, sym, ◌∙◌, subst, arith}
 use Rattle.std.proofs.lemmas.Bool.{cases_lt}
 use Rattle.std.proofs.Math.Nat.{eq-or-lt_of_le}
-use Rattle.interaction_trees.specs.Dependence as dependence
-use Rattle.machine.specs.Views.{Session, State, Looked}
+use Rattle.machine.specs.Dependence as dependence
+use Rattle.machine.specs.Given.{Session}
+use Rattle.machine.specs.Views.{State, Looked}
 use Rattle.machine.specs.Machine.{Question, Answers, ask, after, is_in, looked_at, looks, looks_at}
 use Rattle.machine.specs.Stretch.{LooksAtNothingNew, Stretches}
 use Rattle.machine.proofs.AfterLemmas.{step_before}

@@ -9,13 +9,13 @@ use Rattle.machine.specs.Machine.{Cell, Script, OfHost}
 use Rattle.std.specs.Ordering.{nat_cmp, eq_by_cmp}
 use Rattle.std.specs.Cmp.{eq_by_cmp_equiv}
 use Rattle.std.specs.Cmp.Lexicographic.{slice_cmp, nat_list_cmp_total}
-use Rattle.keymaps.proofs.Views.{same_key, key_of}
+use Rattle.hostfiles.proofs.Views.{same_key, key_of}
 use Rattle.hostfiles.specs.Hosts.{Key}
 use Rattle.hostfiles.specs.Looks.{is_same_ask}
 use Rattle.hostfiles.specs.declared.looks.Ask.{Ask}
 use Rattle.hostfiles.specs.declared.looks.Ask.TheVariants.{Has, Length, Rec, Directory}
 use Rattle.replay.specs.declared.ring.Checkpoint.{Checkpoint}
-use Rattle.interaction_trees.specs.Tree.{AgreeOn}
+use Rattle.machine.specs.Tree.{AgreeOn}
 use Rattle.machine.specs.Machine.{Answers, looks, is_in, same_question}
 use Rattle.replay.specs.FirstLooks.{Noted, step_of, erased, first, or_else, mark, IsFirstLooks}
 use Rattle.replay.specs.Ring.{Each, Stands}

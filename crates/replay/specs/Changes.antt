@@ -1,8 +1,8 @@
 -- What an edit that fits the session is to change. (This project's own.)
-use Rattle.std.specs.Prelude.{◌≡◌, ℕ, ◌+◌, ◌<◌, ◌≤◌, length, true, Some, None, Ok}
+use Rattle.std.specs.Prelude.{◌≡◌, ◌+◌, ◌<◌, ◌≤◌, length, true, Some, None, Ok}
 use Rattle.hostfiles.specs.Hosts.{has_room}
 use Rattle.machine.specs.declared.session.TheConstants.{SCRIPT_LIMIT, STEP_LIMIT}
-use Rattle.machine.specs.Views.{Session}
+use Rattle.machine.specs.Given.{Session}
 use Rattle.replay.specs.declared.change.Change.{Change}
 use Rattle.replay.specs.declared.change.Change.TheVariants.{Splice, Poke, SetFile, RemoveFile, Limit}
 use Rattle.replay.specs.declared.edit.Edit.{Edit}

@@ -4,7 +4,7 @@ use Rattle.std.specs.Ordering.{nat_cmp}
 use Rattle.std.specs.Cmp.Lexicographic.{slice_cmp}
 use Rattle.std.specs.FinMap.{FinMap, code}
 use Rattle.std.specs.Coded.{Coded, code_by, coded_ℕ, coded_list, coded_option, coded×}
-use Rattle.keymaps.specs.Order.{place_cmp}
+use Rattle.hostfiles.specs.Order.{place_cmp}
 use Rattle.file_steps.specs.declared.steps.FileSteps.{FileSteps}
 
 abbrev pub file_steps_code : Coded FileSteps

@@ -1,9 +1,10 @@
 -- The cold run of a session, up to its limit. (This project's own.)
 use Rattle.std.specs.Prelude.{ℕ, zero, suc}
-use Rattle.interaction_trees.specs.Dependence.{Step, Stop}
-use Rattle.console_calls.specs.declared.cause.Cause.{Cause}
-use Rattle.console_calls.specs.declared.cause.Cause.TheVariants.{Limit}
-use Rattle.machine.specs.Views.{Session, State}
+use Rattle.machine.specs.Outcome.{Step, Stop}
+use Rattle.machine.specs.Cause.{Cause}
+use Rattle.machine.specs.Cause.TheVariants.{Limit}
+use Rattle.machine.specs.Given.{Session}
+use Rattle.machine.specs.Views.{State}
 use Rattle.machine.specs.Machine.{Answers, ask, start, outcome}
 
 -- a run's last state, its count of steps and why it ended

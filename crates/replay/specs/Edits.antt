@@ -1,10 +1,10 @@
 -- What an edit makes of a session. (This project's own.)
-use Rattle.std.specs.Prelude.{◌≡◌, ℕ, ◌+◌, ◌-◌, ◌||◌, ◌≤◌, List, [], length, nat_lt, if◌then◌else◌, true, Option, Some, None, Result, Ok, Err}
+use Rattle.std.specs.Prelude.{◌≡◌, ℕ, ◌+◌, ◌-◌, ◌||◌, List, [], length, nat_lt, if◌then◌else◌, Option, Some, None, Result, Ok, Err}
 use Rattle.std.specs.FinMap.{contains_key}
-use Rattle.hostfiles.specs.Hosts.{Key, Record, Host, has_room, records_in, refusal_of}
-use Rattle.file_steps.specs.Touch.{with_file}
+use Rattle.hostfiles.specs.Hosts.{Key, Record, has_room, records_in}
+use Rattle.file_steps.specs.Setting.{with_file}
 use Rattle.machine.specs.declared.session.TheConstants.{SCRIPT_LIMIT, STEP_LIMIT}
-use Rattle.machine.specs.Views.{Session}
+use Rattle.machine.specs.Given.{Session}
 use Rattle.machine.specs.Session.{spliced, written_over}
 use Rattle.replay.specs.declared.edit.Edit.{Edit}
 use Rattle.replay.specs.declared.edit.Edit.TheVariants.{Insert, Replace, Remove, Poke, SetFile, RemoveFile, SetLimit}

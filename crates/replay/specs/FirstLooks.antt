@@ -1,8 +1,9 @@
 -- For each question the first step that looked at it. (This project's own.)
-use Rattle.std.specs.Prelude.{◌≡◌, ℕ, zero, suc, ◌+◌, ◌==◌, ◌||◌, drop, List, Option, Some, None, Bool, true, false, slice_index_or}
-use Rattle.i8080.specs.Memory.{is_among}
-use Rattle.console_calls.specs.declared.places.Places.{Places}
-use Rattle.console_calls.specs.Places.{is_within}
+use Rattle.std.specs.Prelude.{◌≡◌, ℕ, zero, suc, ◌+◌, ◌≤◌, ◌==◌, ◌||◌, drop, List, Option, Some, None, Bool, true, false}
+use Rattle.machine.specs.Memory.{is_among}
+use Rattle.machine.specs.PlacesType.{Places}
+use Rattle.machine.specs.Places.{is_within}
+use Rattle.machine.specs.declared.session.TheConstants.{STEP_LIMIT}
 use Rattle.machine.specs.Views.{Looked}
 use Rattle.hostfiles.specs.Looks.{is_looked, is_same_ask}
 use Rattle.hostfiles.specs.declared.looks.Looks.{Looks}
@@ -10,6 +11,7 @@ use Rattle.hostfiles.specs.declared.looks.Ask.{Ask}
 use Rattle.file_steps.specs.Steps.{step_of_ask}
 pub use Rattle.file_steps.specs.Steps.{or_else, mark, erased}
 use Rattle.file_steps.specs.declared.steps.FileSteps.{FileSteps}
+use Rattle.replay.specs.FirstSteps.{step_in}
 use Rattle.machine.specs.Machine.{Question, Cell, Script, OfHost, Answers, is_in, looks, looked_at}
 
 -- the first step below n whose looks hold q
@@ -26,8 +28,8 @@ pub record Noted : Type 0 where
   pub seen : ℕ
 
 abbrev pub step_of : Noted → Question → Option ℕ
-step_of t (Cell a) = slice_index_or t.cells a None
-step_of t (Script k) = slice_index_or t.places k None
+step_of t (Cell a) = step_in t.cells a
+step_of t (Script k) = step_in t.places k
 step_of t (OfHost a) = step_of_ask t.files a
 
 -- these are the first looks of all steps below `seen`, and nothing else
@@ -68,6 +70,22 @@ is_ask_of taken asked (OfHost a) = is_left_ask taken asked a
 abbrev pub is_new : List ℕ → Option ℕ → Places → Option Ask → Looks → Question → Bool
 is_new cells taken places asked files q = is_cell_of cells q || is_place_of taken places q || is_ask_of asked files q
 
+-- what is new of looks: the cells from the one of this index on, and the places and questions that were taken or are left
+abbrev pub is_new_in : ℕ → Option ℕ → Option Ask → Looked → Question → Bool
+is_new_in n taken asked looked q = is_new (drop n looked.cells) taken looked.places asked looked.files q
+
+-- each of these questions is noted at the step `seen`, unless it has a step
+abbrev pub Notes : Noted → Noted → (Question → Bool) → Type 0
+Notes old new is_one = (q : Question) → step_of new q ≡ or_else (step_of old q) (mark (is_one q) old.seen)
+
+-- what was noted at the step `seen` and later ones is gone
+abbrev pub ErasesLast : Noted → Noted → Type 0
+ErasesLast old new = (q : Question) → step_of new q ≡ erased old.seen (step_of old q)
+
+-- the same is noted of the steps below `seen`
+abbrev pub SameBelow : Noted → Noted → Type 0
+SameBelow old new = (q : Question) → erased old.seen (step_of new q) ≡ erased old.seen (step_of old q)
+
 -- no question is left
 abbrev pub NoAsks : Looks → Type 0
 NoAsks asked = (a : Ask) → is_looked asked a ≡ false
@@ -83,6 +101,12 @@ seen_to t step = record t { seen = step }
 -- each question that was looked at has an entry
 abbrev pub AllNoted : Noted → Looked → Type 0
 AllNoted t looked = (q : Question) → looked_at looked q ≡ true → step_of t q ≡ None → ⊥
+
+-- these are the first looks of a session, and where they reach a step, each question that was looked at there has an entry
+pub record AreNoted (f : Answers) (t : Noted) (step : ℕ) (looked : Looked) : Type 0 where
+  pub first : IsFirstLooks f t
+  pub all : step ≤ t.seen → AllNoted t looked
+  pub seen_in : t.seen ≤ STEP_LIMIT
 
 -- the looks of the step `seen` are noted, and it is seen
 pub record IsNoted (old new : Noted) (looked : Looked) : Type 0 where

@@ -14,6 +14,10 @@ step_or_none n = if n == 4294967295 then None else Some n
 abbrev pub step_at : List ℕ → ℕ → Option ℕ
 step_at steps place = step_or_none (slice_index_or steps place 4294967295)
 
+-- the step of a place, and none past the last
+abbrev pub step_in : List (Option ℕ) → ℕ → Option ℕ
+step_in entries place = slice_index_or entries place None
+
 -- the greatest step
 abbrev pub latest_of : List Look → ℕ
 latest_of [] = 0

@@ -4,12 +4,15 @@ pub mod Edits
 pub mod Changes
 pub mod Cold
 pub mod Plain
+pub mod PlainIsCold
 pub mod FirstSteps
 pub mod Codes
 pub mod FirstLooks
 pub mod Ring
 pub mod RefusalCount
 pub mod Touch
+pub mod Resuming
 pub mod RunnerView
 pub mod Lending
+pub mod LastState
 pub mod Report

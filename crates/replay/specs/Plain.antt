@@ -1,14 +1,13 @@
--- The run of a session on the plain machine: registers, desk, all memory and all files, a step at a time up to the limit.
-use Rattle.std.specs.Prelude.{◌≡◌, ℕ, zero, suc}
-use Rattle.interaction_trees.specs.Dependence.{Step, Stop}
-use Rattle.console_calls.specs.declared.cause.Cause.{Cause}
-use Rattle.console_calls.specs.declared.cause.Cause.TheVariants.{Limit}
-use Rattle.machine.specs.Views.{Session}
-use Rattle.machine.specs.Session.{IsSession}
-use Rattle.machine.specs.Machine.{start}
-use Rattle.machine.specs.Whole.{Whole, loaded, whole_outcome, laid_over}
+-- The run of a session on the plain machine: registers, desk, all memory and all files, a step at a time up to the limit. (This
+-- project's own.)
+use Rattle.std.specs.Prelude.{ℕ, zero, suc}
+use Rattle.machine.specs.Outcome.{Step, Stop}
+use Rattle.machine.specs.Cause.{Cause}
+use Rattle.machine.specs.Cause.TheVariants.{Limit}
+use Rattle.machine.specs.Given.{Session}
+use Rattle.machine.specs.Step.{first_core}
+use Rattle.machine.specs.Whole.{Whole, loaded, whole_outcome}
 use Rattle.machine.specs.WholeFiles.{loaded_files}
-use Rattle.replay.specs.Cold.{Cold, cold}
 
 -- a run's last machine, its count of steps and why it ended
 pub record PlainRun : Type 0 where
@@ -23,16 +22,8 @@ plain_from s (suc k) n w = elim (whole_outcome s w) [ Step next ↦ plain_from s
 
 -- the machine before the first step
 abbrev pub loaded_machine : Session → Whole
-loaded_machine s = record { core = start.core; memory = loaded s; files = loaded_files s.files }
+loaded_machine s = record { core = first_core; memory = loaded s; files = loaded_files s.files }
 
 -- the run of a session from its start
 unfoldable pub plain_run : Session → PlainRun
 plain_run s = plain_from s s.limit 0 (loaded_machine s)
-
--- a cold run as the plain machine has it
-abbrev pub plainly : Session → Cold → PlainRun
-plainly s c = record { machine = laid_over s c.state; steps = c.steps; cause = c.cause }
-
--- The cold run, which tells apart what the run wrote, is the run of the plain machine.
-abbrev pub PlainRunIsCold : Type 0
-PlainRunIsCold = (s : Session) → IsSession s → plain_run s ≡ plainly s (cold s)

@@ -1,5 +1,5 @@
 -- How often a run may be refused memory for its checkpoints. (This project's own.)
-use Rattle.std.specs.Prelude.{◌≡◌, ℕ, ◌+◌, ◌*◌, ◌/◌, ◌<◌, ◌≤◌}
+use Rattle.std.specs.Prelude.{◌≡◌, ℕ, ◌+◌, ◌*◌, ◌/◌, ◌<◌, ◌≤◌, Result, MatchResult}
 
 -- the count of a run from one step to another is of that run alone: one at most for each multiple of the spacing that it reached,
 -- one for its last step and one for the first looks, and none where no step was carried out
@@ -12,3 +12,7 @@ pub record RefusesLooksOnce (seen from count new_seen upto new_count : ℕ) : Ty
   pub once : new_count ≤ count + 1
   pub caught_up : upto ≤ new_seen → new_count ≡ count
   pub behind : seen < from → (new_count ≡ count) × (new_seen ≡ seen)
+
+-- an `Err` is counted once, and nothing else is
+abbrev pub CountsRefusal : {T E : Type 0} → Result T E → ℕ → ℕ → Type 0
+CountsRefusal result old new = MatchResult result (λ _. new ≡ old) (λ _. new ≡ old + 1)

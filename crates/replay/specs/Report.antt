@@ -1,24 +1,19 @@
--- What a report tells. (This project's own.)
-use Rattle.std.specs.Prelude.{ℕ, List, Option, Some, None, take}
-use Rattle.machine.specs.Views.{Session, State}
-use Rattle.machine.specs.Kept.{Kept, whole}
-use Rattle.machine.specs.Machine.{start}
+-- What a report is of. (This project's own.)
+use Rattle.std.specs.Prelude.{Bool}
+use Rattle.hostfiles.specs.Hosts.{Key}
+use Rattle.machine.specs.ChangedFiles.{is_changed_name_in}
+use Rattle.machine.specs.Given.{Session}
 use Rattle.replay.specs.declared.report.Report.{Report}
-use Rattle.replay.specs.declared.report.LastRun.{LastRun}
-use Rattle.replay.specs.Cold.{Cold}
-
--- the state that was left, where there is one, with its beginning of the text
-abbrev pub last_state : Option Kept → List ℕ → State
-last_state None text = start
-last_state (Some kept) text = whole kept (take kept.length text)
-
-abbrev pub left_by : LastRun → State
-left_by s = last_state s.end s.text.items
-
--- the run that is reported
-abbrev pub reported_run : Report → Cold
-reported_run report = record { state = left_by report.last_run.now; steps = report.steps; cause = report.cause }
+use Rattle.replay.specs.Plain.{PlainRun, plain_run}
 
 -- the session that was run
 abbrev pub session_of : Report → Session
 session_of report = report.last_run.now.session
+
+-- its run
+abbrev pub run_of : Report → PlainRun
+run_of report = plain_run (session_of report)
+
+-- whether a key is that of a name, and the run left its file otherwise than the host files have it
+abbrev pub is_left_changed : Report → Key → Bool
+is_left_changed report key = is_changed_name_in (session_of report).files (run_of report).machine.files key

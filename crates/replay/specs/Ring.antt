@@ -2,7 +2,8 @@
 use Rattle.std.specs.Prelude.{◌≡◌, ℕ, ◌<◌, ◌≤◌, ◌%◌, List, [], ◌∷◌, ◌++◌, Some, ◌⊎◌, max, nat_le, if◌then◌else◌, length, take, map}
 use Rattle.circular_buffer.specs.Buffer.{Buffer, buffer, keep_last}
 use Rattle.machine.specs.Machine.{Answers, after}
-use Rattle.machine.specs.Kept.{whole}
+use Rattle.machine.specs.Views.{State}
+use Rattle.machine.specs.Kept.{whole, kept_of}
 use Rattle.replay.specs.declared.ring.Checkpoint.{Checkpoint}
 
 -- P holds of each
@@ -27,38 +28,40 @@ pub record Stands (f : Answers) (text : List ℕ) (c : Checkpoint) : Type 0 wher
   pub fits : c.state.length ≤ length text
   pub state : after f c.step ≡ Some (whole c.state (take c.state.length text))
 
--- the steps rise, where `at` tells the step of each
-abbrev pub RisingBy : {X : Type 0} → (X → ℕ) → List X → Type 0
-RisingBy at [] = Unit {0}
-RisingBy at (x ∷ xs) = Each (λ y. at x < at y) xs × RisingBy at xs
+-- of anything that has a step, which `at` tells
+module _ {X : Type 0} (at : X → ℕ) where
+  -- the steps rise
+  abbrev pub RisingBy : List X → Type 0
+  RisingBy [] = Unit {0}
+  RisingBy (x ∷ xs) = Each (λ y. at x < at y) xs × RisingBy xs
 
--- a step that a run from `from` reached, above all that was kept, and a multiple of the spacing or the last
-pub record IsDueBy {X : Type 0} (at : X → ℕ) (kept : List X) (from upto last spacing step : ℕ) : Type 0 where
-  pub reached : (from < step) × (step ≤ upto)
-  pub above : Each (λ x. at x < step) kept
-  pub marked : (step % spacing ≡ 0) ⊎ (step ≡ last)
+  -- a step that a run from `from` reached, above all that was kept, and a multiple of the spacing or the last
+  pub record IsDueBy (kept : List X) (from upto last spacing step : ℕ) : Type 0 where
+    pub reached : (from < step) × (step ≤ upto)
+    pub above : Each (λ x. at x < step) kept
+    pub marked : (step % spacing ≡ 0) ⊎ (step ≡ last)
 
--- the new list is the last `slots` of the old one and of some rising list of due steps after it
-pub record AddsBy {X : Type 0} (at : X → ℕ) (old new : List X) (slots from upto last spacing : ℕ) : Type 0 where
-  pub made : List X
-  pub kept : new ≡ keep_last slots (old ++ made)
-  pub due : Each (λ x. IsDueBy at old from upto last spacing (at x)) made
-  pub rising : RisingBy at made
+  -- the new list is the last `slots` of the old one and of some rising list of due steps after it
+  pub record AddsBy (old new : List X) (slots from upto last spacing : ℕ) : Type 0 where
+    pub made : List X
+    pub kept : new ≡ keep_last slots (old ++ made)
+    pub due : Each (λ x. IsDueBy old from upto last spacing (at x)) made
+    pub rising : RisingBy made
 
--- one of them is at this step
-abbrev pub SomeBy : {X : Type 0} → (X → ℕ) → List X → ℕ → Type 0
-SomeBy at [] n = ⊥
-SomeBy at (x ∷ xs) n = (at x ≡ n) ⊎ SomeBy at xs n
+  -- one of them is at this step
+  abbrev pub SomeBy : List X → ℕ → Type 0
+  SomeBy [] n = ⊥
+  SomeBy (x ∷ xs) n = (at x ≡ n) ⊎ SomeBy xs n
 
--- the same, and no due step was left out
-pub record AddsAllBy {X : Type 0} (at : X → ℕ) (old new : List X) (slots from upto last spacing : ℕ) : Type 0 where
-  pub adds : AddsBy at old new slots from upto last spacing
-  pub complete : (k : ℕ) → IsDueBy at old from upto last spacing k → SomeBy at adds.made k
+  -- the same, and no due step was left out
+  pub record AddsAllBy (old new : List X) (slots from upto last spacing : ℕ) : Type 0 where
+    pub adds : AddsBy old new slots from upto last spacing
+    pub complete : (k : ℕ) → IsDueBy old from upto last spacing k → SomeBy adds.made k
 
--- the greatest of the steps that is not past the limit, else 0
-abbrev pub start_by : {X : Type 0} → (X → ℕ) → ℕ → List X → ℕ
-start_by at limit [] = 0
-start_by at limit (x ∷ xs) = max (if nat_le (at x) limit then at x else 0) (start_by at limit xs)
+  -- the greatest of the steps that is not past the limit, else 0
+  abbrev pub start_by : ℕ → List X → ℕ
+  start_by limit [] = 0
+  start_by limit (x ∷ xs) = max (if nat_le (at x) limit then at x else 0) (start_by limit xs)
 
 -- the same of checkpoints
 abbrev pub Rising : List Checkpoint → Type 0
@@ -76,6 +79,20 @@ AddsAll = AddsAllBy (λ c. c.step)
 abbrev pub start_step : ℕ → List Checkpoint → ℕ
 start_step = start_by (λ c. c.step)
 
+-- one of them is at this step
+abbrev pub SomeStep : List Checkpoint → ℕ → Type 0
+SomeStep [] n = ⊥
+SomeStep (c ∷ cs) n = (c.step ≡ n) ⊎ SomeStep cs n
+
+-- the greatest of their steps, or 0
+pub record IsNewest (newest : ℕ) (ring : List Checkpoint) : Type 0 where
+  pub greatest : Each (λ c. c.step ≤ newest) ring
+  pub there : (newest ≡ 0) ⊎ SomeStep ring newest
+
+-- the checkpoint of a state after a step
+abbrev pub made_at : ℕ → State → Checkpoint
+made_at step st = record { step = step; state = kept_of st }
+
 -- the ring with one more, and without its oldest where it was full
 abbrev pub pushed : Buffer Checkpoint → Checkpoint → Buffer Checkpoint
 pushed old c = buffer (keep_last old.capacity (old.items ++ c ∷ [])) old.capacity
@@ -83,11 +100,6 @@ pushed old c = buffer (keep_last old.capacity (old.items ++ c ∷ [])) old.capac
 -- the ring is as it was, or has it too and not its oldest where it was full; that only above the newest
 abbrev pub Keeps : ℕ → Buffer Checkpoint → Buffer Checkpoint → Checkpoint → Type 0
 Keeps newest old new c = (new ≡ old) ⊎ ((newest < c.step) × (new ≡ pushed old c))
-
--- one of them is at this step
-abbrev pub SomeStep : List Checkpoint → ℕ → Type 0
-SomeStep [] n = ⊥
-SomeStep (c ∷ cs) n = (c.step ≡ n) ⊎ SomeStep cs n
 
 abbrev pub HasCheckpoint : List Checkpoint → Checkpoint → Type 0
 HasCheckpoint [] c = ⊥

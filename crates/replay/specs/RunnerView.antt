@@ -1,12 +1,14 @@
 -- What contracts see of a runner. (This project's own.)
-use Rattle.std.specs.Prelude.{◌≡◌, ℕ, ◌+◌, ◌<◌, ◌≤◌, List, ◌++◌, Some, drop, map, take}
-use Rattle.circular_buffer.specs.Buffer.{Buffer}
+use Rattle.std.specs.Prelude.{◌≡◌, ℕ, ◌+◌, ◌<◌, ◌≤◌, List, [], ◌++◌, Some, drop, map, take}
 use Rattle.machine.specs.declared.session.TheConstants.{STEP_LIMIT}
-use Rattle.machine.specs.Views.{Session, State}
+use Rattle.machine.specs.Given.{Session}
+use Rattle.machine.specs.Views.{State}
 use Rattle.machine.specs.Machine.{Answers, ask, after}
 use Rattle.machine.specs.Kept.{whole}
 use Rattle.replay.specs.declared.ring.Checkpoint.{Checkpoint as KeptCheckpoint}
-use Rattle.replay.specs.FirstLooks.{Noted, IsFirstLooks}
+use Rattle.replay.specs.declared.ring.Checkpoints.{Checkpoints}
+use Rattle.replay.specs.declared.options.Options.{Options}
+use Rattle.replay.specs.FirstLooks.{IsFirstLooks}
 use Rattle.replay.specs.RefusalCount.{CountsThisRun}
 use Rattle.replay.specs.Ring.{Each, Rising, RisingBy, Stands, AddsBy, AddsAllBy, start_by}
 use Rattle.replay.specs.Touch.{Untouched}
@@ -24,6 +26,10 @@ pub record RunnerView : Type 0 where
   pub slots : ℕ
   pub checkpoints : List Checkpoint
   pub refused : ℕ
+
+-- a runner of a session that made no checkpoint yet
+abbrev pub with_no_checkpoint : Session → Options → RunnerView
+with_no_checkpoint s options = record { session = s; spacing = options.spacing; slots = options.slots; checkpoints = []; refused = 0 }
 
 -- the options stay
 pub record SameOptions (old new : RunnerView) : Type 0 where
@@ -77,15 +83,19 @@ LeavesNoneOut old new upto =
 abbrev pub CountsAnew : RunnerView → RunnerView → ℕ → Type 0
 CountsAnew old new upto = CountsThisRun (rerun_start old) upto old.spacing new.refused
 
+-- what a rerun leaves that reached this step
+abbrev pub RanTo : RunnerView → RunnerView → ℕ → Type 0
+RanTo old new steps = Reran old new steps × LeavesNoneOut old new steps × CountsAnew old new steps
+
 -- the steps of a run from this step on, up to some step that it reaches within the limit, are ticked, and no others
 abbrev pub TicksTo : Answers → ℕ → ℕ → ℕ → ℕ → Type 0
 TicksTo f limit from ticks ticked = (n : ℕ) × (st : State) × (after f n ≡ Some st) × (n ≤ limit) × (ticked + from ≡ ticks + n)
 
 -- what always holds of a runner's parts
-pub record IsSound (s : Session) (text : List ℕ) (spacing : ℕ) (ring : Buffer KeptCheckpoint) (looks : Noted) : Type 0 where
-  pub stands : Each (Stands (ask s) text) ring.items
-  pub rising : Rising ring.items
-  pub below : Each (λ c. c.step ≤ looks.seen) ring.items
-  pub noted : IsFirstLooks (ask s) looks
-  pub spacing_in : (0 < spacing) × (spacing ≤ 1000000000)
-  pub seen_in : looks.seen ≤ STEP_LIMIT
+pub record IsSound (s : Session) (text : List ℕ) (checkpoints : Checkpoints) : Type 0 where
+  pub stands : Each (Stands (ask s) text) checkpoints.ring.items
+  pub rising : Rising checkpoints.ring.items
+  pub below : Each (λ c. c.step ≤ checkpoints.notes.looks.seen) checkpoints.ring.items
+  pub noted : IsFirstLooks (ask s) checkpoints.notes.looks
+  pub spacing_in : (0 < checkpoints.spacing) × (checkpoints.spacing ≤ 1000000000)
+  pub seen_in : checkpoints.notes.looks.seen ≤ STEP_LIMIT

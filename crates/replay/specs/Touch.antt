@@ -1,6 +1,6 @@
 -- Which steps an edit touches. (This project's own.)
 use Rattle.std.specs.Prelude.{◌≡◌, ℕ, ◌<◌, ◌≤◌, Some, ◌⊎◌}
-use Rattle.interaction_trees.specs.Tree.{AgreeOn}
+use Rattle.machine.specs.Tree.{AgreeOn}
 use Rattle.machine.specs.Machine.{Question, Answers, looks}
 use Rattle.replay.specs.FirstLooks.{Noted, step_of}
 

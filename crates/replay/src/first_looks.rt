@@ -2,7 +2,8 @@ ghost use Rattle.std.specs.Prelude.{◌≡◌, ◌+◌, ◌^◌, ◌<◌, ◌≤
 ghost use Rattle.hostfiles.specs.declared.looks.Ask.{Ask as HostAsk};
 ghost use Rattle.file_steps.specs.Steps.{step_of_ask};
 ghost use Rattle.machine.specs.Machine.{Question, Cell, Script, OfHost, same_question};
-ghost use Rattle.replay.specs.FirstLooks.{step_of, erased, or_else, mark, is_cell_of, is_place_of, is_ask_of, is_new, NoPlaces, NoAsks};
+ghost use Rattle.replay.specs.FirstLooks.{step_of, erased, is_cell_of, is_place_of, is_ask_of, is_new_in};
+ghost use Rattle.replay.specs.FirstLooks.{Notes, ErasesLast, SameBelow, NoPlaces, NoAsks};
 
 use crate::first_steps::FirstSteps;
 use file_steps::FileSteps;
@@ -29,7 +30,12 @@ impl Model for FirstLooks {
 
     ghost coded = { Prim.hlevel (codes, file_steps_code) };
 
-    ghost view = { λ t. record { cells = t.cells.entries; places = t.places.entries; files = t.files; seen = t.seen } };
+    ghost view = { λ t. record {
+      cells = t.cells.entries;
+      places = t.places.entries;
+      files = t.files;
+      seen = t.seen;
+    } };
 
     ghost invariant = { λ t. (t.cells.latest ≤ t.seen) × (t.places.latest ≤ t.seen) };
 }
@@ -100,8 +106,8 @@ impl FirstLooks {
         requires seen { self.old.seen ≤ STEP_LIMIT }
         requires taken { taken ≡ None → NoPlaces running.old.looked.places }
         requires asked { asked ≡ None → NoAsks running.old.looked.files }
-        ensures ok { OnOk result ((q : Question) → step_of self.new q ≡ or_else (step_of self.old q) (mark (is_new (drop from running.old.looked.cells) taken running.old.looked.places asked running.old.looked.files q) self.old.seen)) }
-        ensures err { OnErr result ((q : Question) → step_of self.new q ≡ erased self.old.seen (step_of self.old q)) }
+        ensures ok { OnOk result (Notes self.old self.new (is_new_in from taken asked running.old.looked)) }
+        ensures err { OnErr result (ErasesLast self.old self.new) }
         ensures seen { self.new.seen ≡ self.old.seen }
         ensures state { running.new.state ≡ running.old.state }
         ensures cells { running.new.looked.cells ≡ running.old.looked.cells }
@@ -125,8 +131,8 @@ impl FirstLooks {
         requires seen { self.old.seen ≤ STEP_LIMIT }
         requires taken { taken ≡ None → NoPlaces running.old.looked.places }
         requires asked { asked ≡ None → NoAsks running.old.looked.files }
-        ensures ok { OnOk result ((q : Question) → step_of self.new q ≡ or_else (step_of self.old q) (mark (is_new (drop from running.old.looked.cells) taken running.old.looked.places asked running.old.looked.files q) self.old.seen)) }
-        ensures err { OnErr result ((q : Question) → erased self.old.seen (step_of self.new q) ≡ erased self.old.seen (step_of self.old q)) }
+        ensures ok { OnOk result (Notes self.old self.new (is_new_in from taken asked running.old.looked)) }
+        ensures err { OnErr result (SameBelow self.old self.new) }
         ensures seen { self.new.seen ≡ self.old.seen }
         ensures state { running.new.state ≡ running.old.state }
         ensures cells { running.new.looked.cells ≡ running.old.looked.cells }
@@ -141,8 +147,8 @@ impl FirstLooks {
     // Notes the cells that were looked at, from the one of this index on.
     fn note_cells(&mut self, running: &Running, from: usize) -> Result<(), AllocError>
         requires { self.old.seen ≤ STEP_LIMIT }
-        ensures ok { OnOk result ((q : Question) → step_of self.new q ≡ or_else (step_of self.old q) (mark (is_cell_of (drop from running.now.looked.cells) q) self.old.seen)) }
-        ensures err { OnErr result ((q : Question) → erased self.old.seen (step_of self.new q) ≡ erased self.old.seen (step_of self.old q)) }
+        ensures ok { OnOk result (Notes self.old self.new (is_cell_of (drop from running.now.looked.cells))) }
+        ensures err { OnErr result (SameBelow self.old self.new) }
         ensures seen { self.new.seen ≡ self.old.seen }
     {
         let count = running.look_count();
@@ -158,8 +164,8 @@ impl FirstLooks {
     fn note_places(&mut self, running: &mut Running, taken: Option<usize>) -> Result<(), AllocError>
         requires seen { self.old.seen ≤ STEP_LIMIT }
         requires taken { taken ≡ None → NoPlaces running.old.looked.places }
-        ensures ok { OnOk result ((q : Question) → step_of self.new q ≡ or_else (step_of self.old q) (mark (is_place_of taken running.old.looked.places q) self.old.seen)) }
-        ensures err { OnErr result ((q : Question) → erased self.old.seen (step_of self.new q) ≡ erased self.old.seen (step_of self.old q)) }
+        ensures ok { OnOk result (Notes self.old self.new (is_place_of taken running.old.looked.places)) }
+        ensures err { OnErr result (SameBelow self.old self.new) }
         ensures seen { self.new.seen ≡ self.old.seen }
         ensures state { running.new.state ≡ running.old.state }
         ensures cells { running.new.looked.cells ≡ running.old.looked.cells }
@@ -178,8 +184,8 @@ impl FirstLooks {
     #[tactic(auto)]
     fn note_asks(&mut self, running: &mut Running, asked: Option<Ask>) -> Result<(), AllocError>
         requires asked { asked ≡ None → NoAsks running.old.looked.files }
-        ensures ok { OnOk result ((q : Question) → step_of self.new q ≡ or_else (step_of self.old q) (mark (is_ask_of asked running.old.looked.files q) self.old.seen)) }
-        ensures err { OnErr result ((q : Question) → erased self.old.seen (step_of self.new q) ≡ erased self.old.seen (step_of self.old q)) }
+        ensures ok { OnOk result (Notes self.old self.new (is_ask_of asked running.old.looked.files)) }
+        ensures err { OnErr result (SameBelow self.old self.new) }
         ensures seen { self.new.seen ≡ self.old.seen }
         ensures state { running.new.state ≡ running.old.state }
         ensures cells { running.new.looked.cells ≡ running.old.looked.cells }
@@ -225,7 +231,7 @@ impl FirstLooks {
     // Notes a cell at the step `seen`, unless it has a step.
     fn enter_cell(&mut self, at: u16) -> Result<(), AllocError>
         requires { self.old.seen ≤ STEP_LIMIT }
-        ensures ok { OnOk result ((q : Question) → step_of self.new q ≡ or_else (step_of self.old q) (mark (same_question q (Cell at)) self.old.seen)) }
+        ensures ok { OnOk result (Notes self.old self.new (λ q. same_question q (Cell at))) }
         ensures err { OnErr result ((q : Question) → step_of self.new q ≡ step_of self.old q) }
         ensures seen { self.new.seen ≡ self.old.seen }
     {
@@ -236,7 +242,7 @@ impl FirstLooks {
     // Notes a script place at the step `seen`, unless it has a step.
     fn enter_place(&mut self, place: usize) -> Result<(), AllocError>
         requires { self.old.seen ≤ STEP_LIMIT }
-        ensures ok { OnOk result ((q : Question) → step_of self.new q ≡ or_else (step_of self.old q) (mark (same_question q (Script place)) self.old.seen)) }
+        ensures ok { OnOk result (Notes self.old self.new (λ q. same_question q (Script place))) }
         ensures err { OnErr result ((q : Question) → step_of self.new q ≡ step_of self.old q) }
         ensures seen { self.new.seen ≡ self.old.seen }
     {
@@ -246,7 +252,7 @@ impl FirstLooks {
 
     // Notes a question of the host files at the step `seen`, unless it has a step.
     fn enter_ask(&mut self, ask: &Ask) -> Result<(), AllocError>
-        ensures ok { OnOk result ((q : Question) → step_of self.new q ≡ or_else (step_of self.old q) (mark (same_question q (OfHost ask.now)) self.old.seen)) }
+        ensures ok { OnOk result (Notes self.old self.new (λ q. same_question q (OfHost ask.now))) }
         ensures err { OnErr result ((q : Question) → step_of self.new q ≡ step_of self.old q) }
         ensures seen { self.new.seen ≡ self.old.seen }
     {
@@ -256,7 +262,7 @@ impl FirstLooks {
 
     // Erases what is noted as looks of the step `seen`.
     fn erase_step(&mut self)
-        ensures entries { (q : Question) → step_of self.new q ≡ erased self.old.seen (step_of self.old q) }
+        ensures entries { ErasesLast self.old self.new }
         ensures seen { self.new.seen ≡ self.old.seen }
     {
         let from = self.seen;

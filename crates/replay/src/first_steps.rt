@@ -1,6 +1,6 @@
-ghost use Rattle.std.specs.Prelude.{◌≡◌, ◌<◌, ◌≤◌, ◌==◌, [], ℕ, None, OnOk, OnErr, if◌then◌else◌, slice_index_or, vec_len, length};
+ghost use Rattle.std.specs.Prelude.{◌≡◌, ◌<◌, ◌≤◌, ◌==◌, [], ℕ, None, OnOk, OnErr, if◌then◌else◌, vec_len, length};
 ghost use Rattle.replay.specs.FirstLooks.{erased, or_else, mark};
-ghost use Rattle.replay.specs.FirstSteps.{IsInOrder, latest_of, step_at};
+ghost use Rattle.replay.specs.FirstSteps.{IsInOrder, latest_of, step_at, step_in};
 
 use std::alloc::{AllocError, Global};
 use std::marker::Model;
@@ -29,7 +29,10 @@ impl Model for FirstSteps {
 
     ghost Value = { Steps };
 
-    ghost view = { λ f. record { entries = map step_or_none f.steps.items; latest = latest_of f.looks.items } };
+    ghost view = { λ f. record {
+      entries = map step_or_none f.steps.items;
+      latest = latest_of f.looks.items;
+    } };
 
     ghost invariant = { λ f. IsInOrder f.steps.items f.looks.items };
 }
@@ -48,7 +51,7 @@ impl FirstSteps {
     /// The first step that looked at a place.
     #[tactic(auto, using(crate::proofs::EntryLemmas::entry_at))]
     pub fn of(&self, place: usize) -> Option<u64>
-        ensures { result ≡ slice_index_or self.now.entries place None }
+        ensures { result ≡ step_in self.now.entries place }
     {
         match self.steps.get(place) {
             Some(step) if *step != NO_STEP => Some(u64::from(*step)),
@@ -69,8 +72,9 @@ impl FirstSteps {
     pub fn note(&mut self, place: usize, step: u64) -> Result<(), AllocError>
         requires held { step < 4294967295 }
         requires latest { self.old.latest ≤ step }
-        ensures ok { OnOk result ((k : ℕ) → slice_index_or self.new.entries k None ≡ or_else (slice_index_or self.old.entries k None) (mark (k == place) step)) }
-        ensures err { OnErr result ((k : ℕ) → slice_index_or self.new.entries k None ≡ slice_index_or self.old.entries k None) }
+        ensures ok { OnOk result ((k : ℕ) → step_in self.new.entries k
+            ≡ or_else (step_in self.old.entries k) (mark (k == place) step)) }
+        ensures err { OnErr result ((k : ℕ) → step_in self.new.entries k ≡ step_in self.old.entries k) }
         ensures latest { self.new.latest ≤ step }
     {
         enter(&mut self.steps, &mut self.looks, place, step as u32)
@@ -79,7 +83,7 @@ impl FirstSteps {
     /// Erases every step from this one on, and looks only at those. It takes no memory.
     #[tactic(auto, using(crate::proofs::EntryLemmas::entry_at))]
     pub fn erase_from(&mut self, from: u64)
-        ensures entries { (k : ℕ) → slice_index_or self.new.entries k None ≡ erased from (slice_index_or self.old.entries k None) }
+        ensures entries { (k : ℕ) → step_in self.new.entries k ≡ erased from (step_in self.old.entries k) }
         ensures latest { (self.new.latest ≤ self.old.latest) × (self.new.latest ≤ from) }
     {
         erase_from(&mut self.steps, &mut self.looks, from);
@@ -96,7 +100,8 @@ fn enter(
     requires held { step < 4294967295 }
     requires latest { latest_of looks.old.items ≤ step }
     requires order { IsInOrder steps.old.items looks.old.items }
-    ensures ok { OnOk result ((k : ℕ) → step_at steps.new.items k ≡ or_else (step_at steps.old.items k) (mark (k == place) step)) }
+    ensures ok { OnOk result ((k : ℕ) → step_at steps.new.items k
+        ≡ or_else (step_at steps.old.items k) (mark (k == place) step)) }
     ensures err { OnErr result ((k : ℕ) → step_at steps.new.items k ≡ step_at steps.old.items k) }
     ensures latest { latest_of looks.new.items ≤ step }
     ensures order { IsInOrder steps.new.items looks.new.items }
@@ -124,7 +129,8 @@ fn grow_past(steps: &mut Vec<u32>, place: usize) -> Result<(), AllocError>
 fn erase_from(steps: &mut Vec<u32>, looks: &mut Vec<Look>, from: u64)
     requires { IsInOrder steps.old.items looks.old.items }
     ensures entries { (k : ℕ) → step_at steps.new.items k ≡ erased from (step_at steps.old.items k) }
-    ensures latest { (latest_of looks.new.items ≤ latest_of looks.old.items) × (latest_of looks.new.items ≤ from) }
+    ensures latest { (latest_of looks.new.items ≤ latest_of looks.old.items)
+        × (latest_of looks.new.items ≤ from) }
     ensures order { IsInOrder steps.new.items looks.new.items }
 {
     while let Some(last) = looks.last() {
@@ -139,7 +145,8 @@ fn erase_from(steps: &mut Vec<u32>, looks: &mut Vec<Look>, from: u64)
 
 // Erases the step of a place, where that is this one or a later one.
 fn erase_at(steps: &mut Vec<u32>, place: usize, from: u64)
-    ensures { (k : ℕ) → step_at steps.new.items k ≡ (if k == place then erased from (step_at steps.old.items k) else step_at steps.old.items k) }
+    ensures { (k : ℕ) → step_at steps.new.items k
+        ≡ (if k == place then erased from (step_at steps.old.items k) else step_at steps.old.items k) }
 {
     if place < steps.len() && u64::from(steps[place]) >= from {
         steps[place] = NO_STEP;

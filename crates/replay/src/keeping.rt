@@ -1,7 +1,7 @@
-ghost use Rattle.std.specs.Prelude.{◌≡◌, ◌+◌, ◌^◌, ◌<◌, ◌≤◌, None, IfSome, IsSome, IsNone, OnOk, OnErr, drop};
-ghost use Rattle.machine.specs.Machine.{Question};
+ghost use Rattle.std.specs.Prelude.{◌≡◌, ◌+◌, ◌^◌, ◌<◌, ◌≤◌, None, IfSome, IsSome, IsNone, OnOk, OnErr};
 ghost use Rattle.machine.specs.Kept.{kept_of};
-ghost use Rattle.replay.specs.FirstLooks.{step_of, erased, or_else, mark, is_new, NoPlaces, NoAsks};
+ghost use Rattle.replay.specs.FirstLooks.{Notes, ErasesLast, NoPlaces, NoAsks, is_new_in};
+ghost use Rattle.replay.specs.RefusalCount.{CountsRefusal};
 
 use crate::first_looks::FirstLooks;
 use machine::{Ask, Kept, Running, STEP_LIMIT};
@@ -55,34 +55,38 @@ pub fn keep(running: &mut Running, refusals: &mut Refusals) -> Option<Kept>
     }
 }
 
-/// Notes what was looked at as looks of the step `seen`: the cells from the one of this index on, the place and the question that were
-/// taken out of the others, and these, which are taken too. `Err` where memory is refused, which is counted; only entries from that step on
-/// are gone then.
+/// What runs noted beside the checkpoints: the first looks, and how often memory was refused.
+#[derive(Drop)]
+pub struct RunNotes {
+    pub looks: FirstLooks,
+    pub refusals: Refusals,
+}
+
+/// Notes what was looked at as looks of the step `seen`: the cells from the one of this index on, the place and the question that
+/// were taken out of the others, and these, which are taken too. `Err` where memory is refused, which is counted; only entries from
+/// that step on are gone then.
 pub fn note(
-    looks: &mut FirstLooks,
+    notes: &mut RunNotes,
     running: &mut Running,
     from: usize,
     taken: Option<usize>,
     asked: Option<Ask>,
-    refusals: &mut Refusals,
 ) -> Result<(), AllocError>
-    requires room { refusals.old < 2 ^ 63 }
-    requires seen { looks.old.seen ≤ STEP_LIMIT }
+    requires low { (notes.old.refusals < 2 ^ 63) × (notes.old.looks.seen ≤ STEP_LIMIT) }
     requires taken { taken ≡ None → NoPlaces running.old.looked.places }
     requires asked { asked ≡ None → NoAsks running.old.looked.files }
-    ensures ok { OnOk result ((q : Question) → step_of looks.new q ≡ or_else (step_of looks.old q) (mark (is_new (drop from running.old.looked.cells) taken running.old.looked.places asked running.old.looked.files q) looks.old.seen)) }
-    ensures err { OnErr result ((q : Question) → step_of looks.new q ≡ erased looks.old.seen (step_of looks.old q)) }
-    ensures seen { looks.new.seen ≡ looks.old.seen }
+    ensures ok { OnOk result (Notes notes.old.looks notes.new.looks
+        (is_new_in from taken asked running.old.looked)) }
+    ensures err { OnErr result (ErasesLast notes.old.looks notes.new.looks) }
+    ensures seen { notes.new.looks.seen ≡ notes.old.looks.seen }
     ensures state { running.new.state ≡ running.old.state }
     ensures cells { running.new.looked.cells ≡ running.old.looked.cells }
-    ensures places { OnOk result (NoPlaces running.new.looked.places) }
-    ensures asks { OnOk result (NoAsks running.new.looked.files) }
-    ensures none { OnOk result (refusals.new ≡ refusals.old) }
-    ensures counted { OnErr result (refusals.new ≡ refusals.old + 1) }
+    ensures rest { OnOk result (NoPlaces running.new.looked.places × NoAsks running.new.looked.files) }
+    ensures counted { CountsRefusal result notes.old.refusals notes.new.refusals }
 {
-    let noted = looks.note(running, from, taken, asked);
+    let noted = notes.looks.note(running, from, taken, asked);
     if noted.is_err() {
-        refusals.count += 1;
+        notes.refusals.count += 1;
     }
     noted
 }

@@ -1,17 +1,22 @@
-ghost use Rattle.std.specs.Prelude.{◌≡◌, ◌≤◌, ℕ, List, true, false, IfSome, IfNone, IsSome, length, slice_get, option_copied};
-ghost use Rattle.std.specs.Option.{option_map, option_and_then};
+ghost use Rattle.std.specs.Prelude.{◌≡◌, ◌≤◌, List, ℕ, IfNone, IfSome, IsSome, false, length, option_copied, slice_get, slice_index, true};
+ghost use Rattle.std.specs.Option.{option_and_then, option_map};
 ghost use Rattle.std.specs.declared.cmp.Ordering.TheVariants.{Less};
 ghost use Rattle.std.specs.Ordering.{nat_cmp};
 ghost use Rattle.std.specs.Cmp.Lexicographic.{slice_cmp};
-ghost use Rattle.keymaps.specs.Order.{is_above};
-ghost use Rattle.hostfiles.specs.Files.{has, told};
-ghost use Rattle.hostfiles.specs.Changed.{is_changed_name};
+ghost use Rattle.std.specs.FinMap.{contains_key};
+ghost use Rattle.hostfiles.specs.Order.{is_above};
+ghost use Rattle.hostfiles.specs.Files.{files};
+ghost use Rattle.machine.specs.ChangedFiles.{told_in};
 ghost use Rattle.replay.specs.Fits.{kept_length};
+ghost use Rattle.replay.specs.LastState.{left_by};
+ghost use Rattle.replay.specs.Plain.{plain_run};
+ghost use Rattle.replay.specs.PlainIsCold.{equal_runs-prop, plainly};
 
 use hostfiles::{Record, joined, next_changed, told_count, told_record};
 use machine::{Cause, HostFiles, Journal, Kept, Name, Regs, Session};
 
-/// A session, the console text of its runs, and what is kept of the state in which the last run ended, until the next one begins.
+/// A session, the console text of its runs, and what is kept of the state in which the last run ended, until the
+/// next one begins.
 #[derive(Drop)]
 pub struct LastRun {
     pub session: Session,
@@ -19,7 +24,7 @@ pub struct LastRun {
     pub end: Option<Kept>,
 }
 
-/// What a rerun came to. It borrows the runner, and owns no memory.
+/// What a rerun came to: the end of the run of the session. It borrows the runner, and owns no memory.
 #[derive(Clone, Copy)]
 pub struct Report<'a> {
     pub(crate) last_run: &'a LastRun,
@@ -27,29 +32,31 @@ pub struct Report<'a> {
     pub(crate) cause: Cause,
     ghost ended: { IsSome last_run.now.end },
     ghost fits: { kept_length last_run.now.end ≤ length last_run.now.text.items },
+    ghost of_run: { plainly last_run.now.session
+        (record { state = left_by last_run.now; steps = steps; cause = cause })
+        ≡ plain_run last_run.now.session } by { equal_runs-prop _ _ },
 }
 
 impl Report<'_> {
-    ghost use Rattle.machine.specs.Machine.{cell_at};
-    ghost use Rattle.replay.specs.Report.{reported_run, session_of};
+    ghost use Rattle.replay.specs.Report.{is_left_changed, run_of, session_of};
 
     /// Why the run ended.
     pub fn cause(&self) -> Cause
-        ensures { result ≡ (reported_run self.now).cause }
+        ensures { result ≡ (run_of self.now).cause }
     {
         self.cause
     }
 
     /// How many steps were carried out from the start.
     pub fn steps(&self) -> u64
-        ensures { result ≡ (reported_run self.now).steps }
+        ensures { result ≡ (run_of self.now).steps }
     {
         self.steps
     }
 
     /// The registers at the end.
     pub fn regs(&self) -> Regs
-        ensures { result ≡ (reported_run self.now).state.core.regs }
+        ensures { result ≡ (run_of self.now).machine.core.regs }
     {
         match &self.last_run.end {
             Some(kept) => kept.regs(),
@@ -59,7 +66,7 @@ impl Report<'_> {
 
     /// All bytes that were sent to the console.
     pub fn text(&self) -> &[u8]
-        ensures { result.now ≡ (reported_run self.now).state.core.desk.text }
+        ensures { result.now ≡ (run_of self.now).machine.core.desk.text }
     {
         match &self.last_run.end {
             Some(kept) => &self.last_run.text[..kept.text_length()],
@@ -67,9 +74,9 @@ impl Report<'_> {
         }
     }
 
-    /// The byte of a cell at the end: what was written there, else the session's.
+    /// The byte of a cell at the end.
     pub fn cell(&self, a: u16) -> u8
-        ensures { result ≡ cell_at (session_of self.now) (reported_run self.now).state a }
+        ensures { result ≡ slice_index (run_of self.now).machine.memory a }
     {
         match &self.last_run.end {
             Some(kept) => kept.cell(&self.last_run.session, a),
@@ -79,31 +86,36 @@ impl Report<'_> {
 
     /// Whether there is a file of a name at the end.
     pub fn has(&self, name: &Name) -> bool
-        ensures { result ≡ has (session_of self.now).files (reported_run self.now).state.own.files name.now }
+        ensures { result ≡ contains_key (run_of self.now).machine.files name.now }
     {
         joined::has(self.files(), self.journal(), &name.key())
     }
 
     /// How many records a file has at the end, if it is there.
     pub fn records(&self, name: &Name) -> Option<u32>
-        ensures { result ≡ option_map length (told (session_of self.now).files (reported_run self.now).state.own.files name.now) }
+        ensures { result ≡ option_map length (told_in (run_of self.now).machine.files name.now) }
     {
         told_count(self.files(), self.journal(), &name.key())
     }
 
     /// A record of a file at the end, zeros in a hole; none where the file is not there or has fewer.
     pub fn record(&self, name: &Name, place: u32) -> Option<Record>
-        ensures { result ≡ option_and_then (λ records. slice_get records place) (told (session_of self.now).files (reported_run self.now).state.own.files name.now) }
+        ensures { result
+            ≡ option_and_then (λ records. slice_get records place)
+            (told_in (run_of self.now).machine.files name.now) }
     {
         told_record(self.files(), self.journal(), &name.key(), place)
     }
 
-    /// The least name by key of a file that the run left otherwise than the host files have it, after the one given if there is one.
+    /// The least name by key of a file that the run left otherwise than the host files have it, after the one given
+    /// if there is one.
     pub fn next_changed(&self, after: Option<&Name>) -> Option<Name>
         ensures above { IfSome result (λ k. is_above (option_copied after.entry) k ≡ true) }
-        ensures changed { IfSome result (λ k. is_changed_name (session_of self.now).files (reported_run self.now).state.own.files k ≡ true) }
-        ensures least { IfSome result (λ k. (x : List ℕ) → is_above (option_copied after.entry) x ≡ true → slice_cmp nat_cmp x k ≡ Less → is_changed_name (session_of self.now).files (reported_run self.now).state.own.files x ≡ false) }
-        ensures none { IfNone result ((x : List ℕ) → is_above (option_copied after.entry) x ≡ true → is_changed_name (session_of self.now).files (reported_run self.now).state.own.files x ≡ false) }
+        ensures changed { IfSome result (λ k. is_left_changed self.now k ≡ true) }
+        ensures least { IfSome result (λ k. (x : List ℕ) → is_above (option_copied after.entry) x ≡ true
+            → slice_cmp nat_cmp x k ≡ Less → is_left_changed self.now x ≡ false) }
+        ensures none { IfNone result ((x : List ℕ) → is_above (option_copied after.entry) x ≡ true
+            → is_left_changed self.now x ≡ false) }
     {
         next_changed(self.files(), self.journal(), after)
     }
@@ -115,9 +127,9 @@ impl Report<'_> {
         self.last_run.session.files()
     }
 
-    /// What the run did to the files.
+    /// What the run did to the files: laid over the host files, it gives the files at the end.
     pub fn journal(&self) -> &Journal
-        ensures { result.now.entries ≡ (reported_run self.now).state.own.files }
+        ensures { files (session_of self.now).files result.now.entries ≡ (run_of self.now).machine.files }
     {
         match &self.last_run.end {
             Some(kept) => kept.journal(),

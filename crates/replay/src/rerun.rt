@@ -1,19 +1,17 @@
-ghost use Rattle.std.specs.Prelude.{◌≡◌, ℕ, ◌+◌, ◌^◌, ◌<◌, ◌≤◌, ◌⊎◌, [], Some, IfOk, IsSome, OnErr, OnOk, MatchResult, length, take, vec_len, true, false};
+ghost use Rattle.std.specs.Prelude.{◌≡◌, ◌+◌, ◌^◌, ◌<◌, ◌≤◌, ◌⊎◌, Some, IfOk, IsSome, OnErr, OnOk, length, take, vec_len, true, false};
 ghost use Rattle.machine.specs.Machine.{NothingLooked, ask, after};
 ghost use Rattle.machine.specs.Kept.{kept_of};
 ghost use Rattle.machine.specs.Session.{IsSession};
 ghost use Rattle.replay.specs.Cold.{cold};
-ghost use Rattle.replay.specs.FirstLooks.{IsFirstLooks};
-ghost use Rattle.replay.specs.RefusalCount.{CountsThisRun};
-ghost use Rattle.replay.specs.Ring.{Each, Rising, Stands, Adds, AddsAll, SomeStep, start_step};
+ghost use Rattle.replay.specs.Resuming.{Resumed, begun_at};
+ghost use Rattle.replay.specs.Ring.{Each, Rising, Stands, SomeStep, start_step};
 ghost use Rattle.replay.specs.Fits.{kept_length};
-ghost use Rattle.replay.specs.Report.{left_by};
+ghost use Rattle.replay.specs.LastState.{left_by};
 ghost use Rattle.replay.specs.RunnerView.{IsSound, TicksTo};
 
-use crate::first_looks::FirstLooks;
 use crate::keeping::Refusals;
 use crate::report::LastRun;
-use crate::ring::{Checkpoint, latest_within, newest_step};
+use crate::ring::{Checkpoint, Checkpoints, latest_within, newest_step};
 use crate::run::resume;
 use circular_buffer::HeapCircularBuffer;
 use machine::{Cause, Kept, Meter, Running, STEP_LIMIT, Session};
@@ -90,55 +88,39 @@ fn put_by(text: &mut Vec<u8>, running: Running, is_needed: bool) -> Kept
 pub fn rerun(
     alloc: Global,
     last_run: &mut LastRun,
-    spacing: u64,
-    ring: &mut HeapCircularBuffer<Checkpoint>,
-    looks: &mut FirstLooks,
+    checkpoints: &mut Checkpoints,
     meter: &mut Meter,
-    refusals: &mut Refusals,
 ) -> Result<(u64, Cause), AllocError>
-    requires sound { IsSound last_run.old.session last_run.old.text.items spacing ring.old looks.old }
+    requires sound { IsSound last_run.old.session last_run.old.text.items checkpoints.old }
     requires room { meter.old ≤ 2 ^ 63 }
-    ensures session { last_run.new.session ≡ last_run.old.session }
-    ensures limits { IsSession last_run.old.session }
-    ensures cold { IfOk result (λ r. cold last_run.old.session ≡ record { state = left_by last_run.new; steps = r.0; cause = r.1 }) }
-    ensures ended { OnOk result (IsSome last_run.new.end) }
-    ensures fits { OnOk result (kept_length last_run.new.end ≤ length last_run.new.text.items) }
-    ensures sound { IsSound last_run.new.session last_run.new.text.items spacing ring.new looks.new }
-    ensures ticked { IfOk result (λ r. meter.new + start_step last_run.old.session.limit ring.old.items ≡ meter.old + r.0) }
-    ensures broken_off { OnErr result (TicksTo (ask last_run.old.session) last_run.old.session.limit (start_step last_run.old.session.limit ring.old.items) meter.old meter.new) }
-    ensures metered { meter.new ≤ meter.old + STEP_LIMIT }
-    ensures rises { meter.old ≤ meter.new }
-    ensures adds { IfOk result (λ r. Adds ring.old.items ring.new.items ring.old.capacity (start_step last_run.old.session.limit ring.old.items) r.0 r.0 spacing) }
-    ensures all { IfOk result (λ r. refusals.new ≡ 0 → AddsAll ring.old.items ring.new.items ring.old.capacity (start_step last_run.old.session.limit ring.old.items) r.0 r.0 spacing) }
-    ensures adds_at_most { OnErr result (Adds ring.old.items ring.new.items ring.old.capacity (start_step last_run.old.session.limit ring.old.items) last_run.old.session.limit last_run.old.session.limit spacing) }
-    ensures counted { let start = start_step last_run.old.session.limit ring.old.items in
-        MatchResult result (λ r. CountsThisRun start r.0 spacing refusals.new)
-        (λ _. CountsThisRun start last_run.old.session.limit spacing refusals.new) }
-    ensures capacity { ring.new.capacity ≡ ring.old.capacity }
+    ensures session { (last_run.new.session ≡ last_run.old.session) × IsSession last_run.old.session }
+    ensures cold { IfOk result (λ r. cold last_run.old.session
+        ≡ record { state = left_by last_run.new; steps = r.0; cause = r.1 }) }
+    ensures ended { OnOk result (IsSome last_run.new.end
+        × (kept_length last_run.new.end ≤ length last_run.new.text.items)) }
+    ensures sound { IsSound last_run.new.session last_run.new.text.items checkpoints.new }
+    ensures ticked { IfOk result (λ r. meter.new + begun_at last_run.old.session checkpoints.old
+        ≡ meter.old + r.0) }
+    ensures metered { (meter.old ≤ meter.new) × (meter.new ≤ meter.old + STEP_LIMIT) }
+    ensures broken_off { OnErr result (TicksTo (ask last_run.old.session) last_run.old.session.limit
+        (begun_at last_run.old.session checkpoints.old) meter.old meter.new) }
+    ensures adds { Resumed checkpoints.old checkpoints.new (begun_at last_run.old.session checkpoints.old)
+        last_run.old.session.limit result }
 {
-    let _ = ring.len();
+    let _ = checkpoints.ring.len();
     last_run.end = None;
-    *refusals = Refusals::new();
-    let newest = newest_step(ring);
+    checkpoints.notes.refusals = Refusals::new();
+    let newest = newest_step(&checkpoints.ring);
     let is_needed = last_run.session.limit() < newest;
     let (from, mut running) = begin(
         alloc,
         &last_run.session,
         &mut last_run.text,
-        ring,
+        &checkpoints.ring,
         is_needed,
     )?;
-    let ran = resume(
-        &last_run.session,
-        spacing,
-        ring,
-        looks,
-        meter,
-        newest,
-        from,
-        &mut running,
-        refusals,
-    );
+    let session = &last_run.session;
+    let ran = resume(session, checkpoints, meter, newest, from, &mut running);
     let kept = put_by(&mut last_run.text, running, is_needed);
     let (steps, cause) = ran?;
     last_run.end = Some(kept);

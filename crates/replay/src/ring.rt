@@ -1,8 +1,7 @@
 ghost use Rattle.std.specs.Prelude.{◌≡◌, ℕ, ◌^◌, ◌+◌, ◌*◌, ◌/◌, ◌%◌, ◌<◌, ◌≤◌, ◌⊎◌, IfNone, IfSome, max};
-ghost use Rattle.machine.specs.Kept.{kept_of};
-ghost use Rattle.replay.specs.Ring.{Each, Rising, Keeps, KeptUpTo, SomeStep, HasCheckpoint, pushed, start_step};
+ghost use Rattle.replay.specs.Ring.{Rising, IsNewest, Keeps, KeptUpTo, HasCheckpoint, made_at, pushed, start_step};
 
-use crate::keeping::{Refusals, keep};
+use crate::keeping::{Refusals, RunNotes, keep};
 use circular_buffer::HeapCircularBuffer;
 use machine::{Kept, Running, STEP_LIMIT};
 
@@ -11,6 +10,14 @@ use machine::{Kept, Running, STEP_LIMIT};
 pub struct Checkpoint {
     pub step: u64,
     pub state: Kept,
+}
+
+/// The checkpoints of runs, the oldest first, with the steps from one due checkpoint to the next, and what the runs noted for them.
+#[derive(Drop)]
+pub struct Checkpoints {
+    pub spacing: u64,
+    pub ring: HeapCircularBuffer<Checkpoint>,
+    pub notes: RunNotes,
 }
 
 /// The next step at which a checkpoint is due, or the limit.
@@ -28,8 +35,7 @@ pub fn due_after(n: u64, spacing: u64, limit: u64) -> u64
 /// The greatest kept step, or 0.
 pub fn newest_step(ring: &HeapCircularBuffer<Checkpoint>) -> u64
     requires { Rising ring.now.items }
-    ensures greatest { Each (λ c. c.step ≤ result) ring.now.items }
-    ensures there { (result ≡ 0) ⊎ SomeStep ring.now.items result }
+    ensures { IsNewest result ring.now.items }
 {
     match ring.back() {
         Some(checkpoint) => checkpoint.step,
@@ -41,7 +47,8 @@ pub fn newest_step(ring: &HeapCircularBuffer<Checkpoint>) -> u64
 pub fn latest_within(ring: &HeapCircularBuffer<Checkpoint>, limit: u64) -> Option<&Checkpoint>
     requires { Rising ring.now.items }
     ensures none { IfNone result (start_step limit ring.now.items ≡ 0) }
-    ensures some { IfSome result (λ c. (c.now.step ≡ start_step limit ring.now.items) × HasCheckpoint ring.now.items c.now) }
+    ensures some { IfSome result (λ c. (c.now.step ≡ start_step limit ring.now.items)
+        × HasCheckpoint ring.now.items c.now) }
 {
     let mut left = ring.len();
     while left > 0 {
@@ -68,9 +75,11 @@ pub fn keep_above(
     requires room { refusals.old < 2 ^ 63 }
     ensures newest { result ≡ max newest step }
     ensures seen { seen < step → ring.new ≡ ring.old }
-    ensures ring { Keeps newest ring.old ring.new (record { step = step; state = kept_of running.old.state }) }
-    ensures made { newest < step → step ≤ seen → refusals.new ≡ refusals.old → ring.new ≡ pushed ring.old (record { step = step; state = kept_of running.old.state }) }
-    ensures refused { (refusals.new ≡ refusals.old) ⊎ ((newest < step) × (step ≤ seen) × (refusals.new ≡ refusals.old + 1) × (ring.new ≡ ring.old)) }
+    ensures ring { Keeps newest ring.old ring.new (made_at step running.old.state) }
+    ensures made { newest < step → step ≤ seen → refusals.new ≡ refusals.old
+        → ring.new ≡ pushed ring.old (made_at step running.old.state) }
+    ensures refused { (refusals.new ≡ refusals.old)
+        ⊎ ((newest < step) × (step ≤ seen) × (refusals.new ≡ refusals.old + 1) × (ring.new ≡ ring.old)) }
     ensures running { running.new ≡ running.old }
 {
     if step <= newest {

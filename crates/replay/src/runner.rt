@@ -1,19 +1,20 @@
 ghost use Rattle.std.specs.Prelude.{◌≡◌, ◌+◌, ◌^◌, ◌≤◌, [], IfOk, IfErr, OnOk, OnErr, MatchResult, slice_get};
 ghost use Rattle.std.specs.Borrow.{sem};
 ghost use Rattle.machine.specs.Machine.{PrefixDependence, ask};
-ghost use Rattle.replay.specs.Cold.{cold};
-ghost use Rattle.replay.specs.Plain.{PlainRunIsCold, plain_run, plainly};
+ghost use Rattle.replay.specs.Plain.{plain_run};
+ghost use Rattle.replay.specs.PlainIsCold.{PlainRunIsCold};
 ghost use Rattle.replay.specs.Edits.{AnswersEdit, TakesMemory, edited};
-ghost use Rattle.replay.specs.RunnerView.{DropsOldest, SameOptions, KeepsUntouched, AllStand, Reran, LeavesNoneOut, CountsAnew, TicksTo, kept_steps, rerun_start};
+ghost use Rattle.replay.specs.RunnerView.{DropsOldest, SameOptions, KeepsUntouched, AllStand, Reran, RanTo, CountsAnew, TicksTo};
+ghost use Rattle.replay.specs.RunnerView.{kept_steps, rerun_start, with_no_checkpoint};
 
 use crate::change::{accept, carry_out, touch_of};
 use crate::edit::{Edit, EditError};
 use crate::first_looks::FirstLooks;
-use crate::keeping::Refusals;
+use crate::keeping::{Refusals, RunNotes};
 use crate::options::{Options, OptionsError};
 use crate::report::{LastRun, Report};
 use crate::rerun::rerun;
-use crate::ring::{Checkpoint, keep_up_to};
+use crate::ring::{Checkpoints, keep_up_to};
 use circular_buffer::HeapCircularBuffer;
 use machine::{Meter, STEP_LIMIT, Session};
 use std::alloc::{AllocError, Global};
@@ -23,10 +24,7 @@ use std::marker::Model;
 #[derive(Drop)]
 pub struct Runner {
     last_run: LastRun,
-    spacing: u64,
-    ring: HeapCircularBuffer<Checkpoint>,
-    looks: FirstLooks,
-    refusals: Refusals,
+    checkpoints: Checkpoints,
 }
 
 impl Model for Runner {
@@ -39,19 +37,25 @@ impl Model for Runner {
 
     ghost coded = { Prim.hlevel (codes, cells_code, changes_code, files_code) };
 
-    ghost view = { λ r. record { session = r.last_run.session; spacing = r.spacing; slots = r.ring.capacity; checkpoints = map (seen_with r.last_run.text.items) r.ring.items; refused = r.refusals } };
+    ghost view = { λ r. record {
+      session = r.last_run.session;
+      spacing = r.checkpoints.spacing;
+      slots = r.checkpoints.ring.capacity;
+      checkpoints = map (seen_with r.last_run.text.items) r.checkpoints.ring.items;
+      refused = r.checkpoints.notes.refusals;
+    } };
 
-    ghost invariant = { λ r. IsSound r.last_run.session r.last_run.text.items r.spacing r.ring r.looks };
+    ghost invariant = { λ r. IsSound r.last_run.session r.last_run.text.items r.checkpoints };
 }
 
 impl Runner {
     ghost use Rattle.replay.specs.Lending.{EndsAs};
     ghost use Rattle.replay.specs.Options.{RefusedBy, refusal_of};
-    ghost use Rattle.replay.specs.Report.{reported_run, session_of};
+    ghost use Rattle.replay.specs.Report.{run_of, session_of};
 
     /// A runner of the session with no checkpoint, or the first refusal that fits.
     pub fn new(alloc: Global, session: Session, options: Options) -> Result<Runner, OptionsError>
-        ensures ok { IfOk result (λ r. r ≡ record { session = session; spacing = options.spacing; slots = options.slots; checkpoints = []; refused = 0 }) }
+        ensures ok { IfOk result (λ r. r ≡ with_no_checkpoint session options) }
         ensures accepted { OnOk result (refusal_of options ≡ None) }
         ensures refused { IfErr result (RefusedBy options) }
     {
@@ -67,7 +71,7 @@ impl Runner {
     /// The same with options that are known to be within their ranges. `Err` where memory is refused.
     pub fn within(alloc: Global, session: Session, options: Options) -> Result<Runner, AllocError>
         requires { refusal_of options ≡ None }
-        ensures { IfOk result (λ r. r ≡ record { session = session; spacing = options.spacing; slots = options.slots; checkpoints = []; refused = 0 }) }
+        ensures { IfOk result (λ r. r ≡ with_no_checkpoint session options) }
     {
         let ring = HeapCircularBuffer::with_capacity(alloc, options.slots)?;
         Ok(Runner {
@@ -76,10 +80,14 @@ impl Runner {
                 text: Vec::new(alloc),
                 end: None,
             },
-            spacing: options.spacing,
-            ring,
-            looks: FirstLooks::new(alloc),
-            refusals: Refusals::new(),
+            checkpoints: Checkpoints {
+                spacing: options.spacing,
+                ring,
+                notes: RunNotes {
+                    looks: FirstLooks::new(alloc),
+                    refusals: Refusals::new(),
+                },
+            },
         })
     }
 
@@ -94,7 +102,7 @@ impl Runner {
     pub fn kept(&self, index: usize) -> Option<u64>
         ensures { result ≡ slice_get (kept_steps self.now) index }
     {
-        match self.ring.get(index) {
+        match self.checkpoints.ring.get(index) {
             Some(checkpoint) => Some(checkpoint.step),
             None => None,
         }
@@ -105,7 +113,7 @@ impl Runner {
     pub fn refusals(&self) -> u64
         ensures { result ≡ self.now.refused }
     {
-        self.refusals.count()
+        self.checkpoints.notes.refusals.count()
     }
 
     /// Drops so many of the oldest checkpoints, or all where there are fewer.
@@ -113,11 +121,11 @@ impl Runner {
         ensures dropped { DropsOldest count self.old self.new }
         ensures stand { AllStand self.new }
     {
-        let len = self.ring.len();
+        let len = self.checkpoints.ring.len();
         if count < len as u64 {
-            self.ring.truncate_front(len - count as usize);
+            self.checkpoints.ring.truncate_front(len - count as usize);
         } else {
-            self.ring.clear();
+            self.checkpoints.ring.clear();
         }
     }
 
@@ -128,46 +136,45 @@ impl Runner {
         ensures memory { result ≡ Err EditError.OutOfMemory → TakesMemory edit }
         ensures options { SameOptions self.old self.new }
         ensures refusals { self.new.refused ≡ self.old.refused }
-        ensures kept { OnOk result (KeepsUntouched (ask self.old.session) (ask self.new.session) self.old.checkpoints self.new.checkpoints) }
+        ensures kept { OnOk result (KeepsUntouched (ask self.old.session) (ask self.new.session)
+            self.old.checkpoints self.new.checkpoints) }
         ensures stand { AllStand self.new }
         ensures err { OnErr result (self.new ≡ self.old) }
     {
         let alloc = *self.last_run.text.allocator();
         let change = accept(alloc, &self.last_run.session, edit)?;
-        let touch = touch_of(&self.looks, &self.last_run.session, &change);
+        let touch = touch_of(
+            &self.checkpoints.notes.looks,
+            &self.last_run.session,
+            &change,
+        );
         carry_out(&mut self.last_run.session, change)?;
-        keep_up_to(&mut self.ring, touch);
-        self.looks.cut(touch);
+        keep_up_to(&mut self.checkpoints.ring, touch);
+        self.checkpoints.notes.looks.cut(touch);
         Ok(())
     }
 
-    /// Runs the session from the greatest kept step that is not past its limit, else from its start, and reports of it. Where no
-    /// memory was refused, each due step that it reached has a checkpoint, of which the newest stay. `Err` where memory for the
-    /// run is refused: the session stays, and so do the checkpoints, but for new ones in a full ring. The count of refusals is of this
-    /// rerun alone.
+    /// Runs the session from the greatest kept step that is not past its limit, else from its start, and reports
+    /// of it. Where no memory was refused, each due step that it reached has a checkpoint, of which the newest stay.
+    /// `Err` where memory for the run is refused: the session stays, and so do the checkpoints, but for new ones in
+    /// a full ring. The count of refusals is of this rerun alone.
     pub fn rerun(&mut self, meter: &mut Meter) -> Result<Report<'_>, AllocError>
         requires { meter.old ≤ 2 ^ 63 }
-        ensures* ends { sem 𝓛 (EndsAs self.entry (λ n. (n.session ≡ self.old.session) × SameOptions self.old n × AllStand n
-            × MatchResult result (λ r. Reran self.old n (reported_run r).steps × LeavesNoneOut self.old n (reported_run r).steps × CountsAnew self.old n (reported_run r).steps)
+        ensures* ends { sem 𝓛 (EndsAs self.entry (λ n.
+            (n.session ≡ self.old.session) × SameOptions self.old n × AllStand n
+            × MatchResult result (λ r. RanTo self.old n (run_of r).steps)
             (λ _. Reran self.old n self.old.session.limit × CountsAnew self.old n self.old.session.limit))) }
-        ensures cold { IfOk result (λ r. reported_run r ≡ cold self.old.session) }
-        ensures plain { IfOk result (λ r. plain_run self.old.session ≡ plainly self.old.session (reported_run r)) }
+        ensures run { IfOk result (λ r. run_of r ≡ plain_run self.old.session) }
         ensures session { IfOk result (λ r. session_of r ≡ self.old.session) }
-        ensures ticked { IfOk result (λ r. meter.new + rerun_start self.old ≡ meter.old + (reported_run r).steps) }
-        ensures broken_off { OnErr result (TicksTo (ask self.old.session) self.old.session.limit (rerun_start self.old) meter.old meter.new) }
+        ensures ticked { IfOk result (λ r. meter.new + rerun_start self.old
+            ≡ meter.old + (run_of r).steps) }
+        ensures broken_off { OnErr result (TicksTo (ask self.old.session) self.old.session.limit
+            (rerun_start self.old) meter.old meter.new) }
         ensures metered { meter.new ≤ meter.old + STEP_LIMIT }
         ensures rises { meter.old ≤ meter.new }
     {
         let alloc = *self.last_run.text.allocator();
-        let (steps, cause) = rerun(
-            alloc,
-            &mut self.last_run,
-            self.spacing,
-            &mut self.ring,
-            &mut self.looks,
-            meter,
-            &mut self.refusals,
-        )?;
+        let (steps, cause) = rerun(alloc, &mut self.last_run, &mut self.checkpoints, meter)?;
         Ok(Report {
             last_run: &self.last_run,
             steps,

@@ -47,7 +47,8 @@ pub fn splice_touch(
 ) -> u64
     requires noted { IsFirstLooks (ask session.now) looks.now }
     requires inside { at + removed ≤ length session.now.script }
-    ensures { IsNotedTouch (ask session.now) (ask (with_splice session.now at removed bytes.now)) looks.now result }
+    ensures { IsNotedTouch (ask session.now) (ask (with_splice session.now at removed bytes.now))
+        looks.now result }
 {
     let script = session.script();
     let mut touch = looks.seen();
@@ -61,7 +62,8 @@ pub fn splice_touch(
 /// The least noted step that asked something of the host files which has another answer, once the file of a key is set to these
 /// records, or removed; or the step below which all looks are noted.
 pub fn file_touch(looks: &FirstLooks, session: &Session, key: &Key, new: Option<&HostFile>) -> u64
-    ensures { IsNotedTouch (ask session.now) (ask (with_host_file session.now key.now (option_copied new.entry))) looks.now result }
+    ensures { IsNotedTouch (ask session.now)
+        (ask (with_host_file session.now key.now (option_copied new.entry))) looks.now result }
 {
     looks
         .files()
@@ -71,7 +73,8 @@ pub fn file_touch(looks: &FirstLooks, session: &Session, key: &Key, new: Option<
 // Whether a place has the same byte, or none, before and after.
 fn is_same_byte(script: &[u8], at: usize, removed: usize, bytes: &[u8], place: usize) -> bool
     requires { at + removed ≤ length script.now }
-    ensures { IsTrue result ↔ (slice_get script.now place ≡ slice_get (spliced script.now at removed bytes.now) place) }
+    ensures { IsTrue result
+        ↔ (slice_get script.now place ≡ slice_get (spliced script.now at removed bytes.now) place) }
 {
     script.get(place).copied() == byte_after(script, at, removed, bytes, place)
 }

@@ -1,5 +1,12 @@
 //! The tests of the calls of files, over a plain memory, host files and a desk. Expected values are worked out by hand from the
 //! CP/M 2.2 Interface Guide and this project's profile.
+//!
+//! - `sequential`, `random`: tests of files that are opened, made, read and written, one record after another or at
+//!   random places
+//! - `naming`, `searches`: tests of what is made, renamed and deleted by name, and of searches
+//! - `drives`, `edges`: tests of drives and of the buffer address, and of control blocks and buffers across the end
+//!   of memory
+//! - `steps`, `scene`: calls with their values and what they leave in memory; what they work on
 #![tactic(auto)]
 
 #[cfg(test)]

@@ -1,4 +1,9 @@
 //! The tests of the whole command, over files and folders that they write.
+//!
+//! - `runs`, `edits`, `information`: tests of one run, of edit lines over files, of help and of faults of use
+//! - `loading`, `devices`: tests of files that are not read, in the order in which they are told; of outputs that
+//!   fail
+//! - `fixtures`: what is done in the folder of a test, and what the command answers there
 #![tactic(auto)]
 
 #[cfg(test)]

@@ -1,5 +1,8 @@
 //! Which checkpoints stand after edits and runs, and how many steps each run carries out; and edit texts with their replies.
 //! Expected values are worked out by hand.
+//!
+//! - `checkpoints`, `due_steps`: tests of which checkpoints stand, and how many steps each run carries out
+//! - `texts`, `replaying`: tests of edit texts; their replays, with devices that fail
 #![tactic(auto)]
 
 #[cfg(test)]

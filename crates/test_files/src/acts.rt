@@ -6,6 +6,7 @@ use crate::hosting::{are_host_keys, is_host_record, number_of, set, set_many};
 use crate::questions::{are_asked, sum_taken};
 use crate::telling::{are_keys, has_count, is_record};
 use cpmfiles::{Ask, Changes, HostFiles, Key, Name, Table};
+use hostfiles::SeenFile;
 use std::alloc::{AllocError, Global};
 use std::mem;
 use std::process::Abort;
@@ -182,7 +183,10 @@ fn counts(
     wanted: Option<u8>,
 ) -> Result<bool, AllocError> {
     match table.records(key)? {
-        Some(_) => Ok(Some(table.count(key, e)) == wanted),
+        Some(_) => {
+            let file = SeenFile::find(table.host, &table.changes.journal, key);
+            Ok(Some(file.count(e)) == wanted)
+        }
         None => Ok(wanted == None),
     }
 }

@@ -1,9 +1,9 @@
 // Calls whose control blocks, buffers and strings lie across the end of memory: the cell after 0FFFFH is 0000H.
 
-use crate::left::Left::{Cells, Changed, File, Filled, Gone};
 use crate::parts::Part::{Call, Put};
 use crate::parts::{Row, all_halt};
-use std::test::Fail;
+use test_sessions::Left::{Cells, Changed, Filled, Gone, Record, Records};
+use test_sessions::Trouble;
 
 // A control block whose bytes from 16 on lie in page zero.
 const HALF: u16 = 0xfff0;
@@ -48,8 +48,8 @@ const OPENED: &[Row<'_>] = &[Row {
 }];
 
 #[test]
-fn a_file_is_opened_across_the_end(rt: HostRuntime) -> Result<(), Fail> {
-    all_halt(&rt, rt.alloc(), OPENED)
+fn a_file_is_opened_across_the_end(rt: HostRuntime) -> Result<(), Trouble> {
+    all_halt(rt.alloc(), OPENED)
 }
 
 const READ: &[Row<'_>] = &[Row {
@@ -67,14 +67,14 @@ const READ: &[Row<'_>] = &[Row {
         Filled(0x0082, 126, 0x1a),
         Cells(0xfffc, b"\0\0\0\x02"),
         Cells(0x0010, b"\x02"),
-        Changed(0),
+        Changed(&[]),
     ],
     ..SILENT
 }];
 
 #[test]
-fn a_file_is_read_to_its_end_by_a_block_across_the_end(rt: HostRuntime) -> Result<(), Fail> {
-    all_halt(&rt, rt.alloc(), READ)
+fn a_file_is_read_to_its_end_by_a_block_across_the_end(rt: HostRuntime) -> Result<(), Trouble> {
+    all_halt(rt.alloc(), READ)
 }
 
 // The first byte goes to 0FFFFH, and the last to 007EH.
@@ -96,8 +96,8 @@ const LAST_CELL: &[Row<'_>] = &[Row {
 }];
 
 #[test]
-fn a_record_is_read_to_the_last_cell(rt: HostRuntime) -> Result<(), Fail> {
-    all_halt(&rt, rt.alloc(), LAST_CELL)
+fn a_record_is_read_to_the_last_cell(rt: HostRuntime) -> Result<(), Trouble> {
+    all_halt(rt.alloc(), LAST_CELL)
 }
 
 // The last 64 cells of memory, of which the first two and the last two were written, and the two jumps of page zero.
@@ -118,16 +118,17 @@ const WRITTEN: &[Row<'_>] = &[Row {
         Call(21, 0x0200),
     ],
     left: &[
-        Changed(1),
-        File("a", 1, 0, BOTH_ENDS, 0),
+        Changed(&["a"]),
+        Records("a", 1),
+        Record("a", 0, BOTH_ENDS, 0),
         Cells(0x0220, b"\x01"),
     ],
     ..SILENT
 }];
 
 #[test]
-fn a_record_is_written_from_both_ends_of_memory(rt: HostRuntime) -> Result<(), Fail> {
-    all_halt(&rt, rt.alloc(), WRITTEN)
+fn a_record_is_written_from_both_ends_of_memory(rt: HostRuntime) -> Result<(), Trouble> {
+    all_halt(rt.alloc(), WRITTEN)
 }
 
 // The bytes 13 to 31 are cleared where a file is made, and its place is counted on in 0010H.
@@ -140,8 +141,9 @@ const MADE: &[Row<'_>] = &[Row {
         Call(21, HALF),
     ],
     left: &[
-        Changed(1),
-        File("a", 1, 0, b"record", 0),
+        Changed(&["a"]),
+        Records("a", 1),
+        Record("a", 0, b"record", 0),
         Filled(0xfffc, 20, 0),
         Cells(0x0010, b"\x01"),
     ],
@@ -149,8 +151,8 @@ const MADE: &[Row<'_>] = &[Row {
 }];
 
 #[test]
-fn a_file_is_made_and_written_by_a_block_across_the_end(rt: HostRuntime) -> Result<(), Fail> {
-    all_halt(&rt, rt.alloc(), MADE)
+fn a_file_is_made_and_written_by_a_block_across_the_end(rt: HostRuntime) -> Result<(), Trouble> {
+    all_halt(rt.alloc(), MADE)
 }
 
 // The first eight bytes of the pattern stand before the end.
@@ -166,21 +168,21 @@ const PATTERN: &[Row<'_>] = &[Row {
 }];
 
 #[test]
-fn a_pattern_lies_across_the_end(rt: HostRuntime) -> Result<(), Fail> {
-    all_halt(&rt, rt.alloc(), PATTERN)
+fn a_pattern_lies_across_the_end(rt: HostRuntime) -> Result<(), Trouble> {
+    all_halt(rt.alloc(), PATTERN)
 }
 
 const DELETED: &[Row<'_>] = &[Row {
     parts: &[Put(0xfff8, ALL_NAMES), Call(19, 0xfff8), Call(16, 0xfff8)],
     hosts: &[("a", b"1"), ("b", b"2"), ("c:c", b"3")],
     value: 0xff,
-    left: &[Changed(2), Gone("a"), Gone("b")],
+    left: &[Changed(&["a", "b"]), Gone("a"), Gone("b")],
     ..SILENT
 }];
 
 #[test]
-fn files_are_deleted_by_a_pattern_across_the_end(rt: HostRuntime) -> Result<(), Fail> {
-    all_halt(&rt, rt.alloc(), DELETED)
+fn files_are_deleted_by_a_pattern_across_the_end(rt: HostRuntime) -> Result<(), Trouble> {
+    all_halt(rt.alloc(), DELETED)
 }
 
 // The new name stands from 0001H on. Before it is put there, the bytes of page zero are no name.
@@ -188,21 +190,26 @@ const NEW_NAME: &[Row<'_>] = &[
     Row {
         parts: &[Put(HALF, A), Put(0x0001, b"B       TXT"), Call(23, HALF)],
         hosts: &[("a", b"one")],
-        left: &[Changed(2), Gone("a"), File("b.txt", 1, 0, b"one", 0x1a)],
+        left: &[
+            Changed(&["a", "b.txt"]),
+            Gone("a"),
+            Records("b.txt", 1),
+            Record("b.txt", 0, b"one", 0x1a),
+        ],
         ..SILENT
     },
     Row {
         parts: &[Put(HALF, A), Call(23, HALF)],
         hosts: &[("a", b"one")],
         value: 0xff,
-        left: &[Changed(0)],
+        left: &[Changed(&[])],
         ..SILENT
     },
 ];
 
 #[test]
-fn a_new_name_stands_in_page_zero(rt: HostRuntime) -> Result<(), Fail> {
-    all_halt(&rt, rt.alloc(), NEW_NAME)
+fn a_new_name_stands_in_page_zero(rt: HostRuntime) -> Result<(), Trouble> {
+    all_halt(rt.alloc(), NEW_NAME)
 }
 
 // Read, with the place 1; and with the bytes of the jump at 0000H, whose last is r2 and not 0.
@@ -227,8 +234,8 @@ const READ_AT: &[Row<'_>] = &[
 ];
 
 #[test]
-fn a_random_place_to_read_stands_in_page_zero(rt: HostRuntime) -> Result<(), Fail> {
-    all_halt(&rt, rt.alloc(), READ_AT)
+fn a_random_place_to_read_stands_in_page_zero(rt: HostRuntime) -> Result<(), Trouble> {
+    all_halt(rt.alloc(), READ_AT)
 }
 
 const WRITTEN_AT: &[Row<'_>] = &[
@@ -241,8 +248,9 @@ const WRITTEN_AT: &[Row<'_>] = &[
             Call(34, PLACE),
         ],
         left: &[
-            Changed(1),
-            File("a", 132, 131, b"far", 0),
+            Changed(&["a"]),
+            Records("a", 132),
+            Record("a", 131, b"far", 0),
             Cells(0xffff, b"\x03\x83\0\0"),
             Cells(0xffeb, b"\x01\0\0\0"),
         ],
@@ -257,8 +265,9 @@ const WRITTEN_AT: &[Row<'_>] = &[
             Call(40, PLACE),
         ],
         left: &[
-            Changed(1),
-            File("a", 132, 131, b"far", 0),
+            Changed(&["a"]),
+            Records("a", 132),
+            Record("a", 131, b"far", 0),
             Cells(0xffff, b"\x03\x83\0\0"),
             Cells(0xffeb, b"\x01\0\0\0"),
         ],
@@ -267,8 +276,8 @@ const WRITTEN_AT: &[Row<'_>] = &[
 ];
 
 #[test]
-fn a_random_place_to_write_stands_in_page_zero(rt: HostRuntime) -> Result<(), Fail> {
-    all_halt(&rt, rt.alloc(), WRITTEN_AT)
+fn a_random_place_to_write_stands_in_page_zero(rt: HostRuntime) -> Result<(), Trouble> {
+    all_halt(rt.alloc(), WRITTEN_AT)
 }
 
 const SIZE: &[Row<'_>] = &[
@@ -287,8 +296,8 @@ const SIZE: &[Row<'_>] = &[
 ];
 
 #[test]
-fn a_size_is_put_in_page_zero(rt: HostRuntime) -> Result<(), Fail> {
-    all_halt(&rt, rt.alloc(), SIZE)
+fn a_size_is_put_in_page_zero(rt: HostRuntime) -> Result<(), Trouble> {
+    all_halt(rt.alloc(), SIZE)
 }
 
 // The place is 4,096 times s2, 128 times ex, and cr: 4,096 * 1 + 128 * 2 + 3 is 1103H.
@@ -303,8 +312,8 @@ const SEQUENTIAL: &[Row<'_>] = &[Row {
 }];
 
 #[test]
-fn a_sequential_place_is_put_in_page_zero(rt: HostRuntime) -> Result<(), Fail> {
-    all_halt(&rt, rt.alloc(), SEQUENTIAL)
+fn a_sequential_place_is_put_in_page_zero(rt: HostRuntime) -> Result<(), Trouble> {
+    all_halt(rt.alloc(), SEQUENTIAL)
 }
 
 const STRING: &[Row<'_>] = &[
@@ -322,8 +331,8 @@ const STRING: &[Row<'_>] = &[
 ];
 
 #[test]
-fn a_string_goes_on_in_page_zero(rt: HostRuntime) -> Result<(), Fail> {
-    all_halt(&rt, rt.alloc(), STRING)
+fn a_string_goes_on_in_page_zero(rt: HostRuntime) -> Result<(), Trouble> {
+    all_halt(rt.alloc(), STRING)
 }
 
 // The capacity stands in 0FFFEH, the count in 0FFFFH and the line from 0000H on; or the capacity in 0FFFFH.
@@ -350,8 +359,8 @@ const LINE: &[Row<'_>] = &[
 ];
 
 #[test]
-fn a_line_is_stored_in_page_zero(rt: HostRuntime) -> Result<(), Fail> {
-    all_halt(&rt, rt.alloc(), LINE)
+fn a_line_is_stored_in_page_zero(rt: HostRuntime) -> Result<(), Trouble> {
+    all_halt(rt.alloc(), LINE)
 }
 
 // The byte cr is the high byte of the return address of call 20, 0144H: record 1 is read where it is there.
@@ -376,8 +385,8 @@ const RETURN_ADDRESS: &[Row<'_>] = &[
 ];
 
 #[test]
-fn a_place_is_in_the_return_address(rt: HostRuntime) -> Result<(), Fail> {
-    all_halt(&rt, rt.alloc(), RETURN_ADDRESS)
+fn a_place_is_in_the_return_address(rt: HostRuntime) -> Result<(), Trouble> {
+    all_halt(rt.alloc(), RETURN_ADDRESS)
 }
 
 // The file goes away between two writes, and then the drive of its control block is another.
@@ -391,7 +400,7 @@ const LOST: &[Row<'_>] = &[
             Call(21, 0x0200),
         ],
         value: 0xff,
-        left: &[Changed(0), Gone("a"), Cells(0x0220, b"\x01")],
+        left: &[Changed(&[]), Gone("a"), Cells(0x0220, b"\x01")],
         ..SILENT
     },
     Row {
@@ -402,12 +411,12 @@ const LOST: &[Row<'_>] = &[
             Call(21, 0x0200),
         ],
         value: 0xff,
-        left: &[Changed(1), File("a", 0, 0, &[], 0)],
+        left: &[Changed(&["a"]), Records("a", 0)],
         ..SILENT
     },
 ];
 
 #[test]
-fn a_control_block_loses_its_file(rt: HostRuntime) -> Result<(), Fail> {
-    all_halt(&rt, rt.alloc(), LOST)
+fn a_control_block_loses_its_file(rt: HostRuntime) -> Result<(), Trouble> {
+    all_halt(rt.alloc(), LOST)
 }

@@ -1,11 +1,9 @@
 // How a run ends and what it leaves, at once and broken off after each of its steps.
 
-use crate::acts::Act::{Edit, Leave, Run, Stop};
-use crate::acts::{Change, Ended, Given, play};
-use crate::left::Left;
 use std::alloc::Global;
-use std::process::Abort;
-use std::test::Fail;
+use test_sessions::Act::{Edit, Leave, Run, Stop};
+use test_sessions::Change::Limit;
+use test_sessions::{Case, Given, Left, Trouble, Wanted, play};
 
 /// A run of at most so many steps is also broken off after each of them.
 const SHORT: u64 = 150;
@@ -14,62 +12,66 @@ const SHORT: u64 = 150;
 #[derive(Clone, Copy)]
 pub struct Trial<'a> {
     pub given: Given<'a>,
-    pub wanted: Ended<'a>,
+    pub wanted: Wanted<'a>,
     pub left: &'a [Left<'a>],
 }
 
 fn ends_at_once<'a>(
-    rt: &impl Abort,
     alloc: Global,
     given: Given<'_>,
-    wanted: Ended<'a>,
+    wanted: Wanted<'a>,
     left: &'a [Left<'a>],
-) -> Result<(), Fail> {
+) -> Result<(), Trouble> {
     let acts = [Run(wanted.steps, wanted), Leave(left)];
-    play(rt, alloc, given, &acts)
+    play(alloc, 0, &Case { given, acts: &acts })
 }
 
 // A session is broken off after so many steps, has its limit again, and goes on from the checkpoint there.
 fn goes_on<'a>(
-    rt: &impl Abort,
     alloc: Global,
     given: Given<'_>,
     steps: u64,
-    wanted: Ended<'a>,
+    wanted: Wanted<'a>,
     left: &'a [Left<'a>],
-) -> Result<(), Fail> {
+) -> Result<(), Trouble> {
     let short = Given {
         limit: steps,
         ..given
     };
     let acts = [
         Stop(steps),
-        Edit(Change::Limit(given.limit)),
+        Edit(Limit(given.limit)),
         Run(wanted.steps.wrapping_sub(steps), wanted),
         Leave(left),
     ];
-    play(rt, alloc, short, &acts)
+    play(
+        alloc,
+        0,
+        &Case {
+            given: short,
+            acts: &acts,
+        },
+    )
 }
 
 /// Runs a session at once, and a short one also broken off after each of its steps, to go on from the checkpoint there. It ends
 /// and leaves what is wanted each time.
 pub fn ends<'a>(
-    rt: &impl Abort,
     alloc: Global,
     given: Given<'_>,
-    wanted: Ended<'a>,
+    wanted: Wanted<'a>,
     left: &'a [Left<'a>],
-) -> Result<(), Fail> {
-    ends_at_once(rt, alloc, given, wanted, left)?;
+) -> Result<(), Trouble> {
+    ends_at_once(alloc, given, wanted, left)?;
     if wanted.steps <= SHORT {
         for steps in 0..wanted.steps {
-            goes_on(rt, alloc, given, steps, wanted, left)?;
+            goes_on(alloc, given, steps, wanted, left)?;
         }
     }
     Ok(())
 }
 
 /// A trial ends and leaves what is wanted, at once and broken off.
-pub fn comes_out(rt: &impl Abort, alloc: Global, trial: &Trial<'_>) -> Result<(), Fail> {
-    ends(rt, alloc, trial.given, trial.wanted, trial.left)
+pub fn comes_out(alloc: Global, trial: &Trial<'_>) -> Result<(), Trouble> {
+    ends(alloc, trial.given, trial.wanted, trial.left)
 }

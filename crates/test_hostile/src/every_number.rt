@@ -3,12 +3,11 @@
 
 ghost use Rattle.std.specs.Prelude.{◌≤◌};
 
-use crate::acts::Act::{Edit, Run};
-use crate::acts::{Change, EMPTY, Ended, Given, LOADED, play};
 use machine::{Cause, Regs};
 use std::alloc::Global;
-use std::process::Abort;
-use std::test::Fail;
+use test_sessions::Act::{Edit, Run};
+use test_sessions::Change::Limit;
+use test_sessions::{Case, EMPTY, Given, LOADED, Trouble, Wanted, play};
 
 /// The words in DE: the first cell, the one before the program, and two from which a control block goes on at 0000H.
 const WORDS: [u16; 4] = [0x0000, 0x00ff, 0xffe0, 0xffff];
@@ -136,7 +135,7 @@ fn end_of(number: u8, word: u16) -> (Cause, u64, Regs) {
 }
 
 // A run is broken off at its call, and goes on from the checkpoint there. Then it is run again from its end.
-fn calls(rt: &impl Abort, alloc: Global, number: u8, word: u16) -> Result<(), Fail> {
+fn calls(alloc: Global, number: u8, word: u16) -> Result<(), Trouble> {
     let program = [
         0x0e,
         number,
@@ -153,7 +152,7 @@ fn calls(rt: &impl Abort, alloc: Global, number: u8, word: u16) -> Result<(), Fa
         limit: 4,
         ..EMPTY
     };
-    let broken_off = Ended {
+    let broken_off = Wanted {
         cause: Cause::Limit,
         steps: 4,
         regs: at_call(number, word),
@@ -161,7 +160,7 @@ fn calls(rt: &impl Abort, alloc: Global, number: u8, word: u16) -> Result<(), Fa
     };
     let (cause, steps, regs) = end_of(number, word);
     let printed = [low(word)];
-    let wanted = Ended {
+    let wanted = Wanted {
         cause,
         steps,
         regs,
@@ -169,18 +168,18 @@ fn calls(rt: &impl Abort, alloc: Global, number: u8, word: u16) -> Result<(), Fa
     };
     let acts = [
         Run(4, broken_off),
-        Edit(Change::Limit(LIMIT)),
+        Edit(Limit(LIMIT)),
         Run(steps.wrapping_sub(4), wanted),
         Run(0, wanted),
     ];
-    play(rt, alloc, given, &acts)
+    play(alloc, 0, &Case { given, acts: &acts })
 }
 
 #[test]
-fn each_number_of_a_call_has_its_end(rt: HostRuntime) -> Result<(), Fail> {
+fn each_number_of_a_call_has_its_end(rt: HostRuntime) -> Result<(), Trouble> {
     for number in 0..=255 {
         for word in WORDS {
-            calls(&rt, rt.alloc(), number, word)?;
+            calls(rt.alloc(), number, word)?;
         }
     }
     Ok(())

@@ -1,11 +1,10 @@
 // Programs that write over page zero, or come to the system's area.
 
-use crate::acts::{EMPTY, Ended, Given, LOADED, NO_FLAGS, alone};
 use crate::ends::{Trial, comes_out, ends};
-use crate::left::Left::{Cells, Filled};
 use i8080::Flags;
 use machine::{Cause, Regs};
-use std::test::Fail;
+use test_sessions::Left::{Cells, Filled};
+use test_sessions::{EMPTY, Given, LOADED, NO_FLAGS, Trouble, Wanted, alone};
 
 // The random place is put over the jump to the warm start, which then leads into page zero, over 61 NOPs back to the program.
 const ROUND: [u8; 9] = [0x0e, 0x24, 0x11, 0xe0, 0xff, 0xcd, 0x05, 0x00, 0xc9];
@@ -16,7 +15,7 @@ const TO_PAGE_ZERO: &Trial<'_> = &Trial {
         limit: 68,
         ..EMPTY
     },
-    wanted: Ended {
+    wanted: Wanted {
         cause: Cause::Limit,
         steps: 68,
         regs: Regs {
@@ -32,8 +31,8 @@ const TO_PAGE_ZERO: &Trial<'_> = &Trial {
 };
 
 #[test]
-fn a_jump_to_the_warm_start_is_made_one_to_page_zero(rt: HostRuntime) -> Result<(), Fail> {
-    comes_out(&rt, rt.alloc(), TO_PAGE_ZERO)
+fn a_jump_to_the_warm_start_is_made_one_to_page_zero(rt: HostRuntime) -> Result<(), Trouble> {
+    comes_out(rt.alloc(), TO_PAGE_ZERO)
 }
 
 // Each round takes 68 steps and leaves the stack two cells higher. In the 243rd the return address, 0108H, comes to lie in the
@@ -43,7 +42,7 @@ const CLIMBING: &Trial<'_> = &Trial {
         program: &ROUND,
         ..EMPTY
     },
-    wanted: Ended {
+    wanted: Wanted {
         cause: Cause::BadDrive(8),
         steps: 16_460,
         regs: Regs {
@@ -60,8 +59,8 @@ const CLIMBING: &Trial<'_> = &Trial {
 };
 
 #[test]
-fn a_stack_climbs_into_a_control_block(rt: HostRuntime) -> Result<(), Fail> {
-    comes_out(&rt, rt.alloc(), CLIMBING)
+fn a_stack_climbs_into_a_control_block(rt: HostRuntime) -> Result<(), Trouble> {
+    comes_out(rt.alloc(), CLIMBING)
 }
 
 // The directory's record ends in page zero, as 64 PUSH H, up to the names of the tail: eleven CMC, and then a blank.
@@ -75,7 +74,7 @@ const DIRECTORY: &Trial<'_> = &Trial {
         hosts: &[("a", b"1")],
         ..EMPTY
     },
-    wanted: Ended {
+    wanted: Wanted {
         cause: Cause::Undefined(0x20),
         steps: 120,
         regs: Regs {
@@ -99,8 +98,8 @@ const DIRECTORY: &Trial<'_> = &Trial {
 };
 
 #[test]
-fn a_directory_record_is_carried_out(rt: HostRuntime) -> Result<(), Fail> {
-    comes_out(&rt, rt.alloc(), DIRECTORY)
+fn a_directory_record_is_carried_out(rt: HostRuntime) -> Result<(), Trouble> {
+    comes_out(rt.alloc(), DIRECTORY)
 }
 
 // RET at 0005H: a call goes back at once, and nothing is printed.
@@ -111,7 +110,7 @@ const AT_THE_ENTRY: &Trial<'_> = &Trial {
         ],
         ..EMPTY
     },
-    wanted: Ended {
+    wanted: Wanted {
         cause: Cause::WarmBoot,
         steps: 8,
         regs: Regs {
@@ -128,8 +127,8 @@ const AT_THE_ENTRY: &Trial<'_> = &Trial {
 };
 
 #[test]
-fn a_call_meets_what_was_put_at_the_entry(rt: HostRuntime) -> Result<(), Fail> {
-    comes_out(&rt, rt.alloc(), AT_THE_ENTRY)
+fn a_call_meets_what_was_put_at_the_entry(rt: HostRuntime) -> Result<(), Trouble> {
+    comes_out(rt.alloc(), AT_THE_ENTRY)
 }
 
 // HLT at 0000H: a return to the system stops there.
@@ -138,7 +137,7 @@ const AT_THE_START: &Trial<'_> = &Trial {
         program: &[0x3e, 0x76, 0x32, 0x00, 0x00, 0xc9],
         ..EMPTY
     },
-    wanted: Ended {
+    wanted: Wanted {
         cause: Cause::Halt,
         steps: 3,
         regs: Regs {
@@ -153,13 +152,13 @@ const AT_THE_START: &Trial<'_> = &Trial {
 };
 
 #[test]
-fn a_return_meets_what_was_put_at_the_start(rt: HostRuntime) -> Result<(), Fail> {
-    comes_out(&rt, rt.alloc(), AT_THE_START)
+fn a_return_meets_what_was_put_at_the_start(rt: HostRuntime) -> Result<(), Trouble> {
+    comes_out(rt.alloc(), AT_THE_START)
 }
 
 // The address of the jump at 0005H becomes another one of the system's area: LXI H, SHLD 0006H, CALL 5.
 #[test]
-fn a_call_through_another_address_stops_there(rt: HostRuntime) -> Result<(), Fail> {
+fn a_call_through_another_address_stops_there(rt: HostRuntime) -> Result<(), Trouble> {
     for (low, high, pc, cause) in [
         (0x00, 0xfe, 0xfe00, Cause::SystemArea(0xfe00)),
         (0x05, 0xfe, 0xfe05, Cause::SystemArea(0xfe05)),
@@ -178,20 +177,22 @@ fn a_call_through_another_address_stops_there(rt: HostRuntime) -> Result<(), Fai
             pc,
             ..LOADED
         };
-        let wanted = Ended {
+        let wanted = Wanted {
             cause,
             steps: 4,
             regs,
             text: b"",
         };
-        ends(&rt, rt.alloc(), alone(&program), wanted, &[])?;
+        ends(rt.alloc(), alone(&program), wanted, &[])?;
     }
     Ok(())
 }
 
 // An instruction is put at 0FDFFH, whose other bytes are the first of the system's area: MVI A, STA 0FDFFH, JMP 0FDFFH.
 #[test]
-fn an_instruction_lies_across_the_end_of_memory_for_programs(rt: HostRuntime) -> Result<(), Fail> {
+fn an_instruction_lies_across_the_end_of_memory_for_programs(
+    rt: HostRuntime,
+) -> Result<(), Trouble> {
     let area = Cause::SystemArea(0xfe01);
     for (opcode, a, sp, pc, steps, cause) in [
         // JMP 0, and MVI A,0, and CALL 0, which leaves 0FE02H on the stack
@@ -206,13 +207,13 @@ fn an_instruction_lies_across_the_end_of_memory_for_programs(rt: HostRuntime) ->
             pc,
             ..LOADED
         };
-        let wanted = Ended {
+        let wanted = Wanted {
             cause,
             steps,
             regs,
             text: b"",
         };
-        ends(&rt, rt.alloc(), alone(&program), wanted, &[])?;
+        ends(rt.alloc(), alone(&program), wanted, &[])?;
     }
     Ok(())
 }

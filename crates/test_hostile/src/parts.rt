@@ -1,12 +1,9 @@
 // Programs that are put together of parts, where page zero is written over and each call goes to the system's entry itself.
 
-use crate::acts::{Ended, Given, LOADED, alone};
 use crate::ends::ends;
-use crate::left::Left;
 use machine::{Cause, Regs};
 use std::alloc::{AllocError, Global};
-use std::process::Abort;
-use std::test::Fail;
+use test_sessions::{Given, LOADED, Left, Trouble, Wanted, alone};
 
 /// A part of a program.
 #[derive(Clone, Copy)]
@@ -78,7 +75,7 @@ fn after(regs: Regs, part: Part<'_>, value: u8) -> Regs {
 }
 
 // Runs a program of parts and a HLT at its end, and compares how it ends.
-fn halts(rt: &impl Abort, alloc: Global, row: Row<'_>) -> Result<(), Fail> {
+fn halts(alloc: Global, row: Row<'_>) -> Result<(), Trouble> {
     let mut program = Vec::new(alloc);
     let mut regs = LOADED;
     let mut steps = 0u64;
@@ -88,25 +85,25 @@ fn halts(rt: &impl Abort, alloc: Global, row: Row<'_>) -> Result<(), Fail> {
         steps = steps.wrapping_add(steps_of(*part));
     }
     regs.pc = ((program.len() % 0x8000) as u16).wrapping_add(0x0100);
-    program.push(0x76)?;
+    program.extend_from_slice(&[0x76])?;
     let given = Given {
         hosts: row.hosts,
         script: row.script,
         ..alone(program.as_slice())
     };
-    let wanted = Ended {
+    let wanted = Wanted {
         cause: Cause::Halt,
         steps,
         regs,
         text: row.text,
     };
-    ends(rt, alloc, given, wanted, row.left)
+    ends(alloc, given, wanted, row.left)
 }
 
 /// Runs the program of each row with a HLT at its end, and compares how it ends.
-pub fn all_halt(rt: &impl Abort, alloc: Global, rows: &[Row<'_>]) -> Result<(), Fail> {
+pub fn all_halt(alloc: Global, rows: &[Row<'_>]) -> Result<(), Trouble> {
     for row in rows {
-        halts(rt, alloc, *row)?;
+        halts(alloc, *row)?;
     }
     Ok(())
 }

@@ -1,12 +1,11 @@
 // Programs that write over themselves, or over what a call is given while it is in use.
 
-use crate::acts::Act::{Edit, Run};
-use crate::acts::Change::{Poke, SetFile};
-use crate::acts::{Act, EMPTY, Ended, Given, LOADED, alone, play};
 use crate::ends::{Trial, comes_out, ends};
-use crate::left::Left::{Cells, Changed, Filled};
 use machine::{Cause, Regs};
-use std::test::Fail;
+use test_sessions::Act::{Edit, Run};
+use test_sessions::Change::{Poke, SetFile};
+use test_sessions::Left::{Cells, Changed, Filled};
+use test_sessions::{Case, EMPTY, Given, LOADED, Trouble, Wanted, alone, play};
 
 // HLT is stored over a NOP. What stood there in the program is never looked at.
 const STORES_HALT: Given<'_> = Given {
@@ -14,7 +13,7 @@ const STORES_HALT: Given<'_> = Given {
     ..EMPTY
 };
 
-const HALTED: Ended<'_> = Ended {
+const HALTED: Wanted<'_> = Wanted {
     cause: Cause::Halt,
     steps: 3,
     regs: Regs {
@@ -32,15 +31,18 @@ const WROTE: &Trial<'_> = &Trial {
 };
 
 #[test]
-fn a_byte_that_the_program_wrote_is_carried_out(rt: HostRuntime) -> Result<(), Fail> {
-    comes_out(&rt, rt.alloc(), WROTE)
+fn a_byte_that_the_program_wrote_is_carried_out(rt: HostRuntime) -> Result<(), Trouble> {
+    comes_out(rt.alloc(), WROTE)
 }
 
-const OUTLASTING: &[Act<'_>] = &[Run(3, HALTED), Edit(Poke(0x0106, &[0xc9])), Run(0, HALTED)];
+const OUTLASTING: &Case<'_> = &Case {
+    given: STORES_HALT,
+    acts: &[Run(3, HALTED), Edit(Poke(0x0106, &[0xc9])), Run(0, HALTED)],
+};
 
 #[test]
-fn a_byte_that_the_program_wrote_outlasts_an_edit(rt: HostRuntime) -> Result<(), Fail> {
-    play(&rt, rt.alloc(), STORES_HALT, OUTLASTING)
+fn a_byte_that_the_program_wrote_outlasts_an_edit(rt: HostRuntime) -> Result<(), Trouble> {
+    play(rt.alloc(), 0, OUTLASTING)
 }
 
 // With the stack at its end, CALL 5 at 0103H writes its return address, 0106H, over its own first bytes: MVI B,1. The jump after
@@ -54,7 +56,7 @@ const OVER_ITSELF: &Trial<'_> = &Trial {
         limit: 12,
         ..EMPTY
     },
-    wanted: Ended {
+    wanted: Wanted {
         cause: Cause::Limit,
         steps: 12,
         regs: Regs {
@@ -72,8 +74,8 @@ const OVER_ITSELF: &Trial<'_> = &Trial {
 };
 
 #[test]
-fn a_call_writes_over_its_own_instruction(rt: HostRuntime) -> Result<(), Fail> {
-    comes_out(&rt, rt.alloc(), OVER_ITSELF)
+fn a_call_writes_over_its_own_instruction(rt: HostRuntime) -> Result<(), Trouble> {
+    comes_out(rt.alloc(), OVER_ITSELF)
 }
 
 // The stack lies where the call goes back to, so that the low byte of its return address is carried out: 08H.
@@ -82,7 +84,7 @@ const RETURN_ADDRESS: &Trial<'_> = &Trial {
         program: &[0x0e, 0x0c, 0x31, 0x0a, 0x01, 0xcd, 0x05, 0x00, 0x76],
         ..EMPTY
     },
-    wanted: Ended {
+    wanted: Wanted {
         cause: Cause::Undefined(0x08),
         steps: 5,
         regs: Regs {
@@ -99,8 +101,8 @@ const RETURN_ADDRESS: &Trial<'_> = &Trial {
 };
 
 #[test]
-fn a_return_address_is_carried_out(rt: HostRuntime) -> Result<(), Fail> {
-    comes_out(&rt, rt.alloc(), RETURN_ADDRESS)
+fn a_return_address_is_carried_out(rt: HostRuntime) -> Result<(), Trouble> {
+    comes_out(rt.alloc(), RETURN_ADDRESS)
 }
 
 // The line is stored from the middle of CALL 5 on, whose first byte is its capacity; its second byte, HLT, is where the call goes
@@ -111,7 +113,7 @@ const TYPED: &Trial<'_> = &Trial {
         script: b"Av\r",
         ..EMPTY
     },
-    wanted: Ended {
+    wanted: Wanted {
         cause: Cause::Halt,
         steps: 5,
         regs: Regs {
@@ -127,8 +129,8 @@ const TYPED: &Trial<'_> = &Trial {
 };
 
 #[test]
-fn a_typed_line_is_carried_out(rt: HostRuntime) -> Result<(), Fail> {
-    comes_out(&rt, rt.alloc(), TYPED)
+fn a_typed_line_is_carried_out(rt: HostRuntime) -> Result<(), Trouble> {
+    comes_out(rt.alloc(), TYPED)
 }
 
 // Sets the buffer to the program's beginning, opens the file of the tail and reads its first record.
@@ -148,7 +150,7 @@ const FIRST_LOADED: &[u8] = b"\0\0\0\0\0\0\0\0\0\0\0\0\0\0\0\0\0\0\0\0\0\x3e\x5a
 const THEN_LOADED: &[u8] = b"\0\0\0\0\0\0\0\0\0\0\0\0\0\0\0\0\0\0\0\0\0\x76";
 
 // How a run ends that comes to the HLT of the one record or of the other.
-const FIRST_ENDED: Ended<'_> = Ended {
+const FIRST_ENDED: Wanted<'_> = Wanted {
     cause: Cause::Halt,
     steps: 15,
     regs: Regs {
@@ -161,7 +163,7 @@ const FIRST_ENDED: Ended<'_> = Ended {
     text: b"",
 };
 
-const THEN_ENDED: Ended<'_> = Ended {
+const THEN_ENDED: Wanted<'_> = Wanted {
     cause: Cause::Halt,
     steps: 14,
     regs: Regs {
@@ -176,24 +178,31 @@ const THEN_ENDED: Ended<'_> = Ended {
 const LOADED_RECORD: &Trial<'_> = &Trial {
     given: LOADS,
     wanted: FIRST_ENDED,
-    left: &[Filled(0x0100, 21, 0), Filled(0x0118, 104, 0x1a), Changed(0)],
+    left: &[
+        Filled(0x0100, 21, 0),
+        Filled(0x0118, 104, 0x1a),
+        Changed(&[]),
+    ],
 };
 
 #[test]
-fn a_record_is_loaded_over_the_program(rt: HostRuntime) -> Result<(), Fail> {
-    comes_out(&rt, rt.alloc(), LOADED_RECORD)
+fn a_record_is_loaded_over_the_program(rt: HostRuntime) -> Result<(), Trouble> {
+    comes_out(rt.alloc(), LOADED_RECORD)
 }
 
 // The record is looked at in the step after 13: the run goes on from the checkpoint at 12.
-const LOADED_ANEW: &[Act<'_>] = &[
-    Run(15, FIRST_ENDED),
-    Edit(SetFile("a", THEN_LOADED)),
-    Run(2, THEN_ENDED),
-];
+const LOADED_ANEW: &Case<'_> = &Case {
+    given: LOADS,
+    acts: &[
+        Run(15, FIRST_ENDED),
+        Edit(SetFile("a", THEN_LOADED)),
+        Run(2, THEN_ENDED),
+    ],
+};
 
 #[test]
-fn another_program_is_loaded_after_an_edit_of_the_file(rt: HostRuntime) -> Result<(), Fail> {
-    play(&rt, rt.alloc(), LOADS, LOADED_ANEW)
+fn another_program_is_loaded_after_an_edit_of_the_file(rt: HostRuntime) -> Result<(), Trouble> {
+    play(rt.alloc(), 0, LOADED_ANEW)
 }
 
 // A record whose last two bytes lie on the stack then: 126 letters x, and the word 0005H.
@@ -211,7 +220,7 @@ const OVER_THE_STACK: &Trial<'_> = &Trial {
         hosts: &[("a", STACK)],
         ..EMPTY
     },
-    wanted: Ended {
+    wanted: Wanted {
         cause: Cause::WarmBoot,
         steps: 18,
         regs: Regs {
@@ -233,8 +242,8 @@ const OVER_THE_STACK: &Trial<'_> = &Trial {
 };
 
 #[test]
-fn a_record_is_read_over_the_stack(rt: HostRuntime) -> Result<(), Fail> {
-    comes_out(&rt, rt.alloc(), OVER_THE_STACK)
+fn a_record_is_read_over_the_stack(rt: HostRuntime) -> Result<(), Trouble> {
+    comes_out(rt.alloc(), OVER_THE_STACK)
 }
 
 // The buffer lies over the control block: the record is written there first, and then the place. The next call finds the drive 41H.
@@ -248,7 +257,7 @@ const OVER_ITS_BLOCK: &Trial<'_> = &Trial {
         hosts: &[("a", &[b'A'; 128])],
         ..EMPTY
     },
-    wanted: Ended {
+    wanted: Wanted {
         cause: Cause::BadDrive(0x41),
         steps: 15,
         regs: Regs {
@@ -271,8 +280,8 @@ const OVER_ITS_BLOCK: &Trial<'_> = &Trial {
 };
 
 #[test]
-fn a_record_is_read_over_its_control_block(rt: HostRuntime) -> Result<(), Fail> {
-    comes_out(&rt, rt.alloc(), OVER_ITS_BLOCK)
+fn a_record_is_read_over_its_control_block(rt: HostRuntime) -> Result<(), Trouble> {
+    comes_out(rt.alloc(), OVER_ITS_BLOCK)
 }
 
 // The entry found is put over the pattern, and the search goes on by the pattern as it was.
@@ -286,7 +295,7 @@ const OVER_ITS_PATTERN: &Trial<'_> = &Trial {
         hosts: &[("a", b"1"), ("b", b"2")],
         ..EMPTY
     },
-    wanted: Ended {
+    wanted: Wanted {
         cause: Cause::Halt,
         steps: 13,
         regs: Regs {
@@ -305,14 +314,14 @@ const OVER_ITS_PATTERN: &Trial<'_> = &Trial {
 };
 
 #[test]
-fn an_entry_is_put_over_its_pattern(rt: HostRuntime) -> Result<(), Fail> {
-    comes_out(&rt, rt.alloc(), OVER_ITS_PATTERN)
+fn an_entry_is_put_over_its_pattern(rt: HostRuntime) -> Result<(), Trouble> {
+    comes_out(rt.alloc(), OVER_ITS_PATTERN)
 }
 
 // The return address, 0108H, is pushed into the control block of call 15: its low byte is no drive, and its high byte is drive A,
 // where no file has the name of eleven zeros.
 #[test]
-fn a_return_address_lies_in_a_control_block(rt: HostRuntime) -> Result<(), Fail> {
+fn a_return_address_lies_in_a_control_block(rt: HostRuntime) -> Result<(), Trouble> {
     let bad = Cause::BadDrive(8);
     for (low, a, sp, pc, cause, steps) in [
         (0xfc, 0x00, 0xfdfc, 0xfe06, bad, 4),
@@ -329,13 +338,13 @@ fn a_return_address_lies_in_a_control_block(rt: HostRuntime) -> Result<(), Fail>
             pc,
             ..LOADED
         };
-        let wanted = Ended {
+        let wanted = Wanted {
             cause,
             steps,
             regs,
             text: b"",
         };
-        ends(&rt, rt.alloc(), alone(&program), wanted, &[])?;
+        ends(rt.alloc(), alone(&program), wanted, &[])?;
     }
     Ok(())
 }

@@ -1,10 +1,9 @@
 // Stacks across the end of memory, in the system's area, and over the program.
 
-use crate::acts::{EMPTY, Ended, Given, LOADED};
 use crate::ends::{Trial, comes_out};
-use crate::left::Left::{Cells, Filled};
 use machine::{Cause, Regs};
-use std::test::Fail;
+use test_sessions::Left::{Cells, Filled};
+use test_sessions::{EMPTY, Given, LOADED, Trouble, Wanted};
 
 // PUSH B at 0001H writes 0000H and 0FFFFH; the return goes to the address 0FF03H that stands in 0001H and 0002H.
 const ACROSS_THE_END: &Trial<'_> = &Trial {
@@ -12,7 +11,7 @@ const ACROSS_THE_END: &Trial<'_> = &Trial {
         program: &[0x31, 0x01, 0x00, 0x01, 0x34, 0x12, 0xc5, 0xc1, 0xc9],
         ..EMPTY
     },
-    wanted: Ended {
+    wanted: Wanted {
         cause: Cause::WarmBoot,
         steps: 5,
         regs: Regs {
@@ -28,8 +27,8 @@ const ACROSS_THE_END: &Trial<'_> = &Trial {
 };
 
 #[test]
-fn a_stack_lies_across_the_end_of_memory(rt: HostRuntime) -> Result<(), Fail> {
-    comes_out(&rt, rt.alloc(), ACROSS_THE_END)
+fn a_stack_lies_across_the_end_of_memory(rt: HostRuntime) -> Result<(), Trouble> {
+    comes_out(rt.alloc(), ACROSS_THE_END)
 }
 
 // XTHL with SP at 0FFFFH.
@@ -38,7 +37,7 @@ const EXCHANGED: &Trial<'_> = &Trial {
         program: &[0x31, 0xff, 0xff, 0x21, 0x34, 0x12, 0xe3, 0x76],
         ..EMPTY
     },
-    wanted: Ended {
+    wanted: Wanted {
         cause: Cause::Halt,
         steps: 3,
         regs: Regs {
@@ -54,8 +53,8 @@ const EXCHANGED: &Trial<'_> = &Trial {
 };
 
 #[test]
-fn a_word_is_exchanged_across_the_end_of_memory(rt: HostRuntime) -> Result<(), Fail> {
-    comes_out(&rt, rt.alloc(), EXCHANGED)
+fn a_word_is_exchanged_across_the_end_of_memory(rt: HostRuntime) -> Result<(), Trouble> {
+    comes_out(rt.alloc(), EXCHANGED)
 }
 
 // SHLD at 0FFFFH, and LHLD at 0FFFEH.
@@ -64,7 +63,7 @@ const STORED: &Trial<'_> = &Trial {
         program: &[0x21, 0x34, 0x12, 0x22, 0xff, 0xff, 0x2a, 0xfe, 0xff, 0x76],
         ..EMPTY
     },
-    wanted: Ended {
+    wanted: Wanted {
         cause: Cause::Halt,
         steps: 3,
         regs: Regs {
@@ -79,8 +78,8 @@ const STORED: &Trial<'_> = &Trial {
 };
 
 #[test]
-fn a_word_is_stored_across_the_end_of_memory(rt: HostRuntime) -> Result<(), Fail> {
-    comes_out(&rt, rt.alloc(), STORED)
+fn a_word_is_stored_across_the_end_of_memory(rt: HostRuntime) -> Result<(), Trouble> {
+    comes_out(rt.alloc(), STORED)
 }
 
 // 7676H is pushed over the address of the entry, and a call keeps its return address below it. The entry is an address and no code.
@@ -91,7 +90,7 @@ const IN_THE_AREA: &Trial<'_> = &Trial {
         ],
         ..EMPTY
     },
-    wanted: Ended {
+    wanted: Wanted {
         cause: Cause::Halt,
         steps: 7,
         regs: Regs {
@@ -108,8 +107,8 @@ const IN_THE_AREA: &Trial<'_> = &Trial {
 };
 
 #[test]
-fn a_stack_in_the_area_of_the_system_stops_no_call(rt: HostRuntime) -> Result<(), Fail> {
-    comes_out(&rt, rt.alloc(), IN_THE_AREA)
+fn a_stack_in_the_area_of_the_system_stops_no_call(rt: HostRuntime) -> Result<(), Trouble> {
+    comes_out(rt.alloc(), IN_THE_AREA)
 }
 
 // The address of the entry is pushed, and RET goes there: call 2 prints, and goes back to 0000H.
@@ -118,7 +117,7 @@ const RETURN_TO_THE_ENTRY: &Trial<'_> = &Trial {
         program: &[0x21, 0x06, 0xfe, 0xe5, 0x0e, 0x02, 0x1e, 0x41, 0xc9],
         ..EMPTY
     },
-    wanted: Ended {
+    wanted: Wanted {
         cause: Cause::WarmBoot,
         steps: 7,
         regs: Regs {
@@ -134,8 +133,8 @@ const RETURN_TO_THE_ENTRY: &Trial<'_> = &Trial {
 };
 
 #[test]
-fn a_return_to_the_entry_is_a_call(rt: HostRuntime) -> Result<(), Fail> {
-    comes_out(&rt, rt.alloc(), RETURN_TO_THE_ENTRY)
+fn a_return_to_the_entry_is_a_call(rt: HostRuntime) -> Result<(), Trouble> {
+    comes_out(rt.alloc(), RETURN_TO_THE_ENTRY)
 }
 
 // PCHL goes to the warm start with nothing popped.
@@ -144,7 +143,7 @@ const JUMP_TO_THE_START: &Trial<'_> = &Trial {
         program: &[0x21, 0x03, 0xff, 0xe9],
         ..EMPTY
     },
-    wanted: Ended {
+    wanted: Wanted {
         cause: Cause::WarmBoot,
         steps: 2,
         regs: Regs {
@@ -159,8 +158,8 @@ const JUMP_TO_THE_START: &Trial<'_> = &Trial {
 };
 
 #[test]
-fn a_jump_to_the_warm_start_ends_the_run(rt: HostRuntime) -> Result<(), Fail> {
-    comes_out(&rt, rt.alloc(), JUMP_TO_THE_START)
+fn a_jump_to_the_warm_start_ends_the_run(rt: HostRuntime) -> Result<(), Trouble> {
+    comes_out(rt.alloc(), JUMP_TO_THE_START)
 }
 
 // PUSH B and JMP 0100H: the 32,382nd zero word falls on the address of the jump, which then goes to 0000H.
@@ -169,7 +168,7 @@ const DOWN_TO_THE_PROGRAM: &Trial<'_> = &Trial {
         program: &[0xc5, 0xc3, 0x00, 0x01],
         ..EMPTY
     },
-    wanted: Ended {
+    wanted: Wanted {
         cause: Cause::WarmBoot,
         steps: 64_765,
         regs: Regs {
@@ -183,8 +182,8 @@ const DOWN_TO_THE_PROGRAM: &Trial<'_> = &Trial {
 };
 
 #[test]
-fn a_stack_grows_down_to_the_program(rt: HostRuntime) -> Result<(), Fail> {
-    comes_out(&rt, rt.alloc(), DOWN_TO_THE_PROGRAM)
+fn a_stack_grows_down_to_the_program(rt: HostRuntime) -> Result<(), Trouble> {
+    comes_out(rt.alloc(), DOWN_TO_THE_PROGRAM)
 }
 
 // RST 7 is put at 0038H, where it goes to itself, and fills memory from the top down to 0038H with the words 0039H. These are
@@ -194,7 +193,7 @@ const RESTART: &Trial<'_> = &Trial {
         program: &[0x3e, 0xff, 0x32, 0x38, 0x00, 0xff],
         ..EMPTY
     },
-    wanted: Ended {
+    wanted: Wanted {
         cause: Cause::SystemArea(0xfe00),
         steps: 97_452,
         regs: Regs {
@@ -217,6 +216,6 @@ const RESTART: &Trial<'_> = &Trial {
 };
 
 #[test]
-fn a_restart_that_calls_itself_fills_memory(rt: HostRuntime) -> Result<(), Fail> {
-    comes_out(&rt, rt.alloc(), RESTART)
+fn a_restart_that_calls_itself_fills_memory(rt: HostRuntime) -> Result<(), Trouble> {
+    comes_out(rt.alloc(), RESTART)
 }

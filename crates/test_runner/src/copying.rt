@@ -1,11 +1,12 @@
 // A program that reads the longest file to its end, and is run again after its last byte was changed.
 
-use crate::playing::{name_of, runner_of};
+use crate::standing::SLOTS;
 use crate::trouble::Trouble;
 use machine::{Bytes, Cause, HostFiles, Meter, Session};
-use replay::{Edit, Runner};
+use replay::{Edit, Options, Runner};
 use std::alloc::{AllocError, Global};
 use std::time::{CpuClock, Duration};
+use test_sessions::{Difference, name_of, runner_of};
 
 // Opens the file of the tail and reads records until call 20 gives another value than 0.
 const READS: &[u8] = b"\x0e\x0f\x11\x5c\x00\xcd\x05\x00\x0e\x14\xcd\x05\x00\xb7\xca\x0a\x01\xc9";
@@ -17,7 +18,10 @@ const LENGTH: usize = 8_388_608;
 const STEPS: u64 = 6 + 5 * 65_537 + 2;
 
 /// The last step of a checkpoint before the last record is read, and after which steps the others stand.
-const SPACING: u64 = 10_000;
+const OPTIONS: Options = Options {
+    spacing: 10_000,
+    slots: SLOTS,
+};
 
 const LAST_USABLE: u64 = 320_000;
 
@@ -38,7 +42,7 @@ fn begin(alloc: Global) -> Result<Runner, Trouble> {
     let program = READS.to_vec(alloc)?;
     let tail = b"big".to_vec(alloc)?;
     match Session::new(program, tail, hosts, Vec::new(alloc), 1_000_000) {
-        Ok(session) => runner_of(alloc, session, SPACING),
+        Ok(session) => Ok(runner_of(alloc, session, OPTIONS)?),
         Err(_) => Err(Trouble::Refused),
     }
 }
@@ -48,13 +52,13 @@ fn run(runner: &mut Runner, added: u64, last: u8) -> Result<(), Trouble> {
     let mut meter = Meter::new();
     let report = runner.rerun(&mut meter)?;
     if report.cause() != Cause::WarmBoot || report.steps() != STEPS {
-        return Err(Trouble::OtherCause);
+        return Err(Trouble::Differs(Difference::Cause));
     }
     if report.regs().a != 1 || report.cell(0x00ff) != last {
-        return Err(Trouble::OtherLeft);
+        return Err(Trouble::Differs(Difference::Left));
     }
     if meter.count() != added {
-        return Err(Trouble::OtherCount);
+        return Err(Trouble::Differs(Difference::Count));
     }
     Ok(())
 }

@@ -1,18 +1,18 @@
 //! Runs sessions over `Runner`, each named by a word, and compares every answer with what is wanted. Where memory is refused, what
 //! stood must stand, and the call is made again.
+//!
+//! - `sessions`: the sessions by their words
+//! - `playing`: a session carried out, with each call made again where memory is refused
+//! - `standing`, `trouble`: what stands in a runner; why a session is given up
+//! - `programs`, `copying`: sessions of programs in files; the longest file, read to its end, changed and read again
 #![tactic(auto)]
 
-mod acts;
-mod comparing;
 mod copying;
-mod filed;
 mod playing;
 mod programs;
-mod rows;
-mod runs;
+mod sessions;
 mod standing;
 mod trouble;
-mod typed;
 
 use std::alloc::Global;
 use std::process::ExitCode;
@@ -35,15 +35,15 @@ fn words_in_memory<R: Env + Print + AllocGlobal>(rt: &R) -> Result<Vec<String>, 
     Ok(words_of(rt)?)
 }
 
-// `list` prints the words of the rows, `copy` measures, and another word is a row.
+// `list` prints the words of the sessions, `copy` measures, and another word is that of a session.
 fn answer_word(rt: &(impl Print + CpuClock), alloc: Global, word: &str) -> Result<(), Trouble> {
     if word == "list" {
-        return rows::list(rt);
+        return sessions::list(rt);
     }
     if word == "copy" {
         return copying::copy(rt, alloc);
     }
-    rows::carry_out(rt, alloc, word)
+    sessions::carry_out(rt, alloc, word)
 }
 
 // `program` has the words of a session behind it.

@@ -1,108 +1,35 @@
 // Sessions that are carried out act by act. Where memory is refused, what stood must stand, and the call is made again.
 
-use crate::acts::{Act, Given};
-use crate::comparing::difference;
-use crate::standing::{SLOTS, Standing, keeps, rises};
+use crate::standing::{Standing, rises};
 use crate::trouble::Trouble;
-use machine::{Bytes, HostFiles, Meter, Name, Session};
-use replay::{Edit, EditError, Options, OptionsError, Runner};
-use std::alloc::{AllocError, Global};
-
-fn bytes_of(alloc: Global, bytes: &[u8]) -> Result<Bytes, AllocError> {
-    Ok(Bytes::new(bytes.to_vec(alloc)?))
-}
-
-/// A name that is known to be one.
-pub fn name_of(text: &str) -> Result<Name, Trouble> {
-    match Name::parse(text) {
-        Ok(name) => Ok(name),
-        Err(_) => Err(Trouble::Refused),
-    }
-}
-
-// A host file is set, or memory is refused and it is not there.
-fn set(hosts: &mut HostFiles, name: &str, bytes: &[u8]) -> Result<(), Trouble> {
-    let name = name_of(name)?;
-    if hosts.set(name, bytes).is_ok() {
-        return Ok(());
-    }
-    match hosts.records(&name) {
-        Some(_) => Err(Trouble::RefusedFileThere),
-        None => Err(Trouble::OutOfMemory),
-    }
-}
-
-fn hosts_of(alloc: Global, files: &[(&str, &[u8])]) -> Result<HostFiles, Trouble> {
-    let mut hosts = HostFiles::new(alloc);
-    for (name, bytes) in files {
-        set(&mut hosts, name, bytes)?;
-    }
-    Ok(hosts)
-}
-
-fn session_of(alloc: Global, given: Given<'_>) -> Result<Session, Trouble> {
-    let hosts = hosts_of(alloc, given.hosts)?;
-    let program = given.program.to_vec(alloc)?;
-    let tail = given.tail.to_vec(alloc)?;
-    let script = given.script.to_vec(alloc)?;
-    match Session::new(program, tail, hosts, script, given.limit) {
-        Ok(session) => Ok(session),
-        Err(_) => Err(Trouble::Refused),
-    }
-}
-
-/// A runner of a session.
-pub fn runner_of(alloc: Global, session: Session, spacing: u64) -> Result<Runner, Trouble> {
-    let options = Options {
-        spacing,
-        slots: SLOTS,
-    };
-    match Runner::new(alloc, session, options) {
-        Ok(runner) => Ok(runner),
-        Err(OptionsError::OutOfMemory) => Err(Trouble::OutOfMemory),
-        Err(_) => Err(Trouble::Refused),
-    }
-}
-
-fn make(alloc: Global, given: Given<'_>) -> Result<Runner, Trouble> {
-    runner_of(alloc, session_of(alloc, given)?, given.spacing)
-}
+use replay::{EditError, Runner};
+use std::alloc::Global;
+use test_sessions::{
+    Act, Case, Change, Difference, Given, added_by, compare, edit_of, make, run_once,
+};
 
 // A runner of a session, made again where memory is refused.
-fn begin(rt: &impl Print, alloc: Global, given: Given<'_>) -> Result<Runner, Trouble> {
+fn begin(rt: &impl Print, alloc: Global, given: &Given<'_>) -> Result<Runner, Trouble> {
     match make(alloc, given) {
-        Err(Trouble::OutOfMemory) => println!(rt; "session: out of memory")?,
-        answer => return answer,
+        Err(test_sessions::Trouble::OutOfMemory) => println!(rt; "session: out of memory")?,
+        answer => return Ok(answer?),
     }
-    make(alloc, given)
-}
-
-// The edit of an act, if it is one.
-fn edit_of(alloc: Global, act: Act<'_>) -> Result<Option<Edit>, Trouble> {
-    Ok(Some(match act {
-        Act::Insert(at, bytes) => Edit::Insert(at, bytes_of(alloc, bytes)?),
-        Act::Replace(at, bytes) => Edit::Replace(at, bytes_of(alloc, bytes)?),
-        Act::Remove(at, count) => Edit::Remove(at, count),
-        Act::Poke(at, bytes) => Edit::Poke(at, bytes_of(alloc, bytes)?),
-        Act::SetFile(name, bytes) => Edit::SetFile(name_of(name)?, bytes_of(alloc, bytes)?),
-        Act::RemoveFile(name) => Edit::RemoveFile(name_of(name)?),
-        Act::Limit(limit) => Edit::SetLimit(limit),
-        _ => return Ok(None),
-    }))
+    Ok(make(alloc, given)?)
 }
 
 // Only insertions and files that are set may want memory.
-fn takes_memory(act: Act<'_>) -> bool {
-    matches!(act, Act::Insert(_, _) | Act::SetFile(_, _))
+fn takes_memory(change: Change<'_>) -> bool {
+    matches!(change, Change::Insert(_, _) | Change::SetFile(_, _))
 }
 
 // Makes an edit. Where memory is refused, session and checkpoints must be as before.
-fn edit_once(runner: &mut Runner, edit: Edit, takes_memory: bool) -> Result<(), Trouble> {
+fn edit_once(alloc: Global, runner: &mut Runner, change: Change<'_>) -> Result<(), Trouble> {
+    let edit = edit_of(alloc, change)?;
     let before = Standing::of(runner);
     match runner.edit(edit) {
         Ok(()) => Ok(()),
         Err(EditError::OutOfMemory) => {
-            if !takes_memory {
+            if !takes_memory(change) {
                 return Err(Trouble::EditWantsMemory);
             }
             if !before.is_same(runner) {
@@ -110,69 +37,40 @@ fn edit_once(runner: &mut Runner, edit: Edit, takes_memory: bool) -> Result<(), 
             }
             Err(Trouble::OutOfMemory)
         }
-        Err(_) => Err(Trouble::EditRefused),
+        Err(_) => Err(Trouble::Differs(Difference::Answer)),
     }
 }
 
-// Makes the edit of an act, and gives whether it is one.
-fn try_edit(alloc: Global, runner: &mut Runner, act: Act<'_>) -> Result<bool, Trouble> {
-    match edit_of(alloc, act)? {
-        Some(edit) => {
-            edit_once(runner, edit, takes_memory(act))?;
-            Ok(true)
-        }
-        None => Ok(false),
-    }
-}
-
-// Makes the edit of an act, again where memory is refused.
+// Makes an edit, again where memory is refused.
 fn edit(
     rt: &impl Print,
     alloc: Global,
     runner: &mut Runner,
-    act: Act<'_>,
-) -> Result<bool, Trouble> {
-    match try_edit(alloc, runner, act) {
+    change: Change<'_>,
+) -> Result<(), Trouble> {
+    match edit_once(alloc, runner, change) {
         Err(Trouble::OutOfMemory) => println!(rt; "edit: out of memory")?,
         answer => return answer,
     }
-    try_edit(alloc, runner, act)
+    edit_once(alloc, runner, change)
 }
 
-// Runs a session, compares what it reports, and gives how many steps were carried out.
-fn run_once(runner: &mut Runner, act: Act<'_>) -> Result<u64, Trouble> {
-    let mut meter = Meter::new();
-    let report = runner.rerun(&mut meter)?;
-    match difference(&report, act) {
-        Some(trouble) => Err(trouble),
-        None => Ok(meter.count()),
-    }
-}
-
-// How many steps an act carries out where no memory was refused before.
-fn added_by(act: Act<'_>) -> u64 {
-    match act {
-        Act::Run(added, _, _, _) => added,
-        _ => 0,
-    }
-}
-
-// Runs a session. Where memory is refused, the session must be as before, and each checkpoint must stand that stood.
+// Runs a session. Unless memory was refused to a run before, exactly the wanted steps are carried out. Where memory is refused,
+// the session must be as before, and each checkpoint that stood must stand.
 fn try_run(runner: &mut Runner, act: Act<'_>, is_whole: bool) -> Result<(), Trouble> {
     let before = Standing::of(runner);
-    match run_once(runner, act) {
-        Ok(added) => {
-            if is_whole && added != added_by(act) {
-                return Err(Trouble::OtherCount);
-            }
-            Ok(())
+    let Ok((added, difference)) = run_once(runner, act) else {
+        if before.is_left(runner) {
+            return Err(Trouble::OutOfMemory);
         }
-        Err(trouble) => {
-            if trouble == Trouble::OutOfMemory && !before.is_left(runner) {
-                return Err(Trouble::RunLeftOther);
-            }
-            Err(trouble)
-        }
+        return Err(Trouble::RunLeftOther);
+    };
+    if let Some(difference) = difference {
+        return Err(Trouble::Differs(difference));
+    }
+    match added_by(act) {
+        Some(wanted) if is_whole && added != wanted => Err(Trouble::Differs(Difference::Count)),
+        _ => Ok(()),
     }
 }
 
@@ -192,13 +90,27 @@ fn run(
     Ok(false)
 }
 
+// What is not as it is wanted, where an act is neither a run nor an edit. Where memory was refused to a run, the checkpoints
+// are not those that are wanted, but their steps rise.
+fn stands(runner: &Runner, act: Act<'_>, is_whole: bool) -> Result<(), Trouble> {
+    if !rises(runner) {
+        return Err(Trouble::Differs(Difference::Checkpoints));
+    }
+    match compare(runner, act) {
+        Some(Difference::Checkpoints) if !is_whole => Ok(()),
+        Some(difference) => Err(Trouble::Differs(difference)),
+        None => Ok(()),
+    }
+}
+
 fn tell(rt: &impl Print, act: Act<'_>) -> Result<(), Trouble> {
     match act {
-        Act::Run(_, cause, steps, _) => println!(rt; "run: {cause:?} after {steps} steps")?,
+        Act::Run(_, wanted) => {
+            println!(rt; "run: {:?} after {} steps", wanted.cause, wanted.steps)?;
+        }
         Act::Drop(count) => println!(rt; "drop: {count}")?,
-        Act::Insert(_, _) | Act::SetFile(_, _) => println!(rt; "edit that takes memory: ok")?,
-        Act::Replace(_, _) | Act::Remove(_, _) | Act::Poke(_, _) => println!(rt; "edit: ok")?,
-        Act::RemoveFile(_) | Act::Limit(_) => println!(rt; "edit: ok")?,
+        Act::Edit(change) if takes_memory(change) => println!(rt; "edit that takes memory: ok")?,
+        Act::Edit(_) => println!(rt; "edit: ok")?,
         _ => {}
     }
     Ok(())
@@ -212,23 +124,13 @@ fn carry_out(
     act: Act<'_>,
     was_whole: bool,
 ) -> Result<bool, Trouble> {
-    if let Act::Drop(count) = act {
-        runner.drop_oldest(count);
-        return Ok(was_whole);
+    match act {
+        Act::Run(_, _) | Act::Stop(_) | Act::Leave(_) => return run(rt, runner, act, was_whole),
+        Act::Edit(change) => edit(rt, alloc, runner, change)?,
+        Act::Drop(count) => runner.drop_oldest(count),
+        _ => stands(runner, act, was_whole)?,
     }
-    if edit(rt, alloc, runner, act)? {
-        return Ok(was_whole);
-    }
-    run(rt, runner, act, was_whole)
-}
-
-// Whether the checkpoints are those that are wanted, or at least rise where memory was refused.
-fn compare_kept(runner: &Runner, kept: &[u64], is_whole: bool) -> Result<(), Trouble> {
-    if rises(runner) && (!is_whole || keeps(runner, kept)) {
-        Ok(())
-    } else {
-        Err(Trouble::OtherCheckpoints)
-    }
+    Ok(was_whole)
 }
 
 // Carries out acts, tells their answers, and gives whether no memory was refused to a run.
@@ -236,36 +138,30 @@ fn carry_out_all(
     rt: &impl Print,
     alloc: Global,
     runner: &mut Runner,
-    rows: &[(Act<'_>, &[u64])],
+    acts: &[Act<'_>],
 ) -> Result<bool, Trouble> {
     let mut is_whole = true;
-    for (act, kept) in rows {
+    for act in acts {
         is_whole = carry_out(rt, alloc, runner, *act, is_whole)?;
         tell(rt, *act)?;
-        compare_kept(runner, kept, is_whole)?;
     }
     Ok(is_whole)
-}
-
-/// Carries out the acts of a session, each with the checkpoints that stand then, and tells the answers.
-pub fn play(
-    rt: &impl Print,
-    alloc: Global,
-    given: Given<'_>,
-    rows: &[(Act<'_>, &[u64])],
-) -> Result<(), Trouble> {
-    let mut runner = begin(rt, alloc, given)?;
-    play_on(rt, alloc, &mut runner, rows)
 }
 
 fn play_on(
     rt: &impl Print,
     alloc: Global,
     runner: &mut Runner,
-    rows: &[(Act<'_>, &[u64])],
+    acts: &[Act<'_>],
 ) -> Result<(), Trouble> {
-    if !carry_out_all(rt, alloc, runner, rows)? {
+    if !carry_out_all(rt, alloc, runner, acts)? {
         println!(rt; "checkpoints: out of memory")?;
     }
     Ok(())
+}
+
+/// Carries out the acts of a session, and tells the answers.
+pub fn play(rt: &impl Print, alloc: Global, case: &Case<'_>) -> Result<(), Trouble> {
+    let mut runner = begin(rt, alloc, &case.given)?;
+    play_on(rt, alloc, &mut runner, case.acts)
 }

@@ -1,19 +1,23 @@
 // One session of a program in a file, with its tail, its script and its host files.
 
-use crate::playing::{name_of, runner_of};
+use crate::standing::SLOTS;
 use crate::trouble::Trouble;
 use edit_lines::{Asked, Over, cause_text, write_all, write_changed_files};
 use machine::{HostFiles, Meter, Session};
-use replay::{Edit, Report, Runner};
+use replay::{Edit, Options, Report, Runner};
 use std::alloc::Global;
 use std::rt::Files;
 use std::{fs, io};
+use test_sessions::{Difference, name_of, runner_of};
 
 /// The steps of a run that comes to its end.
 const LIMIT: u64 = 1_000_000;
 
-/// The steps from one checkpoint to the next.
-const SPACING: u64 = 100;
+/// A checkpoint each hundred steps.
+const OPTIONS: Options = Options {
+    spacing: 100,
+    slots: SLOTS,
+};
 
 // The host files of pairs of words: a name, and the path of its bytes.
 fn hosts_of<R: Files + AllocGlobal>(rt: &R, words: &[String]) -> Result<HostFiles, Trouble> {
@@ -55,7 +59,7 @@ fn session_of<R: Files + AllocGlobal>(rt: &R, words: &[String]) -> Result<Sessio
 
 fn steps_of(runner: &mut Runner, limit: u64) -> Result<u64, Trouble> {
     if runner.edit(Edit::SetLimit(limit)).is_err() {
-        return Err(Trouble::EditRefused);
+        return Err(Trouble::Differs(Difference::Answer));
     }
     let mut meter = Meter::new();
     Ok(runner.rerun(&mut meter)?.steps())
@@ -82,7 +86,7 @@ fn tell(rt: &impl Print, alloc: Global, report: &Report<'_>) -> Result<(), Troub
 fn run_in_parts(runner: &mut Runner) -> Result<(), Trouble> {
     let steps = steps_of(runner, LIMIT)?;
     if steps_of(runner, steps / 2)? != steps / 2 || steps_of(runner, LIMIT)? != steps {
-        return Err(Trouble::OtherSteps);
+        return Err(Trouble::Differs(Difference::Steps));
     }
     Ok(())
 }
@@ -98,6 +102,6 @@ pub fn run_program<R: Print + Files + AllocGlobal>(
     rt: &R,
     words: &[String],
 ) -> Result<(), Trouble> {
-    let mut runner = runner_of(rt.alloc(), session_of(rt, words)?, SPACING)?;
+    let mut runner = runner_of(rt.alloc(), session_of(rt, words)?, OPTIONS)?;
     run_and_tell(rt, rt.alloc(), &mut runner)
 }

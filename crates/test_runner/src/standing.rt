@@ -82,16 +82,6 @@ impl Standing {
     }
 }
 
-/// Whether exactly these checkpoints stand.
-pub fn keeps(runner: &Runner, kept: &[u64]) -> bool {
-    for i in 0..kept.len() {
-        if runner.kept(i) != Some(kept[i]) {
-            return false;
-        }
-    }
-    runner.kept(kept.len()).is_none()
-}
-
 /// Whether the steps of the checkpoints rise.
 pub fn rises(runner: &Runner) -> bool {
     let mut last = 0;

@@ -3,6 +3,7 @@
 use std::alloc::AllocError;
 use std::io;
 use std::io::ErrorKind;
+use test_sessions::Difference;
 
 /// Why a session is given up.
 #[derive(Clone, Copy, PartialEq, Eq)]
@@ -17,28 +18,14 @@ pub enum Trouble {
     Refused,
     /// A host file that was refused for want of memory is there.
     RefusedFileThere,
-    /// An edit is refused.
-    EditRefused,
     /// An edit that takes no memory names want of it.
     EditWantsMemory,
-    /// A refused edit left another session or other checkpoints.
+    /// An edit that was refused memory left another session or other checkpoints.
     EditLeftOther,
     /// A run that was refused memory left another session, or lost a checkpoint.
     RunLeftOther,
-    /// A run ended by another cause.
-    OtherCause,
-    /// A run ended after other steps.
-    OtherSteps,
-    /// A run ended with other registers.
-    OtherRegisters,
-    /// A run printed another text.
-    OtherText,
-    /// A run left other cells or files.
-    OtherLeft,
-    /// A run carried out more steps than it should, or fewer.
-    OtherCount,
-    /// Other checkpoints stand.
-    OtherCheckpoints,
+    /// Something is not as it is wanted.
+    Differs(Difference),
 }
 
 impl From<AllocError> for Trouble {
@@ -57,6 +44,32 @@ impl From<io::Error> for Trouble {
     }
 }
 
+impl From<test_sessions::Trouble> for Trouble {
+    fn from(trouble: test_sessions::Trouble) -> Trouble {
+        match trouble {
+            test_sessions::Trouble::OutOfMemory => Trouble::OutOfMemory,
+            test_sessions::Trouble::Refused => Trouble::Refused,
+            test_sessions::Trouble::RefusedFileThere => Trouble::RefusedFileThere,
+            test_sessions::Trouble::Differs(_, _, difference) => Trouble::Differs(difference),
+        }
+    }
+}
+
+// What is told of something that is not as it is wanted.
+fn text_of(difference: Difference) -> &'static str {
+    match difference {
+        Difference::Count => "a run carries out more steps, or fewer",
+        Difference::Cause => "a run ends by another cause",
+        Difference::Steps => "a run ends after other steps",
+        Difference::Registers => "a run ends with other registers",
+        Difference::Text => "a run prints another text",
+        Difference::Left => "a run leaves other cells or files",
+        Difference::Answer => "an edit is answered otherwise",
+        Difference::Checkpoints => "other checkpoints stand",
+        Difference::Session => "it is another session",
+    }
+}
+
 impl Trouble {
     /// What is told of it.
     pub fn text(self) -> &'static str {
@@ -66,17 +79,10 @@ impl Trouble {
             Trouble::Words => "these are no words of this program",
             Trouble::Refused => "a name, a host file, a session or its options are refused",
             Trouble::RefusedFileThere => "a refused host file is there",
-            Trouble::EditRefused => "an edit is refused",
             Trouble::EditWantsMemory => "an edit that takes no memory names want of it",
             Trouble::EditLeftOther => "a refused edit changed something",
             Trouble::RunLeftOther => "a run that was refused memory changed something",
-            Trouble::OtherCause => "a run ends by another cause",
-            Trouble::OtherSteps => "a run ends after other steps",
-            Trouble::OtherRegisters => "a run ends with other registers",
-            Trouble::OtherText => "a run prints another text",
-            Trouble::OtherLeft => "a run leaves other cells or files",
-            Trouble::OtherCount => "a run carries out more steps, or fewer",
-            Trouble::OtherCheckpoints => "other checkpoints stand",
+            Trouble::Differs(difference) => text_of(difference),
         }
     }
 }

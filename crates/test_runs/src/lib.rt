@@ -1,5 +1,11 @@
 //! What the runs of a session come to: programs of a few instructions, the console, the command tail, files and the directory, and
 //! the same after edits. Expected values are worked out by hand from the two manuals and this project's profile of them.
+//!
+//! - `programs`, `console`, `tails`: tests of programs of a few instructions, of programs that read the console, and
+//!   of what a program finds of its command tail
+//! - `sessions`, `refusals`: tests of sessions that are run again, and of sessions that are refused
+//! - `contents`, `directories`, `holes`: tests of sessions that open, read, write, make and rename files; that search
+//!   and delete; that leave holes
 #![tactic(auto)]
 
 #[cfg(test)]

@@ -31,6 +31,6 @@ pub const EMPTY: Given<'_> = Given {
 };
 
 /// A program, and nothing else that is not as in `EMPTY`.
-pub fn alone(program: &[u8]) -> Given<'_> {
+pub const fn alone(program: &[u8]) -> Given<'_> {
     Given { program, ..EMPTY }
 }

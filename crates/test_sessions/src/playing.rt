@@ -8,22 +8,32 @@ use machine::Meter;
 use replay::{EditError, Runner};
 use std::alloc::{AllocError, Global};
 
-// Whether so many steps are not those that an act's run carries out, where that is told.
-fn is_other_count(added: u64, act: Act<'_>) -> bool {
+/// How many steps an act's run carries out, where that is told.
+pub fn added_by(act: Act<'_>) -> Option<u64> {
     match act {
-        Act::Run(wanted, _) => added != wanted,
-        Act::Leave(_) => added != 0,
-        _ => false,
+        Act::Run(wanted, _) => Some(wanted),
+        Act::Leave(_) => Some(0),
+        _ => None,
     }
 }
 
-fn run(runner: &mut Runner, act: Act<'_>) -> Result<Option<Difference>, AllocError> {
+/// Carries out an act's run: how many steps that takes, and what of its report is not as it is wanted, if something is not.
+pub fn run_once(
+    runner: &mut Runner,
+    act: Act<'_>,
+) -> Result<(u64, Option<Difference>), AllocError> {
     let mut meter = Meter::new();
     let report = runner.rerun(&mut meter)?;
-    if is_other_count(meter.count(), act) {
-        return Ok(Some(Difference::Count));
+    Ok((meter.count(), difference(&report, act)))
+}
+
+// Carries out an act's run, and compares also how many steps that takes.
+fn run(runner: &mut Runner, act: Act<'_>) -> Result<Option<Difference>, AllocError> {
+    let (added, difference) = run_once(runner, act)?;
+    match added_by(act) {
+        Some(wanted) if added != wanted => Ok(Some(Difference::Count)),
+        _ => Ok(difference),
     }
-    Ok(difference(&report, act))
 }
 
 // The number of a refusal; 0 where the edit was carried out.
@@ -49,8 +59,8 @@ fn unless(is_as_wanted: bool, difference: Difference) -> Option<Difference> {
     if is_as_wanted { None } else { Some(difference) }
 }
 
-// Compares what stands, where an act is neither a run nor an edit.
-fn compare(runner: &Runner, act: Act<'_>) -> Option<Difference> {
+/// What stands otherwise than an act wants it, if something does, where the act is neither a run nor an edit.
+pub fn compare(runner: &Runner, act: Act<'_>) -> Option<Difference> {
     match act {
         Act::Keep(kept) => unless(keeps(runner, kept), Difference::Checkpoints),
         Act::KeepDue(spacing, last) => unless(

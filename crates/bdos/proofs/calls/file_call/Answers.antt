@@ -1,4 +1,4 @@
-use Rattle.std.proofs.Common.{rules, refl, sym, ◌∙◌}
+use Rattle.std.proofs.Common.{rules, refl, sym, ap, ◌∙◌}
 use Rattle.std.proofs.lemmas.Result.{err_from_is_err_and}
 use Rattle.file_calls.specs.FileCalls.{found}
 use Rattle.bdos.specs.Questions.{asking_files}
@@ -16,4 +16,4 @@ returns-in_err-finding-clause-serves g c script =
     let e = err_from_is_err_and c.from_residual.result c.from_residual.ensures.1 in
     let h = c.in_err-finding.ensures.asks in
     rw e.1 (heads _ _ c.args.desk.now.desk.spot (λ b to. asking_files (found c.args.function b) (λ x. carried_on x c.args.regs.now c.args.desk.now.desk.spot to)) c.has_random_place.ensures c.word_of-at.ensures c.drive.ensures c.fetch-dr.ensures (search rules) c.fetch_block-block.ensures c.fetch_word-to.ensures
-    (fails_asking (found c.args.function c.fetch_block-block.result) (λ x. carried_on x c.args.regs.now c.args.desk.now.desk.spot c.fetch_word-to.result) refl refl refl h.own h.extends h.bound h.host h.lender (λ j. refl)))
+    (fails_asking (found c.args.function c.fetch_block-block.result) (λ x. carried_on x c.args.regs.now c.args.desk.now.desk.spot c.fetch_word-to.result) refl refl refl (ap (λ j. j.entries) h.stays) h.extends h.bound refl refl (λ j. refl)))

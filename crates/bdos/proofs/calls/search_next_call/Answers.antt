@@ -8,7 +8,7 @@ use Rattle.bdos.proofs.calls.search_next_call.Goals as goal
 
 pub returns-clause-serves : goal.returns-clause-serves
 returns-clause-serves g c script =
-    after_read _ (λ to. asking_files (search_next c.args.desk.now.desk.spot.search) (λ x. carried_on x c.args.regs.now c.args.desk.now.desk.spot to)) _ c.fetch_word-to.ensures (after_files (search_next c.args.desk.now.desk.spot.search) (λ x. carried_on x c.args.regs.now c.args.desk.now.desk.spot c.fetch_word-to.result) c.search_next-finding.result (asked_as (ap search_next c.search.ensures) c.search_next-finding.ensures.asks) (c.carry_on.ensures script))
+    after_read _ (λ to. asking_files (search_next c.args.desk.now.desk.spot.search) (λ x. carried_on x c.args.regs.now c.args.desk.now.desk.spot to)) _ c.fetch_word-to.ensures (after_files (search_next c.args.desk.now.desk.spot.search) (λ x. carried_on x c.args.regs.now c.args.desk.now.desk.spot c.fetch_word-to.result) c.search_next-finding.result (asked_as c.args.table.now.host.now (ap search_next c.search.ensures) c.search_next-finding.ensures.asks) (c.carry_on.ensures script))
 
 pub returns-clause-search : goal.returns-clause-search
 returns-clause-search g c = subst (λ (o : Option Search). IfSome o (λ s. slice_index s.pattern 0 < 256)) c.search.ensures c.search_next-finding.ensures.drive

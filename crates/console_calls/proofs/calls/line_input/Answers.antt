@@ -1,7 +1,7 @@
 use Rattle.std.proofs.Common.{rules}
 use Rattle.std.proofs.lemmas.Result.{err_from_is_err_and}
 use Rattle.console_calls.proofs.Carried.{fails}
-use Rattle.console_calls.proofs.Looking.{here, past_one, by_three}
+use Rattle.console_calls.proofs.Looking.{here, by_three}
 use Rattle.console_calls.proofs.Lines.{line_boots, line_short, line_goes, line_bound}
 use Rattle.console_calls.proofs.calls.line_input.Goals as goal
 

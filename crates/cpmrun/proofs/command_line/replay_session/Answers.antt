@@ -1,9 +1,9 @@
 use Rattle.std.proofs.Common.{[], ap, subst}
 use Rattle.std.proofs.KnownBytes.{Consumes-nil}
 use Rattle.std.proofs.lemmas.Result.{IfErr-weaker, err_from_is_err_and}
-use Rattle.machine.specs.Views.{Session}
+use Rattle.machine.specs.Given.{Session}
 use Rattle.replay.specs.RunnerView.{RunnerView}
-use Rattle.edit_lines.specs.Progress.{Faults}
+use Rattle.edit_lines.specs.Faults.{Faults}
 use Rattle.cpmrun.proofs.Writing.{writes_replay}
 use Rattle.edit_lines.proofs.Stepping.{at_once}
 use Rattle.cpmrun.proofs.command_line.replay_session.Goals as goal

@@ -1,15 +1,15 @@
 use Rattle.std.proofs.Common.{length}
-use Rattle.hostfiles.specs.Changed.{changed_names}
+use Rattle.machine.specs.ChangedFiles.{changed_in}
 use Rattle.hostfiles.proofs.ChangedWalk.{keys_above}
-use Rattle.replay.specs.Report.{reported_run, session_of}
+use Rattle.replay.specs.Report.{run_of, session_of}
 use Rattle.cpmrun.proofs.Walking.{WritesOn}
 use Rattle.cpmrun.proofs.raw_run.write_changed.Given as goal
 
 -- some first files were written, and those of the names above the last one are left
 abbrev pub invariant-loop-name : goal.invariant-loop-name
 invariant-loop-name g l =
-    WritesOn l.folders (session_of l.report).files (reported_run l.report).state.own.files (g.S.FileSystem.files l.initial.system) l.after (g.S.FileSystem.files l.system)
+    WritesOn l.folders (session_of l.report).files (run_of l.report).machine.files (g.S.FileSystem.files l.initial.system) l.after (g.S.FileSystem.files l.system)
 
 -- the changed names above the last one are left
 abbrev pub decreases-loop-name : goal.decreases-loop-name
-decreases-loop-name g l = length (keys_above (changed_names (session_of l.report).files (reported_run l.report).state.own.files) l.after)
+decreases-loop-name g l = length (keys_above (changed_in (session_of l.report).files (run_of l.report).machine.files) l.after)

@@ -13,7 +13,7 @@ returns-in_err-write_head g c =
     let key = c.args.name.now in
     let head = codes "gone " ++ printed key in
     let text = gone_line host own q key c.key-key.ensures.key (gone (told host own q) c.in_default.ensures) in
-    writes_same _ _ _ _ (head ++ 10 ∷ []) (changed_line host own key) c.from_residual.result text
+    writes_same _ _ _ _ (head ++ 10 ∷ []) (changed_line key (told host own key)) c.from_residual.result text
     (writes_part _ _ _ _ (head ++ 10 ∷ []) c.from_residual.result c.from_residual.ensures.0 (part_more _ _ _ _ head (10 ∷ []) c.in_err-write_head.ensures))
 
 pub returns-in_default : goal.returns-in_default
@@ -24,7 +24,7 @@ returns-in_default g c =
     let key = c.args.name.now in
     let head = codes "gone " ++ printed key in
     let text = gone_line host own q key c.key-key.ensures.key (gone (told host own q) c.in_default.ensures) in
-    writes_same _ _ _ _ (head ++ 10 ∷ []) (changed_line host own key) c.write_piece.result text
+    writes_same _ _ _ _ (head ++ 10 ∷ []) (changed_line key (told host own key)) c.write_piece.result text
     (writes_then _ _ _ _ _ _ head (10 ∷ []) c.write_piece.result c.in_ok-write_head.ensures c.write_piece.ensures)
 
 pub returns-in_err-write_head-2 : goal.returns-in_err-write_head-2
@@ -36,7 +36,7 @@ returns-in_err-write_head-2 g c =
     let head = codes "file " ++ printed key in
     let digits = records_text (unwrap_or (told host own q) []) in
     let text = file_line host own q key c.key-key.ensures.key (there (told host own q) c.in-Some.count c.in-Some.ensures) in
-    writes_same _ _ _ _ (((head ++ codes " ") ++ digits) ++ 10 ∷ []) (changed_line host own key) c.from_residual-in_err-write_head-2.result text
+    writes_same _ _ _ _ (((head ++ codes " ") ++ digits) ++ 10 ∷ []) (changed_line key (told host own key)) c.from_residual-in_err-write_head-2.result text
     (writes_part _ _ _ _ (((head ++ codes " ") ++ digits) ++ 10 ∷ []) c.from_residual-in_err-write_head-2.result c.from_residual-in_err-write_head-2.ensures.0
     (part_more _ _ _ _ ((head ++ codes " ") ++ digits) (10 ∷ []) (part_more _ _ _ _ (head ++ codes " ") digits (part_more _ _ _ _ head (codes " ") c.in_err-write_head-2.ensures))))
 
@@ -49,7 +49,7 @@ returns-in_err-write_piece g c =
     let head = codes "file " ++ printed key in
     let digits = records_text (unwrap_or (told host own q) []) in
     let text = file_line host own q key c.key-key.ensures.key (there (told host own q) c.in-Some.count c.in-Some.ensures) in
-    writes_same _ _ _ _ (((head ++ codes " ") ++ digits) ++ 10 ∷ []) (changed_line host own key) c.from_residual-in_err-write_piece.result text
+    writes_same _ _ _ _ (((head ++ codes " ") ++ digits) ++ 10 ∷ []) (changed_line key (told host own key)) c.from_residual-in_err-write_piece.result text
     (writes_part _ _ _ _ (((head ++ codes " ") ++ digits) ++ 10 ∷ []) c.from_residual-in_err-write_piece.result c.from_residual-in_err-write_piece.ensures.0
     (part_more _ _ _ _ ((head ++ codes " ") ++ digits) (10 ∷ []) (part_more _ _ _ _ (head ++ codes " ") digits
     (part_then _ _ _ _ _ _ head (codes " ") c.in_ok-write_head-2.ensures c.in_err-write_piece.ensures))))
@@ -63,7 +63,7 @@ returns-in_err-write_records g c =
     let head = codes "file " ++ printed key in
     let digits = records_text (unwrap_or (told host own q) []) in
     let text = file_line host own q key c.key-key.ensures.key (there (told host own q) c.in-Some.count c.in-Some.ensures) in
-    writes_same _ _ _ _ (((head ++ codes " ") ++ digits) ++ 10 ∷ []) (changed_line host own key) c.from_residual-in_err-write_records.result text
+    writes_same _ _ _ _ (((head ++ codes " ") ++ digits) ++ 10 ∷ []) (changed_line key (told host own key)) c.from_residual-in_err-write_records.result text
     (writes_part _ _ _ _ (((head ++ codes " ") ++ digits) ++ 10 ∷ []) c.from_residual-in_err-write_records.result c.from_residual-in_err-write_records.ensures.0
     (part_more _ _ _ _ ((head ++ codes " ") ++ digits) (10 ∷ [])
     (part_then _ _ _ _ _ _ (head ++ codes " ") digits (all_then _ _ _ _ _ _ head (codes " ") c.in_ok-write_head-2.ensures c.in_ok-write_piece.ensures) c.in_err-write_records.ensures)))
@@ -77,7 +77,7 @@ returns g c =
     let head = codes "file " ++ printed key in
     let digits = records_text (unwrap_or (told host own q) []) in
     let text = file_line host own q key c.key-key.ensures.key (there (told host own q) c.in-Some.count c.in-Some.ensures) in
-    writes_same _ _ _ _ (((head ++ codes " ") ++ digits) ++ 10 ∷ []) (changed_line host own key) c.write_piece-3.result text
+    writes_same _ _ _ _ (((head ++ codes " ") ++ digits) ++ 10 ∷ []) (changed_line key (told host own key)) c.write_piece-3.result text
     (writes_then _ _ _ _ _ _ ((head ++ codes " ") ++ digits) (10 ∷ []) c.write_piece-3.result
     (all_then _ _ _ _ _ _ (head ++ codes " ") digits (all_then _ _ _ _ _ _ head (codes " ") c.in_ok-write_head-2.ensures c.in_ok-write_piece.ensures) c.in_ok-write_records.ensures)
     c.write_piece-3.ensures)

@@ -2,7 +2,7 @@ use Rattle.std.proofs.Common.{◌++◌, [], take, arith, rules, refl, ◌∙◌,
 use Rattle.std.proofs.lemmas.Result.{err_from_is_err_and}
 use Rattle.std.proofs.lemmas.List.{append-nil}
 use Rattle.std.proofs.KnownBytes.{Consumes-nil, Consumes-trans}
-use Rattle.edit_lines.specs.Progress.{Faults}
+use Rattle.edit_lines.specs.Faults.{Faults}
 use Rattle.edit_lines.specs.Effects.{EffectsAtFault}
 use Rattle.edit_lines.proofs.Stepping.{at_start}
 use Rattle.edit_lines.proofs.EffectLemmas.{no_effects, SameOptions-refl, SameOptions-trans}

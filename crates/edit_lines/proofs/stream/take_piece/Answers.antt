@@ -1,7 +1,7 @@
 use Rattle.std.proofs.Common.{◌<◌, ◌+◌, ◌++◌, [], length, take, drop, arith, rules, subst, ◌∙◌}
 use Rattle.std.proofs.lemmas.Result.{err_from_is_err_and}
 use Rattle.std.proofs.lemmas.List.{length-drop}
-use Rattle.edit_lines.specs.Progress.{Faults}
+use Rattle.edit_lines.specs.Faults.{Faults}
 use Rattle.edit_lines.proofs.Parts.{parted, one_further}
 use Rattle.edit_lines.specs.Effects.{EffectsAtFault}
 use Rattle.edit_lines.proofs.EffectLemmas.{SameOptions-trans}

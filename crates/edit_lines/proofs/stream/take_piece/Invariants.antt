@@ -1,5 +1,5 @@
 use Rattle.std.proofs.Common.{◌≡◌, ℕ, ◌+◌, ◌*◌, ◌≤◌, List, ◌++◌, Option, take, vec_len}
-use Rattle.machine.specs.Views.{Session}
+use Rattle.machine.specs.Given.{Session}
 use Rattle.machine.specs.declared.session.TheConstants.{STEP_LIMIT}
 use Rattle.replay.specs.RunnerView.{RunnerView, SameOptions}
 use Rattle.edit_lines.specs.Effects.{EffectsSoFar}

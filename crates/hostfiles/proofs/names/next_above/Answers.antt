@@ -7,7 +7,7 @@ use Rattle.hostfiles.proofs.names.next_above.Goals as goal
 pub returns-in-Some-changed_name-clause-least : goal.returns-in-Some-changed_name-clause-least
 returns-in-Some-changed_name-clause-least c = λ x a l.
     below_least c.args.host.now c.args.journal.now.entries c.args.after c.loop-key.low c.in-Some.key c.loop-key.invariant c.in-Some.ensures.least x a
-    (ap (slice_cmp nat_cmp x) (sym c.in-Some-changed_name.ensures.some.0) ∙ l)
+    (ap (slice_cmp nat_cmp x) (sym c.in-Some-changed_name.ensures.name) ∙ l)
 
 pub loop-key-preserved : goal.loop-key-preserved
 loop-key-preserved c =

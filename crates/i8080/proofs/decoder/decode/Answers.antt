@@ -8,11 +8,11 @@ returns-in-0-clause-decoded c = decodes_decoded _ _ c.first_quarter.ensures
 pub returns-in-0-clause-opcode : goal.returns-in-0-clause-opcode
 returns-in-0-clause-opcode c = decodes_opcode _ _ c.first_quarter.ensures
 
-pub returns-in-Held-default-clause-decoded : goal.returns-in-Held-default-clause-decoded
-returns-in-Held-default-clause-decoded c = sym (decoded_some _ _ (omega arith))
+pub returns-in-InRegister-default-clause-decoded : goal.returns-in-InRegister-default-clause-decoded
+returns-in-InRegister-default-clause-decoded c = sym (decoded_some _ _ (omega arith))
 
-pub returns-in-Memory-Held-clause-decoded : goal.returns-in-Memory-Held-clause-decoded
-returns-in-Memory-Held-clause-decoded c = sym (decoded_some _ _ (grind arith))
+pub returns-in-Memory-InRegister-clause-decoded : goal.returns-in-Memory-InRegister-clause-decoded
+returns-in-Memory-InRegister-clause-decoded c = sym (decoded_some _ _ (grind arith))
 
 pub returns-in-Memory-Memory-clause-decoded : goal.returns-in-Memory-Memory-clause-decoded
 returns-in-Memory-Memory-clause-decoded c = sym (decoded_some _ _ (grind arith))

@@ -1,4 +1,4 @@
-use Rattle.std.proofs.Common.{◌≡◌, subst, ap, arith, ◌∙◌, ◌≤◌, ◌+◌, refl, Option, Some, None, Ok, ℕ}
+use Rattle.std.proofs.Common.{◌≡◌, subst, ap, arith, ◌∙◌, ◌≤◌, ◌+◌, refl, Option, Ok, ℕ}
 use Rattle.console_calls.specs.declared.cause.Cause.{Cause}
 use Rattle.machine.specs.Views.{Running}
 use Rattle.machine.specs.Machine.{ask, after}

@@ -1,13 +1,11 @@
-use Rattle.std.proofs.Common.{◌≡◌, ap, sym, length, arith, subst, List, ℕ, ◌+◌, ◌<◌, inl, ◌∙◌, refl, Option, None, Some, Ok}
-use Rattle.std.specs.declared.result.Result.{Result}
-use Rattle.std.specs.declared.alloc.AllocError.{AllocError}
+use Rattle.std.proofs.Common.{◌≡◌, ap, sym, length, arith, subst, List, ℕ, ◌+◌, inl, ◌∙◌, None, Some, Ok}
 use Rattle.i8080.specs.declared.registers.Regs.{Regs}
 use Rattle.i8080.specs.declared.outcome.Did.TheVariants as did
-use Rattle.console_calls.specs.declared.cause.Cause.{Cause}
 use Rattle.pagemem.specs.Overlay.{own_of, looks_of}
 use Rattle.pagemem.specs.declared.view.View.{View}
 use Rattle.pagemem.specs.ViewParts.{overlay_in, image_in, loan_of}
-use Rattle.machine.specs.Views.{Session, Looked, Running}
+use Rattle.machine.specs.Given.{Session}
+use Rattle.machine.specs.Views.{Looked, Running}
 use Rattle.machine.specs.Session.{image_of}
 use Rattle.machine.specs.Machine.{ask, after}
 use Rattle.machine.specs.WrittenCells.{Devices, state_with}

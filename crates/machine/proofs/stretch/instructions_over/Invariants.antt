@@ -1,7 +1,7 @@
 use Rattle.std.proofs.Common.{◌≡◌, ◌+◌, ◌-◌, ◌≤◌, ◌<◌, ◌⊎◌, Some, ℕ}
 use Rattle.pagemem.specs.Overlay.{own_of, looks_of}
 use Rattle.pagemem.specs.ViewParts.{overlay_in, image_in, loan_of}
-use Rattle.machine.specs.Views.{Session}
+use Rattle.machine.specs.Given.{Session}
 use Rattle.machine.specs.Session.{image_of}
 use Rattle.machine.specs.Machine.{ask, after}
 use Rattle.machine.specs.WrittenCells.{Devices, state_with}

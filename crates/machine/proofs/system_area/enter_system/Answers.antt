@@ -1,6 +1,5 @@
-use Rattle.std.specs.Prelude.{Option, Ok, Err, Some}
-use Rattle.std.specs.Borrow.{GName}
-use Rattle.std.proofs.Common.{subst, sym, ◌∙◌}
+use Rattle.std.specs.Prelude.{Option, Ok, Some}
+use Rattle.std.proofs.Common.{subst, sym}
 use Rattle.console_calls.specs.declared.cause.Cause.{Cause}
 use Rattle.console_calls.specs.declared.cause.Cause.TheVariants.{WarmBoot, SystemArea}
 use Rattle.machine.specs.Views.{Running}

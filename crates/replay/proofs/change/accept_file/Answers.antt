@@ -1,4 +1,4 @@
-use Rattle.std.proofs.Common.{◌≡◌, subst, sym, true, false, nat_lt, length, Some, Err, refl}
+use Rattle.std.proofs.Common.{◌≡◌, subst, sym, true, false, nat_lt, length, Some, refl}
 use Rattle.std.specs.Prelude.{IfErr}
 use Rattle.std.specs.declared.result.Result.{Result}
 use Rattle.std.proofs.lemmas.Bool.{le-ltb}

@@ -1,14 +1,19 @@
-use Rattle.std.proofs.Common.{arith, inl, inr, ap, sym, ◌∙◌, Some, None, Ok, subst, ◌<◌, ◌≤◌, ℕ, Option}
+use Rattle.std.proofs.Common.{arith, refl, inl, inr, ap, sym, ◌∙◌, ◌≡◌, Some, None, Ok, subst, ◌<◌, ◌≤◌, ℕ, Option}
+use Rattle.std.proofs.Math.Nat.{eq-or-lt_of_le}
 use Rattle.std.proofs.lemmas.Bool.Decides.{eqb_tells}
-use Rattle.console_calls.specs.declared.cause.Cause.{Cause}
+use Rattle.machine.specs.Cause.{Cause}
 use Rattle.machine.specs.Views.{State, Running}
 use Rattle.machine.specs.Machine.{ask}
 use Rattle.machine.specs.Stretch.{LooksAtNothingNew, Stretches}
+use Rattle.replay.specs.declared.keeping.RunNotes.{RunNotes}
 use Rattle.replay.specs.FirstLooks.{Noted, IsFirstLooks}
 use Rattle.replay.proofs.StretchNotes.{stretch_kept, passed}
 use Rattle.replay.proofs.OutcomeLemmas.{match_err}
-use Rattle.replay.proofs.RefusalLemmas.{once_on, once_at_stop}
+use Rattle.replay.proofs.RefusalLemmas.{none_counted, once_on, once_at_stop}
 use Rattle.replay.proofs.run.advance.Goals as goal
+
+lt_apart : (n m : ℕ) → n ≤ m → (n ≡ m → ⊥) → n < m
+lt_apart n m le ne = elim (eq-or-lt_of_le {n = n} {m = m} le) [ inl e ↦ absurd (ne e) | inr l ↦ l ]
 
 pub loop-n-preserved : goal.loop-n-preserved
 loop-n-preserved c =
@@ -19,10 +24,10 @@ loop-n-preserved c =
     subst (λ (k : ℕ). Stretches c.args.session.now c.loop-n.n c.bound_of-bound.result c.loop-n.running.looked k (Ok None) c.run_from.new.running) (sym same)
     (subst (λ (o : Option Cause). Stretches c.args.session.now c.loop-n.n c.bound_of-bound.result c.loop-n.running.looked x (Ok o) c.run_from.new.running) c.in_default.is stretched) in
     let more : c.loop-n.n < reached = rw c.in_default.is at c.in_ok-reached.ensures.progress in
-    let seen : c.loop-n.n < c.loop-n.looks.seen → reached ≤ c.loop-n.looks.seen = λ low. omega (arith, stretch.within, c.seen.ensures, c.bound_of-bound.ensures.seen (omega (arith, low, c.seen.ensures))) in
+    let seen : c.loop-n.n < c.loop-n.notes.looks.seen → reached ≤ c.loop-n.notes.looks.seen = λ low. omega (arith, stretch.within, c.seen.ensures, c.bound_of-bound.ensures.seen (omega (arith, low, c.seen.ensures))) in
     let other = c.keep_looks.ensures.other in
-    let notes = stretch_kept c.args.session.now c.bound_of-bound.result c.loop-n.n reached c.loop-n.looks c.keep_looks.new.looks c.loop-n.refusals c.keep_looks.new.refusals _ c.loop-n.running.looked
-    c.run_from.new.running.looked c.keep_looks.new.running.looked stretch more i.noted i.looks seen c.keep_looks.ensures.cells (λ ne. ((other ne).0, (other ne).1, ap (λ (r : Running). r.looked) (other ne).2))
+    let notes = stretch_kept c.args.session.now c.bound_of-bound.result c.loop-n.n reached c.loop-n.notes.looks c.keep_looks.new.notes.looks c.loop-n.notes.refusals c.keep_looks.new.notes.refusals _ c.loop-n.running.looked
+    c.run_from.new.running.looked c.keep_looks.new.running.looked stretch more i.noted i.looks seen c.keep_looks.ensures.cells (λ ne. (ap (λ (t : RunNotes). t.looks) (other ne).0, ap (λ (t : RunNotes). t.refusals) (other ne).0, ap (λ (r : Running). r.looked) (other ne).1))
     (rw c.look_count-noted.ensures at c.keep_looks.ensures.here) in
     record {
       at = stretch.at ∙ ap (λ (st : State). Some st) (sym c.keep_looks.ensures.state);
@@ -30,7 +35,7 @@ loop-n-preserved c =
       noted = notes.noted;
       seen_in = elim notes.within [ inl e ↦ omega (arith, e, i.seen_in) | inr e ↦ omega (arith, e, stretch.within, c.bound_of-bound.ensures.within, c.requires.order) ];
       counted = (omega (arith, notes.counted, i.counted), omega (arith, notes.counted, i.counted, more));
-      once = once_on _ _ _ _ _ c.loop-n.looks _ i.once i.low c.keep_looks.new.looks _ _ _ _ more (λ ne. ((other ne).0, (other ne).1)) c.keep_looks.ensures.here;
+      once = once_on _ _ _ _ _ c.loop-n.notes.looks _ i.once i.low c.keep_looks.new.notes.looks _ _ _ _ more (λ ne. (ap (λ (t : RunNotes). t.looks) (other ne).0, ap (λ (t : RunNotes). t.refusals) (other ne).0)) c.keep_looks.ensures.here;
       all = λ low none. notes.all (omega (arith, none, notes.counted, i.counted)) (i.all low (omega (arith, none, notes.counted, i.counted)));
       grows = omega (arith, notes.grows, i.grows);
       low = omega (arith, more, i.low);
@@ -43,23 +48,57 @@ returns-in-Some-clause-noted c =
     let i = c.loop-n.invariant in
     let (x, stretched, metered, same) = c.in_ok-reached.ensures.runs in
     let stretch = subst (λ (o : Option Cause). Stretches c.args.session.now c.loop-n.n c.bound_of-bound.result c.loop-n.running.looked x (Ok o) c.run_from.new.running) c.in-Some.is stretched in
-    elim (eqb_tells c.loop-n.n c.loop-n.looks.seen) [
+    elim (eqb_tells c.loop-n.n c.loop-n.notes.looks.seen) [
       | inl e ↦
-          let quiet : LooksAtNothingNew (ask c.args.session.now) c.loop-n.running.looked c.loop-n.looks.seen c.in_ok-reached.reached =
+          let quiet : LooksAtNothingNew (ask c.args.session.now) c.loop-n.running.looked c.loop-n.notes.looks.seen c.in_ok-reached.reached =
           subst (λ (k : ℕ). LooksAtNothingNew (ask c.args.session.now) c.loop-n.running.looked k c.in_ok-reached.reached) e.1
           (subst (λ (k : ℕ). LooksAtNothingNew (ask c.args.session.now) c.loop-n.running.looked c.loop-n.n k) (sym same) stretch.before_stop) in
           subst (λ (t : Noted). IsFirstLooks (ask c.args.session.now) t) (sym (c.keep_seen.ensures.here e.1))
-          (passed (ask c.args.session.now) c.loop-n.looks c.loop-n.running.looked i.noted (i.looks (omega (arith, e.1))) c.in_ok-reached.reached (omega (arith, e.1, stretch.within, same)) quiet)
+          (passed (ask c.args.session.now) c.loop-n.notes.looks c.loop-n.running.looked i.noted (i.looks (omega (arith, e.1))) c.in_ok-reached.reached (omega (arith, e.1, stretch.within, same)) quiet)
       | inr ne ↦ subst (λ (t : Noted). IsFirstLooks (ask c.args.session.now) t) (sym (c.keep_seen.ensures.other ne.1)) i.noted
     ]
 
-pub returns-in-Some-clause-once : goal.returns-in-Some-clause-once
-returns-in-Some-clause-once c =
+pub returns-in-Some-clause-counts : goal.returns-in-Some-clause-counts
+returns-in-Some-clause-counts c =
     let i = c.loop-n.invariant in
     let (x, stretched, metered, same) = c.in_ok-reached.ensures.runs in
     let stretch = subst (λ (o : Option Cause). Stretches c.args.session.now c.loop-n.n c.bound_of-bound.result c.loop-n.running.looked x (Ok o) c.run_from.new.running) c.in-Some.is stretched in
     let low : c.loop-n.n ≤ c.in_ok-reached.reached = omega (arith, stretch.within, same) in
-    once_at_stop _ _ _ _ _ c.loop-n.looks _ i.once i.low c.keep_seen.new.looks low c.keep_seen.ensures.here c.keep_seen.ensures.other
+    let here = c.keep_seen.ensures.here in
+    let other = c.keep_seen.ensures.other in (
+      once_at_stop _ _ _ _ _ c.loop-n.notes.looks _ i.once i.low c.keep_seen.new.looks low here other,
+      record {
+        grows = omega (arith, i.counted);
+        few = omega (arith, i.counted, low);
+        all = λ from none. elim (eqb_tells c.loop-n.n c.loop-n.notes.looks.seen) [
+          | inl e ↦ rw (here e.1) (omega arith)
+          | inr ne ↦ rw (other ne.1) (let up = i.all from (omega (arith, none)) in
+              omega (arith, stretch.within, same, ne.1, up, c.seen.ensures, c.bound_of-bound.ensures.seen (let apart = lt_apart _ _ up ne.1 in omega (arith, apart, c.seen.ensures))))
+        ];
+      },
+    )
 
-pub returns-in_err-reached-clause-once : goal.returns-in_err-reached-clause-once
-returns-in_err-reached-clause-once c = match_err c.from_residual.result _ _ c.from_residual.ensures.0 c.loop-n.invariant.once.once
+pub returns-in_err-reached-clause-counts : goal.returns-in_err-reached-clause-counts
+returns-in_err-reached-clause-counts c =
+    let i = c.loop-n.invariant in
+    match_err c.from_residual.result _ _ c.from_residual.ensures.0 (omega (arith, i.counted), i.once.once)
+
+pub loop-n-init : goal.loop-n-init
+loop-n-init c = record {
+  at = c.requires.at;
+  looks = c.requires.noted.all;
+  noted = c.requires.noted.first;
+  seen_in = c.requires.noted.seen_in;
+  counted = (omega arith, omega arith);
+  once = none_counted _ _ _;
+  all = λ low none. low;
+  grows = omega arith;
+  low = omega arith;
+  high = c.requires.order.0;
+  meter = refl;
+}
+
+pub returns-clause-counts : goal.returns-clause-counts
+returns-clause-counts c =
+    let i = c.loop-n.invariant in
+    (i.once, record { grows = i.counted.0; few = i.counted.1; all = i.all })

@@ -8,13 +8,13 @@ use Rattle.replay.proofs.run.advance.Given as goal
 abbrev pub invariant-loop-n : goal.invariant-loop-n
 invariant-loop-n l = record {
   at : after (ask l.session) l.n ≡ Some l.running.state;
-  looks : l.n ≤ l.looks.seen → AllNoted l.looks l.running.looked;
-  noted : IsFirstLooks (ask l.session) l.looks;
-  seen_in : l.looks.seen ≤ STEP_LIMIT;
-  counted : (l.initial.refusals ≤ l.refusals) × (l.refusals + l.from ≤ l.initial.refusals + l.n);
-  once : RefusesLooksOnce l.initial.looks.seen l.from l.initial.refusals l.looks.seen l.n l.refusals;
-  all : l.from ≤ l.initial.looks.seen → l.refusals ≡ l.initial.refusals → l.n ≤ l.looks.seen;
-  grows : l.initial.looks.seen ≤ l.looks.seen;
+  looks : l.n ≤ l.notes.looks.seen → AllNoted l.notes.looks l.running.looked;
+  noted : IsFirstLooks (ask l.session) l.notes.looks;
+  seen_in : l.notes.looks.seen ≤ STEP_LIMIT;
+  counted : (l.initial.notes.refusals ≤ l.notes.refusals) × (l.notes.refusals + l.from ≤ l.initial.notes.refusals + l.n);
+  once : RefusesLooksOnce l.initial.notes.looks.seen l.from l.initial.notes.refusals l.notes.looks.seen l.n l.notes.refusals;
+  all : l.from ≤ l.initial.notes.looks.seen → l.notes.refusals ≡ l.initial.notes.refusals → l.n ≤ l.notes.looks.seen;
+  grows : l.initial.notes.looks.seen ≤ l.notes.looks.seen;
   low : l.from ≤ l.n;
   high : l.n ≤ l.end;
   meter : l.meter + l.from ≡ l.initial.meter + l.n;

@@ -11,5 +11,5 @@ returns-clause-ok c =
     let takes = taken_from place.new.self asked.new.self asked.result asked.ensures.one asked.ensures.taken asked.ensures.none asked.ensures.same in
     on_ok c.note.result (λ ok q.
     ok q
-    ∙ ap (λ b. or_else (step_of c.args.looks.now q) (mark b c.args.looks.now.seen))
+    ∙ ap (λ b. or_else (step_of c.args.notes.now.looks q) (mark b c.args.notes.now.looks.seen))
     (noted_new c.args.noted c.args.running.now place.new.self asked.new.self place.result asked.result place.ensures.one place.ensures.taken place.ensures.same place.ensures.cells place.ensures.files takes asked.ensures.cells asked.ensures.places q)) c.note.ensures.ok

@@ -11,26 +11,27 @@ use Rattle.replay.proofs.run.resume.Given as goal
 abbrev pub invariant-loop-n : goal.invariant-loop-n
 invariant-loop-n l = record {
   at : after (ask l.session) l.n ≡ Some l.running.state;
-  looks : l.n ≤ l.looks.seen → AllNoted l.looks l.running.looked;
-  noted : IsFirstLooks (ask l.session) l.looks;
-  seen_in : l.looks.seen ≤ STEP_LIMIT;
+  looks : l.n ≤ l.checkpoints.notes.looks.seen → AllNoted l.checkpoints.notes.looks l.running.looked;
+  noted : IsFirstLooks (ask l.session) l.checkpoints.notes.looks;
+  seen_in : l.checkpoints.notes.looks.seen ≤ STEP_LIMIT;
   low : l.from ≤ l.n;
   high : l.n ≤ l.limit;
   meter : l.meter + l.from ≡ l.initial.meter + l.n;
-  capacity : l.ring.capacity ≡ l.initial.ring.capacity;
-  valid : Each (IsValid (ask l.session)) l.ring.items;
-  known : Each (λ c. c.step ≤ l.looks.seen) l.ring.items;
-  adds : Adding l.initial.ring.items l.ring.items l.initial.ring.capacity l.from l.n l.limit l.spacing l.last_kept;
-  on : l.refusals ≡ 0 → l.n ≤ l.looks.seen;
-  all : l.refusals ≡ 0 → AddingAll l.initial.ring.items l.ring.items l.initial.ring.capacity l.from l.n l.limit l.spacing l.last_kept;
-  due : l.n < l.limit → CountsSoFar l.from l.n l.looks.seen l.spacing l.refusals;
-  ended : l.refusals + l.from / l.spacing ≤ l.n / l.spacing + 2;
-  few : l.refusals + 2 * l.from ≤ 2 * l.n;
+  spacing : l.checkpoints.spacing ≡ l.initial.checkpoints.spacing;
+  capacity : l.checkpoints.ring.capacity ≡ l.initial.checkpoints.ring.capacity;
+  valid : Each (IsValid (ask l.session)) l.checkpoints.ring.items;
+  known : Each (λ c. c.step ≤ l.checkpoints.notes.looks.seen) l.checkpoints.ring.items;
+  adds : Adding l.initial.checkpoints.ring.items l.checkpoints.ring.items l.initial.checkpoints.ring.capacity l.from l.n l.limit l.spacing l.last_kept;
+  on : l.checkpoints.notes.refusals ≡ 0 → l.n ≤ l.checkpoints.notes.looks.seen;
+  all : l.checkpoints.notes.refusals ≡ 0 → AddingAll l.initial.checkpoints.ring.items l.checkpoints.ring.items l.initial.checkpoints.ring.capacity l.from l.n l.limit l.spacing l.last_kept;
+  due : l.n < l.limit → CountsSoFar l.from l.n l.checkpoints.notes.looks.seen l.spacing l.checkpoints.notes.refusals;
+  ended : l.checkpoints.notes.refusals + l.from / l.spacing ≤ l.n / l.spacing + 2;
+  few : l.checkpoints.notes.refusals + 2 * l.from ≤ 2 * l.n;
   spot : (l.n ≡ l.from) ⊎ ((l.n % l.spacing ≡ 0) ⊎ (l.n ≡ l.limit));
   last : l.last_kept ≡ max l.newest l.n;
   newer : l.newest ≤ l.last_kept;
-  upto : l.newest ≤ l.from → Each (λ c. c.step ≤ l.n) l.ring.items;
-  same : l.limit < l.newest → l.ring ≡ l.initial.ring;
+  upto : l.newest ≤ l.from → Each (λ c. c.step ≤ l.n) l.checkpoints.ring.items;
+  same : l.limit < l.newest → l.checkpoints.ring ≡ l.initial.checkpoints.ring;
 }
 
 abbrev pub decreases-loop-n : goal.decreases-loop-n

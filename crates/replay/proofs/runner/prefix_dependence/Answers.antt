@@ -1,6 +1,7 @@
 use Rattle.machine.specs.Views.{State}
-use Rattle.machine.specs.Machine.{part, next, made, start}
-use Rattle.interaction_trees.proofs.DependenceLemmas as lemmas
+use Rattle.machine.specs.Step.{next}
+use Rattle.machine.specs.Machine.{part, made, start}
+use Rattle.machine.proofs.DependenceLemmas as lemmas
 use Rattle.replay.proofs.runner.prefix_dependence.Goals as goal
 
 pub returns : goal.returns

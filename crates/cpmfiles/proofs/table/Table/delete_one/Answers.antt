@@ -4,8 +4,8 @@ use Rattle.cpmfiles.proofs.DeleteLaws.{one_deleted, none_deleted}
 use Rattle.cpmfiles.proofs.table.Table.delete_one.Goals as goal
 
 pub returns-then-not-branch-clause-done : goal.returns-then-not-branch-clause-done
-returns-then-not-branch-clause-done c = none_deleted _ _ c.args.key.now _ c.requires (sym c.in_ok-has.ensures.answer ∙ c.if-not-branch.true) (ap (λ j. j.entries) c.in_ok-has.ensures.stays)
+returns-then-not-branch-clause-done c = none_deleted _ _ c.args.key.now _ c.requires (sym c.in_ok-has.ensures.inquires.answer ∙ c.if-not-branch.true) (ap (λ j. j.entries) c.in_ok-has.ensures.inquires.stays)
 
 pub returns-clause-done : goal.returns-clause-done
-returns-clause-done c = one_deleted _ _ c.args.key.now _ c.requires (sym c.in_ok-has.ensures.answer ∙ c.if-not-branch.false)
-    (c.in_ok-delete.ensures.ok ∙ ap (λ j. deleted j.entries c.args.key.now) c.in_ok-has.ensures.stays)
+returns-clause-done c = one_deleted _ _ c.args.key.now _ c.requires (sym c.in_ok-has.ensures.inquires.answer ∙ c.if-not-branch.false)
+    (c.in_ok-delete.ensures.ok ∙ ap (λ j. deleted j.entries c.args.key.now) c.in_ok-has.ensures.inquires.stays)

@@ -1,5 +1,6 @@
 use Rattle.std.proofs.Common.{sym, ◌∙◌, ◌≤◌, ◌+◌, ◌-◌, ◌*◌, ◌≡◌, true, false, get_or, arith}
-use Rattle.hostfiles.specs.Files.{entry_at, file_of, shape_of, place_of, length_at}
+use Rattle.hostfiles.specs.Files.{entry_at, file_of, place_of, length_at}
+use Rattle.hostfiles.specs.File.{shape_of}
 use Rattle.hostfiles.proofs.CountLemmas.{none_past, none_behind, count_found, count_empty}
 use Rattle.hostfiles.proofs.seen.SeenFile.count.Goals as goal
 

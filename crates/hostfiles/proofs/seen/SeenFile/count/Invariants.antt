@@ -1,5 +1,6 @@
 use Rattle.std.proofs.Common.{◌≡◌, ◌≤◌, ◌*◌, ℕ, false, get_or, take, drop}
-use Rattle.hostfiles.specs.Files.{shape_of, file_of, entry_at}
+use Rattle.hostfiles.specs.Files.{file_of, entry_at}
+use Rattle.hostfiles.specs.File.{shape_of}
 use Rattle.hostfiles.proofs.seen.SeenFile.count.Given as goal
 
 abbrev pub invariant-loop-i : goal.invariant-loop-i

@@ -1,4 +1,3 @@
-use Rattle.std.proofs.Common.{rules}
 use Rattle.machine.proofs.HostLemmas.{nothing_asked}
 use Rattle.machine.proofs.kept.Kept.resume.Goals as goal
 

@@ -1,5 +1,5 @@
 use Rattle.std.proofs.Common.{rules}
-use Rattle.machine.specs.Machine.{first_regs}
+use Rattle.machine.specs.Step.{first_regs}
 use Rattle.machine.proofs.HostLemmas.{nothing_asked}
 use Rattle.machine.proofs.WrittenCellLemmas.{cells_none}
 use Rattle.machine.proofs.running.Running.load.Goals as goal

@@ -1,4 +1,4 @@
-use Rattle.std.proofs.Common.{subst, sym}
+use Rattle.std.proofs.Common.{subst, sym, refl}
 use Rattle.std.specs.declared.result.Result.{Result}
 use Rattle.std.proofs.lemmas.Result.{err_from_is_err_and}
 use Rattle.replay.specs.declared.edit.EditError.{EditError}
@@ -10,8 +10,8 @@ use Rattle.replay.proofs.runner.Runner.edit.Goals as goal
 
 pub invariant_of-self-2 : goal.invariant_of-self-2
 invariant_of-self-2 c =
-    sound_edit c.self.inside.last_run.session c.carry_out.new.session c.self.inside.last_run.text.items c.self.inside.spacing c.touch_of-touch.result c.self.inside.ring c.keep_up_to.new.ring c.self.inside.looks c.cut.new.self
-    c.self.invariant (rw (← c.in_ok-carry_out.ensures.ok) at c.touch_of-touch.ensures) c.keep_up_to.ensures.parts c.cut.ensures.entries c.cut.ensures.seen
+    sound_edit c.self.inside.last_run.session c.carry_out.new.session c.self.inside.last_run.text.items c.touch_of-touch.result c.self.inside.checkpoints _
+    c.self.invariant (rw (← c.in_ok-carry_out.ensures.ok) at c.touch_of-touch.ensures) c.keep_up_to.ensures.parts c.cut.ensures.entries c.cut.ensures.seen refl
 
 pub returns-in_err-change-clause-answer : goal.returns-in_err-change-clause-answer
 returns-in_err-change-clause-answer c =
@@ -36,11 +36,11 @@ returns-in_err-carry_out-clause-stand c = rw (c.in_err-carry_out.ensures.err) (a
 
 pub returns-clause-kept : goal.returns-clause-kept
 returns-clause-kept c =
-    rw (← c.self.view_is) (keeps_edit c.self.inside.last_run.session c.carry_out.new.session c.self.inside.last_run.text.items c.self.inside.spacing c.touch_of-touch.result c.self.inside.ring c.keep_up_to.new.ring c.self.inside.looks
+    rw (← c.self.view_is) (keeps_edit c.self.inside.last_run.session c.carry_out.new.session c.self.inside.last_run.text.items c.touch_of-touch.result c.self.inside.checkpoints c.keep_up_to.new.ring
     c.self.invariant (rw (← c.in_ok-carry_out.ensures.ok) at c.touch_of-touch.ensures) c.keep_up_to.ensures.parts)
 
 pub returns-clause-stand : goal.returns-clause-stand
 returns-clause-stand c =
-    let sound = sound_edit c.self.inside.last_run.session c.carry_out.new.session c.self.inside.last_run.text.items c.self.inside.spacing c.touch_of-touch.result c.self.inside.ring c.keep_up_to.new.ring c.self.inside.looks c.cut.new.self
-    c.self.invariant (rw (← c.in_ok-carry_out.ensures.ok) at c.touch_of-touch.ensures) c.keep_up_to.ensures.parts c.cut.ensures.entries c.cut.ensures.seen in
+    let sound = sound_edit c.self.inside.last_run.session c.carry_out.new.session c.self.inside.last_run.text.items c.touch_of-touch.result c.self.inside.checkpoints (record { spacing = c.self.inside.checkpoints.spacing; ring = c.keep_up_to.new.ring; notes = record { looks = c.cut.new.self; refusals = c.self.inside.checkpoints.notes.refusals } })
+    c.self.invariant (rw (← c.in_ok-carry_out.ensures.ok) at c.touch_of-touch.ensures) c.keep_up_to.ensures.parts c.cut.ensures.entries c.cut.ensures.seen refl in
     all_stand _ _ _ sound.stands

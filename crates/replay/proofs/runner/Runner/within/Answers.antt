@@ -6,6 +6,5 @@ use Rattle.replay.proofs.runner.Runner.within.Goals as goal
 
 pub invariant_of-result : goal.invariant_of-result
 invariant_of-result c =
-    let spacing = spacing_within c.args.options c.requires in
-    sound_start _ _ _ _ _ (ap (λ (b : Buffer Checkpoint). b.items) c.in_ok-ring.ensures)
-    (record { cells = c.new-2.ensures.cells; places = c.new-2.ensures.places; files = c.new-2.ensures.files; seen = c.new-2.ensures.seen }) spacing.0 spacing.1
+    sound_start _ _ _ (ap (λ (b : Buffer Checkpoint). b.items) c.in_ok-ring.ensures)
+    (record { cells = c.new-2.ensures.cells; places = c.new-2.ensures.places; files = c.new-2.ensures.files; seen = c.new-2.ensures.seen }) (spacing_within c.args.options c.requires)

@@ -1,0 +1,14 @@
+-- What a function leaves that carries out a call, with each part of what the call stands on by itself.
+use Rattle.std.proofs.Common.{ℕ, Bool, List}
+use Rattle.std.specs.declared.result.Result.{Result}
+use Rattle.std.specs.declared.alloc.AllocError.{AllocError}
+use Rattle.i8080.specs.declared.registers.Regs.{Regs}
+use Rattle.i8080.specs.Memory.{Memory}
+use Rattle.console_calls.specs.declared.served.Served.{Served}
+use Rattle.console_calls.specs.Desk.{Desk}
+use Rattle.console_calls.specs.Questions.{StateTree}
+use Rattle.console_calls.specs.Calls.{CallEnd}
+use Rattle.console_calls.specs.Serves.{Fulfils}
+
+abbrev pub FulfilsBy : StateTree CallEnd → List ℕ → Regs → Memory → Desk → (ℕ → Bool) → Result Served AllocError → Regs → Memory → Desk → (ℕ → Bool) → Type 0
+FulfilsBy t script r m d was result r' m' d' is = Fulfils t script (record { regs = r; memory = m; desk = d; looked = was }) result (record { regs = r'; memory = m'; desk = d'; looked = is })

@@ -1,0 +1,28 @@
+use Rattle.std.proofs.Common.{◌≡◌, true, false, rules}
+use Rattle.std.proofs.lemmas.Result.{err_from_is_err_and}
+use Rattle.filenames.specs.Names.{is_sayable}
+use Rattle.hostfiles.specs.Hosts.{Key}
+use Rattle.hostfiles.specs.Files.{Own}
+use Rattle.hostfiles.specs.Looks.{Extends, look_has}
+use Rattle.hostfiles.specs.declared.looks.Looks.{Looks}
+use Rattle.cpmfiles.specs.Tables.{look_renamed}
+use Rattle.cpmfiles.specs.Renaming.{has_wildcard}
+use Rattle.cpmfiles.proofs.LookLaws.{within_second}
+use Rattle.cpmfiles.proofs.asking.can_rename.Goals as goal
+
+-- the first of the two keys is asked
+first_key : (own : Own) (old new : Key) (l m : Looks) → has_wildcard old ≡ false → is_sayable new ≡ true
+    → Extends l (look_has own old m) → Extends l (look_renamed own old new m)
+first_key own old new l m plain fit h = rw (plain, fit) (within_second own old new l m h)
+
+pub returns-in_err-there : goal.returns-in_err-there
+returns-in_err-there c =
+    let e = err_from_is_err_and c.from_residual.result c.from_residual.ensures.1 in
+    let h = c.in_err-there.ensures in
+    rw e.1 (record {
+      answer = tt;
+      looks = tt;
+      extends = h.extends;
+      bound = first_key c.args.changes.now.journal.entries c.args.old.now c.args.new.now _ _ (search rules) (search rules) (search rules);
+      stays = h.stays;
+    })

@@ -1,0 +1,52 @@
+-- What holds after each fault of a replay. (This project's own.)
+use Rattle.std.specs.Prelude.{◌*◌, ◌≡◌, ℕ, ◌-◌, ◌≤◌, List, ◌∷◌, [], ◌++◌, length, take, Option, Some}
+use Rattle.std.specs.List.{concat}
+use Rattle.std.specs.Io.KnownBytes.{Appends}
+use Rattle.machine.specs.Given.{Session}
+use Rattle.edit_lines.specs.declared.ending.ReplayFault.{ReplayFault}
+use Rattle.edit_lines.specs.declared.ending.ReplayFault.TheVariants.{Malformed, LineTooLong, Read, Write, OutOfMemory}
+use Rattle.edit_lines.specs.Pieces.{pieces, lines_of, past_lines}
+use Rattle.edit_lines.specs.Replay.{Carries, End, Finished, MalformedAt, TooLongAt, Replays}
+use Rattle.edit_lines.specs.declared.limits.TheConstants.{LINE_LIMIT, LINES_LIMIT}
+
+-- the replay of these bytes and those that are left ends so, that of some text which begins with them does where the reader
+-- does not tell what is left, and little more than k - 1 lines was read
+pub record EndsWith (left : Option (List ℕ)) (first : Session) (held : Option (List ℕ)) (bytes : List ℕ) (now : Session) (holds : Option (List ℕ)) (k : ℕ) (end : End) : Type 0 where
+  pub text : List ℕ
+  pub written : Appends held holds text
+  pub replays : (rest : List ℕ) → left ≡ Some rest → Replays first (lines_of (bytes ++ rest)) text now end
+  pub some : (rest : List ℕ) × Replays first (lines_of (bytes ++ rest)) text now end
+  pub near : length (past_lines (k - 1) bytes) ≤ 2 * LINE_LIMIT
+
+-- some first lines were read and carried out, and all their replies but the last were written whole, that one in part; they
+-- are the first lines of the bytes that were read, and of these and those that are left where the reader tells that
+pub record BreaksOff (left : Option (List ℕ)) (first : Session) (held : Option (List ℕ)) (bytes : List ℕ) (now : Session) (holds : Option (List ℕ)) : Type 0 where
+  pub text : List ℕ
+  pub written : Appends held holds text
+  pub done : List (List ℕ)
+  pub replies : List (List ℕ)
+  pub read : (others : List (List ℕ)) × (lines_of bytes ≡ done ++ others)
+  pub cut : (rest : List ℕ) → left ≡ Some rest → (others : List (List ℕ)) × (lines_of (bytes ++ rest) ≡ done ++ others)
+  pub few : length done ≤ LINES_LIMIT
+  pub carried : Carries first done replies now
+  pub begins : (rest : List ℕ) × (concat replies ≡ text ++ rest)
+  pub contains : (rest : List ℕ) × (text ≡ concat (take (length replies - 1) replies) ++ rest)
+  pub near : length (past_lines (length done) bytes) ≤ 2 * LINE_LIMIT
+
+-- the lines whose 0AH was read were carried out, and their replies written
+pub record ReadsNoMore (first : Session) (held : Option (List ℕ)) (bytes : List ℕ) (now : Session) (holds : Option (List ℕ)) : Type 0 where
+  pub text : List ℕ
+  pub written : Appends held holds text
+  pub ended : List (List ℕ)
+  pub rest : List ℕ
+  pub cut : pieces 10 bytes ≡ ended ++ rest ∷ []
+  pub replays : Replays first ended text now (Finished (length ended))
+  pub near : length rest ≤ 2 * LINE_LIMIT
+
+-- what holds after a fault, where these bytes were read, and these are left if the reader tells
+abbrev pub Faults : Option (List ℕ) → Session → Option (List ℕ) → List ℕ → Session → Option (List ℕ) → ReplayFault → Type 0
+Faults left first held bytes now holds (Malformed k) = EndsWith left first held bytes now holds k (MalformedAt k)
+Faults left first held bytes now holds (LineTooLong k) = EndsWith left first held bytes now holds k (TooLongAt k)
+Faults left first held bytes now holds Read = ReadsNoMore first held bytes now holds
+Faults left first held bytes now holds Write = BreaksOff left first held bytes now holds
+Faults left first held bytes now holds OutOfMemory = BreaksOff left first held bytes now holds

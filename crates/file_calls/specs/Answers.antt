@@ -1,0 +1,49 @@
+-- What the files that a run sees answer, and what is asked of the host files for it. (This project's own.)
+use Rattle.std.specs.Prelude.{List, [], ◌∷◌}
+use Rattle.std.specs.Borrow.{GName}
+use Rattle.directory.specs.Entries.{Shape}
+use Rattle.hostfiles.specs.Hosts.{Key, Host}
+use Rattle.hostfiles.specs.Files.{Own, has, file_of, place_of, entry_at, shapes}
+use Rattle.hostfiles.specs.File.{shape_of}
+use Rattle.hostfiles.specs.Looks.{look_has, look_length, look_content, look_directory}
+use Rattle.hostfiles.specs.Seen.{own_of}
+use Rattle.hostfiles.specs.declared.looks.Looks.{Looks}
+use Rattle.hostfiles.specs.declared.seen.SeenFile.{SeenFile}
+use Rattle.cpmfiles.specs.declared.table.Table.{Table}
+use Rattle.file_calls.specs.Questions.{FileQuestion, IsThere, ShapeOf, Content, FilesOn, FileAnswers, files_on}
+
+-- host files, what a run did to them, what it asked of them, and the reference that lends the latter two
+pub record Drives : Type 0 where
+  pub host : Host
+  pub own : Own
+  pub looks : Looks
+  pub lender : GName
+
+abbrev pub drives_of : Table → Drives
+drives_of t = record { host = t.host.now; own = t.changes.now.journal.entries; looks = t.changes.now.looks; lender = t.changes.ghost_name }
+
+-- for each place of the file of a key whether a record stands there
+unfoldable pub shape_here : Host → Own → Key → Shape
+shape_here host own key = shape_of (file_of host key (entry_at own key))
+
+-- the same of a file that was found
+abbrev pub shape_found : SeenFile → Shape
+shape_found f = shape_here f.host.now (own_of f) f.key
+
+-- what they answer
+abbrev pub file_answers : Host → Own → FileAnswers
+file_answers host own (IsThere key) = has host own key
+file_answers host own (ShapeOf key) = shape_here host own key
+file_answers host own (Content key k) = place_of host key (entry_at own key) k
+file_answers host own (FilesOn drive) = files_on drive (shapes host own)
+
+-- what is asked of the host files on behalf of a question
+abbrev pub look_for : Own → FileQuestion → Looks → Looks
+look_for own (IsThere key) l = look_has own key l
+look_for own (ShapeOf key) l = look_length own key l
+look_for own (Content key k) l = look_content own key k l
+look_for own (FilesOn drive) l = look_directory drive l
+
+abbrev pub look_for_all : Own → List FileQuestion → Looks → Looks
+look_for_all own [] l = l
+look_for_all own (q ∷ qs) l = look_for_all own qs (look_for own q l)

@@ -1,4 +1,0 @@
-pub mod Parts
-pub mod Names
-pub mod Answering
-pub mod Soundness

@@ -1,0 +1,19 @@
+-- What the functions leave that carry out an instruction, by its opcode or by its byte. (This project's own.)
+use Rattle.std.specs.Prelude.{ℕ}
+use Rattle.std.specs.declared.result.Result.{Result}
+use Rattle.std.specs.declared.alloc.AllocError.{AllocError}
+use Rattle.i8080.specs.declared.registers.Regs.{Regs}
+use Rattle.i8080.specs.declared.outcome.Did.{Did}
+use Rattle.i8080.specs.declared.opcode.Op.{Op}
+use Rattle.i8080.specs.Memory as memory
+use Rattle.i8080.specs.Performs.{Performs}
+use Rattle.i8080.specs.Opcodes.{decoded}
+use Rattle.i8080.specs.Instruction.{operation, decided}
+
+-- what a call leaves that carries out an instruction
+abbrev pub Executes : Op → Regs → memory.Memory → Result Did AllocError → Regs → memory.Memory → Type 0
+Executes op r m result r' m' = Performs (operation op r) r m result r' m'
+
+-- what a call leaves that carries out the instruction of a byte that was read
+abbrev pub ExecutesByte : ℕ → Regs → memory.Memory → Result Did AllocError → Regs → memory.Memory → Type 0
+ExecutesByte byte r m result r' m' = Performs (decided byte (decoded byte) r) r m result r' m'

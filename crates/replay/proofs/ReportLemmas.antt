@@ -1,0 +1,39 @@
+-- What a report tells, by the run that it is of.
+use Rattle.std.proofs.Common.{◌≡◌, Bool, true, false, cond, is_some, Option, Some, None, IfSome, IfNone, refl, sym, ap, subst, ◌∙◌}
+use Rattle.std.specs.declared.cmp.Ordering.TheVariants.{Less}
+use Rattle.std.specs.Ordering.{nat_cmp}
+use Rattle.std.specs.Cmp.Lexicographic.{slice_cmp}
+use Rattle.std.specs.FinMap.{contains_key}
+use Rattle.hostfiles.specs.Order.{is_above}
+use Rattle.hostfiles.specs.Hosts.{Key, Host}
+use Rattle.hostfiles.specs.Files.{Own, entry_at, file_of, files, has, told}
+use Rattle.hostfiles.specs.Changed.{is_changed_name}
+use Rattle.hostfiles.proofs.FileLemmas.{get-files}
+use Rattle.machine.specs.ChangedFiles.{told_in, is_changed_name_in}
+use Rattle.machine.specs.WholeFiles.{Files}
+use Rattle.machine.proofs.ChangedFileLemmas.{told_laid, changed_name_laid}
+
+module _ (host : Host) (own : Own) (all : Files) (is : files host own ≡ all) where
+  pub there_is : (key : Key) → has host own key ≡ contains_key all key
+  there_is key = sym (ap (λ (m : Files). contains_key m key) (sym is) ∙ ap is_some (get-files host own key) ∙ by (has host own key)) where
+    by : (b : Bool) → is_some (cond b (Some (file_of host key (entry_at own key))) None) ≡ b
+    by true = refl
+    by false = refl
+
+  pub told_is : (key : Key) → told host own key ≡ told_in all key
+  told_is key = sym (told_laid host own key) ∙ ap (λ (m : Files). told_in m key) is
+
+  pub changed_is : is_changed_name host own ≡ is_changed_name_in host all
+  changed_is = λ i key. (sym (changed_name_laid host own key) ∙ ap (λ (m : Files). is_changed_name_in host m key) is) i
+
+-- the same of a test in other words
+module _ (t u : Key → Bool) (is : t ≡ u) where
+  pub some_is : (found : Option Key) → IfSome found (λ k. t k ≡ true) → IfSome found (λ k. u k ≡ true)
+  some_is found h = subst (λ (p : Key → Bool). IfSome found (λ k. p k ≡ true)) is h
+
+  pub least_is : (found after : Option Key) → IfSome found (λ k. (x : Key) → is_above after x ≡ true → slice_cmp nat_cmp x k ≡ Less → t x ≡ false)
+      → IfSome found (λ k. (x : Key) → is_above after x ≡ true → slice_cmp nat_cmp x k ≡ Less → u x ≡ false)
+  least_is found after h = subst (λ (p : Key → Bool). IfSome found (λ k. (x : Key) → is_above after x ≡ true → slice_cmp nat_cmp x k ≡ Less → p x ≡ false)) is h
+
+  pub none_is : (found after : Option Key) → IfNone found ((x : Key) → is_above after x ≡ true → t x ≡ false) → IfNone found ((x : Key) → is_above after x ≡ true → u x ≡ false)
+  none_is found after h = subst (λ (p : Key → Bool). IfNone found ((x : Key) → is_above after x ≡ true → p x ≡ false)) is h

@@ -1,0 +1,8 @@
+use Rattle.replay.specs.Report.{run_of, session_of}
+use Rattle.replay.proofs.ReportLemmas.{told_is}
+use Rattle.replay.proofs.report.Report.records.Goals as goal
+
+pub returns : goal.returns
+returns c =
+    let is = told_is (session_of c.args.self.now).files c.journal.result.now.entries (run_of c.args.self.now).machine.files c.journal.ensures c.args.name.now in
+    cc

@@ -1,0 +1,65 @@
+// The sessions by their words.
+
+use crate::playing::play;
+use crate::trouble::Trouble;
+use std::alloc::Global;
+use test_sessions::{Case, worked};
+
+/// A word, and the session that it names.
+type Named = (&'static str, &'static Case<'static>);
+
+const SESSIONS: [Named; 23] = [
+    ("empty-program", &worked::EMPTY_PROGRAM),
+    ("return", &worked::RETURN_ALONE),
+    ("printed-text", &worked::PRINTED_TEXT),
+    ("replaced-letter", &worked::REPLACED_LETTER),
+    ("lost-dollar", &worked::LOST_DOLLAR),
+    ("byte-written-before", &worked::BYTE_WRITTEN_BEFORE),
+    ("halt-written", &worked::HALT_WRITTEN),
+    ("limit-raised", &worked::LIMIT_RAISED),
+    ("limit-lowered", &worked::LIMIT_LOWERED),
+    ("limit-after-call", &worked::LIMIT_AFTER_CALL),
+    ("two-letters", &worked::TWO_LETTERS),
+    ("subtraction", &worked::SUBTRACTION),
+    ("adjustment", &worked::ADJUSTMENT),
+    ("no-opcode", &worked::NO_OPCODE),
+    ("edits-without-memory", &worked::EDITS_WITHOUT_MEMORY),
+    ("typed-byte", &worked::TYPED_BYTE),
+    ("same-byte-before", &worked::SAME_BYTE_BEFORE),
+    ("status", &worked::STATUS),
+    ("typed-line", &worked::TYPED_LINE),
+    ("short-line", &worked::SHORT_LINE),
+    ("opened-file", &worked::OPENED_FILE),
+    ("renamed-file", &worked::RENAMED_FILE),
+    ("longest-file", &worked::LONGEST_FILE),
+];
+
+/// Prints the words of all sessions.
+pub fn list(rt: &impl Print) -> Result<(), Trouble> {
+    for (word, _) in SESSIONS {
+        println!(rt; "{word}")?;
+    }
+    Ok(())
+}
+
+// Carries out every session, each after its word.
+fn carry_out_all(rt: &impl Print, alloc: Global) -> Result<(), Trouble> {
+    for (word, case) in SESSIONS {
+        println!(rt; "{word}")?;
+        play(rt, alloc, case)?;
+    }
+    Ok(())
+}
+
+/// Carries out the session of a word, or every one where it is `every-session`.
+pub fn carry_out(rt: &impl Print, alloc: Global, wanted: &str) -> Result<(), Trouble> {
+    if wanted == "every-session" {
+        return carry_out_all(rt, alloc);
+    }
+    for (word, case) in SESSIONS {
+        if word == wanted {
+            return play(rt, alloc, case);
+        }
+    }
+    Err(Trouble::Words)
+}
