@@ -14,7 +14,8 @@ use Rattle.keymaps.proofs.Views.{same_key}
 use Rattle.keymaps.proofs.Left.{rises}
 use Rattle.directory.specs.declared.entry.Entry.{Entry}
 use Rattle.directory.specs.declared.entry.Position.{Position}
-use Rattle.directory.specs.Entries.{Shape, Shapes, entries_at, entries_of, count_in, count_by, with_entry, first_where, listed, is_after, is_match, matches, chunk_from, fitting, above, next_entry}
+use Rattle.directory.specs.Entries.{Shape, Shapes, entries_at, entries_of, count_in, count_by, with_entry, first_where, listed, is_after, is_match, matches, next_entry}
+use Rattle.directory.specs.Parts.{chunk_from, fitting, above}
 use Rattle.keymaps.proofs.Rising.{first_of_both, second_of_both, here, begins, ends, find_below, below_less}
 
 abbrev pub or_else : {X : Type 0} → Option X → Option X → Option X

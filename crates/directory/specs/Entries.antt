@@ -2,10 +2,10 @@
 -- what stands in the bytes 12 to 31 of an entry, and extents with holes: this project's profile.)
 use Rattle.std.specs.Prelude.{ℕ, ◌+◌, ◌-◌, ◌*◌, ◌/◌, ◌%◌, Bool, true, false, ◌&&◌, ◌||◌, ◌==◌, List, [], ◌∷◌, ◌++◌, Option, Some, None, nat_lt, if◌then◌else◌, take, drop, replicate, slice_index, flat_map}
 use Rattle.std.specs.Ordering.{nat_cmp, is_lt, is_eq}
-use Rattle.std.specs.List.{range_with_len, filter}
+use Rattle.std.specs.List.{range_with_len}
 use Rattle.std.specs.Cmp.Lexicographic.{slice_cmp}
 use Rattle.std.specs.FinMap.{FinMap, get, entries}
-use Rattle.keymaps.specs.Order.{Key, is_above}
+use Rattle.keymaps.specs.Order.{Key}
 use Rattle.directory.specs.declared.entry.Entry.{Entry}
 use Rattle.directory.specs.declared.entry.Position.{Position}
 
@@ -109,22 +109,3 @@ entry_bytes e = 0 ∷ drop 1 e.key ++ (e.extent % 32) ∷ 0 ∷ (e.extent / 32) 
 -- the position that the bytes of an entry say, on a drive
 abbrev pub position_in : ℕ → List ℕ → Position
 position_in drive bytes = record { key = drive ∷ take 11 (drop 1 bytes); extent = slice_index bytes 12 + 32 * slice_index bytes 14 }
-
--- ---- parts of the directory
-
--- the entries of a file's extents from one on
-unfoldable pub chunk_from : Key → Option Shape → ℕ → List Entry
-chunk_from k v n = entries_at k (count_by v) (range_with_len n (512 - n))
-
--- the entries of the extents from one on of the file of a key, if there is one
-abbrev pub entries_from : Shapes → Key → ℕ → List Entry
-entries_from m key n = chunk_from key (get m key) n
-
--- the entries of the files above a key
-unfoldable pub above : Option Key → Shapes → List Entry
-above after m = flat_map (λ e. entries_of e.0 e.1) (filter (λ e. is_above after e.0) (entries m))
-
--- an extent's entry, if it has one and the pattern's byte fits
-abbrev pub fitting : Key → ℕ → ℕ → Option ℕ → Option Entry
-fitting key e ex None = None
-fitting key e ex (Some n) = if ex == 63 || ex == e then Some (record { key = key; extent = e; count = n }) else None

@@ -2,7 +2,8 @@
 
 ghost use Rattle.std.specs.Prelude.{◌≡◌, ◌<◌, ◌≤◌, ◌||◌, ◌==◌, ℕ, List, Option, true, None, Some, IfSome, IfNone};
 ghost use Rattle.keymaps.specs.Order.{EachAbove, EachBetween, IsAbsent, is_above};
-ghost use Rattle.directory.specs.Entries.{Shapes, entry_count, entries_from, first_match, fitting, above, next_entry};
+ghost use Rattle.directory.specs.Entries.{Shapes, entry_count, first_match, next_entry};
+ghost use Rattle.directory.specs.Parts.{entries_from, fitting, above};
 
 use crate::entry::{Entry, Position};
 use crate::pattern::is_match;

@@ -1,5 +1,6 @@
 use Rattle.std.proofs.Common.{◌≡◌}
-use Rattle.directory.specs.Entries.{first_where, matches, above}
+use Rattle.directory.specs.Entries.{first_where, matches}
+use Rattle.directory.specs.Parts.{above}
 use Rattle.directory.proofs.search.first_above.Given as goal
 
 abbrev pub invariant-loop-next : goal.invariant-loop-next

@@ -1,6 +1,7 @@
 use Rattle.std.proofs.Common.{◌≡◌, ◌-◌}
 use Rattle.std.specs.FinMap as finmap
-use Rattle.directory.specs.Entries.{first_where, matches, chunk_from}
+use Rattle.directory.specs.Entries.{first_where, matches}
+use Rattle.directory.specs.Parts.{chunk_from}
 use Rattle.directory.proofs.search.first_extent.Given as goal
 
 abbrev pub invariant-loop-extent : goal.invariant-loop-extent
