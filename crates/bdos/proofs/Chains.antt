@@ -43,6 +43,7 @@ use Rattle.file_calls.specs.Asks.{Asks}
 use Rattle.file_calls.proofs.Extending.{within_all}
 use Rattle.bdos.specs.Questions.{SystemTree, SystemAnswers, reading_first, asking_state, asking_files}
 use Rattle.bdos.specs.Fulfils.{state_questions, file_questions, system_answers}
+use Rattle.filenames.specs.declared.drive.Drive.{Drive}
 use Rattle.bdos.specs.FileCalls.{SystemEnd, back, carried_on, with_block, on_drive, drive_named, block_read, value_of}
 use Rattle.bdos.specs.Fulfils.{Fulfils, scene_with, end_in, cells_asked, places_asked, files_asked}
 use Rattle.bdos.proofs.Trees.{result-reading, cells-reading, places-reading, files-reading, result-state, questions-state, files-state, result-files, state-files, questions-files}
@@ -309,7 +310,7 @@ module _ {script : List ℕ} {r r' : Regs} {m m' : Memory} {d d' : Desk} {v v' :
 
 -- the head of a call that names a file: the drive byte, the rest of the control block, and the return address
 module _ {script : List ℕ} {r : Regs} {m m1 m2 m3 : Memory} {d : Desk} {v : Drives} {was is : ℕ → Bool} {result : Result Served AllocError} {r' : Regs} {m' : Memory} {d' : Desk} {v' : Drives} where
-  pub heads : (length n : ℕ) (spot : Spot) (k : Block → ℕ → SystemTree SystemEnd) {at current dr drive to : ℕ} {block : Block} → length ≡ n → at ≡ word r.e r.d → current ≡ spot.drive
+  pub heads : (length n : ℕ) (spot : Spot) (k : Block → ℕ → SystemTree SystemEnd) {at : ℕ} {current : Drive} {dr : ℕ} {drive : Drive} {to : ℕ} {block : Block} → length ≡ n → at ≡ word r.e r.d → current ≡ spot.drive
       → Reads (Cell at Done) m dr m1 → Some drive ≡ drive_named current dr → Reads (block_read drive dr n at) m1 block m2 → Reads (word_at r.sp Done) m2 to m3
       → Fulfils (k block to) script (scene_with r m3 d v was) result (scene_with r' m' d' v' is) → Fulfils (with_block length r spot k) script (scene_with r m d v was) result (scene_with r' m' d' v' is)
   heads length n spot k {at = at} {dr = dr} {drive = drive} {to = to} {block = block} same de here first there second third w =

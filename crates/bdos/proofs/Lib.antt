@@ -3,4 +3,3 @@ pub mod Chains
 pub mod Parts
 pub mod Runs
 pub mod Numbers
-pub mod DriveLemmas

@@ -6,6 +6,7 @@ use Rattle.i8080.specs.Reading.{end_of, asked}
 use Rattle.i8080.specs.Registers.{onward}
 use Rattle.i8080.specs.Performs.{Reads}
 use Rattle.console_calls.proofs.Scanning.{end_of-ending, asked-ending, one_less, none_left}
+use Rattle.filenames.specs.declared.drive.Drive.{Drive}
 use Rattle.bdos.specs.FileCalls.{bytes_at, block_read}
 use Rattle.file_calls.specs.declared.block.Block.{Block}
 
@@ -61,7 +62,7 @@ pub read_at : (n a b : ℕ) {m m1 : Memory} {cells : List ℕ} → a ≡ b → R
 read_at n a b {m = m} {m1 = m1} {cells = cells} e h = subst (λ (x : ℕ). Reads (bytes_at n x) m cells m1) e h
 
 -- a control block whose first byte was read
-pub block_of : (length drive dr at a : ℕ) {m m1 : Memory} {cells fcb : List ℕ} → a ≡ onward at 1 → Reads (bytes_at (length - 1) a) m cells m1 → fcb ≡ dr ∷ cells ++ replicate (36 - length) 0
+pub block_of : (length : ℕ) (drive : Drive) (dr at a : ℕ) {m m1 : Memory} {cells fcb : List ℕ} → a ≡ onward at 1 → Reads (bytes_at (length - 1) a) m cells m1 → fcb ≡ dr ∷ cells ++ replicate (36 - length) 0
     → Reads (block_read drive dr length at) m (record { drive = drive; fcb = fcb }) m1
 unfolding block_read
 block_of length drive dr at a {m = m} {m1 = m1} {cells = cells} e h f =

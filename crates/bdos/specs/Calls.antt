@@ -1,5 +1,5 @@
--- The calls by their numbers. (CP/M 2.2 Interface Guide; function 40 is its "write random with zero fill"; which of its calls are
--- there: this project's profile.)
+-- The calls by their numbers. ([Interface Guide 1979, system function summary]; function 40 is its "write random with zero
+-- fill"; which of its calls are there: this project's profile.)
 use Rattle.std.specs.Prelude.{ℕ, ◌==◌, if◌then◌else◌}
 use Rattle.interaction_trees.specs.Tree.{Return}
 use Rattle.i8080.specs.declared.registers.Regs.{Regs}

@@ -1,13 +1,15 @@
--- The calls of files: the control block is read, the files are asked, and then the call is carried out. (CP/M 2.2 Interface
--- Guide, functions 15 to 23, 33 to 36 and 40; what a drive that is not there does, which bytes of the control block are written,
--- and in which order: this project's profile.)
-use Rattle.std.specs.Prelude.{ℕ, zero, suc, ◌+◌, ◌-◌, ◌/◌, ◌%◌, ◌==◌, Bool, List, [], ◌∷◌, ◌++◌, Option, Some, None, nat_le, if◌then◌else◌, replicate}
+-- The calls of files: the control block is read, the files are asked, and then the call is carried out.
+-- ([Interface Guide 1979, functions 15 to 23, 33 to 36 and 40]; what a drive that is not there does, which bytes of the control
+-- block are written, and in which order: this project's profile.)
+use Rattle.std.specs.Prelude.{ℕ, zero, suc, ◌+◌, ◌-◌, ◌/◌, ◌%◌, ◌==◌, Bool, List, [], ◌∷◌, ◌++◌, Option, Some, None, if◌then◌else◌, replicate}
 use Rattle.interaction_trees.specs.Tree.{Return}
 use Rattle.i8080.specs.declared.registers.Regs.{Regs}
 use Rattle.i8080.specs.Reading.{Reading, Done, Cell}
 use Rattle.i8080.specs.Registers.{word, onward}
 use Rattle.i8080.specs.Instruction.{word_at}
 use Rattle.i8080.specs.End.{cells_from}
+use Rattle.filenames.specs.Drives.{drive_at}
+use Rattle.filenames.specs.declared.drive.Drive.{Drive}
 use Rattle.console_calls.specs.declared.cause.Cause.TheVariants.{BadDrive}
 use Rattle.console_calls.specs.declared.desk.Spot.{Spot}
 use Rattle.console_calls.specs.Strings.{ending}
@@ -31,13 +33,13 @@ unfoldable pub bytes_at : ℕ → ℕ → Reading (List ℕ)
 bytes_at zero at = Done []
 bytes_at (suc n) at = Cell at (λ byte. ending (λ rest. byte ∷ rest) (bytes_at n (onward at 1)))
 
--- the drive that the first byte of a control block names: 0 is the current one, 1 to 4 are A to D (CP/M 2.2 Interface Guide; other
--- drives are not there in this project's profile)
-abbrev pub drive_named : ℕ → ℕ → Option ℕ
-drive_named current dr = if dr == 0 then Some current else if nat_le dr 4 then Some (dr - 1) else None
+-- the drive that the first byte of a control block names: 0 is the current one, 1 to 4 are A to D
+-- ([Interface Guide 1979, file control blocks]; other drives are not there in this project's profile)
+abbrev pub drive_named : Drive → ℕ → Option Drive
+drive_named current dr = if dr == 0 then Some current else drive_at (dr - 1)
 
 -- a control block of 33 or 36 bytes, whose drive byte was read
-unfoldable pub block_read : ℕ → ℕ → ℕ → ℕ → Reading Block
+unfoldable pub block_read : Drive → ℕ → ℕ → ℕ → Reading Block
 block_read drive dr length at = ending (λ rest. record { drive = drive; fcb = dr ∷ rest ++ replicate (36 - length) 0 }) (bytes_at (length - 1) (onward at 1))
 
 -- the call went back with a value, and sent nothing
@@ -82,7 +84,7 @@ carried_on (finding.RandomPlace place) r spot to = back 0 r spot to (random_cell
 
 -- the drive byte is read first; where it names no drive the call stops. Then the rest of the control block is read, and the return
 -- address
-abbrev pub on_drive : ℕ → Regs → Spot → ℕ → (Block → ℕ → SystemTree SystemEnd) → Option ℕ → SystemTree SystemEnd
+abbrev pub on_drive : ℕ → Regs → Spot → ℕ → (Block → ℕ → SystemTree SystemEnd) → Option Drive → SystemTree SystemEnd
 on_drive length r spot dr k None = Return (Stopped (BadDrive dr), Unchanged)
 on_drive length r spot dr k (Some drive) =
     reading_first (block_read drive dr length (word r.e r.d)) (λ block. reading_first (word_at r.sp Done) (λ to. k block to))

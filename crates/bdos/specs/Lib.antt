@@ -2,4 +2,3 @@ pub mod Questions
 pub mod FileCalls
 pub mod Fulfils
 pub mod Calls
-pub mod Drives

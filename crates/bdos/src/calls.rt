@@ -1,24 +1,24 @@
-ghost use Rattle.std.specs.Prelude.{◌≡◌, ◌≤◌, ◌<◌, List, ℕ, Ok, IfSome, length, slice_index, if◌then◌else◌};
+ghost use Rattle.std.specs.Prelude.{◌≡◌, ◌≤◌, List, ℕ, Ok, length, if◌then◌else◌};
 ghost use Rattle.file_calls.specs.Answers.{drives_of};
 ghost use Rattle.i8080.specs.Performs.{Reads};
 ghost use Rattle.bdos.specs.FileCalls.{file_call, delete_call, search_next_call, drive_named, block_read};
 ghost use Rattle.bdos.specs.Calls.{call};
 ghost use Rattle.bdos.specs.Fulfils.{Serves};
-ghost use Rattle.bdos.specs.Drives.{AsksDrives};
 ghost use Rattle.bdos.specs.Fulfils.{Fulfils, scene};
 
 use crate::carry_on::carry_on;
 use crate::cells::fetch_cells;
 use crate::function::SystemFunction;
 use console_calls::{Cause, Desk, Served, give_back};
-use cpmfiles::{Fcb, Table};
+use cpmfiles::Table;
 use file_calls::{Block, FileFunction, delete_files, search_next};
+use filenames::{Drive, Fcb};
 use i8080::{Bus, Regs, fetch, fetch_word, word_of};
 use std::alloc::AllocError;
 
 /// Carries out the call whose number is in C. A call that stops, and an `Err` (a want of memory), leave the
 /// registers, the written cells, the desk and the files as they were; what was looked at may have grown, by
-/// what the whole call looks at. (CP/M 2.2 Interface Guide.)
+/// what the whole call looks at. [Interface Guide 1979, system function summary]
 #[tactic(auto, unfolding(crate::specs::Calls::call))]
 pub fn call<B: Bus>(
     regs: &mut Regs,
@@ -27,10 +27,9 @@ pub fn call<B: Bus>(
     desk: &mut Desk,
     script: &[u8],
 ) -> Result<Served, AllocError>
-    ensures serves { (n : ℕ) → length script.now ≤ n → Serves n script.now
+    ensures { (n : ℕ) → length script.now ≤ n → Serves n script.now
         (scene regs.old (B.memory bus.old) desk.old (drives_of table.old)) result
         (scene regs.new (B.memory bus.new) desk.new (drives_of table.new)) }
-    ensures drives { (n : ℕ) → AsksDrives (call n regs.old desk.old.desk.spot) }
 {
     match SystemFunction::decode(regs.c) {
         SystemFunction::OfFile(function) => file_call(regs, bus, table, desk, function),
@@ -48,10 +47,9 @@ fn file_call<B: Bus>(
     desk: &mut Desk,
     function: FileFunction,
 ) -> Result<Served, AllocError>
-    ensures serves { (script : List ℕ) → Fulfils (file_call function regs.old desk.old.desk.spot) script
+    ensures { (script : List ℕ) → Fulfils (file_call function regs.old desk.old.desk.spot) script
         (scene regs.old (B.memory bus.old) desk.old (drives_of table.old)) result
         (scene regs.new (B.memory bus.new) desk.new (drives_of table.new)) }
-    ensures drive { desk.old.desk.spot.drive < 256 }
 {
     let at = word_of(regs.e, regs.d);
     let dr = fetch(bus, at);
@@ -71,10 +69,9 @@ fn delete_call<B: Bus>(
     table: &mut Table<'_>,
     desk: &Desk,
 ) -> Result<Served, AllocError>
-    ensures serves { (script : List ℕ) → Fulfils (delete_call regs.old desk.now.desk.spot) script
+    ensures { (script : List ℕ) → Fulfils (delete_call regs.old desk.now.desk.spot) script
         (scene regs.old (B.memory bus.old) desk.now (drives_of table.old)) result
         (scene regs.new (B.memory bus.new) desk.now (drives_of table.new)) }
-    ensures drive { desk.now.desk.spot.drive < 256 }
 {
     let at = word_of(regs.e, regs.d);
     let dr = fetch(bus, at);
@@ -102,10 +99,9 @@ fn search_next_call<B: Bus>(
     table: &mut Table<'_>,
     desk: &mut Desk,
 ) -> Result<Served, AllocError>
-    ensures serves { (script : List ℕ) → Fulfils (search_next_call regs.old desk.old.desk.spot) script
+    ensures { (script : List ℕ) → Fulfils (search_next_call regs.old desk.old.desk.spot) script
         (scene regs.old (B.memory bus.old) desk.old (drives_of table.old)) result
         (scene regs.new (B.memory bus.new) desk.new (drives_of table.new)) }
-    ensures search { IfSome desk.old.desk.spot.search (λ s. slice_index s.pattern 0 < 256) }
 {
     let to = fetch_word(bus, regs.sp);
     let finding = search_next(table.host, table.changes, desk.search());
@@ -113,18 +109,17 @@ fn search_next_call<B: Bus>(
 }
 
 // The drive that the first byte of a control block names.
-fn drive_named(current: u8, dr: u8) -> Option<u8>
+fn drive_named(current: Drive, dr: u8) -> Option<Drive>
     ensures { result ≡ drive_named current dr }
 {
     match dr {
         0 => Some(current),
-        1..=4 => Some(dr - 1),
-        _ => None,
+        _ => Drive::from_number(dr - 1),
     }
 }
 
 // The control block at an address, whose drive byte was read: 36 bytes, or 33 and zeros.
-fn fetch_block<B: Bus>(bus: &mut B, at: u16, drive: u8, dr: u8, whole: bool) -> Block
+fn fetch_block<B: Bus>(bus: &mut B, at: u16, drive: Drive, dr: u8, whole: bool) -> Block
     ensures { let length = if whole then 36 else 33 in
         Reads (block_read drive dr length at) (B.memory bus.old) result (B.memory bus.new) }
 {

@@ -3,7 +3,7 @@
 ghost use Rattle.std.specs.Prelude.{◌≡◌, ◌≢◌, ◌≤◌, ◌/◌, ◌%◌, List, [], ◌∷◌, ℕ, Ok, OnOk, OnErr, length};
 ghost use Rattle.console_calls.specs.Places.{Watched};
 ghost use Rattle.file_calls.specs.Answers.{Drives, drives_of};
-ghost use Rattle.file_calls.specs.FileCalls.{IsApart};
+ghost use Rattle.file_calls.specs.Apart.{IsApart};
 ghost use Rattle.file_calls.specs.Changes.{Unchanged, Stored};
 ghost use Rattle.file_calls.specs.Deletes.{own_with};
 ghost use Rattle.file_calls.specs.declared.finding.Finding.TheVariants as finding;

@@ -1,4 +1,4 @@
--- Page zero with a command tail. (CP/M 2.2 Interface Guide, page zero; the addresses of the system, and what its first bytes hold
+-- Page zero with a command tail. ([Interface Guide 1979, page zero]; the addresses of the system, and what its first bytes hold
 -- when a program is loaded: this project's profile.)
 use Rattle.std.specs.Prelude.{ℕ, ◌+◌, ◌-◌, List, [], ◌∷◌, ◌++◌, length, map, take, drop, replicate}
 use Rattle.std.specs.Char.{to_ascii_uppercase}

@@ -1,5 +1,5 @@
--- The words of a command tail, and the drive and the name that a word gives. (CP/M 2.2 Interface Guide, page zero and file
--- control blocks; which words give what: this project's profile.)
+-- The words of a command tail, and the drive and the name that a word gives.
+-- ([Interface Guide 1979, page zero and file control blocks]; which words give what: this project's profile.)
 use Rattle.std.specs.Prelude.{ℕ, ◌-◌, ◌==◌, ◌&&◌, not, Bool, if◌then◌else◌, List, ◌∷◌, ◌++◌, take, drop, replicate, slice_index}
 use Rattle.std.specs.List.{list_any, before_first, after_first, position_or_len}
 use Rattle.std.specs.Char.{is_ascii_uppercase}

@@ -1,4 +1,4 @@
-//! What a program finds of its command tail: the CP/M 2.2 Interface Guide, page zero.
+//! What a program finds of its command tail. [Interface Guide 1979, page zero]
 //!
 //! - `word`, `page`: the words of a command tail, and what a word says of a drive and a name; page zero
 #![tactic(auto)]

@@ -9,7 +9,8 @@ use Rattle.i8080.specs.Registers.{onward}
 use Rattle.i8080.specs.Performs.{Reads}
 use Rattle.i8080.proofs.BoundLemmas.{bound_all}
 use Rattle.console_calls.proofs.Looking.{one_more, some_more, here}
-use Rattle.console_calls.specs.Desk.{Desk, Shown, printed, printed_all, desk_showing, desk_printing}
+use Rattle.console_calls.specs.Desk.{Desk, Shown, printed, printed_all}
+use Rattle.console_calls.specs.DeskAfter.{desk_showing, desk_printing}
 use Rattle.console_calls.specs.Strings.{ending, string_at}
 use Rattle.console_calls.specs.Printing.{Grown, printed_if}
 

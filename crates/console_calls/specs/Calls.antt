@@ -1,12 +1,16 @@
--- The BDOS calls: what each asks of the state, and what it then does. (CP/M 2.2 Interface Guide, functions 0 to 2, 6 to 14 and 24
--- to 26; what stops a call, and in which order it asks: this project's profile.)
-use Rattle.std.specs.Prelude.{ℕ, ◌==◌, ◌+◌, is_some, if◌then◌else◌, nat_lt, List, [], ◌∷◌, Option, Some, None, suc, length, reverse}
+-- The BDOS calls: what each asks of the state, and what it then does.
+-- ([Interface Guide 1979, functions 0 to 2, 6 to 14 and 24 to 26]; what stops a call, and in which order it asks: this
+-- project's profile.)
+use Rattle.std.specs.Prelude.{ℕ, ◌==◌, ◌+◌, is_some, if◌then◌else◌, List, [], ◌∷◌, Option, Some, None, suc, length, reverse}
 use Rattle.interaction_trees.specs.Tree.{Return, Query}
 use Rattle.i8080.specs.declared.registers.Regs.{Regs}
 use Rattle.i8080.specs.Reading.{Done, Cell}
 use Rattle.i8080.specs.Registers.{word, high, low, onward}
 use Rattle.i8080.specs.Instruction.{word_at}
 use Rattle.i8080.specs.End.{cells_from}
+use Rattle.filenames.specs.Drives.{drive_at, drive_number}
+use Rattle.filenames.specs.declared.drive.Drive.{Drive}
+use Rattle.filenames.specs.declared.drive.Drive.TheVariants.{A}
 use Rattle.console_calls.specs.declared.cause.Cause.{Cause}
 use Rattle.console_calls.specs.declared.cause.Cause.TheVariants.{WarmBoot, ConsoleExhausted, NoDollar, Unsupported, BadDrive}
 use Rattle.console_calls.specs.declared.desk.Spot.{Spot}
@@ -32,7 +36,7 @@ pub data CallEnd : Type 0 where
   Stopped : Cause → CallEnd
 
 -- the registers back at the caller, at an address, with a value: HL is the value, A is L and B is H, and the stack is popped
--- (CP/M 2.2 Interface Guide)
+-- [Interface Guide 1979, operating system call conventions]
 abbrev pub at_caller : ℕ → ℕ → Regs → Regs
 at_caller value to r = record r { a = low value; b = high value; h = high value; l = low value; sp = onward r.sp 2; pc = to }
 
@@ -40,8 +44,8 @@ at_caller value to r = record r { a = low value; b = high value; h = high value;
 abbrev pub completing : ℕ → Regs → Spot → List ℕ → Written → StateTree CallEnd
 completing value r spot bytes written = reads (word_at r.sp Done) (λ to. Return (Completed (at_caller value to r) spot bytes written))
 
--- function 1 takes the script byte at the cursor, prints it, and gives it; the end of the script stops (CP/M 2.2 Interface
--- Guide, function 1)
+-- function 1 takes the script byte at the cursor, prints it, and gives it; the end of the script stops
+-- [Interface Guide 1979, function 1]
 abbrev pub taking : Regs → Spot → Option ℕ → StateTree CallEnd
 taking r spot None = Return (Stopped ConsoleExhausted)
 taking r spot (Some byte) = let s = echoed spot.column byte in completing byte r (record spot { cursor = spot.cursor + 1; column = s.column }) s.bytes nothing
@@ -50,7 +54,7 @@ abbrev pub console_input : Regs → Spot → StateTree CallEnd
 console_input r spot = Query (Input spot.cursor) (taking r spot)
 
 -- function 6: with 0FFH in E it takes the script byte at the cursor and gives it, or 0 where none is left; else it sends E, and
--- the column stays (CP/M 2.2 Interface Guide, function 6)
+-- the column stays [Interface Guide 1979, function 6]
 abbrev pub given : Regs → Spot → Option ℕ → StateTree CallEnd
 given r spot None = completing 0 r spot [] nothing
 given r spot (Some byte) = completing byte r (record spot { cursor = spot.cursor + 1 }) [] nothing
@@ -64,13 +68,13 @@ direct_output r spot = completing 0 r spot (r.e ∷ []) nothing
 abbrev pub direct_console : Regs → Spot → StateTree CallEnd
 direct_console r spot = if r.e == 0xff then direct_input r spot else direct_output r spot
 
--- function 11 gives whether a script byte is left (CP/M 2.2 Interface Guide, function 11)
+-- function 11 gives whether a script byte is left [Interface Guide 1979, function 11]
 abbrev pub console_status : Regs → Spot → StateTree CallEnd
 console_status r spot = Query (Input spot.cursor) (λ answer. completing (if is_some answer then 0xff else 0) r spot [] nothing)
 
 -- function 10: the capacity at DE is read first, then the line is taken from the script, then the return address is read. The
--- count goes to the next cell, the text to those after it; a warm boot and the end of the script stop (CP/M 2.2 Interface
--- Guide, function 10)
+-- count goes to the next cell, the text to those after it; a warm boot and the end of the script stop
+-- [Interface Guide 1979, function 10]
 abbrev pub line_cells : ℕ → List ℕ → List (ℕ × ℕ)
 line_cells at text = (onward at 1, length text) ∷ cells_from (onward at 2) text
 
@@ -82,12 +86,12 @@ line_ended r spot (Ended l k) = completing 0 r (record spot { cursor = k; column
 abbrev pub line_input : ℕ → Regs → Spot → StateTree CallEnd
 line_input n r spot = reads (Cell (word r.e r.d) Done) (λ capacity. followed_by (typing (suc n) capacity spot.cursor no_line) (line_ended r spot))
 
--- function 2 prints E (CP/M 2.2 Interface Guide, function 2)
+-- function 2 prints E [Interface Guide 1979, function 2]
 abbrev pub console_output : Regs → Spot → StateTree CallEnd
 console_output r spot = let s = printed spot.column r.e in completing 0 r (spot_showing spot s) s.bytes nothing
 
--- function 9 prints the string at DE, which is read after the return address; a string with no `$` stops (CP/M 2.2 Interface
--- Guide, function 9)
+-- function 9 prints the string at DE, which is read after the return address; a string with no `$` stops
+-- [Interface Guide 1979, function 9]
 abbrev pub printing : Regs → Spot → ℕ → Option (List ℕ) → CallEnd
 printing r spot to None = Stopped NoDollar
 printing r spot to (Some string) = let s = printed_all spot.column string in Completed (at_caller 0 to r) (spot_showing spot s) s.bytes nothing
@@ -95,7 +99,7 @@ printing r spot to (Some string) = let s = printed_all spot.column string in Com
 abbrev pub string_output : Regs → Spot → StateTree CallEnd
 string_output r spot = reads (word_at r.sp Done) (λ to. reads (string_at 65536 (word r.e r.d)) (λ string. Return (printing r spot to string)))
 
--- functions 7 and 8 give and set the I/O byte, at 0003H (CP/M 2.2 Interface Guide, functions 7 and 8)
+-- functions 7 and 8 give and set the I/O byte, at 0003H [Interface Guide 1979, functions 7 and 8]
 abbrev pub io_byte : ℕ
 io_byte = 0x0003
 
@@ -105,28 +109,32 @@ get_io_byte r spot = reads (Cell io_byte Done) (λ byte. completing byte r spot 
 abbrev pub set_io_byte : Regs → Spot → StateTree CallEnd
 set_io_byte r spot = completing 0 r spot [] (record { cells = (io_byte, r.e) ∷ [] })
 
--- function 12 gives the version, 2.2 (CP/M 2.2 Interface Guide, function 12)
+-- function 12 gives the version, 2.2 [Interface Guide 1979, function 12]
 abbrev pub version_number : Regs → Spot → StateTree CallEnd
 version_number r spot = completing 0x0022 r spot [] nothing
 
--- function 13 goes back to the first drive and to the buffer in page zero (CP/M 2.2 Interface Guide, function 13)
+-- function 13 goes back to the first drive and to the buffer in page zero [Interface Guide 1979, function 13]
 abbrev pub reset_disks : Regs → Spot → StateTree CallEnd
-reset_disks r spot = completing 0 r (record spot { buffer = 0x80; drive = 0 }) [] nothing
+reset_disks r spot = completing 0 r (record spot { buffer = 0x80; drive = A }) [] nothing
 
--- function 14 sets the current drive, 0 to 3 for A to D; another stops (CP/M 2.2 Interface Guide, function 14; the stop is this
+-- function 14 sets the current drive, 0 to 3 for A to D; another stops ([Interface Guide 1979, function 14]; the stop is this
 -- project's profile)
-abbrev pub select_disk : Regs → Spot → StateTree CallEnd
-select_disk r spot = if nat_lt r.e 4 then completing 0 r (record spot { drive = r.e }) [] nothing else Return (Stopped (BadDrive r.e))
+abbrev pub selecting : Regs → Spot → Option Drive → StateTree CallEnd
+selecting r spot None = Return (Stopped (BadDrive r.e))
+selecting r spot (Some drive) = completing 0 r (record spot { drive = drive }) [] nothing
 
--- function 24 gives a bit for each drive, from A on (CP/M 2.2 Interface Guide, function 24)
+abbrev pub select_disk : Regs → Spot → StateTree CallEnd
+select_disk r spot = selecting r spot (drive_at r.e)
+
+-- function 24 gives a bit for each drive, from A on [Interface Guide 1979, function 24]
 abbrev pub login_vector : Regs → Spot → StateTree CallEnd
 login_vector r spot = completing 0x000f r spot [] nothing
 
--- function 25 gives the current drive (CP/M 2.2 Interface Guide, function 25)
+-- function 25 gives the current drive [Interface Guide 1979, function 25]
 abbrev pub current_disk : Regs → Spot → StateTree CallEnd
-current_disk r spot = completing spot.drive r spot [] nothing
+current_disk r spot = completing (drive_number spot.drive) r spot [] nothing
 
--- function 26 sets the buffer address to DE (CP/M 2.2 Interface Guide, function 26)
+-- function 26 sets the buffer address to DE [Interface Guide 1979, function 26]
 abbrev pub set_buffer_address : Regs → Spot → StateTree CallEnd
 set_buffer_address r spot = completing 0 r (record spot { buffer = word r.e r.d }) [] nothing
 
@@ -152,6 +160,7 @@ abbrev pub called : ℕ → Option Function → Regs → Spot → StateTree Call
 called n None r spot = Return (Stopped (Unsupported r.c))
 called n (Some f) r spot = carried_out n f r spot
 
--- the call whose number is in C, over a script of at most n bytes; other numbers stop (CP/M 2.2 Interface Guide)
+-- the call whose number is in C, over a script of at most n bytes; other numbers stop
+-- [Interface Guide 1979, system function summary]
 unfoldable pub call : ℕ → Regs → Spot → StateTree CallEnd
 call n r spot = called n (function_of r.c) r spot

@@ -1,4 +1,5 @@
--- The calls by their numbers. (CP/M 2.2 Interface Guide; which of its calls are there: this project's profile.)
+-- The calls by their numbers. ([Interface Guide 1979, system function summary]; which of its calls are there: this project's
+-- profile.)
 use Rattle.std.specs.Prelude.{ℕ, ◌==◌, if◌then◌else◌, Option, Some, None}
 use Rattle.console_calls.specs.declared.function.Function.{Function}
 use Rattle.console_calls.specs.declared.function.Function.TheVariants.{SystemReset, ConsoleInput, ConsoleOutput, DirectConsole, GetIoByte, SetIoByte, PrintString, ReadConsoleBuffer, ConsoleStatus, VersionNumber, ResetDisks, SelectDisk, LoginVector, CurrentDisk, SetBufferAddress}

@@ -1,4 +1,5 @@
 pub mod Desk
+pub mod DeskAfter
 pub mod Places
 pub mod Questions
 pub mod Strings
@@ -8,3 +9,4 @@ pub mod Printing
 pub mod Functions
 pub mod Calls
 pub mod Serves
+pub use Rattle.filenames.specs.declared.drive.Drive

@@ -1,4 +1,4 @@
--- The line that function 10 takes from the script, and what is sent for it. (CP/M 2.2 Interface Guide, function 10; what each
+-- The line that function 10 takes from the script, and what is sent for it. ([Interface Guide 1979, function 10]; what each
 -- control byte sends and stores, and how a line ends or falls short: this project's profile.)
 use Rattle.std.specs.Prelude.{ℕ, zero, suc, ◌+◌, ◌==◌, ◌&&◌, ◌||◌, Bool, true, false, if◌then◌else◌, nat_lt, List, [], ◌∷◌, ◌++◌, length, Option, Some, None}
 use Rattle.interaction_trees.specs.Tree.{Return, Query}

@@ -1,4 +1,4 @@
--- What printing the string of a memory leaves. (CP/M 2.2 Interface Guide, function 9; what is left where there is no `$`, and
+-- What printing the string of a memory leaves. ([Interface Guide 1979, function 9]; what is left where there is no `$`, and
 -- where memory is refused: this project's own.)
 use Rattle.std.specs.Prelude.{◌≡◌, ℕ, Bool, true, List, Option, Some, None, is_some, length, take, ◌≤◌, IfOk, OnOk, OnErr}
 use Rattle.std.specs.declared.result.Result.{Result}
@@ -6,7 +6,8 @@ use Rattle.std.specs.declared.alloc.AllocError.{AllocError}
 use Rattle.i8080.specs.Memory.{Memory, Extends, bytes}
 use Rattle.i8080.specs.Reading.{end_of}
 use Rattle.i8080.specs.Performs.{looks_after}
-use Rattle.console_calls.specs.Desk.{Desk, desk_printing}
+use Rattle.console_calls.specs.Desk.{Desk}
+use Rattle.console_calls.specs.DeskAfter.{desk_printing}
 use Rattle.console_calls.specs.Strings.{string_at}
 
 -- the string from an address on, if a `$` ends it

@@ -23,7 +23,7 @@ const VERSION: u16 = 0x0022;
 
 /// Carries out the call whose number is in C. A call that stops, and an `Err` (a want of memory), leave the
 /// registers, the written cells and the desk as they were; a call that stops has looked at cells and script
-/// places. (CP/M 2.2 Interface Guide.)
+/// places. [Interface Guide 1979, system function summary]
 #[tactic(auto, unfolding(crate::specs::Calls::call))]
 pub fn call<B: Bus>(
     regs: &mut Regs,
@@ -284,7 +284,7 @@ fn store_line<B: Bus>(bus: &mut B, at: u16, text: &[u8])
 }
 
 /// Goes back to an address with a value: HL gets it, A is L and B is H, and the return address leaves the
-/// stack. (CP/M 2.2 Interface Guide.)
+/// stack. [Interface Guide 1979, operating system call conventions]
 pub fn give_back(regs: &mut Regs, value: u16, to: u16)
     ensures { regs.new ≡ at_caller value to regs.old }
 {

@@ -1,22 +1,23 @@
 ghost use Rattle.std.specs.Prelude.{◌≡◌, ◌≤◌, ◌<◌, ◌+◌, ℕ, true, false, length, IfOk, OnOk, OnErr, IfSome, IfNone};
 ghost use Rattle.console_calls.specs.Desk as desk;
-ghost use Rattle.console_calls.specs.Desk.{Shows, first_desk, printed, tabbed, sent, sent_all, echoed, at_spot, desk_taking, desk_appending, desk_back};
+ghost use Rattle.console_calls.specs.Desk.{first_desk, printed, tabbed, sent, echoed};
+ghost use Rattle.console_calls.specs.DeskAfter.{Shows, sent_all, at_spot, desk_taking, desk_appending, desk_back};
 ghost use Rattle.console_calls.specs.Places.{IsSpotOf, LeavesOut, LooksAhead, is_within};
 
 use crate::places::Places;
 use directory::Search;
+use filenames::Drive;
 use std::alloc::{AllocError, Global};
 use std::marker::Model;
 
 /// All of a desk but its text: how many script bytes were taken, the column, the buffer address of the file
-/// calls, the current drive (0 to 3 for A to D), and where a search of the directory goes on, if there is
-/// one.
+/// calls, the current drive, and where a search of the directory goes on, if there is one.
 #[derive(Clone, Copy)]
 pub struct Spot {
     cursor: usize,
     column: usize,
     buffer: u16,
-    drive: u8,
+    drive: Drive,
     search: Option<Search>,
 }
 
@@ -67,7 +68,7 @@ impl Desk {
             cursor: 0,
             column: 0,
             buffer: 0x80,
-            drive: 0,
+            drive: Drive::A,
             search: None,
         };
         Desk {
@@ -187,15 +188,15 @@ impl Desk {
         self.spot.buffer = buffer;
     }
 
-    /// The current drive: 0 to 3 for A to D.
-    pub fn drive(&self) -> u8
+    /// The current drive.
+    pub fn drive(&self) -> Drive
         ensures { result ≡ self.now.desk.spot.drive }
     {
         self.spot.drive
     }
 
     /// Sets the current drive.
-    pub fn set_drive(&mut self, drive: u8)
+    pub fn set_drive(&mut self, drive: Drive)
         ensures desk { self.new.desk ≡ at_spot self.old.desk (record self.old.desk.spot { drive = drive }) }
         ensures places { self.new.places ≡ self.old.places }
     {

@@ -8,6 +8,7 @@ use crate::calls::give_back;
 use crate::cause::Cause;
 use crate::desk::Desk;
 use crate::served::Served;
+use filenames::Drive;
 use i8080::{Bus, Regs, fetch_word, word_of};
 
 /// Where records go at first, in page zero.
@@ -23,7 +24,7 @@ pub fn reset_disks<B: Bus>(regs: &mut Regs, bus: &mut B, desk: &mut Desk) -> Ser
 {
     let to = fetch_word(bus, regs.sp);
     desk.set_buffer(FIRST_BUFFER);
-    desk.set_drive(0);
+    desk.set_drive(Drive::A);
     give_back(regs, 0, to);
     Served::Went
 }
@@ -33,11 +34,11 @@ pub fn select_disk<B: Bus>(regs: &mut Regs, bus: &mut B, desk: &mut Desk) -> Ser
     ensures { (script : List ℕ) → CarriesOut calls.select_disk script
         (regs.old, B.memory bus.old, desk.old) (Ok result) (regs.new, B.memory bus.new, desk.new) }
 {
-    if regs.e >= 4 {
+    let Some(drive) = Drive::from_number(regs.e) else {
         return Served::Stop(Cause::BadDrive(regs.e));
-    }
+    };
     let to = fetch_word(bus, regs.sp);
-    desk.set_drive(regs.e);
+    desk.set_drive(drive);
     give_back(regs, 0, to);
     Served::Went
 }
@@ -58,7 +59,7 @@ pub fn current_disk<B: Bus>(regs: &mut Regs, bus: &mut B, desk: &Desk) -> Served
         (regs.old, B.memory bus.old, desk.now) (Ok result) (regs.new, B.memory bus.new, desk.now) }
 {
     let to = fetch_word(bus, regs.sp);
-    give_back(regs, desk.drive() as u16, to);
+    give_back(regs, desk.drive().number() as u16, to);
     Served::Went
 }
 

@@ -1,7 +1,7 @@
 ghost use Rattle.std.specs.Prelude.{◌≡◌};
 ghost use Rattle.console_calls.specs.Functions.{function_of};
 
-/// A call that is carried out. (CP/M 2.2 Interface Guide.)
+/// A call that is carried out. [Interface Guide 1979, system function summary]
 #[derive(Clone, Copy, Debug, PartialEq, Eq)]
 pub enum Function {
     /// 0: the warm start.

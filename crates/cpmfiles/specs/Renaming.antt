@@ -1,4 +1,4 @@
--- From which key a file may be renamed, and to which. (CP/M 2.2 Interface Guide, function 23; which keys it refuses: this
+-- From which key a file may be renamed, and to which. ([Interface Guide 1979, function 23]; which keys it refuses: this
 -- project's profile.)
 use Rattle.std.specs.Prelude.{Bool, ◌&&◌, ◌==◌, not, drop}
 use Rattle.std.specs.List.{list_any}

@@ -1,4 +1,4 @@
--- The calls of a table. (CP/M 2.2 Interface Guide, functions 17, 19, 22 and 23; what each asks of the host files, and which keys
+-- The calls of a table. ([Interface Guide 1979, functions 17, 19, 22 and 23]; what each asks of the host files, and which keys
 -- it refuses: this project's profile.)
 use Rattle.std.specs.Prelude.{◌≡◌, ℕ, List, Option, Bool, ◌&&◌, not, Some, length, filter, slice_index, if◌then◌else◌}
 use Rattle.std.specs.Option.{option_map}

@@ -1,7 +1,7 @@
 // What a program asks of the files, of which a run did something. The questions are marked, and an `Err` has
 // marked no other.
 
-ghost use Rattle.std.specs.Prelude.{◌≡◌, ◌<◌, Ok, slice_index};
+ghost use Rattle.std.specs.Prelude.{◌≡◌, Ok, slice_index};
 ghost use Rattle.std.specs.Option.{option_map};
 ghost use Rattle.directory.specs.Entries.{position_in};
 ghost use Rattle.hostfiles.specs.Files.{has, records, place, shapes};
@@ -114,7 +114,6 @@ pub fn search(
 ) -> Option<[u8; 32]>
     ensures inquires { Inquires (Ok result) (λ own. next_bytes pattern.now ex after (shapes host.now own))
         (λ own. look_directory (slice_index pattern.now 0)) changes.old changes.new }
-    ensures drive { slice_index pattern.now 0 < 256 }
 {
     let drive = pattern[0];
     changes.looks.mark_directory(drive);

@@ -115,7 +115,6 @@ impl Table<'_> {
         ensures answer { result ≡
             Ok (next_bytes pattern.now ex after (shapes self.old.host.now (own_in self.old))) }
         ensures looks { looks_in self.new ≡ look_directory (slice_index pattern.now 0) (looks_in self.old) }
-        ensures drive { slice_index pattern.now 0 < 256 }
         ensures extends { Extends (looks_in self.old) (looks_in self.new) }
         ensures stays { self.new.changes.now.journal ≡ self.old.changes.now.journal }
         ensures over { StandsOver self.old self.new }

@@ -9,7 +9,8 @@ use Rattle.machine.specs.ChangedFiles.{changed_in}
 use Rattle.machine.specs.WholeFiles.{Files}
 use Rattle.folders.specs.FileSystem.{Stored}
 use Rattle.folders.specs.Folders.{FailsToWrite, LeavesIn, WritesInto}
-use Rattle.folders.specs.declared.fault.Fault.{Fault as FolderFault}
+use Rattle.folders.specs.declared.fault.Failure.{Failure}
+use Rattle.folders.specs.declared.fault.Failure.TheVariants as failure
 use Rattle.cpmrun.specs.declared.fault.Fault.{Fault}
 use Rattle.cpmrun.specs.declared.fault.Fault.TheVariants.{Use, NotText, CannotRead, CannotWrite, Folders, Refused, Malformed, TooLong, OutOfMemory}
 use Rattle.cpmrun.specs.RawRun.{IsOfFolder, StopsAt, Unwritten, WritesEach, bytes_in, home, written_keys}
@@ -27,7 +28,7 @@ module _ (folders : List (Option (Bor (List ℕ)))) (host : Host) (files : Files
   -- what becomes of those that are left becomes of all
   pub record WritesOn (before : Option Stored) (after : Option Key) (now : Option Stored) : Type 0 where
     pub all : (last : Option Stored) → WritesEach folders files now (there_above host files after) last → WritesEach folders files before (written_keys host files) last
-    pub some : (f : FolderFault) (last : Option Stored) → StopsAt (λ name. FailsToWrite folders name f) folders files now (there_above host files after) last
+    pub some : (f : Failure) (last : Option Stored) → StopsAt (λ name. FailsToWrite folders name f) folders files now (there_above host files after) last
         → StopsAt (λ name. FailsToWrite folders name f) folders files before (written_keys host files) last
 
   pub begins : (before : Option Stored) → WritesOn before None before
@@ -67,7 +68,7 @@ module _ (folders : List (Option (Bor (List ℕ)))) (host : Host) (files : Files
   ends before after now w none = w.all now (subst (λ keys. WritesEach folders files now (filter (contains_key files) keys) now) (sym none) refl)
 
   -- the next one is not written
-  pub stops : (f : FolderFault) (before : Option Stored) (after : Option Key) (now last : Option Stored) (key : Key) → WritesOn before after now
+  pub stops : (f : Failure) (before : Option Stored) (after : Option Key) (now last : Option Stored) (key : Key) → WritesOn before after now
       → keys_above (changed_in host files) after ≡ key ∷ keys_above (changed_in host files) (Some key) → contains_key files key ≡ true
       → FailsToWrite folders key f → LeavesIn (home folders key) now last key → StopsAt (λ name. FailsToWrite folders name f) folders files before (written_keys host files) last
   stops f before after now last key w split h fails leaves =
@@ -81,8 +82,8 @@ module _ (folders : List (Option (Bor (List ℕ)))) (host : Host) (files : Files
   stops_by before after now last key NotText w split h fails leaves = absurd fails
   stops_by before after now last key (CannotRead p) w split h fails leaves = absurd fails
   stops_by before after now last key CannotWrite w split h fails leaves = absurd fails
-  stops_by before after now last key (Folders f) w split h fails leaves = stops f before after now last key w split h fails leaves
+  stops_by before after now last key (Folders f) w split h fails leaves = stops (failure.AtFault f) before after now last key w split h fails leaves
   stops_by before after now last key (Refused n) w split h fails leaves = absurd fails
   stops_by before after now last key (Malformed k) w split h fails leaves = absurd fails
   stops_by before after now last key (TooLong k) w split h fails leaves = absurd fails
-  stops_by before after now last key OutOfMemory w split h fails leaves = absurd fails
+  stops_by before after now last key OutOfMemory w split h fails leaves = stops failure.OutOfMemory before after now last key w split h fails leaves

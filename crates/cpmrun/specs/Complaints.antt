@@ -2,11 +2,17 @@
 use Rattle.std.specs.Prelude.{◌≡◌, ℕ, List, [], ◌⊎◌, ◌++◌, codes, Option, string_bytes}
 use Rattle.std.specs.Fmt.{decimal}
 use Rattle.folders.specs.Faults.{text_of}
-use Rattle.folders.specs.declared.fault.Fault.TheVariants as folder_fault
+use Rattle.folders.specs.declared.fault.Failure.{Failure}
+use Rattle.folders.specs.declared.fault.Failure.TheVariants as failure
 use Rattle.cpmrun.specs.declared.fault.Fault.{Fault}
 use Rattle.cpmrun.specs.declared.fault.Fault.TheVariants.{Use, NotText, CannotRead, CannotWrite, Folders, Refused, Malformed, TooLong, OutOfMemory}
 use Rattle.edit_lines.specs.ReportText.{line}
 use Rattle.edit_lines.specs.Writing.{WritesOrFails}
+
+-- what a failure of the folders is
+abbrev pub fault_of : Failure → Fault
+fault_of (failure.AtFault f) = Folders f
+fault_of failure.OutOfMemory = OutOfMemory
 
 -- the exit status of a fault
 abbrev pub status_of : Fault → ℕ
@@ -14,7 +20,6 @@ status_of (Use text) = 1
 status_of NotText = 1
 status_of (CannotRead path) = 1
 status_of CannotWrite = 1
-status_of (Folders folder_fault.OutOfMemory) = 12
 status_of (Folders f) = 1
 status_of (Refused n) = 1
 status_of (Malformed k) = 2

@@ -5,6 +5,7 @@ use Rattle.command_words.specs.declared.words.Words.{Words}
 use Rattle.hostfiles.specs.Hosts.{Host}
 use Rattle.folders.specs.FileSystem.{Path, Reads, Stored}
 use Rattle.folders.specs.Folders.{AreFromFolders, FailsFolders}
+use Rattle.folders.specs.declared.fault.Failure.TheVariants.{AtFault}
 use Rattle.machine.specs.declared.session.TheConstants.{PROGRAM_LIMIT, SCRIPT_LIMIT}
 use Rattle.machine.specs.Given.{Session}
 use Rattle.machine.specs.Session.{made_of}
@@ -77,7 +78,7 @@ Unloaded files names w (Use text) = ⊥
 Unloaded files names w NotText = ⊥
 Unloaded files names w (CannotRead p) = (p.now ≡ w.program.now) ⊎ (text_of w.console ≡ Some p.now)
 Unloaded files names w CannotWrite = ⊥
-Unloaded files names w (Folders f) = FailsFolders files names w.files f
+Unloaded files names w (Folders f) = FailsFolders files names w.files (AtFault f)
 Unloaded files names w (Refused n) = IsRefusal files names w n
 Unloaded files names w (Malformed k) = ⊥
 Unloaded files names w (TooLong k) = ⊥

@@ -10,6 +10,7 @@ use Rattle.hostfiles.specs.Names.{Key}
 use Rattle.hostfiles.specs.Hosts.{Host}
 use Rattle.folders.specs.FileSystem.{Path, Stored}
 use Rattle.folders.specs.Folders.{FailsToWrite, LeavesIn, WritesInto, folder_of}
+use Rattle.folders.specs.declared.fault.Failure.TheVariants as failure
 use Rattle.cpmrun.specs.World.{World}
 use Rattle.machine.specs.ChangedFiles.{changed_keys_in, told_in}
 use Rattle.machine.specs.Given.{Session}
@@ -57,17 +58,17 @@ written_keys host files = filter (contains_key files) (changed_keys_in host file
 abbrev pub bytes_in : Files → Key → List ℕ
 bytes_in files key = concat (unwrap_or (told_in files key) [])
 
--- a fault of the folder of a file's drive
+-- a fault of the folder of a file's drive, or want of memory to write there
 abbrev pub IsOfFolder : List (Option (Bor (List ℕ))) → Key → Fault → Type 0
 IsOfFolder folders name (Use text) = ⊥
 IsOfFolder folders name NotText = ⊥
 IsOfFolder folders name (CannotRead p) = ⊥
 IsOfFolder folders name CannotWrite = ⊥
-IsOfFolder folders name (Folders f) = FailsToWrite folders name f
+IsOfFolder folders name (Folders f) = FailsToWrite folders name (failure.AtFault f)
 IsOfFolder folders name (Refused n) = ⊥
 IsOfFolder folders name (Malformed k) = ⊥
 IsOfFolder folders name (TooLong k) = ⊥
-IsOfFolder folders name OutOfMemory = ⊥
+IsOfFolder folders name OutOfMemory = FailsToWrite folders name failure.OutOfMemory
 
 -- files are written into the folders of their drives, one after another, and each whole
 abbrev pub WritesEach : List (Option (Bor (List ℕ))) → Files → Option Stored → List Key → Option Stored → Type 0
@@ -92,11 +93,11 @@ Unwritten folders host files before after (Use text) = ⊥
 Unwritten folders host files before after NotText = ⊥
 Unwritten folders host files before after (CannotRead p) = ⊥
 Unwritten folders host files before after CannotWrite = ⊥
-Unwritten folders host files before after (Folders f) = StopsAt (λ name. FailsToWrite folders name f) folders files before (written_keys host files) after
+Unwritten folders host files before after (Folders f) = StopsAt (λ name. FailsToWrite folders name (failure.AtFault f)) folders files before (written_keys host files) after
 Unwritten folders host files before after (Refused n) = ⊥
 Unwritten folders host files before after (Malformed k) = ⊥
 Unwritten folders host files before after (TooLong k) = ⊥
-Unwritten folders host files before after OutOfMemory = after ≡ before
+Unwritten folders host files before after OutOfMemory = StopsAt (λ name. FailsToWrite folders name failure.OutOfMemory) folders files before (written_keys host files) after
 
 -- the same of the changed files of a session's run
 abbrev pub WritesFiles : List (Option (Bor (List ℕ))) → Session → Option Stored → Option Stored → Type 0
@@ -127,4 +128,4 @@ BreaksRun folders s before after (Malformed k) = ⊥
 BreaksRun folders s before after (TooLong k) = ⊥
 BreaksRun folders s before after OutOfMemory =
     ((after.out ≡ before.out) × (after.files ≡ before.files))
-    ⊎ (Appends before.out after.out (printed s) × ((after.files ≡ before.files) ⊎ WritesFiles folders s before.files after.files))
+    ⊎ (Appends before.out after.out (printed s) × (FailsToWriteFiles folders s before.files after.files OutOfMemory ⊎ WritesFiles folders s before.files after.files))

@@ -3,6 +3,7 @@ ghost use Rattle.cpmrun.specs.Complaints.{Complains};
 ghost use Rattle.edit_lines.specs.Writing.{WritesOrFails};
 
 use edit_lines::{Writer, write_all};
+use folders::Failure;
 use std::alloc::{AllocError, Global};
 
 /// Why the program ends with a status other than 0.
@@ -28,6 +29,20 @@ pub enum Fault<'a> {
     OutOfMemory,
 }
 
+impl From<Failure> for Fault<'_> {
+    ghost use Rattle.std.specs.Prelude.{◌≡◌};
+    ghost use Rattle.cpmrun.specs.Complaints.{fault_of};
+
+    ghost from_gives = { λ failure fault. fault ≡ fault_of failure };
+
+    fn from(failure: Failure) -> Self {
+        match failure {
+            Failure::AtFault(fault) => Fault::Folders(fault),
+            Failure::OutOfMemory => Fault::OutOfMemory,
+        }
+    }
+}
+
 /// What `clap` would say of a word that is no text. It takes texts alone.
 const NOT_TEXT: &str = "\
 error: invalid UTF-8 was detected in one or more arguments
@@ -47,7 +62,7 @@ impl Fault<'_> {
     {
         match self {
             Fault::Malformed(_) | Fault::TooLong(_) => 2,
-            Fault::Folders(folders::Fault::OutOfMemory) | Fault::OutOfMemory => 12,
+            Fault::OutOfMemory => 12,
             _ => 1,
         }
     }

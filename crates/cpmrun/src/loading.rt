@@ -121,10 +121,7 @@ pub fn load<'a, S: FileSystem>(system: &S, words: &Words<'a>) -> Result<Session,
     ensures fault { IfErr result (Unloaded (S.files system.now) (S.names system.now) words.now) }
 {
     let program = program_at(system, words.program)?;
-    let files = match read_folders(system, &words.files) {
-        Ok(files) => files,
-        Err(fault) => return Err(Fault::Folders(fault)),
-    };
+    let files = read_folders(system, &words.files)?;
     let script = script_at(system, words.console)?;
     session_of(system.alloc(), words, program, files, script)
 }

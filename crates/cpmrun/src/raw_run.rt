@@ -63,10 +63,8 @@ fn write_file<'a, S: FileSystem>(
         journal,
         name,
     };
-    match write_to_drive(system, folders, name, &contents) {
-        Ok(()) => Ok(()),
-        Err(fault) => Err(Fault::Folders(fault)),
-    }
+    write_to_drive(system, folders, name, &contents)?;
+    Ok(())
 }
 
 /// Writes the changed files of the run that are there at its stop into the folders of their drives, where these have any, in the

@@ -9,7 +9,8 @@ use Rattle.std.specs.Cmp.Lexicographic.{slice_cmp, nat_list_cmp_total}
 use Rattle.std.specs.List.{filter, range_with_len}
 use Rattle.std.specs.FinMap.{find, is_sorted, get, entries, entries_sorted, get-entries}
 use Rattle.std.specs.FinMap.Entries.{below_all}
-use Rattle.keymaps.specs.Order.{Key, is_above}
+use Rattle.filenames.specs.Names.{Key}
+use Rattle.keymaps.specs.Order.{is_above}
 use Rattle.keymaps.proofs.Views.{same_key}
 use Rattle.keymaps.proofs.Left.{rises}
 use Rattle.directory.specs.declared.entry.Entry.{Entry}

@@ -1,11 +1,11 @@
--- The directory, entry by entry. (CP/M 2.2 Interface Guide, file control blocks and functions 17 to 19; the order of entries,
+-- The directory, entry by entry. ([Interface Guide 1979, file control blocks and functions 17 to 19]; the order of entries,
 -- what stands in the bytes 12 to 31 of an entry, and extents with holes: this project's profile.)
 use Rattle.std.specs.Prelude.{ℕ, ◌+◌, ◌-◌, ◌*◌, ◌/◌, ◌%◌, Bool, true, false, ◌&&◌, ◌||◌, ◌==◌, List, [], ◌∷◌, ◌++◌, Option, Some, None, nat_lt, if◌then◌else◌, take, drop, replicate, slice_index, flat_map}
 use Rattle.std.specs.Ordering.{nat_cmp, is_lt, is_eq}
 use Rattle.std.specs.List.{range_with_len}
 use Rattle.std.specs.Cmp.Lexicographic.{slice_cmp}
 use Rattle.std.specs.FinMap.{FinMap, get, entries}
-use Rattle.keymaps.specs.Order.{Key}
+use Rattle.filenames.specs.Names.{Key}
 use Rattle.directory.specs.declared.entry.Entry.{Entry}
 use Rattle.directory.specs.declared.entry.Position.{Position}
 

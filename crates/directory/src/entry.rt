@@ -3,7 +3,7 @@
 ghost use Rattle.std.specs.Prelude.{◌≡◌, ◌<◌};
 ghost use Rattle.directory.specs.Entries.{entry_bytes, position_in};
 
-use keymaps::Key;
+use filenames::Key;
 
 /// An entry of the directory: one for each extent of a file in which a record stands, or extent 0 of a file
 /// with no place.

@@ -1,4 +1,4 @@
-//! The directory of files, one entry after another: the CP/M 2.2 Interface Guide.
+//! The directory of files, one entry after another. [Interface Guide 1979, functions 17 to 19]
 //!
 //! - `entry`, `pattern`, `search`: an entry of the directory; patterns with `?`; the next entry that matches
 #![tactic(auto)]

@@ -3,7 +3,7 @@
 ghost use Rattle.std.specs.Prelude.{◌≡◌, ◌==◌, ◌||◌};
 ghost use Rattle.directory.specs.Entries.{is_match};
 
-use keymaps::Key;
+use filenames::Key;
 
 // Whether a byte matches a pattern's byte.
 fn fits(pattern: u8, byte: u8) -> bool

@@ -1,13 +1,14 @@
 // A search in the directory.
 
 ghost use Rattle.std.specs.Prelude.{◌≡◌, ◌<◌, ◌≤◌, ◌||◌, ◌==◌, ℕ, List, Option, true, None, Some, IfSome, IfNone};
-ghost use Rattle.keymaps.specs.Order.{EachAbove, EachBetween, IsAbsent, is_above};
+ghost use Rattle.keymaps.specs.Order.{is_above};
+ghost use Rattle.keymaps.specs.Walks.{EachAbove, EachBetween, IsAbsent};
 ghost use Rattle.directory.specs.Entries.{Shapes, entry_count, first_match, next_entry};
 ghost use Rattle.directory.specs.Parts.{entries_from, fitting, above};
 
 use crate::entry::{Entry, Position};
 use crate::pattern::is_match;
-use keymaps::Key;
+use filenames::Key;
 
 /// Files by their keys, as a search sees them: each by its places, and whether a record stands there.
 pub trait Files {

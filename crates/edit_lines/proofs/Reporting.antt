@@ -1,7 +1,8 @@
 -- The report as it is written in pieces.
 use Rattle.std.proofs.Common.{◌≡◌, ℕ, List, ◌++◌, take, Option, Result, Ok, Err, OnOk, ◌+◌, ◌<◌, arith, codes, refl, ap, subst, ◌∙◌}
 use Rattle.std.specs.Io.KnownBytes.{Appends}
-use Rattle.replay.specs.Edits.{AnswersEdit, edited, number_of}
+use Rattle.replay.specs.Edits.{edited}
+use Rattle.replay.specs.EditAnswers.{AnswersEdit, number_of}
 use Rattle.replay.specs.declared.edit.Edit.{Edit}
 use Rattle.replay.specs.declared.edit.EditError.{EditError}
 use Rattle.replay.specs.declared.edit.EditError.TheVariants.{PastEnd, ScriptTooLong, NoSuchFile, FileTooLong, TooManyFiles, OutsideProgram, LimitTooLarge, OutOfMemory}

@@ -13,7 +13,7 @@ use Rattle.hostfiles.specs.Changed.{changed_names, changed_keys}
 use Rattle.hostfiles.proofs.ChangedWalk.{keys_above, keys_above_none}
 use Rattle.edit_lines.specs.ReportText.{line}
 use Rattle.hex.specs.Hex.{encode_with, encode_lower, lower_digits}
-use Rattle.filenames.specs.Names.{Key, printed, type_text}
+use Rattle.filenames.specs.Names.{Key, printed}
 use Rattle.hostfiles.specs.Hosts.{Record, Host}
 use Rattle.edit_lines.specs.ChangedLines.{records_text, file_text, changed_line, line_of_file, lines_of_files}
 use Rattle.edit_lines.specs.declared.changed_lines.Asked.{Asked}
@@ -119,15 +119,12 @@ pub no_records : (rs : List Record) → length rs ≡ 0 → codes "-" ≡ record
 no_records [] h = refl
 no_records (r ∷ rs) h = cc
 
--- ---- the type of a name
+-- ---- a name
 
-pub some_type : (text : List ℕ) → (length text ≡ 0 → ⊥) → 46 ∷ [] ++ text ≡ type_text text
-some_type [] h = absurd (h refl)
-some_type (b ∷ bs) h = refl
-
-pub no_type : (text : List ℕ) → length text ≡ 0 → [] ≡ type_text text
-no_type [] h = refl
-no_type (b ∷ bs) h = cc
+-- its pieces, one after another
+pub name_of_pieces : (drive name dot kind drive' name' dot' kind' whole : List ℕ) → drive' ≡ drive → name' ≡ name → dot' ≡ dot → kind' ≡ kind
+    → ((drive ++ name) ++ dot) ++ kind ≡ whole → ((drive' ++ name') ++ dot') ++ kind' ≡ whole
+name_of_pieces drive name dot kind drive' name' dot' kind' whole d n t k e = cc
 
 -- ---- a file as it is told
 

@@ -1,15 +1,14 @@
 // The lines that tell the changed files. They are written in pieces, and no memory is taken.
 
 ghost use Rattle.std.specs.Prelude.{◌≡◌, ◌^◌, ◌<◌, ◌++◌, [], length, unwrap_or};
-ghost use Rattle.std.specs.List.{before_first};
 ghost use Rattle.hex.specs.Hex.{encode_lower};
-ghost use Rattle.filenames.specs.Names.{drive_text, is_blank, printed, type_text};
+ghost use Rattle.filenames.specs.Names.{printed};
 ghost use Rattle.hostfiles.specs.Files.{files, told};
 ghost use Rattle.edit_lines.specs.ChangedLines.{records_text, changed_line, gone_line, line_of_file, lines_of_files};
 ghost use Rattle.edit_lines.specs.Writing.{Writes};
 
 use crate::ends::{Failed, Writer, write_all};
-use filenames::first;
+use filenames::Pieces;
 use hostfiles::{HostFiles, Journal, Key, Name, Record, next_changed, told_count, told_record};
 
 /// Which changed files are told.
@@ -114,46 +113,16 @@ fn write_name<W: Writer>(writer: &mut W, name: &Name) -> Result<(), Failed>
     ensures { Writes (W.holds writer.old) (W.holds writer.new) (W.failures writer.old)
         (W.failures writer.new) (printed name.now) result }
 {
-    let key = name.key();
-    write_letter(writer, key[0])?;
-    write_field(writer, &key[1..9])?;
-    write_type(writer, &key[9..12])
-}
-
-// Writes the letter of a drive and `:`; nothing for drive A.
-fn write_letter<W: Writer>(writer: &mut W, drive: u8) -> Result<(), Failed>
-    requires room { W.failures writer.old < 2 ^ 63 }
-    requires drive { drive < 4 }
-    ensures { Writes (W.holds writer.old) (W.holds writer.new) (W.failures writer.old)
-        (W.failures writer.new) (drive_text drive) result }
-{
-    if drive == 0 {
-        return Ok(());
-    }
-    write_piece(writer, &[b'A' + drive, b':'])
-}
-
-// Writes the bytes of a field before its blanks.
-fn write_field<W: Writer>(writer: &mut W, field: &[u8]) -> Result<(), Failed>
-    requires { W.failures writer.old < 2 ^ 63 }
-    ensures { Writes (W.holds writer.old) (W.holds writer.new) (W.failures writer.old)
-        (W.failures writer.new) (before_first is_blank field.now) result }
-{
-    let end = first(field, b' ');
-    write_piece(writer, &field[..end])
-}
-
-// Writes `.` and the bytes of a type's field before its blanks; nothing where there is none.
-fn write_type<W: Writer>(writer: &mut W, field: &[u8]) -> Result<(), Failed>
-    requires { W.failures writer.old < 2 ^ 63 }
-    ensures { Writes (W.holds writer.old) (W.holds writer.new) (W.failures writer.old)
-        (W.failures writer.new) (type_text (before_first is_blank field.now)) result }
-{
-    if first(field, b' ') == 0 {
-        return Ok(());
-    }
-    write_piece(writer, b".")?;
-    write_field(writer, field)
+    let Pieces {
+        drive,
+        name,
+        dot,
+        kind,
+    } = name.pieces();
+    write_piece(writer, drive.as_bytes())?;
+    write_piece(writer, name.as_bytes())?;
+    write_piece(writer, dot.as_bytes())?;
+    write_piece(writer, kind.as_bytes())
 }
 
 // Writes all records of a file as it is told: `-` where it has none.

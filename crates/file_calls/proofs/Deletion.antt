@@ -6,6 +6,7 @@ use Rattle.std.specs.Cmp.Lexicographic.{slice_cmp, nat_list_cmp_total}
 use Rattle.std.specs.FinMap.{get, entries, get-insert, get-entries, same_map}
 use Rattle.std.specs.FinMap.Entries.{is_some-find}
 use Rattle.std.proofs.lemmas.Map.Views.{any-filter_same}
+use Rattle.filenames.specs.Drives.{drive_number}
 use Rattle.hostfiles.proofs.Views.{same_key, key_of}
 use Rattle.directory.proofs.Walk.{is_later}
 use Rattle.directory.specs.Entries.{Listing, is_match, fits_name}
@@ -124,10 +125,10 @@ module _ (b : Block) (v v' : Drives) (n : ℕ) where
     by_case : (w : Bool) → n ≡ cond w (length (filter (λ e. is_match key e.0) (entries (shapes v.host v.own)))) (cond (has v.host v.own key) 1 0)
         → ((q : Key) → get v'.own q ≡ cond (cond w (is_match key q) (eq_by_cmp (slice_cmp nat_cmp) q key) && has v.host v.own q) (Some nothing) (get v.own q))
         → v'.looks ≡ cond w (look_directory (slice_index key 0) v.looks) (look_has v.own key v.looks)
-        → Deletes (cond w (Query (FilesOn b.drive) (λ files. Return (matching key files))) (Query (IsThere key) (λ there. Return (cond there (key ∷ []) [])))) v (Ok (nat_lt 0 n)) v'
+        → Deletes (cond w (Query (FilesOn (drive_number b.drive)) (λ files. Return (matching key files))) (Query (IsThere key) (λ there. Return (cond there (key ∷ []) [])))) v (Ok (nat_lt 0 n)) v'
     by_case true c at l = record {
-      found = ap (nat_lt 0) (c ∙ count_listed v.host v.own key) ∙ some_named (matching key (files_on b.drive (shapes v.host v.own)));
-      own = same_own v.host v.own v'.own (matching key (files_on b.drive (shapes v.host v.own))) (is_match key) at (listed_names v.host v.own key);
+      found = ap (nat_lt 0) (c ∙ count_listed v.host v.own key) ∙ some_named (matching key (files_on (drive_number b.drive) (shapes v.host v.own)));
+      own = same_own v.host v.own v'.own (matching key (files_on (drive_number b.drive) (shapes v.host v.own))) (is_match key) at (listed_names v.host v.own key);
       looks = l;
       err_own = tt;
       extends = extends;

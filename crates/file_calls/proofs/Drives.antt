@@ -7,7 +7,7 @@ use Rattle.directory.specs.Entries.{Shape, Shapes, Listing, listed, next_among, 
 use Rattle.directory.specs.declared.entry.Entry.{Entry}
 use Rattle.directory.specs.declared.entry.Position.{Position}
 use Rattle.directory.proofs.Walk.{or_else, alike_of, first_append}
-use Rattle.hostfiles.specs.Order.{Key}
+use Rattle.hostfiles.specs.Hosts.{Key}
 use Rattle.file_calls.specs.Questions.{is_on, files_on}
 
 nowhere : (es : List Entry) → first_where (λ e. false) es ≡ None

@@ -11,7 +11,7 @@ use Rattle.std.specs.FinMap.Entries.{find, find-where_key, is_sorted-where_key, 
 use Rattle.std.specs.declared.cmp.Ordering.TheVariants.{Equal}
 use Rattle.hostfiles.proofs.Views.{same_key}
 use Rattle.directory.specs.Entries.{Shape}
-use Rattle.records.specs.Extents.{zeros}
+use Rattle.records.specs.Records.{zeros}
 use Rattle.hostfiles.specs.Hosts.{Key, Record, Host}
 use Rattle.hostfiles.specs.Files.{Own, entry_at, records_of, stands_on, is_there, file_of, shape_at, shapes}
 use Rattle.hostfiles.specs.File.{shape_of}

@@ -1,4 +1,4 @@
--- What a call does to files. (CP/M 2.2 Interface Guide, functions 19, 21 to 23, 34 and 40; holes between records, and what a
+-- What a call does to files. ([Interface Guide 1979, functions 19, 21 to 23, 34 and 40]; holes between records, and what a
 -- renamed file stands on: this project's profile.)
 use Rattle.std.specs.Prelude.{List, Bool, true, false, [], ◌∷◌}
 use Rattle.hostfiles.specs.Hosts.{Key, Record}

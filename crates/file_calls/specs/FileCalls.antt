@@ -1,7 +1,8 @@
--- What each file call asks of the files, and what it finds. (CP/M 2.2 Interface Guide, functions 15 to 23 and 33 to 40; the values
--- of the calls, and files with holes, are this project's profile.)
-use Rattle.std.specs.Prelude.{◌≢◌, ℕ, ◌+◌, ◌/◌, ◌==◌, ◌&&◌, Bool, true, false, not, List, [], ◌∷◌, length, filter, map, flat_map, Option, Some, None, nat_lt, if◌then◌else◌, slice_index}
+-- What each file call asks of the files, and what it finds. ([Interface Guide 1979, functions 15 to 23, 33 to 36 and 40]; the
+-- values of the calls, and files with holes, are this project's profile.)
+use Rattle.std.specs.Prelude.{ℕ, ◌+◌, ◌/◌, ◌==◌, ◌&&◌, Bool, true, false, not, List, [], ◌∷◌, length, filter, map, Option, Some, None, nat_lt, if◌then◌else◌, slice_index}
 use Rattle.interaction_trees.specs.Tree.{Return, Query}
+use Rattle.filenames.specs.Drives.{drive_number}
 use Rattle.filenames.specs.Names.{is_sayable}
 use Rattle.filenames.specs.ControlBlock.{name_at, place_of, random_of}
 use Rattle.directory.specs.Entries.{Shape, Listing, count_at, next_among, position_in, entry_bytes, is_match}
@@ -20,10 +21,10 @@ use Rattle.file_calls.specs.Questions.{FileTree, IsThere, ShapeOf, Content, File
 
 -- the key at bytes 1 to 11 of a control block, and the new key of a rename, at bytes 17 to 27
 abbrev pub key_of : Block → Key
-key_of b = b.drive ∷ name_at b.fcb 1
+key_of b = drive_number b.drive ∷ name_at b.fcb 1
 
 abbrev pub new_key_of : Block → Key
-new_key_of b = b.drive ∷ name_at b.fcb 17
+new_key_of b = drive_number b.drive ∷ name_at b.fcb 17
 
 -- the value of a call that finds no file
 abbrev pub absent : Finding
@@ -64,7 +65,7 @@ matching pattern files = filter (is_match pattern) (map (λ f. f.0) files)
 
 abbrev pub deletion : Block → FileTree (List Key)
 deletion b =
-    if has_wildcard (key_of b) then Query (FilesOn b.drive) (λ files. Return (matching (key_of b) files))
+    if has_wildcard (key_of b) then Query (FilesOn (drive_number b.drive)) (λ files. Return (matching (key_of b) files))
     else Query (IsThere (key_of b)) (λ there. Return (if there then key_of b ∷ [] else []))
 
 -- the record at a place, or the value where none stands there
@@ -155,17 +156,3 @@ block_length WriteRandom = 36
 block_length FileSize = 36
 block_length SetRandomRecord = 36
 block_length WriteRandomZeroFill = 36
-
--- the keys of a rename are not the same
-abbrev pub IsApart : Finding → Type 0
-IsApart (finding.Value v) = Unit {0}
-IsApart (finding.Opened n) = Unit {0}
-IsApart (finding.FirstEntry s) = Unit {0}
-IsApart finding.NoEntry = Unit {0}
-IsApart (finding.Found r n) = Unit {0}
-IsApart (finding.Write w) = Unit {0}
-IsApart (finding.Make key) = Unit {0}
-IsApart (finding.Rename old new) = old ≢ new
-IsApart (finding.Length n) = Unit {0}
-IsApart finding.NoLength = Unit {0}
-IsApart (finding.RandomPlace n) = Unit {0}

@@ -5,7 +5,7 @@ use Rattle.std.specs.List.{range_with_len}
 use Rattle.std.specs.FinMap.{get, contains_key, entries, from_entries}
 use Rattle.interaction_trees.specs.Tree.{Tree, Return, Query}
 use Rattle.directory.specs.Entries.{Shape}
-use Rattle.records.specs.Extents.{zeros}
+use Rattle.records.specs.Records.{zeros}
 use Rattle.hostfiles.specs.Hosts.{Key, Record, Host}
 use Rattle.hostfiles.specs.Files.{Own, entry_at, length_at, under, stands_on, records_of, is_below, length_by, shapes}
 use Rattle.hostfiles.specs.declared.journal.Base.{Base}

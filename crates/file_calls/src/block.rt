@@ -1,13 +1,14 @@
 ghost use Rattle.std.specs.Prelude.{◌≡◌, ◌∷◌};
+ghost use Rattle.filenames.specs.Drives.{drive_number};
 ghost use Rattle.file_calls.specs.FileCalls.{key_of, new_key_of};
 
-use cpmfiles::{Fcb, Key};
+use filenames::{Drive, Fcb, Key};
 
 /// A file control block on its drive.
 #[derive(Clone, Copy)]
 pub struct Block {
-    /// The drive that the control block names: 0 to 3 for A to D.
-    pub drive: u8,
+    /// The drive that the control block names.
+    pub drive: Drive,
     /// The control block.
     pub fcb: Fcb,
 }
@@ -29,10 +30,10 @@ impl Block {
 }
 
 // A name on a drive.
-fn on_drive(drive: u8, name: [u8; 11]) -> Key
-    ensures { result ≡ drive ∷ name }
+fn on_drive(drive: Drive, name: [u8; 11]) -> Key
+    ensures { result ≡ drive_number drive ∷ name }
 {
-    let mut key = [drive; 12];
+    let mut key = [drive.number(); 12];
     key[1..12].copy_from_slice(&name);
     key
 }

@@ -1,5 +1,6 @@
 ghost use Rattle.std.specs.Prelude.{◌≡◌, IfOk, if◌then◌else◌};
-ghost use Rattle.file_calls.specs.FileCalls.{found, block_length, IsApart};
+ghost use Rattle.file_calls.specs.FileCalls.{found, block_length};
+ghost use Rattle.file_calls.specs.Apart.{IsApart};
 ghost use Rattle.file_calls.specs.Asks.{Asks};
 
 use crate::block::Block;
@@ -11,7 +12,8 @@ use crate::inquiry::{
 use cpmfiles::{Changes, HostFiles};
 use std::alloc::AllocError;
 
-/// A call that names a file by a control block, but for a deletion. (CP/M 2.2 Interface Guide.)
+/// A call that names a file by a control block, but for a deletion.
+/// [Interface Guide 1979, functions 15 to 17, 20 to 23, 33 to 36 and 40]
 #[derive(Clone, Copy, Debug, PartialEq, Eq)]
 pub enum FileFunction {
     /// 15: an extent of a file.

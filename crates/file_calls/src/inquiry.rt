@@ -1,13 +1,14 @@
 // What each file call asks and finds.
 
-ghost use Rattle.std.specs.Prelude.{◌≡◌, ◌<◌, slice_index, length, IfOk, IfSome, Ok};
+ghost use Rattle.std.specs.Prelude.{◌≡◌, slice_index, length, IfOk, Ok};
 ghost use Rattle.std.specs.Option.{option_map};
 ghost use Rattle.directory.specs.Entries.{position_in, count_at};
 ghost use Rattle.hostfiles.specs.Looks.{look_length};
 ghost use Rattle.hostfiles.specs.Seen.{own_of};
 ghost use Rattle.hostfiles.specs.Asking.{AsksFor};
 ghost use Rattle.file_calls.specs.FileCalls as calls;
-ghost use Rattle.file_calls.specs.FileCalls.{missing, searching, IsApart};
+ghost use Rattle.file_calls.specs.FileCalls.{missing, searching};
+ghost use Rattle.file_calls.specs.Apart.{IsApart};
 ghost use Rattle.file_calls.specs.Answers.{shape_found};
 ghost use Rattle.file_calls.specs.Asks.{Asks};
 
@@ -83,7 +84,6 @@ pub fn search_first(host: &HostFiles, changes: &mut Changes, block: &Block) -> F
 #[tactic(auto, using(crate::proofs::Extending::extends_same))]
 pub fn search_next(host: &HostFiles, changes: &mut Changes, last: Option<Search>) -> Finding
     ensures asks { Asks (calls.search_next last) host.now changes.old (Ok result) changes.new }
-    ensures drive { IfSome last (λ s. slice_index s.pattern 0 < 256) }
     ensures apart { IsApart result }
 {
     match last {
@@ -103,7 +103,6 @@ fn search(
 ) -> Finding
     ensures asks { let last = option_map (position_in (slice_index pattern.now 0)) after in
         Asks (searching pattern.now extent last) host.now changes.old (Ok result) changes.new }
-    ensures drive { slice_index pattern.now 0 < 256 }
     ensures apart { IsApart result }
 {
     match asking::search(host, changes, pattern, extent, after) {

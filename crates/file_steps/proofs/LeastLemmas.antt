@@ -5,7 +5,7 @@ use Rattle.std.specs.Option.{option_map}
 use Rattle.std.proofs.lemmas.Bool.Decides.{nat_tests}
 use Rattle.std.proofs.Math.Nat.{eq-or-lt_of_le}
 use Rattle.std.specs.FinMap.{get}
-use Rattle.keymaps.specs.Order.{is_past}
+use Rattle.keymaps.specs.Walks.{is_past}
 use Rattle.hostfiles.specs.Hosts.{Key, Record, Host}
 use Rattle.hostfiles.specs.declared.looks.Ask.{Ask}
 use Rattle.hostfiles.specs.declared.looks.Ask.TheVariants.{Has, Length, Rec, Directory}

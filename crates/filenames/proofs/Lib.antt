@@ -1,3 +1,4 @@
+pub mod DriveLemmas
 pub mod FieldLemmas
 pub mod NameLemmas
 pub mod SaidLemmas

@@ -1,4 +1,4 @@
--- File control blocks: where names and places stand. (CP/M 2.2 Interface Guide, file control blocks; that s2 counts 4,096 places:
+-- File control blocks: where names and places stand. ([Interface Guide 1979, file control blocks]; that s2 counts 4,096 places:
 -- this project's profile.)
 use Rattle.std.specs.Prelude.{ℕ, ◌+◌, ◌*◌, ◌/◌, ◌%◌, List, take, drop, slice_index, slice_set}
 

@@ -1,3 +1,4 @@
+pub mod Drives
 pub mod Names
 pub mod NameError
 pub mod ControlBlock

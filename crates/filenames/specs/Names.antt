@@ -1,9 +1,10 @@
--- Names of files. (CP/M 2.2 Interface Guide, file names: a drive, a name of up to 8 bytes, and a type of up to 3; which bytes
+-- Names of files. ([Interface Guide 1979, file names]: a drive, a name of up to 8 bytes, and a type of up to 3; which bytes
 -- they may have, the four drives, and which refusal comes first: this project's profile.)
 use Rattle.std.specs.Prelude.{◌≡◌, ℕ, ◌+◌, ◌-◌, ◌==◌, ◌&&◌, ◌||◌, Bool, true, if◌then◌else◌, nat_lt, nat_le, List, [], ◌∷◌, ◌++◌, length, map, take, drop, replicate, slice_index, Result, Ok, Err, Option, Some, None}
 use Rattle.std.specs.List.{list_all, before_first, after_first}
 use Rattle.std.specs.Char.{to_ascii_uppercase, is_ascii_uppercase, is_ascii_digit}
 
+-- the drive, and the eleven bytes of a name and its type
 abbrev pub Key : Type 0
 Key = List ℕ
 

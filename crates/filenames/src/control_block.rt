@@ -5,8 +5,8 @@ ghost use Rattle.filenames.specs.ControlBlock.{place_of, random_of, name_at, wit
 
 use std::marker::Model;
 
-/// The 36 bytes of a file control block (CP/M 2.2 Interface Guide): dr 0, name and type 1 to 11, ex 12, s1
-/// 13, s2 14, rc 15, d0 to d15 16 to 31, cr 32, r0 to r2 33 to 35.
+/// The 36 bytes of a file control block [Interface Guide 1979, file control blocks]: dr 0, name and type 1 to
+/// 11, ex 12, s1 13, s2 14, rc 15, d0 to d15 16 to 31, cr 32, r0 to r2 33 to 35.
 #[derive(Clone, Copy, PartialEq, Eq)]
 pub struct Fcb {
     bytes: [u8; 36],

@@ -83,10 +83,7 @@ pub fn field_text(field: &[u8]) -> &str
     ensures { result.now ≡ before_first is_blank field.now }
 {
     let end = first(field, b' ');
-    match str::from_utf8(&field[..end]) {
-        Ok(text) => text,
-        Err(_) => unreachable!(),
-    }
+    str::from_utf8(&field[..end]).unwrap()
 }
 
 // Whether all bytes are blanks.

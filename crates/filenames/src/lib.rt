@@ -1,12 +1,16 @@
-//! Names of files and file control blocks: the CP/M 2.2 Interface Guide, with drives A to D.
+//! Names of files and file control blocks, with drives A to D.
+//! [Interface Guide 1979, file names and file control blocks]
 //!
+//! - `drive`: the drives A to D, by their numbers
 //! - `name`, `field`, `control_block`: names on drives A to D, with their fields; file control blocks
 #![tactic(auto)]
 
 pub mod control_block;
+pub mod drive;
 mod field;
 pub mod name;
 
 pub use control_block::Fcb;
+pub use drive::Drive;
 pub use field::{fill, first, halves};
 pub use name::{Key, Name, NameError, Pieces, is_sayable, names_say_their_keys};

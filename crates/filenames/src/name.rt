@@ -1,14 +1,17 @@
 // Names of files.
 
 ghost use Rattle.std.specs.Prelude.{◌≡◌, ◌<◌, ◌≤◌, ◌++◌, ◌↔◌, length, slice_index, slice_set, true, IsSome, IfSome};
+ghost use Rattle.std.specs.Option.{option_map};
+ghost use Rattle.filenames.specs.Drives.{drive_number};
 ghost use Rattle.filenames.specs.Names.{name_of, plain_name, named, key_of, drive_of, drive_text, is_sayable, printed, type_text, SaidAsPrinted};
 
+use crate::drive::Drive;
 use crate::field::{all_allowed, field_text, fill, halves, is_allowed, is_field};
 use std::fmt;
 use std::marker::Model;
 use thiserror::Error;
 
-/// The drive of a file, 0 to 3 for A to D, and the eleven bytes of its name: 8 of the name and 3 of the type,
+/// The number of a file's drive, 0 to 3 for A to D, and the eleven bytes of its name: 8 of the name and 3 of the type,
 /// each filled up with blanks.
 pub type Key = [u8; 12];
 
@@ -94,13 +97,12 @@ impl Name {
                 None => Err(NameError::BadLetter),
             };
         }
-        Name::on_drive(0, bytes)
+        Name::on_drive(Drive::A, bytes)
     }
 
     // The name that a text without a letter says on a drive.
-    fn on_drive(drive: u8, text: &[u8]) -> Result<Name, NameError>
-        requires { drive < 4 }
-        ensures { NamedAs (plain_name drive text.now) result }
+    fn on_drive(drive: Drive, text: &[u8]) -> Result<Name, NameError>
+        ensures { NamedAs (plain_name (drive_number drive) text.now) result }
     {
         let (name, kind) = halves(text);
         Name::named(drive, name, kind)
@@ -108,9 +110,8 @@ impl Name {
 
     // The name of a name and a type on a drive.
     #[tactic(auto, unfolding(crate::specs::Names::named))]
-    fn named(drive: u8, name: &[u8], kind: &[u8]) -> Result<Name, NameError>
-        requires { drive < 4 }
-        ensures { NamedAs (named drive name.now kind.now) result }
+    fn named(drive: Drive, name: &[u8], kind: &[u8]) -> Result<Name, NameError>
+        ensures { NamedAs (named (drive_number drive) name.now kind.now) result }
     {
         if name.is_empty() {
             return Err(NameError::Empty);
@@ -132,7 +133,7 @@ impl Name {
         })
     }
 
-    /// The drive, 0 to 3 for A to D, and the eleven bytes of the name.
+    /// The number of the drive and the eleven bytes of the name.
     pub fn key(&self) -> Key
         ensures key { result ≡ self.now }
         ensures sayable { is_sayable result ≡ true }
@@ -148,14 +149,20 @@ impl Name {
         Name { key: *key }
     }
 
-    /// The same name on a drive, 0 to 3 for A to D.
-    pub fn moved_to(&self, drive: u8) -> Name
-        requires { drive < 4 }
-        ensures moved { result ≡ slice_set self.now 0 drive }
-        ensures drive { slice_index result 0 ≡ drive }
+    /// The drive.
+    pub fn drive(&self) -> Drive
+        ensures { drive_number result ≡ slice_index self.now 0 }
+    {
+        Drive::from_number(self.key[0]).unwrap()
+    }
+
+    /// The same name on a drive.
+    pub fn moved_to(&self, drive: Drive) -> Name
+        ensures moved { result ≡ slice_set self.now 0 (drive_number drive) }
+        ensures drive { slice_index result 0 ≡ drive_number drive }
     {
         let mut key = self.key;
-        key[0] = drive;
+        key[0] = drive.number();
         Name { key }
     }
 
@@ -166,7 +173,7 @@ impl Name {
     {
         let kind = field_text(&self.key[9..12]);
         Pieces {
-            drive: drive_text(self.key[0]),
+            drive: drive_text(self.drive()),
             name: field_text(&self.key[1..9]),
             dot: dot_before(kind),
             kind,
@@ -221,15 +228,14 @@ pub fn is_sayable(key: &Key) -> bool
 }
 
 // The letter and `:` of a drive; none of drive A.
-fn drive_text(drive: u8) -> &'static str
-    requires { drive < 4 }
-    ensures { result.now ≡ drive_text drive }
+fn drive_text(drive: Drive) -> &'static str
+    ensures { result.now ≡ drive_text (drive_number drive) }
 {
     match drive {
-        1 => "B:",
-        2 => "C:",
-        3 => "D:",
-        _ => "",
+        Drive::A => "",
+        Drive::B => "B:",
+        Drive::C => "C:",
+        Drive::D => "D:",
     }
 }
 
@@ -241,27 +247,26 @@ fn dot_before(kind: &str) -> &'static str
 }
 
 // The drive that a letter names.
-fn drive_of(letter: u8) -> Option<u8>
-    ensures value { result ≡ drive_of letter }
-    ensures within { IfSome result (λ drive. drive < 4) }
+fn drive_of(letter: u8) -> Option<Drive>
+    ensures { option_map drive_number result ≡ drive_of letter }
 {
     match letter.to_ascii_uppercase() {
-        b'A' => Some(0),
-        b'B' => Some(1),
-        b'C' => Some(2),
-        b'D' => Some(3),
+        b'A' => Some(Drive::A),
+        b'B' => Some(Drive::B),
+        b'C' => Some(Drive::C),
+        b'D' => Some(Drive::D),
         _ => None,
     }
 }
 
 // The key of a name and a type that fit.
-fn key_of(drive: u8, name: &[u8], kind: &[u8]) -> Key
+fn key_of(drive: Drive, name: &[u8], kind: &[u8]) -> Key
     requires name { length name.now ≤ 8 }
     requires kind { length kind.now ≤ 3 }
-    ensures { result ≡ key_of drive name.now kind.now }
+    ensures { result ≡ key_of (drive_number drive) name.now kind.now }
 {
     let mut key = [b' '; 12];
-    key[0] = drive;
+    key[0] = drive.number();
     fill(&mut key[1..9], name);
     fill(&mut key[9..12], kind);
     key

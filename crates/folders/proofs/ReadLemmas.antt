@@ -1,5 +1,5 @@
 -- What is read of a file, and files that are read one after another.
-use Rattle.std.proofs.Common.{◌≡◌, ◌≢◌, ℕ, ◌+◌, ◌<◌, ◌≤◌, List, length, take, Bool, true, false, is_some, Option, Some, None, IfSome, ◌⊎◌, inl, inr, refl, sym, ap, subst, ◌∙◌, slice_index, arith}
+use Rattle.std.proofs.Common.{◌≡◌, ◌≢◌, ℕ, zero, suc, ◌+◌, ◌<◌, ◌≤◌, List, length, take, Bool, true, false, is_some, Option, Some, None, IfSome, ◌⊎◌, inl, inr, refl, sym, ap, subst, ◌∙◌, slice_index, get_or, arith}
 use Rattle.std.specs.Prelude.{String, string_bytes}
 use Rattle.std.specs.List.{Contains}
 use Rattle.std.proofs.lemmas.List.{get_or_past}
@@ -13,6 +13,8 @@ use Rattle.std.specs.FinMap.{get, insert, empty, contains_key}
 use Rattle.keymaps.specs.Order.{is_above}
 use Rattle.keymaps.proofs.Views.{same_key, get_here}
 use Rattle.filenames.specs.Names.{Key}
+use Rattle.filenames.specs.Drives.{drives, drive_number}
+use Rattle.filenames.specs.declared.drive.Drive.TheVariants.{A}
 use Rattle.hostfiles.specs.Hosts.{Host, Record, records_in}
 use Rattle.hostfiles.specs.declared.host.TheConstants.{FILE_LIMIT}
 use Rattle.folders.specs.Entries.{path_text}
@@ -132,6 +134,14 @@ folder_read {Z = Z} (Some stored) names drive folder listed twice before now l o
       cc
 
 -- ---- the folders of the drives, one after another
+
+-- the drives are in the order of their numbers
+pub number_in : (i : ℕ) → i < 4 → drive_number (get_or drives i A) ≡ i
+number_in zero h = refl
+number_in (suc zero) h = refl
+number_in (suc (suc zero)) h = refl
+number_in (suc (suc (suc zero))) h = refl
+number_in (suc (suc (suc (suc i)))) h = absurd (omega arith)
 
 -- each name's drive has a folder
 abbrev pub OnlyOf : List (Option (Bor (List ℕ))) → Host → Type 0

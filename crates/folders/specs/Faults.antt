@@ -3,7 +3,9 @@ use Rattle.std.specs.Prelude.{◌≡◌, ℕ, List, ◌++◌, codes, string_byte
 use Rattle.std.specs.Fmt.{decimal}
 use Rattle.filenames.specs.Names.{printed}
 use Rattle.folders.specs.declared.fault.Fault.{Fault}
-use Rattle.folders.specs.declared.fault.Fault.TheVariants.{CannotRead, CannotWrite, TwoFiles, Refused, OutOfMemory}
+use Rattle.folders.specs.declared.fault.Fault.TheVariants.{CannotRead, CannotWrite, TwoFiles, Refused}
+use Rattle.folders.specs.declared.fault.Failure.{Failure}
+use Rattle.folders.specs.declared.fault.Failure.TheVariants.{AtFault, OutOfMemory}
 
 -- what is printed of a fault
 abbrev pub text_of : Fault → List ℕ
@@ -11,20 +13,22 @@ text_of (CannotRead path) = codes "cannot read " ++ string_bytes path
 text_of (CannotWrite path) = codes "cannot write " ++ string_bytes path
 text_of (TwoFiles name) = codes "two files are " ++ printed name
 text_of (Refused name n) = codes "file " ++ printed name ++ codes " refused " ++ decimal n
-text_of OutOfMemory = codes "out of memory"
 
--- the file or folder of this path could not be read, or memory was refused
+-- a fault is such a one, or memory was refused
+abbrev pub FailsBy : (Fault → Type 0) → Failure → Type 0
+FailsBy Such (AtFault fault) = Such fault
+FailsBy Such OutOfMemory = Unit {0}
+
+-- the file or folder of this path could not be read
 abbrev pub Unread : List ℕ → Fault → Type 0
 Unread path (CannotRead p) = string_bytes p ≡ path
 Unread path (CannotWrite p) = ⊥
 Unread path (TwoFiles name) = ⊥
 Unread path (Refused name n) = ⊥
-Unread path OutOfMemory = Unit {0}
 
--- the file of this path could not be written, or memory was refused
+-- the file of this path could not be written
 abbrev pub Unwritten : List ℕ → Fault → Type 0
 Unwritten path (CannotRead p) = ⊥
 Unwritten path (CannotWrite p) = string_bytes p ≡ path
 Unwritten path (TwoFiles name) = ⊥
 Unwritten path (Refused name n) = ⊥
-Unwritten path OutOfMemory = Unit {0}

@@ -9,18 +9,20 @@ use Rattle.filenames.specs.Names.{Key}
 use Rattle.hostfiles.specs.Hosts.{Host, Record, records_in}
 use Rattle.hostfiles.specs.declared.host.TheConstants.{FILE_LIMIT}
 use Rattle.folders.specs.Entries.{file_text, path_text, temporary_text}
-use Rattle.folders.specs.Faults.{Unwritten}
+use Rattle.folders.specs.Faults.{FailsBy, Unwritten}
 use Rattle.folders.specs.FileSystem.{Path, Stored, ChangesAt, PutsInPlace}
 use Rattle.folders.specs.Listings.{AreTwo, IsHostFile}
 use Rattle.folders.specs.declared.fault.Fault.{Fault}
-use Rattle.folders.specs.declared.fault.Fault.TheVariants.{CannotRead, CannotWrite, TwoFiles, Refused, OutOfMemory}
+use Rattle.folders.specs.declared.fault.Fault.TheVariants.{CannotRead, CannotWrite, TwoFiles, Refused}
+use Rattle.folders.specs.declared.fault.Failure.{Failure}
+use Rattle.folders.specs.declared.fault.Failure.TheVariants.{AtFault, OutOfMemory}
 
 -- a file is refused by the number that is wanted; where none is, for want of memory alone
-abbrev pub RefusesAs : Option ℕ → Key → Result (Unit {0}) Fault → Type 0
+abbrev pub RefusesAs : Option ℕ → Key → Result (Unit {0}) Failure → Type 0
 RefusesAs None name (Ok x) = Unit {0}
 RefusesAs None name (Err f) = f ≡ OutOfMemory
 RefusesAs (Some n) name (Ok x) = ⊥
-RefusesAs (Some n) name (Err f) = f ≡ Refused name n
+RefusesAs (Some n) name (Err f) = f ≡ AtFault (Refused name n)
 
 -- a host file is too long, or there are too many
 abbrev pub IsRefusal : ℕ → Type 0
@@ -52,7 +54,6 @@ FailsFile folder file name (CannotRead p) = string_bytes p ≡ path_text folder 
 FailsFile folder file name (CannotWrite p) = ⊥
 FailsFile folder file name (TwoFiles other) = ⊥
 FailsFile folder file name (Refused other n) = (other ≡ name) × IsRefusal n
-FailsFile folder file name OutOfMemory = Unit {0}
 
 -- why the folder of a drive, with these names in it where the files are known, is not read: the folder or a file in it can't be, or a
 -- name of the drive is that of two of its files or is refused
@@ -61,7 +62,6 @@ FailsFolder files names drive folder (CannotRead p) = (string_bytes p ≡ folder
 FailsFolder files names drive folder (CannotWrite p) = ⊥
 FailsFolder files names drive folder (TwoFiles name) = (slice_index name 0 ≡ drive) × IfSome files (λ stored. AreTwo stored drive folder names name)
 FailsFolder files names drive folder (Refused name n) = (slice_index name 0 ≡ drive) × IsRefusal n
-FailsFolder files names drive folder OutOfMemory = Unit {0}
 
 -- the host files of a drive are those of its folder, which has these names: each of them with its records, and no other
 pub record AreOf (stored : Stored) (names : List Path) (drive : ℕ) (folder : Path) (host : Host) : Type 0 where
@@ -78,13 +78,14 @@ pub record AreFromFolders (files : Option Stored) (names : Path → List Path) (
   pub all : IfSome files (λ stored. (drive : ℕ) (folder : Path) → folder_of folders drive ≡ Some folder → AreOf stored (names folder) drive folder host)
 
 -- why the folders of the drives are not read: that of one of them is not
-abbrev pub FailsFolders : Option Stored → (Path → List Path) → List (Option (Bor (List ℕ))) → Fault → Type 0
-FailsFolders files names folders fault =
-    (drive : ℕ) × (folder : List ℕ) × (folder_of folders drive ≡ Some folder) × FailsFolder files (names folder) drive folder fault
+abbrev pub FailsFolders : Option Stored → (Path → List Path) → List (Option (Bor (List ℕ))) → Failure → Type 0
+FailsFolders files names folders failure =
+    (drive : ℕ) × (folder : List ℕ) × (folder_of folders drive ≡ Some folder) × FailsBy (FailsFolder files (names folder) drive folder) failure
 
 -- why a file is not written into the folder of its drive
-abbrev pub FailsToWrite : List (Option (Bor (List ℕ))) → Key → Fault → Type 0
-FailsToWrite folders name fault = (folder : List ℕ) × (folder_of folders (slice_index name 0) ≡ Some folder) × Unwritten (path_text folder (file_text name)) fault
+abbrev pub FailsToWrite : List (Option (Bor (List ℕ))) → Key → Failure → Type 0
+FailsToWrite folders name failure =
+    (folder : List ℕ) × (folder_of folders (slice_index name 0) ≡ Some folder) × FailsBy (Unwritten (path_text folder (file_text name))) failure
 
 -- a file was written into the folder of its drive; a drive without a folder takes nothing
 abbrev pub WritesInto : Option Path → Option Stored → Option Stored → Key → List ℕ → Type 0

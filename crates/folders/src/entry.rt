@@ -1,17 +1,17 @@
 // Names of files in a folder, and their paths.
 
-ghost use Rattle.std.specs.Prelude.{◌≡◌, ◌<◌, ℕ, None, IfOk, IfSome, slice_index, string_bytes};
+ghost use Rattle.std.specs.Prelude.{◌≡◌, ℕ, None, IfOk, IfSome, slice_index, string_bytes};
+ghost use Rattle.filenames.specs.Drives.{drive_number};
 ghost use Rattle.folders.specs.Entries.{key_in, file_text, temporary_text, needs_slash, path_text};
 
-use filenames::Name;
+use filenames::{Drive, Name};
 use std::alloc::{AllocError, Global};
 
-/// The name of the host file that a file in the folder of a drive is: drive 0 to 3 for A to D, and the name
-/// and the type that the file's name says. None where that is no name, or has a `:`.
-pub fn name_in_folder(drive: u8, file: &str) -> Option<Name>
-    requires { drive < 4 }
-    ensures key { result ≡ key_in drive file.now }
-    ensures drive { IfSome result (λ name. slice_index name 0 ≡ drive) }
+/// The name of the host file that a file in the folder of a drive is: on this drive, with the name and the
+/// type that the file's name says. None where that is no name, or has a `:`.
+pub fn name_in_folder(drive: Drive, file: &str) -> Option<Name>
+    ensures key { result ≡ key_in (drive_number drive) file.now }
+    ensures drive { IfSome result (λ name. slice_index name 0 ≡ drive_number drive) }
 {
     if file.as_bytes().contains(&b':') {
         return None;
@@ -26,7 +26,7 @@ pub fn name_in_folder(drive: u8, file: &str) -> Option<Name>
 pub fn file_name(alloc: Global, name: &Name) -> Result<String, AllocError>
     ensures { IfOk result (λ s. string_bytes s ≡ file_text name.now) }
 {
-    let plain = name.moved_to(0);
+    let plain = name.moved_to(Drive::A);
     format!(in alloc; "{plain}")
 }
 
@@ -36,7 +36,7 @@ pub fn temporary_name(alloc: Global, name: &Name) -> Result<String, AllocError>
     ensures text { IfOk result (λ s. string_bytes s ≡ temporary_text name.now) }
     ensures passed_over { IfOk result (λ s. (drive : ℕ) → key_in drive (string_bytes s) ≡ None) }
 {
-    let plain = name.moved_to(0);
+    let plain = name.moved_to(Drive::A);
     format!(in alloc; ".{plain}.new")
 }
 

@@ -1,13 +1,13 @@
 ghost use Rattle.std.specs.Prelude.{◌≡◌, ◌↔◌, ◌⊎◌, OnOk, string_bytes};
 ghost use Rattle.std.specs.IoError.{error_kind};
-ghost use Rattle.folders.specs.Faults.{Unread, Unwritten};
+ghost use Rattle.folders.specs.Faults.{FailsBy, Unread, Unwritten};
 
 use filenames::Name;
 use std::alloc::Global;
 use std::io::ErrorKind;
 use std::{fmt, io};
 
-/// Why folders are not read, or a file is not written.
+/// What is wrong with a folder or with a file in it.
 #[derive(Drop)]
 pub enum Fault {
     /// The folder or the file of this path could not be read.
@@ -19,6 +19,13 @@ pub enum Fault {
     /// The host file of this name is refused, by the number of `FilesError`: 1 for more than 8,388,608 bytes,
     /// 2 for a 513th file.
     Refused(Name, u8),
+}
+
+/// Why folders are not read, or a file is not written.
+#[derive(Drop)]
+pub enum Failure {
+    /// A folder or a file is at fault.
+    AtFault(Fault),
     /// Memory was wanted and refused.
     OutOfMemory,
 }
@@ -35,32 +42,31 @@ impl fmt::Display for Fault {
             Fault::CannotWrite(path) => write!(f, "cannot write {path}"),
             Fault::TwoFiles(name) => write!(f, "two files are {name}"),
             Fault::Refused(name, number) => write!(f, "file {name} refused {number}"),
-            Fault::OutOfMemory => write!(f, "out of memory"),
         }
     }
 }
 
 /// What a failure to read the file or folder of this path is.
-pub fn unread(alloc: Global, error: io::Error, path: &str) -> Fault
-    ensures fault { Unread path.now result }
-    ensures memory { error_kind error ≡ ErrorKind.OutOfMemory → result ≡ Fault.OutOfMemory }
+pub fn unread(alloc: Global, error: io::Error, path: &str) -> Failure
+    ensures fault { FailsBy (Unread path.now) result }
+    ensures memory { error_kind error ≡ ErrorKind.OutOfMemory → result ≡ Failure.OutOfMemory }
 {
     if error.kind() == ErrorKind::OutOfMemory {
-        return Fault::OutOfMemory;
+        return Failure::OutOfMemory;
     }
     match String::from_str(alloc, path) {
-        Ok(path) => Fault::CannotRead(path),
-        Err(_) => Fault::OutOfMemory,
+        Ok(path) => Failure::AtFault(Fault::CannotRead(path)),
+        Err(_) => Failure::OutOfMemory,
     }
 }
 
 /// What a failure to write the file of this path is.
-pub fn unwritten(error: io::Error, path: String) -> Fault
-    ensures fault { Unwritten (string_bytes path) result }
-    ensures memory { error_kind error ≡ ErrorKind.OutOfMemory ↔ (result ≡ Fault.OutOfMemory) }
+pub fn unwritten(error: io::Error, path: String) -> Failure
+    ensures fault { FailsBy (Unwritten (string_bytes path)) result }
+    ensures memory { error_kind error ≡ ErrorKind.OutOfMemory ↔ (result ≡ Failure.OutOfMemory) }
 {
     if error.kind() == ErrorKind::OutOfMemory {
-        return Fault::OutOfMemory;
+        return Failure::OutOfMemory;
     }
-    Fault::CannotWrite(path)
+    Failure::AtFault(Fault::CannotWrite(path))
 }

@@ -16,7 +16,7 @@ mod reading;
 mod writing;
 
 pub use entry::{file_name, name_in_folder, path_in, temporary_name};
-pub use fault::Fault;
+pub use fault::{Failure, Fault};
 pub use file_system::{Contents, FileSystem, SystemFiles};
 pub use listing::Listing;
 pub use reading::{read_folder, read_folders};

@@ -3,10 +3,11 @@
 ghost use Rattle.std.specs.Prelude.{◌≡◌, ℕ, List, true, None, OnOk, OnErr, slice_index};
 ghost use Rattle.std.specs.FinMap as finmap;
 ghost use Rattle.std.specs.Option.{ForSome};
+ghost use Rattle.filenames.specs.Drives.{drive_number};
 ghost use Rattle.filenames.specs.Names.{is_sayable};
 ghost use Rattle.folders.specs.Listings.{ListsAgain, ListsOnce, least};
 
-use filenames::Name;
+use filenames::{Drive, Name};
 use keymaps::KeyMap;
 use std::alloc::{AllocError, Global};
 use std::cmp::Ordering;
@@ -14,20 +15,21 @@ use std::cmp::Ordering;
 /// The files in the folder of a drive that are host files, and whether two of them have one name.
 #[derive(Drop)]
 pub struct Listing {
-    /// The drive, 0 to 3 for A to D.
-    pub drive: u8,
+    /// The drive.
+    pub drive: Drive,
     /// The name in the folder of the file of each key: of two files of one key, that of the one listed first.
     pub files: KeyMap<String>,
     /// The least name that two files have.
     pub twice: Option<Name>,
     ghost names: { (k : List ℕ) → finmap.contains_key files k ≡ true → is_sayable k ≡ true },
-    ghost on_drive: { (k : List ℕ) → finmap.contains_key files k ≡ true → slice_index k 0 ≡ drive },
+    ghost on_drive: { (k : List ℕ) → finmap.contains_key files k ≡ true
+        → slice_index k 0 ≡ drive_number drive },
     ghost twice_there: { ForSome twice (λ k. finmap.contains_key files k ≡ true) },
 }
 
 impl Listing {
     /// No file. Takes no memory.
-    pub fn new(alloc: Global, drive: u8) -> Listing
+    pub fn new(alloc: Global, drive: Drive) -> Listing
         ensures drive { result.drive ≡ drive }
         ensures files { result.files ≡ finmap.empty }
         ensures twice { result.twice ≡ None }
@@ -42,7 +44,7 @@ impl Listing {
     /// Adds a file by the name that it gives, on the listing's drive, and its name in the folder. An error
     /// changes nothing.
     pub fn add(&mut self, name: &Name, file: String) -> Result<(), AllocError>
-        requires { slice_index name.now 0 ≡ self.old.drive }
+        requires { slice_index name.now 0 ≡ drive_number self.old.drive }
         ensures drive { self.new.drive ≡ self.old.drive }
         ensures once { OnOk result (ListsOnce name.now file
             self.old.files self.old.twice self.new.files self.new.twice) }

@@ -1,15 +1,15 @@
 // A changed file is written into a folder.
 
-ghost use Rattle.std.specs.Prelude.{◌≡◌, ◌≢◌, ◌<◌, Some, OnOk, OnErr, IfOk, IfErr, slice_index, string_bytes};
+ghost use Rattle.std.specs.Prelude.{◌≡◌, ◌≢◌, Some, OnOk, OnErr, IfOk, IfErr, slice_index, string_bytes};
 ghost use Rattle.std.specs.Io.KnownBytes.{Appends};
 ghost use Rattle.folders.specs.Entries.{file_text, path_text, temporary_text};
-ghost use Rattle.folders.specs.Faults.{Unwritten};
+ghost use Rattle.folders.specs.Faults.{FailsBy, Unwritten};
 ghost use Rattle.folders.specs.FileSystem.{ChangesAt, PutsInPlace};
 ghost use Rattle.folders.specs.Folders.{FailsToWrite, LeavesIn, WritesInto, folder_of};
 ghost use Rattle.folders.specs.Written.{bytes_of};
 
 use crate::entry::{file_name, path_in, temporary_name};
-use crate::fault::{Fault, unwritten};
+use crate::fault::{Failure, unwritten};
 use crate::file_system::{Contents, FileSystem};
 use filenames::Name;
 use hostfiles::{HostFiles, Journal, told_count, told_record};
@@ -86,15 +86,15 @@ pub fn write_file<S: FileSystem, C: Contents>(
     folder: &str,
     name: &Name,
     contents: &C,
-) -> Result<(), Fault>
+) -> Result<(), Failure>
     ensures written { OnOk result (WritesInto (Some folder.now) (S.files system.old) (S.files system.new)
         name.now (C.bytes contents.now)) }
     ensures err { OnErr result (LeavesIn (Some folder.now) (S.files system.old) (S.files system.new)
         name.now) }
-    ensures fault { IfErr result (Unwritten (path_text folder.now (file_text name.now))) }
+    ensures fault { IfErr result (FailsBy (Unwritten (path_text folder.now (file_text name.now)))) }
 {
     let Ok((path, temporary)) = paths(system.alloc(), folder, name) else {
-        return Err(Fault::OutOfMemory);
+        return Err(Failure::OutOfMemory);
     };
     match write_and_rename(system, contents, temporary.as_str(), path.as_str()) {
         Ok(()) => Ok(()),
@@ -118,14 +118,6 @@ fn paths(alloc: Global, folder: &str, name: &Name) -> Result<(String, String), A
     ))
 }
 
-// The drive of a name, 0 to 3 for A to D.
-fn drive_of(name: &Name) -> usize
-    ensures drive { result ≡ slice_index name.now 0 }
-    ensures within { result < 4 }
-{
-    name.key()[0] as usize
-}
-
 /// Writes a file into the folder of its drive, A to D, as `write_file` does, where that drive has a folder;
 /// else it is not written.
 pub fn write_to_drive<S: FileSystem, C: Contents>(
@@ -133,14 +125,14 @@ pub fn write_to_drive<S: FileSystem, C: Contents>(
     folders: &[Option<&str>; 4],
     name: &Name,
     contents: &C,
-) -> Result<(), Fault>
+) -> Result<(), Failure>
     ensures written { OnOk result (WritesInto (folder_of folders.now (slice_index name.now 0))
         (S.files system.old) (S.files system.new) name.now (C.bytes contents.now)) }
     ensures err { OnErr result (LeavesIn (folder_of folders.now (slice_index name.now 0))
         (S.files system.old) (S.files system.new) name.now) }
     ensures fault { IfErr result (FailsToWrite folders.now name.now) }
 {
-    match folders[drive_of(name)] {
+    match folders[name.drive().number() as usize] {
         Some(folder) => write_file(system, folder, name, contents),
         None => Ok(()),
     }

@@ -9,7 +9,7 @@ use Rattle.std.proofs.lemmas.List.{same_lists, get_or-map, length-map, get_or_de
 use Rattle.std.proofs.lemmas.List.FromFn.{get_or-map-range_with_len, length-map-range_with_len}
 use Rattle.std.proofs.lemmas.Option.{unwrap_or-slice_get}
 use Rattle.std.specs.Ordering.{nat_cmp}
-use Rattle.records.specs.Extents.{zeros}
+use Rattle.records.specs.Records.{zeros}
 use Rattle.hostfiles.specs.Hosts.{Key, Record, Host}
 use Rattle.hostfiles.specs.Files.{Own, has, untouched, entry_at, is_there, place_of, place_by, is_below, length_of, length_at, file_of, records_of, stands_on, told}
 use Rattle.hostfiles.specs.File.{told_records}

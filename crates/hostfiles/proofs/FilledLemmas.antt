@@ -4,7 +4,7 @@ use Rattle.std.proofs.lemmas.Bool.{cases_lt}
 use Rattle.std.proofs.lemmas.Bool.Decides.{eqb_tells}
 use Rattle.std.specs.List.{range_with_len}
 use Rattle.std.specs.FinMap.{get, insert}
-use Rattle.records.specs.Extents.{Kept, zeros, zeros_at}
+use Rattle.records.specs.Records.{Kept, zeros, zeros_at}
 use Rattle.records.proofs.KeptLemmas.{get_insert}
 use Rattle.hostfiles.specs.Hosts.{Key, Record, Host}
 use Rattle.hostfiles.specs.Files.{Own, place_by, is_below, is_there, under, place_of, length_of, length_at, file_of, files, entry_at, grown_by, filled_gap, wrote_filled_entry, wrote_filled}

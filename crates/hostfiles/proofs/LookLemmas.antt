@@ -1,11 +1,11 @@
 -- No question is forgotten.
-use Rattle.std.proofs.Common.{◌≡◌, ℕ, zero, suc, Bool, List, [], ◌∷◌, true, false, is_some, get_or, slice_set, ◌==◌, ◌&&◌, arith, Option, Some, None, refl, sym, ap, subst, ◌∙◌}
+use Rattle.std.proofs.Common.{◌≡◌, ℕ, true, false, is_some, ◌==◌, ◌&&◌, arith, Option, Some, None, sym, ap, subst, ◌∙◌}
+use Rattle.std.specs.Cmp.{nat_cmp_total}
 use Rattle.std.specs.Cmp.Lexicographic.{nat_list_cmp_total}
-use Rattle.std.specs.FinMap.{FinMap, get, insert, len, empty_of_len, get-empty}
-use Rattle.std.specs.List.{list_any}
+use Rattle.std.specs.FinMap.{FinMap, get, insert, len, empty_of_len, get-empty, nat_cmp-IsAntisymmetric}
 use Rattle.std.specs.declared.cmp.Ordering.{Ordering}
 use Rattle.keymaps.proofs.Views.{same_key, same_place, places_total, there_still}
-use Rattle.std.proofs.lemmas.Bool.{and_parts, not-true}
+use Rattle.std.proofs.lemmas.Bool.{and_parts}
 use Rattle.hostfiles.specs.Hosts.{Key}
 use Rattle.hostfiles.specs.Looks.{Extends, is_looked, asks_nothing, look_has_by, look_length_by, look_record_by, look_directory}
 use Rattle.hostfiles.specs.declared.journal.Base.{Base}
@@ -70,19 +70,12 @@ extends_by_length b g key l m e = record { kept = subst (Keeps l) (sym e) (by_le
 pub extends_by_record : (b : Base) (key : Key) (k : ℕ) (l m : Looks) → m ≡ look_record_by b key k l → Extends l m
 extends_by_record b key k l m e = record { kept = subst (Keeps l) (sym e) (by_record b key k l) }
 
-pub nothing_looked : (l : Looks) → ((x : Key) → get l.has x ≡ None) → ((x : Key) → get l.lengths x ≡ None) → ((p : Key × ℕ) → get l.records p ≡ None) → ((d : ℕ) → get_or l.directories d false ≡ false)
+pub nothing_looked : (l : Looks) → ((x : Key) → get l.has x ≡ None) → ((x : Key) → get l.lengths x ≡ None) → ((p : Key × ℕ) → get l.records p ≡ None) → ((d : ℕ) → get l.directories d ≡ None)
     → (q : Ask) → is_looked l q ≡ false
 nothing_looked l a b c d (Has k) = ap is_some (a k)
 nothing_looked l a b c d (Length k) = ap is_some (b k)
 nothing_looked l a b c d (Rec k n) = ap is_some (c (k, n))
-nothing_looked l a b c d (Directory n) = d n
-
--- no drive is marked where no mark stands
-pub none_marked : (ds : List Bool) → list_any (λ marked. marked) ds ≡ false → (d : ℕ) → get_or ds d false ≡ false
-none_marked [] e d = refl
-none_marked (true ∷ ds) e d = absurd (cc)
-none_marked (false ∷ ds) e zero = refl
-none_marked (false ∷ ds) e (suc d) = none_marked ds e d
+nothing_looked l a b c d (Directory n) = ap is_some (d n)
 
 no_key : {K X : Type 0} {R : K → K → Ordering} (m : FinMap R X) → (len m == 0) ≡ true → (k : K) → get m k ≡ None
 no_key m e k = ap (λ x. get x k) (empty_of_len m (number_of e)) ∙ get-empty _ k where
@@ -91,27 +84,19 @@ no_key m e k = ap (λ x. get x k) (empty_of_len m (number_of e)) ∙ get-empty _
 
 pub nothing_asked : (l : Looks) → asks_nothing l ≡ true → (q : Ask) → is_looked l q ≡ false
 nothing_asked l e =
-    let marks = and_parts (len l.has == 0 && len l.lengths == 0 && len l.records == 0) _ e in
-    let records = and_parts (len l.has == 0 && len l.lengths == 0) _ marks.0 in
+    let drives = and_parts (len l.has == 0 && len l.lengths == 0 && len l.records == 0) _ e in
+    let records = and_parts (len l.has == 0 && len l.lengths == 0) _ drives.0 in
     let keys = and_parts (len l.has == 0) _ records.0 in
-    let unmarked = not-true (list_any (λ marked. marked) l.directories) marks.1 in
-    nothing_looked l (no_key l.has keys.0) (no_key l.lengths keys.1) (no_key l.records records.1) (none_marked l.directories unmarked)
+    nothing_looked l (no_key l.has keys.0) (no_key l.lengths keys.1) (no_key l.records records.1) (no_key l.directories drives.1)
 
 pub same_looks : (l m : Looks) → m.has ≡ l.has → m.lengths ≡ l.lengths → m.records ≡ l.records → m.directories ≡ l.directories → m ≡ l
 same_looks l m a b c d = ap (λ x. record m { has = x }) a ∙ ap (λ x. record m { has = l.has; lengths = x }) b ∙ ap (λ x. record m { has = l.has; lengths = l.lengths; records = x }) c ∙ ap (λ x. record l { directories = x }) d
-
-looked_still : (ds : List Bool) (drive d : ℕ) → get_or ds d false ≡ true → get_or (slice_set ds drive true) d false ≡ true
-looked_still [] drive d h = h
-looked_still (b ∷ bs) zero zero h = refl
-looked_still (b ∷ bs) zero (suc d) h = h
-looked_still (b ∷ bs) (suc n) zero h = h
-looked_still (b ∷ bs) (suc n) (suc d) h = looked_still bs n d h
 
 pub with_directory : (l : Looks) (drive : ℕ) → Keeps l (look_directory drive l)
 with_directory l drive (Has k) h = h
 with_directory l drive (Length k) h = h
 with_directory l drive (Rec k n) h = h
-with_directory l drive (Directory d) h = looked_still l.directories drive d h
+with_directory l drive (Directory d) h = there_still nat_cmp_total nat_cmp-IsAntisymmetric l.directories drive tt d h
 
 pub extends_by_directory : (drive : ℕ) (l m : Looks) → m ≡ look_directory drive l → Extends l m
 extends_by_directory drive l m e = record { kept = subst (Keeps l) (sym e) (with_directory l drive) }

@@ -3,7 +3,7 @@ use Rattle.std.specs.Prelude.{List, map, Option, unwrap_or, is_some, ℕ, ◌+�
 use Rattle.std.specs.Str.{bytes_eq}
 use Rattle.std.specs.Cmp.Lexicographic.{pointwise}
 use Rattle.directory.specs.Entries.{Shape}
-use Rattle.records.specs.Extents.{zeros}
+use Rattle.records.specs.Records.{zeros}
 use Rattle.hostfiles.specs.Hosts.{Record}
 
 -- a file's places, in order; no record stands in a hole

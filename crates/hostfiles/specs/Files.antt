@@ -6,7 +6,7 @@ use Rattle.std.specs.Cmp.Lexicographic.{slice_cmp}
 use Rattle.std.specs.FinMap.{FinMap, get, insert, empty, contains_key, keys}
 use Rattle.directory.specs.Entries.{Shape, Shapes}
 use Rattle.filenames.specs.Names.{is_sayable}
-use Rattle.records.specs.Extents.{Kept, zeros_at}
+use Rattle.records.specs.Records.{Kept, zeros_at}
 use Rattle.hostfiles.specs.Hosts.{Key, Record, Host}
 use Rattle.hostfiles.specs.declared.journal.Base.{Base}
 use Rattle.hostfiles.specs.declared.journal.Base.TheVariants.{Same, Gone, New, Moved}

@@ -9,6 +9,7 @@ pub mod Asking
 pub mod Laid
 pub mod Changed
 pub use Rattle.keymaps.specs.Order
+pub use Rattle.keymaps.specs.Walks
 pub use Rattle.filenames.specs.Names
 pub use Rattle.filenames.specs.ControlBlock
 pub use Rattle.directory.specs.Entries

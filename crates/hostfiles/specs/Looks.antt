@@ -1,6 +1,5 @@
 -- The questions that a run asks of the host files, and those that what it did answers. (This project's profile.)
-use Rattle.std.specs.Prelude.{◌≡◌, ℕ, ◌==◌, ◌&&◌, not, Bool, true, false, Option, Some, None, is_some, nat_lt, if◌then◌else◌, replicate, slice_set, get_or}
-use Rattle.std.specs.List.{list_any}
+use Rattle.std.specs.Prelude.{◌≡◌, ℕ, ◌==◌, ◌&&◌, Bool, true, false, Option, Some, None, is_some, nat_lt, if◌then◌else◌}
 use Rattle.std.specs.Ordering.{nat_cmp, eq_by_cmp}
 use Rattle.std.specs.Cmp.Lexicographic.{slice_cmp}
 use Rattle.std.specs.FinMap.{get, insert, remove, empty, contains_key, len}
@@ -14,18 +13,18 @@ use Rattle.hostfiles.specs.declared.looks.Ask.{Ask}
 use Rattle.hostfiles.specs.declared.looks.Ask.TheVariants.{Has, Length, Rec, Directory}
 
 abbrev pub no_looks : Looks
-no_looks = record { has = empty; lengths = empty; records = empty; directories = replicate 256 false }
+no_looks = record { has = empty; lengths = empty; records = empty; directories = empty }
 
 -- whether a question was asked
 abbrev pub is_looked : Looks → Ask → Bool
 is_looked l (Has key) = contains_key l.has key
 is_looked l (Length key) = contains_key l.lengths key
 is_looked l (Rec key k) = contains_key l.records (key, k)
-is_looked l (Directory drive) = get_or l.directories drive false
+is_looked l (Directory drive) = contains_key l.directories drive
 
 -- whether no question was asked
 abbrev pub asks_nothing : Looks → Bool
-asks_nothing l = len l.has == 0 && len l.lengths == 0 && len l.records == 0 && not (list_any (λ marked. marked) l.directories)
+asks_nothing l = len l.has == 0 && len l.lengths == 0 && len l.records == 0 && len l.directories == 0
 
 abbrev pub IsUnasked : Looks → Type 0
 IsUnasked l = (q : Ask) → is_looked l q ≡ false
@@ -43,7 +42,7 @@ abbrev pub forgot : Ask → Looks → Looks
 forgot (Has key) l = record l { has = remove l.has key }
 forgot (Length key) l = record l { lengths = remove l.lengths key }
 forgot (Rec key k) l = record l { records = remove l.records (key, k) }
-forgot (Directory drive) l = record l { directories = slice_set l.directories drive false }
+forgot (Directory drive) l = record l { directories = remove l.directories drive }
 
 -- ---- one question of a program, by what was done to the file; a file that was made, deleted or renamed answers whether it is there
 
@@ -96,7 +95,7 @@ look_read host own key k l =
 
 -- the files of a drive, always
 abbrev pub look_directory : ℕ → Looks → Looks
-look_directory drive l = record l { directories = slice_set l.directories drive true }
+look_directory drive l = record l { directories = insert l.directories drive tt }
 
 -- no question of the first is forgotten in the second
 pub record Extends (l m : Looks) : Type 0 where

@@ -4,7 +4,7 @@ ghost use Rattle.std.specs.Prelude.{◌≡◌, ◌<◌, true, Some, None, not, g
 ghost use Rattle.std.specs.FinMap as finmap;
 ghost use Rattle.std.specs.Str.{bytes_eq};
 ghost use Rattle.std.specs.Cmp.Lexicographic.{pointwise};
-ghost use Rattle.records.specs.Extents.{zeros};
+ghost use Rattle.records.specs.Records.{zeros};
 ghost use Rattle.hostfiles.specs.Files.{entry_at, file_of, place_of, length_at};
 ghost use Rattle.hostfiles.specs.File.{told_records};
 ghost use Rattle.hostfiles.specs.Changed.{is_changed, ChangedIsOther};

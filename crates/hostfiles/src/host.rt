@@ -207,6 +207,7 @@ impl HostFiles {
         requires { has_room self.old name ≡ true }
         ensures ok { OnOk result (self.new ≡ finmap.insert self.old name file) }
         ensures err { OnErr result (self.new ≡ self.old) }
+        ensures limits { IsHost self.new }
     {
         let _ = &file.records; // at most 65,536
         self.files.insert(name.key(), file)
@@ -224,6 +225,7 @@ impl HostFiles {
     pub fn remove(&mut self, name: &Name) -> bool
         ensures there { result ≡ finmap.contains_key self.old name.now }
         ensures removed { self.new ≡ finmap.remove self.old name.now }
+        ensures limits { IsHost self.new }
     {
         self.files.remove(&name.key()).is_some()
     }

@@ -29,7 +29,7 @@ pub struct Listed<'a> {
 
 impl Files for Listed<'_> {
     ghost use Rattle.std.specs.Prelude.{◌+◌};
-    ghost use Rattle.keymaps.specs.Order.{left};
+    ghost use Rattle.keymaps.specs.Walks.{left};
     ghost use Rattle.hostfiles.specs.Files.{shapes};
 
     ghost files = { λ l. shapes l.host.now l.journal.now.entries };

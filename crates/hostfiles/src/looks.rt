@@ -1,14 +1,12 @@
 // The questions that a run asked of the host files.
 
-ghost use Rattle.std.specs.Prelude.{◌≡◌, ℕ, true, false, OnOk, OnErr, IfOk, IfSome, IfNone};
-ghost use Rattle.std.specs.Prelude.{get_or, length, slice_set};
-ghost use Rattle.std.specs.List.{list_any};
+ghost use Rattle.std.specs.Prelude.{◌≡◌, true, OnOk, OnErr, IfOk, IfSome, IfNone};
 ghost use Rattle.hostfiles.specs.Looks.{is_looked, asks_nothing, no_looks, forgot, IsUnasked};
 ghost use Rattle.hostfiles.specs.Looks.{look_has_by, look_length_by, look_record_by, look_directory};
 
 use crate::journal::{Base, Grown};
 use filenames::Key;
-use keymaps::{KeyMap, PlaceSet};
+use keymaps::{DriveSet, KeyMap, PlaceSet};
 use std::alloc::{AllocError, Global};
 
 /// A question that a run asks of the host files.
@@ -33,8 +31,8 @@ pub struct Looks {
     pub lengths: KeyMap<()>,
     /// The records that were asked.
     pub records: PlaceSet,
-    /// For each drive whether its directory was asked.
-    pub directories: [bool; 256],
+    /// The drives whose directories were asked.
+    pub directories: DriveSet,
 }
 
 impl Looks {
@@ -46,16 +44,8 @@ impl Looks {
             has: KeyMap::new(alloc),
             lengths: KeyMap::new(alloc),
             records: PlaceSet::new(alloc),
-            directories: [false; 256],
+            directories: DriveSet::new(),
         }
-    }
-
-    /// How many drives may be marked: as many as a byte tells.
-    pub fn drive_count(&self) -> usize
-        ensures value { result ≡ length self.now.directories }
-        ensures all { result ≡ 256 }
-    {
-        self.directories.len()
     }
 
     /// Whether a question was asked.
@@ -66,7 +56,7 @@ impl Looks {
             Ask::Has(key) => self.has.contains_key(&key),
             Ask::Length(key) => self.lengths.contains_key(&key),
             Ask::Rec(key, k) => self.records.contains(&key, k),
-            Ask::Directory(drive) => self.directories[drive as usize],
+            Ask::Directory(drive) => self.directories.contains(drive),
         }
     }
 
@@ -77,7 +67,7 @@ impl Looks {
         self.has.len() == 0
             && self.lengths.len() == 0
             && self.records.len() == 0
-            && !is_some_marked(&self.directories)
+            && self.directories.len() == 0
     }
 
     /// Whether there is a file of the key: a question where the file stands on its own host file. An `Err`
@@ -133,7 +123,7 @@ impl Looks {
     pub fn mark_directory(&mut self, drive: u8)
         ensures { self.new ≡ look_directory drive self.old }
     {
-        self.directories[drive as usize] = true;
+        self.directories.insert(drive);
     }
 
     /// The same questions.
@@ -144,7 +134,7 @@ impl Looks {
             has: self.has.snapshot()?,
             lengths: self.lengths.snapshot()?,
             records: self.records.snapshot()?,
-            directories: self.directories,
+            directories: self.directories.snapshot(),
         })
     }
 
@@ -164,41 +154,9 @@ impl Looks {
             let key = place.0;
             return Some(Ask::Rec(key, place.1));
         }
-        if let Some(drive) = take_drive(&mut self.directories) {
+        if let Some(drive) = self.directories.pop() {
             return Some(Ask::Directory(drive));
         }
         None
     }
-}
-
-// Gives a drive whose directory was asked and forgets it.
-fn take_drive(directories: &mut [bool]) -> Option<u8>
-    requires { length directories.old ≡ 256 }
-    ensures there { IfSome result (λ drive. get_or directories.old drive false ≡ true) }
-    ensures some { IfSome result (λ drive. directories.new ≡ slice_set directories.old drive false) }
-    ensures none { IfNone result (directories.new ≡ directories.old) }
-    ensures unmarked { IfNone result ((drive : ℕ) → get_or directories.old drive false ≡ false) }
-{
-    if !is_some_marked(directories) {
-        return None;
-    }
-    for drive in 0..256 {
-        if directories[drive] {
-            directories[drive] = false;
-            return Some(drive as u8);
-        }
-    }
-    None
-}
-
-// Whether a drive is marked. All marks are read, many at once, since nearly always none is.
-fn is_some_marked(directories: &[bool]) -> bool
-    ensures value { result ≡ list_any (λ marked. marked) directories.now }
-    ensures none { result ≡ false → (drive : ℕ) → get_or directories.now drive false ≡ false }
-{
-    let mut some = false;
-    for drive in 0..directories.len() {
-        some = some | directories[drive];
-    }
-    some
 }

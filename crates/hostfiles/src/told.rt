@@ -2,7 +2,7 @@
 
 ghost use Rattle.std.specs.Prelude.{◌≡◌, length, slice_get, unwrap_or};
 ghost use Rattle.std.specs.Option.{option_map, option_and_then};
-ghost use Rattle.records.specs.Extents.{zeros};
+ghost use Rattle.records.specs.Records.{zeros};
 ghost use Rattle.hostfiles.specs.Files.{entry_at, place_of, told};
 
 use crate::host::HostFiles;

@@ -1,4 +1,4 @@
--- The flag byte, and the flags that a result sets: the Intel 8080 Microcomputer Systems User's Manual, flags.
+-- The flag byte, and the flags that a result sets. [8080 manual 1975, chapter 4, flags]
 use Rattle.std.specs.Prelude.{◌==◌, ◌+◌, ◌*◌, ◌/◌, ◌%◌, nat_le, ℕ, Bool, true, false, count_ones}
 use Rattle.i8080.specs.declared.flags.Flags.{Flags}
 

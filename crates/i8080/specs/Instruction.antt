@@ -1,5 +1,5 @@
--- What each instruction reads, and what it then does: the Intel 8080 Microcomputer Systems User's Manual, instruction set.
--- Where something else takes the place of the manual, the definition says so.
+-- What each instruction reads, and what it then does. ([8080 manual 1975, chapter 4, instruction set]; where something else
+-- takes its place, the definition says so.)
 use Rattle.std.specs.Prelude.{ℕ, ◌+◌, ◌-◌, ◌*◌, ◌/◌, ◌%◌, ◌^◌, ◌==◌, ◌||◌, not, nat_le, nat_lt, if◌then◌else◌, Bool, true, false, bit_and, bit_or, bit_xor, List, [], ◌∷◌, Option, Some, None}
 use Rattle.i8080.specs.declared.registers.Regs.{Regs}
 use Rattle.i8080.specs.declared.flags.Flags.{Flags}

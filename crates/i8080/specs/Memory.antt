@@ -1,5 +1,5 @@
--- Memory as an instruction sees it: bytes by address, as in the Intel 8080 Microcomputer Systems User's Manual; and what counts
--- as a look, which is this project's own.
+-- Memory as an instruction sees it: bytes by address; and what counts as a look. ([8080 manual 1975, chapter 4, memory]; what
+-- counts as a look: this project's own.)
 use Rattle.std.specs.Prelude.{◌≡◌, ◌==◌, ◌||◌, if◌then◌else◌, ℕ, Bool, false, List, [], ◌∷◌, ◌++◌, length, take, Option, Some, is_some, unwrap_or}
 use Rattle.std.specs.Borrow.{GName}
 

@@ -1,4 +1,4 @@
--- Each instruction's first byte: the Intel 8080 Microcomputer Systems User's Manual, instruction set.
+-- Each instruction's first byte. [8080 manual 1975, chapter 4, instruction set]
 use Rattle.std.specs.Prelude.{ℕ, ◌+◌, ◌*◌, ◌≡◌, ◌≢◌, Bool, Option, find, ◌==◌, List, [], ◌∷◌, ◌++◌, map, flat_map}
 use Rattle.std.specs.List.{list_any}
 use Rattle.i8080.specs.declared.opcode.Op.{Op}
@@ -170,7 +170,7 @@ instructions = Nop ∷ Hlt ∷ Lda ∷ Sta ∷ Lhld ∷ Shld ∷ Xchg ∷ Daa �
 unfoldable pub decoded : ℕ → Option Op
 decoded byte = find (λ op. opcode_of op == byte) instructions
 
--- the twelve bytes that stand for no instruction: those to which the manual's instruction set gives none
+-- the twelve bytes that stand for no instruction: those to which [8080 manual 1975, chapter 4, instruction set] gives none
 abbrev pub undefined_bytes : List ℕ
 undefined_bytes = 0x08 ∷ 0x10 ∷ 0x18 ∷ 0x20 ∷ 0x28 ∷ 0x30 ∷ 0x38 ∷ 0xCB ∷ 0xD9 ∷ 0xDD ∷ 0xED ∷ 0xFD ∷ []
 

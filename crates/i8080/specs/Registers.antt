@@ -1,4 +1,4 @@
--- Registers, register pairs and the word PSW, by name: the Intel 8080 Microcomputer Systems User's Manual, registers.
+-- Registers, register pairs and the word PSW, by name. [8080 manual 1975, chapter 4, registers]
 use Rattle.std.specs.Prelude.{ℕ, ◌+◌, ◌*◌, ◌/◌, ◌%◌, ◌^◌}
 use Rattle.i8080.specs.declared.registers.Regs.{Regs}
 use Rattle.i8080.specs.declared.opcode.Register.{Register}

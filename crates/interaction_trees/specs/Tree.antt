@@ -1,5 +1,5 @@
--- Interaction trees (Xia and others, "Interaction Trees", POPL 2020), the finite ones: questions one after another, each
--- asked in view of the answers so far, up to a result.
+-- Interaction trees, the finite ones: questions one after another, each asked in view of the answers so far, up to a result.
+-- [Interaction Trees 2020]
 use Rattle.std.specs.Prelude.{◌≡◌, List, [], ◌∷◌}
 
 -- A result, or a question of a family and what follows each answer.

@@ -9,7 +9,7 @@ use Rattle.std.specs.List.Sorted.{IsStrictlySortedBy}
 use Rattle.std.specs.FinMap.{FinMap, from_entries, get}
 use Rattle.std.proofs.lemmas.Map.Entries.{lookup-filter-values, option_filter}
 use Rattle.std.proofs.lemmas.Map.Keys.{IsDistinct-from_sorted}
-use Rattle.keymaps.specs.Order.{if_below}
+use Rattle.keymaps.specs.Walks.{if_below}
 use Rattle.keymaps.proofs.Views.{get_view}
 
 below : (limit : ℕ) (r : Option ℕ) → option_filter (λ n. nat_lt n limit) r ≡ if_below limit r

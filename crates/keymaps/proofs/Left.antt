@@ -9,8 +9,9 @@ use Rattle.std.specs.Prelude.{IfNone}
 use Rattle.std.specs.Cmp.Lexicographic.{slice_cmp, nat_list_cmp_total}
 use Rattle.std.specs.List.{filter}
 use Rattle.std.specs.FinMap.{FinMap, find, get, len, len-entries, entries, entries_sorted, get-entries}
-use Rattle.keymaps.specs.Order.{Key}
-use Rattle.keymaps.specs.Order.{EachAbove, EachBetween, IsAbsent, IsInNeither, is_above, left, lesser}
+use Rattle.filenames.specs.Names.{Key}
+use Rattle.keymaps.specs.Order.{is_above}
+use Rattle.keymaps.specs.Walks.{EachAbove, EachBetween, IsAbsent, IsInNeither, left, lesser}
 use Rattle.keymaps.proofs.Rising.{here, begins}
 use Rattle.keymaps.proofs.Views.{same_key}
 

@@ -7,7 +7,9 @@ use Rattle.std.specs.Ordering.{nat_cmp, is_lt, is_gt, ordering_then}
 use Rattle.std.specs.Cmp.{eq_by_cmp_equiv, Equal-is, nat_cmp_is}
 use Rattle.std.specs.Cmp.Lexicographic.{slice_cmp, nat_list_cmp_total}
 use Rattle.std.specs.FinMap.{FinMap, get}
-use Rattle.keymaps.specs.Order.{Key, place_cmp, is_past, is_beyond}
+use Rattle.filenames.specs.Names.{Key}
+use Rattle.keymaps.specs.Order.{place_cmp}
+use Rattle.keymaps.specs.Walks.{is_past, is_beyond}
 use Rattle.keymaps.proofs.Views.{same_key}
 
 -- in one file the places are ordered by their numbers

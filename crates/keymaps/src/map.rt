@@ -2,17 +2,16 @@
 
 ghost use Rattle.std.specs.Prelude.{◌≡◌, ◌<◌, ◌+◌, ℕ, List, true, IfOk, OnOk, OnErr, IfSome, IfNone, IsSome, None, Some, option_copied};
 ghost use Rattle.std.specs.FinMap as finmap;
-ghost use Rattle.keymaps.specs.Order.{EachAbove, EachBetween, IsAbsent, IsInNeither, is_above, left, lesser, if_below};
+ghost use Rattle.keymaps.specs.Order.{is_above};
+ghost use Rattle.keymaps.specs.Walks.{EachAbove, EachBetween, IsAbsent, IsInNeither, left, lesser, if_below};
 
+use filenames::Key;
 use std::alloc::{AllocError, Global};
 use std::cmp::Ordering;
 use std::collections::BTreeMap;
 use std::marker::Model;
 use std::mem::replace;
 use std::ops::Bound;
-
-/// A drive, 0 to 3, and the eleven bytes of a name and its type.
-pub type Key = [u8; 12];
 
 /// A map from keys, in the order of their bytes.
 #[derive(Drop)]

@@ -2,9 +2,9 @@
 
 ghost use Rattle.std.specs.Prelude.{◌≡◌, OnOk, OnErr, IfSome, IfNone, ℕ, List, Some, None, true};
 ghost use Rattle.std.specs.FinMap as finmap;
-ghost use Rattle.keymaps.specs.Order.{EachPast, EachPastBelow, EachBeyond, EachBeyondBelow, IsAbsent, is_past, is_beyond, if_below};
+ghost use Rattle.keymaps.specs.Walks.{EachPast, EachPastBelow, EachBeyond, EachBeyondBelow, IsAbsent, is_past, is_beyond, if_below};
 
-use crate::map::Key;
+use filenames::Key;
 use std::alloc::{AllocError, Global};
 use std::collections::BTreeMap;
 use std::marker::Model;

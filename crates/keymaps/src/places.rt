@@ -2,9 +2,9 @@
 
 ghost use Rattle.std.specs.Prelude.{◌≡◌, OnOk, OnErr, IfOk, IfSome, IfNone, ℕ, List, true};
 ghost use Rattle.std.specs.FinMap as finmap;
-ghost use Rattle.keymaps.specs.Order.{IsAbsent};
+ghost use Rattle.keymaps.specs.Walks.{IsAbsent};
 
-use crate::map::Key;
+use filenames::Key;
 use std::alloc::{AllocError, Global};
 use std::collections::BTreeMap;
 use std::marker::Model;

@@ -14,6 +14,7 @@ use Rattle.console_calls.specs.declared.cause.Cause.TheVariants.{WarmBoot, Syste
 use Rattle.console_calls.specs.declared.desk.Spot.{Spot}
 use Rattle.console_calls.specs.Calls.{CallEnd, Completed}
 use Rattle.console_calls.specs.Calls as calls
+use Rattle.console_calls.specs.Drive.{Drive}
 use Rattle.hostfiles.specs.Names.{is_sayable}
 use Rattle.hostfiles.specs.ControlBlock.{place_of, random_of}
 use Rattle.hostfiles.specs.Entries.{count_at, next_among}
@@ -146,7 +147,7 @@ module _ (host : Host) (own : Own) where
     found_fits : (f : FileFunction) (b : Block) → FitsFinding (result_of g (found f b))
     found_fits Open b = there (key_of b) (Query (ShapeOf (key_of b)) (λ s. Return (finding.Opened (count_at s (slice_index b.fcb 12))))) (λ e. tt)
     found_fits Close b = there (key_of b) (Return (finding.Value 0)) (λ e. tt)
-    found_fits SearchFirst b = entry_fits (key_of b) (slice_index b.fcb 12) (next_among (key_of b) (slice_index b.fcb 12) None (g (FilesOn b.drive)))
+    found_fits SearchFirst b = entry_fits (key_of b) (slice_index b.fcb 12) (next_among (key_of b) (slice_index b.fcb 12) None (g (FilesOn (slice_index (key_of b) 0))))
     found_fits ReadSequential b =
         there (key_of b) (Query (ShapeOf (key_of b)) (λ s. cond (nat_lt (place_of b.fcb) (length s)) (Query (Content (key_of b) (place_of b.fcb)) (λ r. Return (record_found (place_of b.fcb + 1) 1 r))) (Return (finding.Value 1))))
         (λ e. read_fits (key_of b) (place_of b.fcb) (place_of b.fcb + 1) 1 (nat_lt (place_of b.fcb) (length (g (ShapeOf (key_of b))))) 1)
@@ -193,7 +194,7 @@ module _ (host : Host) (own : Own) where
 
     with_drive : (length : ℕ) (r : Regs) (spot : Spot) (k : Block → ℕ → SystemTree SystemEnd) → ((b : Block) (to : ℕ) → Fits (result_of f (k b to))) → Fits (result_of f (with_block length r spot k))
     with_drive length r spot k fits = read_first (Cell (word r.e r.d) Done) (λ dr. on_drive length r spot dr k (drive_named spot.drive dr)) (λ dr. by_drive dr (drive_named spot.drive dr)) where
-      by_drive : (dr : ℕ) (o : Option ℕ) → Fits (result_of f (on_drive length r spot dr k o))
+      by_drive : (dr : ℕ) (o : Option Drive) → Fits (result_of f (on_drive length r spot dr k o))
       by_drive dr None = (tt, refl)
       by_drive dr (Some drive) = read_first (block_read drive dr length (word r.e r.d)) (λ b. reading_first (word_at r.sp Done) (λ to. k b to)) (λ b. read_first (word_at r.sp Done) (λ to. k b to) (λ to. fits b to))
 

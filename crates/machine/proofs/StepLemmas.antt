@@ -11,7 +11,7 @@ use Rattle.std.specs.declared.result.Result.{Result}
 use Rattle.std.specs.declared.result.Result.TheVariants.{Ok, Err}
 use Rattle.std.specs.declared.alloc.AllocError.{AllocError}
 use Rattle.interaction_trees.specs.Tree.{Return, result_of, asked, AgreeOn, returning}
-use Rattle.interaction_trees.specs.Outcome.{Outcome, Step, Stop}
+use Rattle.interaction_trees.specs.Outcome.{Step}
 use Rattle.interaction_trees.specs.Dependence as dependence
 use Rattle.interaction_trees.proofs.DependenceLemmas.{same_result, same_asked, result_of-returning, asked-returning}
 use Rattle.i8080.specs.declared.registers.Regs.{Regs}
@@ -54,7 +54,6 @@ use Rattle.bdos.specs.Fulfils.{system_answers, state_questions, file_questions}
 use Rattle.bdos.specs.FileCalls.{SystemEnd}
 use Rattle.bdos.specs.Calls.{call}
 use Rattle.bdos.specs.Fulfils.{Serves}
-use Rattle.bdos.specs.Drives.{AsksDrives}
 use Rattle.bdos.specs.Fulfils.{scene}
 use Rattle.bdos.proofs.Trees.{result-reading, cells-reading, places-reading, files-reading}
 use Rattle.file_calls.specs.Passing.{IsSound}
@@ -70,7 +69,7 @@ use Rattle.machine.specs.WrittenCells.{written_cells, Devices, devices_of, state
 use Rattle.machine.specs.Stops.{stop_of_instruction, stop_of_call}
 use Rattle.machine.specs.Steps.{told, seen, drives_in, looked_in, running_with, TakesStep}
 use Rattle.machine.proofs.WrittenCellLemmas.{InCells, in_cells, get_written, cells_written}
-use Rattle.machine.proofs.HostLemmas.{HaveMarks, have_marks, result_of-asking_host, no_cell, no_place, mark_one, drives_stay}
+use Rattle.machine.proofs.HostLemmas.{result_of-asking_host, no_cell, no_place, mark_one}
 use Rattle.machine.proofs.FitLemmas.{IsStill, call_fits}
 
 -- a step, by registers, devices and an overlay
@@ -189,15 +188,15 @@ near_asks_none f o a (Byte b) = none (finmap.get o.cells b) where
 near_asks_none f o a (Input k) = refl
 
 -- a question about files marks what is passed on
-looks_of_host : (f : Answers) (o : Own) (a : Ask) (qs : List SystemQuestion) (l : file_questions_asked.Looks) → HaveMarks (length l.directories) (file_questions qs)
+looks_of_host : (f : Answers) (o : Own) (a : Ask) (qs : List SystemQuestion) (l : file_questions_asked.Looks)
     → is_looked (look_for_all o.files (file_questions qs) l) a ≡ (is_looked l a || is_in (OfHost a) (dependence.passed_on part o f qs))
-looks_of_host f o a [] l marks = sym (or-false (is_looked l a))
-looks_of_host f o a (OfState q ∷ qs) l marks =
-    looks_of_host f o a qs l marks
+looks_of_host f o a [] l = sym (or-false (is_looked l a))
+looks_of_host f o a (OfState q ∷ qs) l =
+    looks_of_host f o a qs l
     ∙ ap (λ b. is_looked l a || b) (sym (is_in-append (OfHost a) (asked f (part o (OfState q))) _ ∙ ap (λ b. b || is_in (OfHost a) (dependence.passed_on part o f qs)) (near_asks_none f o a q)))
-looks_of_host f o a (OfFiles x ∷ qs) l marks =
-    looks_of_host f o a qs (look_for o.files x l) (subst (λ n. HaveMarks n (file_questions qs)) (sym (drives_stay o.files x l)) marks.1)
-    ∙ ap (λ b. b || is_in (OfHost a) (dependence.passed_on part o f qs)) (mark_one f a o.files x l marks.0)
+looks_of_host f o a (OfFiles x ∷ qs) l =
+    looks_of_host f o a qs (look_for o.files x l)
+    ∙ ap (λ b. b || is_in (OfHost a) (dependence.passed_on part o f qs)) (mark_one f a o.files x l)
     ∙ or_assoc (is_looked l a) _ _
     ∙ ap (λ b. is_looked l a || b) (sym (is_in-append (OfHost a) (asked f (asking_host (passing.part o.files x))) _))
 
@@ -222,34 +221,32 @@ module _ (s : Session) (r : Regs) (d : Devices) (own : ℕ → Option ℕ) (h : 
 
   -- the looks after it
   looked_of : (t : SystemTree Reached) → next (record { regs = r; desk = d.desk }) ≡ t → (old new : Looked)
-      → HaveMarks (length old.files.directories) (file_questions (asked (memory_answers s own d.files) t))
       → new.cells ≡ look_all own (addresses (state_questions (asked (memory_answers s own d.files) t))) old.cells
       → ((k : ℕ) → is_within new.places k ≡ (is_within old.places k || is_among k (script_places (state_questions (asked (memory_answers s own d.files) t)))))
       → new.files ≡ look_for_all d.files (file_questions (asked (memory_answers s own d.files) t)) old.files
       → (q : Question) → looked_at new q ≡ (looked_at old q || is_in q (looks_at (ask s) (state_with r d own)))
-  looked_of t e old new marks cells places asks (Cell q) =
+  looked_of t e old new cells places asks (Cell q) =
       ap (is_among q) cells
       ∙ looks_of_cell (ask s) own d.files h (asked (memory_answers s own d.files) t) old.cells q
       ∙ ap (λ qs. is_among q old.cells || is_in (Cell q) qs) (sym (looks_are t e))
-  looked_of t e old new marks cells places asks (Script k) =
+  looked_of t e old new cells places asks (Script k) =
       places k ∙ ap (λ b. is_within old.places k || b) (sym (ap (is_in (Script k)) (looks_are t e) ∙ looks_of_script (ask s) (own_written own d.files) (asked (memory_answers s own d.files) t) k))
-  looked_of t e old new marks cells places asks (OfHost a) =
+  looked_of t e old new cells places asks (OfHost a) =
       ap (λ l. is_looked l a) asks
-      ∙ looks_of_host (ask s) (own_written own d.files) a (asked (memory_answers s own d.files) t) old.files marks
+      ∙ looks_of_host (ask s) (own_written own d.files) a (asked (memory_answers s own d.files) t) old.files
       ∙ ap (λ qs. is_looked old.files a || is_in (OfHost a) qs) (sym (looks_are t e))
 
   -- some of the looks after it
   bounded_of : (t : SystemTree Reached) → next (record { regs = r; desk = d.desk }) ≡ t → (old new : Looked)
-      → HaveMarks (length old.files.directories) (file_questions (asked (memory_answers s own d.files) t))
       → memory.Extends new.cells (look_all own (addresses (state_questions (asked (memory_answers s own d.files) t))) old.cells) → ((k : ℕ) → is_within new.places k ≡ is_within old.places k)
       → file_looks.Extends new.files (look_for_all d.files (file_questions (asked (memory_answers s own d.files) t)) old.files)
       → IsBounded old (looks_at (ask s) (state_with r d own)) new
-  bounded_of t e old new marks cells places asks (Cell q) among =
+  bounded_of t e old new cells places asks (Cell q) among =
       sym (looks_of_cell (ask s) own d.files h (asked (memory_answers s own d.files) t) old.cells q ∙ ap (λ qs. is_among q old.cells || is_in (Cell q) qs) (sym (looks_are t e)))
       ∙ among_further q new.cells _ cells among
-  bounded_of t e old new marks cells places asks (Script k) within = ap (λ b. b || is_in (Script k) (looks_at (ask s) (state_with r d own))) (sym (places k) ∙ within)
-  bounded_of t e old new marks cells places asks (OfHost a) marked =
-      sym (looks_of_host (ask s) (own_written own d.files) a (asked (memory_answers s own d.files) t) old.files marks
+  bounded_of t e old new cells places asks (Script k) within = ap (λ b. b || is_in (Script k) (looks_at (ask s) (state_with r d own))) (sym (places k) ∙ within)
+  bounded_of t e old new cells places asks (OfHost a) marked =
+      sym (looks_of_host (ask s) (own_written own d.files) a (asked (memory_answers s own d.files) t) old.files
       ∙ ap (λ qs. is_looked old.files a || is_in (OfHost a) qs) (sym (looks_are t e)))
       ∙ asks.kept a marked
 
@@ -280,7 +277,6 @@ within o = within_cells o.cells
 -- what a tree leaves that was carried out over pages
 pub record Carried (s : Session) (t : SystemTree Reached) (r : Regs) (d : Devices) (o : Overlay) (r' : Regs) (d' : Devices) (o' : Overlay) : Type 0 where
   pub at : next (record { regs = r; desk = d.desk }) ≡ t
-  pub marks : HaveMarks (length d.asks.directories) (file_questions (asked (memory_answers s (own_of o) d.files) t))
   pub leaves : Leaves (result_of (memory_answers s (own_of o) d.files) t) r d (own_of o) r' d' (own_of o')
   pub cells : looks_of o' ≡ look_all (own_of o) (addresses (state_questions (asked (memory_answers s (own_of o) d.files) t))) (looks_of o)
   pub places : (k : ℕ) → is_within d'.places k ≡ (is_within d.places k || is_among k (script_places (state_questions (asked (memory_answers s (own_of o) d.files) t))))
@@ -293,7 +289,7 @@ carried s r r' d d' o o' t sound w = record {
   outcome = outcome_of s r d (own_of o) (within o) sound t w.at ∙ made_told r r' d d' (own_of o) (own_of o') (within o) (within o') (result_of (memory_answers s (own_of o) d.files) t) w.leaves;
   stays = made_stays r r' d d' (own_of o) (own_of o') (within o) (within o') (result_of (memory_answers s (own_of o) d.files) t) w.leaves;
   failed = tt;
-  looked = looked_of s r d (own_of o) (within o) sound t w.at (looked_in o d) (looked_in o' d') w.marks w.cells w.places w.asks;
+  looked = looked_of s r d (own_of o) (within o) sound t w.at (looked_in o d) (looked_in o' d') w.cells w.places w.asks;
   extends = record {
     cells = extends_by (own_of o) (addresses (state_questions (asked (memory_answers s (own_of o) d.files) t))) (looks_of o) (looks_of o') w.cells;
     places = λ k h. w.places k ∙ ap (λ b. b || is_among k (script_places (state_questions (asked (memory_answers s (own_of o) d.files) t)))) h;
@@ -304,19 +300,18 @@ carried s r r' d d' o o' t sound w = record {
 
 -- a tree that failed
 broken_off : (s : Session) (r r' : Regs) (d d' : Devices) (o o' : Overlay) (t : SystemTree Reached) (e : AllocError) → IsSound s.files d.files → next (record { regs = r; desk = d.desk }) ≡ t
-    → HaveMarks (length d.asks.directories) (file_questions (asked (memory_answers s (own_of o) d.files) t))
     → r' ≡ r → d'.desk ≡ d.desk → own_of o' ≡ own_of o → d'.files ≡ d.files → memory.Extends (looks_of o) (looks_of o')
     → memory.Extends (looks_of o') (look_all (own_of o) (addresses (state_questions (asked (memory_answers s (own_of o) d.files) t))) (looks_of o))
     → ((k : ℕ) → is_within d'.places k ≡ is_within d.places k) → file_looks.Extends d.asks d'.asks
     → file_looks.Extends d'.asks (look_for_all d.files (file_questions (asked (memory_answers s (own_of o) d.files) t)) d.asks)
     → Takes s r d o (Err e) r' d' o'
-broken_off s r r' d d' o o' t e sound at marks regs desk own done extends bound places asks bound_asks = record {
+broken_off s r r' d d' o o' t e sound at regs desk own done extends bound places asks bound_asks = record {
   outcome = tt;
   stays = tt;
   failed = λ i. record { core = record { regs = regs i; desk = desk i }; own = record { cells = written_cells (own i); files = done i } };
   looked = tt;
   extends = record { cells = extends; places = λ k h. places k ∙ h; files = asks };
-  bounded = bounded_of s r d (own_of o) (within o) sound t at (looked_in o d) (looked_in o' d') marks bound places bound_asks;
+  bounded = bounded_of s r d (own_of o) (within o) sound t at (looked_in o d) (looked_in o' d') bound places bound_asks;
 }
 
 -- ---- an instruction
@@ -354,7 +349,6 @@ module _ (s : Session) (r r' : Regs) (d : Devices) (o o' : Overlay) (sound : IsS
       let files : file_questions (asked answers_here t) ≡ [] = files-reading answers_here ends_with (instruction r) in
       let all = carried s r r' d d o o' t sound (record {
         at = at_instruction r d.desk low;
-        marks = subst (HaveMarks (length d.asks.directories)) (sym files) tt;
         leaves = subst (λ (x : Reached). Leaves x r d (own_of o) r' d (own_of o')) (sym ends) (end_leaves r r' d (own_of o) (own_of o') _ p.regs p.own);
         cells = p.looks ∙ ap (λ at. look_all (own_of o) at (looks_of o)) (sym asks);
         places = λ j. sym (or-false (is_within d.places j)) ∙ ap (λ ks. is_within d.places j || is_among j ks) (sym places);
@@ -368,7 +362,7 @@ module _ (s : Session) (r r' : Regs) (d : Devices) (o o' : Overlay) (sound : IsS
       let t = reading_first (instruction r) ends_with in
       let asks : addresses (state_questions (asked answers_here t)) ≡ reading.asked (instruction r) (over (own_of o) (image_of s)) = cells-reading answers_here ends_with (instruction r) ∙ append-nil _ in
       let files : file_questions (asked answers_here t) ≡ [] = files-reading answers_here ends_with (instruction r) in
-      broken_off s r r' d d o o' t e sound (at_instruction r d.desk low) (subst (HaveMarks (length d.asks.directories)) (sym files) tt) p.err_regs refl p.err_own refl
+      broken_off s r r' d d o o' t e sound (at_instruction r d.desk low) p.err_regs refl p.err_own refl
       (extends_by (own_of o) (reading.asked (instruction r) (over (own_of o) (image_of s))) (looks_of o) (looks_of o') p.looks)
       (subst (λ (at : List ℕ). memory.Extends (looks_of o') (look_all (own_of o) at (looks_of o))) (sym asks) (bound_here (looks_of o') _ p.looks)) (λ j. refl) (extends_same d.asks d.asks refl)
       (within_all d.files (file_questions (asked answers_here t)) d.asks d.asks (extends_same d.asks d.asks refl))
@@ -395,14 +389,13 @@ module _ (s : Session) (r r' : Regs) (d d' : Watched) (c c' : Changes) (o o' : O
   abbrev tree : SystemTree SystemEnd
   tree = call script_limit r d.desk.spot
 
-  pub called : (served : Served) → length c.looks.directories ≡ 256 → AsksDrives tree
+  pub called : (served : Served)
       → Serves script_limit s.script (scene r (seen s o) d (drives_in s c g)) (Ok served) (scene r' (seen s o') d' (drives_in s c' g)) → Takes s r (devices_of d c) o (Ok (stop_of_call served)) r' (devices_of d' c') o'
-  called served whole drives p =
+  called served p =
       let ends : result_of answers_called (returning reached_by_call tree) ≡ reached_by_call (result_of answers_called tree) = result_of-returning answers_called reached_by_call tree in
       let asks : asked answers_called (returning reached_by_call tree) ≡ asked answers_called tree = asked-returning answers_called reached_by_call tree in
       let all = carried s r r' (devices_of d c) (devices_of d' c') o o' (returning reached_by_call tree) sound (record {
         at = at_call r d.desk at;
-        marks = subst (λ qs. HaveMarks (length c.looks.directories) (file_questions qs)) (sym asks) (have_marks (length c.looks.directories) whole _ (drives answers_called));
         leaves = subst (λ (x : Reached). Leaves x r (devices_of d c) (own_of o) r' (devices_of d' c') (own_of o')) (sym ends)
             (call_leaves s.files c.journal.entries r r' (devices_of d c) (devices_of d' c') (own_of o) (own_of o') _ p.regs p.desk p.own p.files (call_fits s.files c.journal.entries answers_called (λ q. refl) script_limit r d.desk.spot).1);
         cells = p.looks ∙ ap (λ qs. look_all (own_of o) (addresses (state_questions qs)) (looks_of o)) (sym asks);
@@ -412,12 +405,11 @@ module _ (s : Session) (r r' : Regs) (d d' : Watched) (c c' : Changes) (o o' : O
       }) in
       subst (λ (x : Option Cause). Takes s r (devices_of d c) o (Ok x) r' (devices_of d' c') o') (ap stop_of ends ∙ call_stops _ ∙ ap stop_of_call (sym p.served)) all
 
-  pub call_fails : (e : AllocError) → length c.looks.directories ≡ 256 → AsksDrives tree
+  pub call_fails : (e : AllocError)
       → Serves script_limit s.script (scene r (seen s o) d (drives_in s c g)) (Err e) (scene r' (seen s o') d' (drives_in s c' g)) → Takes s r (devices_of d c) o (Err e) r' (devices_of d' c') o'
-  call_fails e whole drives p =
+  call_fails e p =
       let asks : asked answers_called (returning reached_by_call tree) ≡ asked answers_called tree = asked-returning answers_called reached_by_call tree in
       broken_off s r r' (devices_of d c) (devices_of d' c') o o' (returning reached_by_call tree) e sound (at_call r d.desk at)
-      (subst (λ qs. HaveMarks (length c.looks.directories) (file_questions qs)) (sym asks) (have_marks (length c.looks.directories) whole _ (drives answers_called)))
       p.err_regs p.err_desk p.err_own p.err_files p.err_looks
       (subst (λ (qs : List SystemQuestion). memory.Extends (looks_of o') (look_all (own_of o) (addresses (state_questions qs)) (looks_of o))) (sym asks) p.err_bound) p.err_places p.extends
       (subst (λ (qs : List SystemQuestion). file_looks.Extends c'.looks (look_for_all c.journal.entries (file_questions qs) c.looks)) (sym asks) p.err_asks_bound)
@@ -427,7 +419,6 @@ module _ (s : Session) (r r' : Regs) (d d' : Watched) (c c' : Changes) (o o' : O
 pub stopped : (s : Session) (r : Regs) (d : Devices) (o : Overlay) (cause : Cause) → IsSound s.files d.files → next (record { regs = r; desk = d.desk }) ≡ Return (Stopped cause) → Takes s r d o (Ok (Some cause)) r d o
 stopped s r d o cause sound e = carried s r r d d o o (Return (Stopped cause)) sound (record {
   at = e;
-  marks = tt;
   leaves = (refl, refl, refl, refl);
   cells = refl;
   places = λ k. sym (or-false (is_within d.places k));

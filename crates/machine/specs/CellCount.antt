@@ -1,4 +1,4 @@
--- How many cells there are. (8080 manual.)
+-- How many cells there are. [8080 manual 1975, chapter 4, memory]
 use Rattle.std.specs.Prelude.{◌≡◌, refl, ℕ}
 
 -- a word of its own, so that nothing counts up to it

@@ -79,7 +79,7 @@ laid = dependence.laid part
 abbrev pub cell_at : Session → State → ℕ → ℕ
 cell_at s st a = laid st.own (ask s) (OfState (Byte a))
 
--- a byte written at a cell; there are 65,536 cells (8080 manual)
+-- a byte written at a cell; there are 65,536 cells [8080 manual 1975, chapter 4, memory]
 abbrev pub stored : Cells → ℕ → ℕ → Cells
 stored m a v = if nat_lt a 65536 then map.insert m a v else m
 

@@ -1,4 +1,4 @@
--- A session, and the memory that is loaded from it. (CP/M 2.2 Interface Guide, page zero and the transient program area; the
+-- A session, and the memory that is loaded from it. ([Interface Guide 1979, page zero and the transient program area]; the
 -- limits: this project's profile.)
 use Rattle.std.specs.Prelude.{◌≡◌, ℕ, ◌≤◌, Bool, true, not, ◌&&◌, List, ◌++◌, length, take, drop, ◌+◌, nat_le, nat_lt, if◌then◌else◌, Result, Ok, Err}
 use Rattle.std.specs.List.{list_all}

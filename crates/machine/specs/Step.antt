@@ -1,5 +1,5 @@
--- What a step asks, and what it makes of the answers. (Intel 8080 Microcomputer Systems User's Manual; CP/M 2.2 Interface Guide;
--- why a run stops, and where the system's area lies: this project's profile.)
+-- What a step asks, and what it makes of the answers. ([8080 manual 1975, chapter 4]; [Interface Guide 1979, page zero]; why a
+-- run stops, and where the system's area lies: this project's profile.)
 use Rattle.std.specs.Prelude.{◌≡◌, ℕ, ◌==◌, nat_le, if◌then◌else◌, refl, false, List, [], ◌++◌}
 use Rattle.interaction_trees.specs.Tree.{Return, returning}
 use Rattle.i8080.specs.declared.registers.Regs.{Regs}
@@ -18,7 +18,7 @@ use Rattle.bdos.specs.Calls.{call}
 use Rattle.machine.specs.declared.session.TheConstants.{SCRIPT_LIMIT}
 use Rattle.machine.specs.Given.{Core}
 
--- the registers of a loaded program (that it begins at 0100H: CP/M 2.2 Interface Guide)
+-- the registers of a loaded program (that it begins at 0100H: [Interface Guide 1979, transient program area])
 abbrev pub first_regs : Regs
 first_regs = record { a = 0; b = 0; c = 0; d = 0; e = 0; h = 0; l = 0; sp = 0xfdfe; pc = 0x0100; flags = record { s = false; z = false; ac = false; p = false; cy = false } }
 
@@ -36,7 +36,8 @@ pub data Reached : Type 0 where
   Went : Regs → Spot → List ℕ → Written → FileChange → Reached
   Stopped : Cause → Reached
 
--- the end of an instruction: HLT and a byte that is no opcode stop (which bytes are opcodes: 8080 manual)
+-- the end of an instruction: HLT and a byte that is no opcode stop (which bytes are opcodes:
+-- [8080 manual 1975, chapter 4, instruction set])
 abbrev pub reached : Spot → end.End → Reached
 reached spot (end.Went r writes) = Went r spot [] (record { cells = writes }) Unchanged
 reached spot end.Halt = Stopped Halt
@@ -58,8 +59,9 @@ pub script_limit-is : script_limit ≡ SCRIPT_LIMIT
 unfolding script_limit
 script_limit-is = refl
 
--- What a step asks of the state, and what it makes of the answers: the first line that fits decides. (That a jump to 0000H
--- is the warm start and a call to 0005H the BDOS: CP/M 2.2 Interface Guide. Page zero leads there to 0FF03H and to 0FE06H.)
+-- What a step asks of the state, and what it makes of the answers: the first line that fits decides. (That a jump to 0000H is
+-- the warm start and a call to 0005H the BDOS: [Interface Guide 1979, page zero]. Page zero leads there to 0FF03H and to
+-- 0FE06H.)
 unfoldable pub next : Core → SystemTree Reached
 next c =
     if c.regs.pc == 0xff03 then Return (Stopped WarmBoot)

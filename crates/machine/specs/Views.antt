@@ -1,9 +1,9 @@
 -- What contracts see of a state, and how its parts are stored. (This project's own.)
-use Rattle.std.specs.Prelude.{◌≡◌, refl, ℕ, Bool, List, Option, Some, None}
+use Rattle.std.specs.Prelude.{◌≡◌, refl, ℕ, List, Option, Some, None}
 use Rattle.std.specs.Ordering.{nat_cmp}
 use Rattle.std.specs.FinMap.{FinMap, code}
 use Rattle.std.specs.Cmp.Lexicographic.{slice_cmp}
-use Rattle.std.specs.Coded.{Coded, code_by, coded_ℕ, coded_bool, coded_list, coded_option, coded×}
+use Rattle.std.specs.Coded.{Coded, code_by, coded_ℕ, coded_list, coded_option, coded×}
 use base.Stored.{coded_unit}
 use Rattle.hostfiles.specs.Order.{place_cmp}
 use Rattle.console_calls.specs.declared.places.Places.{Places}
@@ -51,8 +51,8 @@ abbrev pub changes_code : Coded files.Own
 changes_code = code (coded_list coded_ℕ) entry_code
 
 abbrev pub looks_code : Coded Looks
-looks_code = code_by (FinMap (slice_cmp nat_cmp) (Unit {0}) × (FinMap (slice_cmp nat_cmp) (Unit {0}) × (FinMap place_cmp (Unit {0}) × List Bool)))
-    (coded× (code (coded_list coded_ℕ) coded_unit) (coded× (code (coded_list coded_ℕ) coded_unit) (coded× (code (coded× (coded_list coded_ℕ) coded_ℕ) coded_unit) (coded_list coded_bool))))
+looks_code = code_by (FinMap (slice_cmp nat_cmp) (Unit {0}) × (FinMap (slice_cmp nat_cmp) (Unit {0}) × (FinMap place_cmp (Unit {0}) × FinMap nat_cmp (Unit {0}))))
+    (coded× (code (coded_list coded_ℕ) coded_unit) (coded× (code (coded_list coded_ℕ) coded_unit) (coded× (code (coded× (coded_list coded_ℕ) coded_ℕ) coded_unit) (code coded_ℕ coded_unit))))
     (λ l. (l.has, (l.lengths, (l.records, l.directories)))) (λ p. record { has = p.0; lengths = p.1.0; records = p.1.1.0; directories = p.1.1.1 }) (λ _. refl)
 
 abbrev pub Cells : Type 0

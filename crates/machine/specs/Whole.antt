@@ -23,7 +23,7 @@ pub record Whole : Type 0 where
 unfoldable pub memory_of : (ℕ → ℕ) → List ℕ
 memory_of byte = map byte (range_with_len 0 cell_count)
 
--- page zero, the program, and 0 in every other cell (CP/M 2.2 Interface Guide)
+-- page zero, the program, and 0 in every other cell [Interface Guide 1979, page zero and the transient program area]
 abbrev pub loaded : Session → List ℕ
 loaded s = memory_of (image_of s)
 

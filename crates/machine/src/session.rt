@@ -218,9 +218,7 @@ impl Session {
             ≡ record self.old { files = finmap.insert self.old.files name file }) }
         ensures err { OnErr result (self.new ≡ self.old) }
     {
-        let set = self.files.put(name, file);
-        let _ = self.files.len(); // there are at most 512, none too long
-        set
+        self.files.put(name, file)
     }
 
     /// Takes a host file out. It takes no memory.
@@ -228,7 +226,6 @@ impl Session {
         ensures { self.new ≡ record self.old { files = finmap.remove self.old.files name.now } }
     {
         self.files.remove(name);
-        let _ = self.files.len(); // as above
     }
 
     /// Sets the limit, in steps.

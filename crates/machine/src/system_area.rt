@@ -1,12 +1,10 @@
 // A step in the system's area.
 
-ghost use Rattle.std.specs.Prelude.{◌≡◌, ◌≤◌, length};
+ghost use Rattle.std.specs.Prelude.{◌≡◌, ◌≤◌};
 ghost use Rattle.std.specs.Borrow.{GName};
 ghost use Rattle.file_calls.specs.Passing.{IsSound};
-ghost use Rattle.bdos.specs.Calls.{call};
 ghost use Rattle.bdos.specs.Fulfils.{Serves};
 ghost use Rattle.bdos.specs.Fulfils.{scene};
-ghost use Rattle.bdos.specs.Drives.{AsksDrives};
 ghost use Rattle.machine.specs.Step.{script_limit};
 ghost use Rattle.machine.specs.Steps.{seen, drives_in, TakesStep};
 ghost use Rattle.machine.specs.Stops.{stop_of_call};
@@ -38,16 +36,10 @@ fn serve(
     changes: &mut Changes,
     session: &Session,
 ) -> Result<Served, AllocError>
-    ensures serves { (g : GName) → Serves script_limit session.now.script
+    ensures { (g : GName) → Serves script_limit session.now.script
         (scene regs.old (seen session.now overlay.old) desk.old (drives_in session.now changes.old g)) result
         (scene regs.new (seen session.now overlay.new) desk.new (drives_in session.now changes.new g)) }
-    ensures drives { AsksDrives (call script_limit regs.old desk.old.desk.spot) }
-    ensures marks { length changes.old.looks.directories ≡ 256 }
 {
-    // Each drive that a byte tells has a mark of its own.
-    if changes.looks.drive_count() != 256 {
-        unreachable!();
-    }
     let mut view = View::new(session.image(), overlay);
     let mut table = Table::new(session.files(), changes);
     call(regs, &mut view, &mut table, desk, session.script())

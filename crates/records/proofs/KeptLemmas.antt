@@ -5,7 +5,8 @@ use Rattle.std.proofs.lemmas.Cmp.{nat_cmp_total}
 use Rattle.std.specs.Cmp.{unsigned_tied}
 use Rattle.std.specs.Ordering.{nat_cmp}
 use Rattle.std.specs.FinMap as finmap
-use Rattle.records.specs.Extents.{Kept, Record, kept, kept_below, with_entry, place_count, place_count-is}
+use Rattle.records.specs.Extents.{kept, kept_below, with_entry, place_count, place_count-is}
+use Rattle.records.specs.Records.{Kept, Record}
 
 pub get_insert : (m : Kept) (a : ℕ) (r : Record) (q : ℕ) → finmap.get (finmap.insert m a r) q ≡ cond (eqb q a) (Some r) (finmap.get m q)
 get_insert m a r q = finmap.get-insert nat_cmp_total m a r q ∙ ap (λ b. cond b (Some r) (finmap.get m q)) (unsigned_tied q a)

@@ -6,7 +6,8 @@ use Rattle.std.specs.Cmp.{unsigned_tied}
 use Rattle.std.specs.Map.{lookup}
 use Rattle.std.specs.BTreeMap.{is_at}
 use Rattle.std.specs.Ordering.{nat_cmp}
-use Rattle.records.specs.Extents.{Record, own_of, place_in}
+use Rattle.records.specs.Extents.{own_of, place_in}
+use Rattle.records.specs.Records.{Record}
 
 -- what stands at a place after a write
 pub set_read : {X : Type 0} (xs : List X) (a : ℕ) (v d : X) → a < length xs → (q : ℕ) → get_or (set xs a v) q d ≡ cond (q == a) v (get_or xs q d)

@@ -1,7 +1,7 @@
 -- Zeros at one place more.
 use Rattle.std.proofs.Common.{◌≡◌, ◌≤◌, ◌+◌, ◌-◌, ℕ, suc, sym, ap, ◌∙◌, refl, arith}
 use Rattle.std.specs.FinMap as finmap
-use Rattle.records.specs.Extents.{Kept, zeros, zeros_at}
+use Rattle.records.specs.Records.{Kept, zeros, zeros_at}
 
 pub zeros_none : (m : Kept) (from : ℕ) → m ≡ zeros_at m from (from - from)
 unfolding zeros_at

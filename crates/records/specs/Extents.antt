@@ -1,27 +1,11 @@
--- What extents hold, by place, and as data. (CP/M 2.2 Interface Guide: a file has at most 65,536 records, and an extent is 128 of
--- them.)
-use Rattle.std.specs.Prelude.{◌≡◌, refl, ℕ, zero, suc, ◌+◌, ◌/◌, ◌%◌, ◌==◌, List, Option, Some, None, cond, get_or, replicate}
+-- The records that extents hold, by place, and as one map. ([Interface Guide 1979, operating system call conventions]: an extent is 128
+-- records.)
+use Rattle.std.specs.Prelude.{◌≡◌, refl, ℕ, zero, suc, ◌/◌, ◌%◌, ◌==◌, List, Option, Some, None, cond, get_or}
 use Rattle.std.specs.FinMap as finmap
 use Rattle.std.specs.Map.{lookup}
 use Rattle.std.specs.BTreeMap.{is_at}
 use Rattle.std.specs.Ordering.{nat_cmp}
-
--- the bytes of a record
-abbrev pub Record : Type 0
-Record = List ℕ
-
--- records by their places
-abbrev pub Kept : Type 0
-Kept = finmap.FinMap nat_cmp Record
-
--- a record of zeros
-abbrev pub zeros : Record
-zeros = replicate 128 0
-
--- these records with zeros at n places from one on
-unfoldable pub zeros_at : Kept → ℕ → ℕ → Kept
-zeros_at m from zero = m
-zeros_at m from (suc n) = finmap.insert (zeros_at m from n) (from + n) zeros
+use Rattle.records.specs.Records.{Record, Kept}
 
 -- the record at a place of an extent
 abbrev pub place_in : Option (List (Option Record)) → ℕ → Option Record

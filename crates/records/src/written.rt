@@ -2,23 +2,23 @@
 
 ghost use Rattle.std.specs.Prelude.{◌≡◌, ◌<◌, ◌≤◌, ◌-◌, OnOk, OnErr, IfOk, option_copied};
 ghost use Rattle.std.specs.FinMap as finmap;
-ghost use Rattle.records.specs.Extents.{zeros_at};
+ghost use Rattle.records.specs.Records.{zeros_at};
 
 use crate::extent::Extent;
 use std::alloc::{AllocError, Global};
 use std::collections::BTreeMap;
 use std::marker::Model;
 
-/// The bytes of a record (CP/M 2.2 Interface Guide).
+/// The bytes of a record [Interface Guide 1979, operating system call conventions].
 pub const RECORD_BYTES: usize = 128;
 
-/// The records of an extent (CP/M 2.2 Interface Guide).
+/// The records of an extent [Interface Guide 1979, operating system call conventions].
 pub const EXTENT_RECORDS: u32 = 128;
 
 /// The most places of a file: 512 extents.
 pub const PLACES: u32 = 65_536;
 
-/// A record: 128 bytes of a file (CP/M 2.2 Interface Guide).
+/// A record: 128 bytes of a file [Interface Guide 1979, operating system call conventions].
 pub type Record = [u8; RECORD_BYTES];
 
 /// The records that were written into a file of up to 65,536 places, by their places.

@@ -1,12 +1,11 @@
 -- Questions of the host files that are taken one after the other.
-use Rattle.std.proofs.Common.{◌≡◌, ℕ, zero, suc, ◌+◌, ◌<◌, Bool, true, false, ◌||◌, cond, List, [], ◌∷◌, Option, Some, None, is_some, get_or, slice_set, get_or-set_other, refl, sym, ap, ◌∙◌, arith, inl, inr, IfSome, IfNone}
-use Rattle.std.proofs.lemmas.Bool.Decides.{eqb_tells}
+use Rattle.std.proofs.Common.{◌≡◌, ℕ, suc, ◌+◌, ◌<◌, Bool, true, false, ◌||◌, cond, Option, Some, None, is_some, refl, sym, ap, ◌∙◌, arith, IfSome, IfNone}
 use Rattle.std.proofs.lemmas.Bool.{le-ltb}
 use Rattle.std.specs.Ordering.{eq_by_cmp}
 use Rattle.std.specs.Cmp.Lexicographic.{nat_list_cmp_total}
-use Rattle.std.specs.Cmp.{IsTotalOrder, eq_by_cmp_equiv}
+use Rattle.std.specs.Cmp.{IsTotalOrder, eq_by_cmp_equiv, nat_cmp_total, unsigned_tied}
 use Rattle.std.specs.declared.cmp.Ordering.{Ordering}
-use Rattle.std.specs.FinMap.{FinMap, IsAntisymmetric, get, len, insert, remove, contains_key, get-insert, get-remove, len-insert, same_map}
+use Rattle.std.specs.FinMap.{FinMap, IsAntisymmetric, get, len, insert, remove, contains_key, get-insert, get-remove, len-insert, same_map, nat_cmp-IsAntisymmetric}
 use Rattle.hostfiles.proofs.Views.{places_total, same_key, same_place, insert_same, key_of}
 use Rattle.hostfiles.specs.Looks.{is_looked, is_same_ask, forgot}
 use Rattle.hostfiles.specs.declared.looks.Looks.{Looks}
@@ -54,26 +53,14 @@ module _ {K X : Type 0} {R : K → K → Ordering} (o : IsTotalOrder R) (same : 
 
 -- ---- the questions that are left
 
-abbrev pub trues : List Bool → ℕ
-trues [] = 0
-trues (true ∷ bs) = suc (trues bs)
-trues (false ∷ bs) = trues bs
-
-fewer_trues : (ds : List Bool) (d : ℕ) → get_or ds d false ≡ true → trues (slice_set ds d false) < trues ds
-fewer_trues [] d h = absurd (cc)
-fewer_trues (true ∷ bs) zero h = omega arith
-fewer_trues (false ∷ bs) zero h = absurd (cc)
-fewer_trues (true ∷ bs) (suc d) h = let less = fewer_trues bs d h in omega (arith, less)
-fewer_trues (false ∷ bs) (suc d) h = fewer_trues bs d h
-
 abbrev pub look_count : Looks → ℕ
-look_count l = len l.has + len l.lengths + len l.records + trues l.directories
+look_count l = len l.has + len l.lengths + len l.records + len l.directories
 
 fewer : (ask : Ask) (l : Looks) → is_looked l ask ≡ true → look_count (forgot ask l) < look_count l
 fewer (Has key) l h = let less = fewer_keys nat_list_cmp_total same_key l.has key _ refl h in omega (arith, less)
 fewer (Length key) l h = let less = fewer_keys nat_list_cmp_total same_key l.lengths key _ refl h in omega (arith, less)
 fewer (Rec key k) l h = let less = fewer_keys places_total same_place l.records (key, k) _ refl h in omega (arith, less)
-fewer (Directory d) l h = let less = fewer_trues l.directories d h in omega (arith, less)
+fewer (Directory d) l h = let less = fewer_keys nat_cmp_total nat_cmp-IsAntisymmetric l.directories d _ refl h in omega (arith, less)
 
 -- how many questions there are yet to be noted
 abbrev pub left_asks : Option Ask → Looks → ℕ
@@ -96,10 +83,7 @@ split (Rec key k) l h (Directory d) = refl
 split (Directory drive) l h (Has x) = refl
 split (Directory drive) l h (Length x) = refl
 split (Directory drive) l h (Rec x j) = refl
-split (Directory drive) l h (Directory d) = elim (eqb_tells d drive) [
-  | inl same ↦ rw same.0 (ap (λ n. get_or l.directories n false) same.1 ∙ h)
-  | inr other ↦ rw other.0 (sym (get_or-set_other l.directories drive d false false other.1))
-]
+split (Directory drive) l h (Directory d) = key_split nat_cmp_total nat_cmp-IsAntisymmetric l.directories drive d h ∙ ap (λ b. b || is_looked (forgot (Directory drive) l) (Directory d)) (unsigned_tied d drive)
 
 -- what a call gave that takes a question
 pub record TakesAsk (next : Option Ask) (old new : Looks) : Type 0 where

@@ -1,5 +1,5 @@
 -- What an edit makes of a session. (This project's own.)
-use Rattle.std.specs.Prelude.{◌≡◌, ℕ, ◌+◌, ◌-◌, ◌||◌, List, [], length, nat_lt, if◌then◌else◌, Option, Some, None, Result, Ok, Err}
+use Rattle.std.specs.Prelude.{ℕ, ◌+◌, ◌-◌, ◌||◌, List, [], length, nat_lt, if◌then◌else◌, Option, Some, None, Result, Ok, Err}
 use Rattle.std.specs.FinMap.{contains_key}
 use Rattle.hostfiles.specs.Hosts.{Key, Record, has_room, records_in}
 use Rattle.file_steps.specs.Setting.{with_file}
@@ -8,18 +8,6 @@ use Rattle.machine.specs.Given.{Session}
 use Rattle.machine.specs.Session.{spliced, written_over}
 use Rattle.replay.specs.declared.edit.Edit.{Edit}
 use Rattle.replay.specs.declared.edit.Edit.TheVariants.{Insert, Replace, Remove, Poke, SetFile, RemoveFile, SetLimit}
-use Rattle.replay.specs.declared.edit.EditError.{EditError}
-use Rattle.replay.specs.declared.edit.EditError.TheVariants.{PastEnd, ScriptTooLong, NoSuchFile, FileTooLong, TooManyFiles, OutsideProgram, LimitTooLarge, OutOfMemory}
-
-abbrev pub number_of : EditError → ℕ
-number_of PastEnd = 1
-number_of ScriptTooLong = 2
-number_of NoSuchFile = 3
-number_of FileTooLong = 4
-number_of TooManyFiles = 5
-number_of OutsideProgram = 6
-number_of LimitTooLarge = 7
-number_of OutOfMemory = 8
 
 -- the program's bytes replaced from a place on
 abbrev pub with_poke : Session → ℕ → List ℕ → Session
@@ -58,23 +46,3 @@ edited s (Poke at bytes) = poked s at bytes
 edited s (SetFile name bytes) = with_set_file s name bytes
 edited s (RemoveFile name) = if contains_key s.files name then Ok (with_host_file s name None) else Err 3
 edited s (SetLimit n) = if nat_lt STEP_LIMIT n then Err 7 else Ok (record s { limit = n })
-
--- why an edit is refused; memory is wanted only for one that is not refused otherwise
-abbrev pub Refuses : Result Session ℕ → EditError → Type 0
-Refuses wanted OutOfMemory = (t : Session) × (wanted ≡ Ok t)
-Refuses wanted e = wanted ≡ Err (number_of e)
-
--- what a call of edit answered, and the session after it
-abbrev pub AnswersEdit : {U : Type 0} → Result Session ℕ → Result U EditError → Session → Type 0
-AnswersEdit wanted (Ok _) after = wanted ≡ Ok after
-AnswersEdit wanted (Err e) after = Refuses wanted e
-
--- the edits that may want memory: insertions and files that are set
-abbrev pub TakesMemory : Edit → Type 0
-TakesMemory (Insert at bytes) = Unit {0}
-TakesMemory (Replace at bytes) = ⊥
-TakesMemory (Remove at count) = ⊥
-TakesMemory (Poke at bytes) = ⊥
-TakesMemory (SetFile name bytes) = Unit {0}
-TakesMemory (RemoveFile name) = ⊥
-TakesMemory (SetLimit n) = ⊥

@@ -1,6 +1,7 @@
 pub mod Fits
 pub mod Options
 pub mod Edits
+pub mod EditAnswers
 pub mod Changes
 pub mod Cold
 pub mod Plain

@@ -1,5 +1,5 @@
 -- How a run goes on from a kept step, and what it leaves of the checkpoints. (This project's own.)
-use Rattle.std.specs.Prelude.{◌≡◌, ℕ, ◌+◌, ◌<◌, ◌≤◌, ◌⊎◌, Result, Some, MatchResult, Option}
+use Rattle.std.specs.Prelude.{◌≡◌, ℕ, ◌+◌, ◌<◌, ◌≤◌, ◌⊎◌, Result, Some, MatchResult, Option, length}
 use Rattle.machine.specs.declared.session.TheConstants.{STEP_LIMIT}
 use Rattle.machine.specs.Cause.{Cause}
 use Rattle.machine.specs.Given.{Session}
@@ -28,13 +28,14 @@ CountsLooks old from new result =
 abbrev pub begun_at : Session → Checkpoints → ℕ
 begun_at s checkpoints = start_step s.limit checkpoints.ring.items
 
--- a run of a session goes on here from a kept step or from the start, and what was looked at is noted
+-- a run of a session goes on here from a kept step or from the start, what was looked at is noted, and the checkpoints have room
 pub record GoesOn (s : Session) (checkpoints : Checkpoints) (from : ℕ) (running : Running) : Type 0 where
   pub at : after (ask s) from ≡ Some running.state
   pub looks : AllNoted checkpoints.notes.looks running.looked
   pub seen : from ≤ checkpoints.notes.looks.seen
   pub low : from ≤ s.limit
   pub started : (from ≡ 0) ⊎ SomeStep checkpoints.ring.items from
+  pub room : length checkpoints.ring.items ≤ checkpoints.ring.capacity
 
 -- the checkpoints and the first looks are those of a session
 pub record AreOf (f : Answers) (checkpoints : Checkpoints) : Type 0 where

@@ -4,7 +4,8 @@ ghost use Rattle.std.specs.Prelude.{◌≡◌, ◌+◌, nat_lt, Err, IfOk, IfErr
 ghost use Rattle.machine.specs.Machine.{ask};
 ghost use Rattle.replay.specs.FirstLooks.{IsFirstLooks};
 ghost use Rattle.replay.specs.declared.edit.Edit.TheVariants as of_edit;
-ghost use Rattle.replay.specs.Edits.{TakesMemory, Refuses, edited, number_of};
+ghost use Rattle.replay.specs.Edits.{edited};
+ghost use Rattle.replay.specs.EditAnswers.{TakesMemory, Refuses, number_of};
 ghost use Rattle.replay.specs.Changes.{IsAllowed, Makes, MayTakeMemory, changed};
 ghost use Rattle.replay.specs.Touch.{IsNotedTouch};
 

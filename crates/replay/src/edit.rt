@@ -63,7 +63,7 @@ impl From<AllocError> for EditError {
 }
 
 impl EditError {
-    ghost use Rattle.replay.specs.Edits.{number_of};
+    ghost use Rattle.replay.specs.EditAnswers.{number_of};
 
     /// The refusal's number: 1 to 8.
     pub fn number(self) -> u8

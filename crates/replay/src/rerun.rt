@@ -53,6 +53,7 @@ fn begin(
     ensures looked { IfOk result (λ r. NothingLooked r.1.looked) }
     ensures step { IfOk result (λ r. r.0 ≡ start_step session.now.limit ring.now.items) }
     ensures started { IfOk result (λ r. (r.0 ≡ 0) ⊎ SomeStep ring.now.items r.0) }
+    ensures room { length ring.now.items ≤ ring.now.capacity }
     ensures needed { is_needed ≡ true → text.new.items ≡ text.old.items }
     ensures err { OnErr result (text.new.items ≡ text.old.items) }
 {
@@ -107,7 +108,6 @@ pub fn rerun(
     ensures adds { Resumed checkpoints.old checkpoints.new (begun_at last_run.old.session checkpoints.old)
         last_run.old.session.limit result }
 {
-    let _ = checkpoints.ring.len();
     last_run.end = None;
     checkpoints.notes.refusals = Refusals::new();
     let newest = newest_step(&checkpoints.ring);

@@ -1,4 +1,4 @@
-ghost use Rattle.std.specs.Prelude.{◌≡◌, ℕ, ◌^◌, ◌+◌, ◌*◌, ◌/◌, ◌%◌, ◌<◌, ◌≤◌, ◌⊎◌, IfNone, IfSome, max};
+ghost use Rattle.std.specs.Prelude.{◌≡◌, ℕ, ◌^◌, ◌+◌, ◌*◌, ◌/◌, ◌%◌, ◌<◌, ◌≤◌, ◌⊎◌, IfNone, IfSome, length, max};
 ghost use Rattle.replay.specs.Ring.{Rising, IsNewest, Keeps, KeptUpTo, HasCheckpoint, made_at, pushed, start_step};
 
 use crate::keeping::{Refusals, RunNotes, keep};
@@ -49,6 +49,7 @@ pub fn latest_within(ring: &HeapCircularBuffer<Checkpoint>, limit: u64) -> Optio
     ensures none { IfNone result (start_step limit ring.now.items ≡ 0) }
     ensures some { IfSome result (λ c. (c.now.step ≡ start_step limit ring.now.items)
         × HasCheckpoint ring.now.items c.now) }
+    ensures room { length ring.now.items ≤ ring.now.capacity }
 {
     let mut left = ring.len();
     while left > 0 {

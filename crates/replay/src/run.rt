@@ -147,7 +147,6 @@ pub fn resume(
 {
     let limit = session.limit();
     let spacing = checkpoints.spacing;
-    let _ = checkpoints.ring.len();
     let mut last_kept = newest;
     let mut n = from;
     while n < limit {

@@ -3,7 +3,8 @@ ghost use Rattle.std.specs.Borrow.{sem};
 ghost use Rattle.machine.specs.Machine.{PrefixDependence, ask};
 ghost use Rattle.replay.specs.Plain.{plain_run};
 ghost use Rattle.replay.specs.PlainIsCold.{PlainRunIsCold};
-ghost use Rattle.replay.specs.Edits.{AnswersEdit, TakesMemory, edited};
+ghost use Rattle.replay.specs.Edits.{edited};
+ghost use Rattle.replay.specs.EditAnswers.{AnswersEdit, TakesMemory};
 ghost use Rattle.replay.specs.RunnerView.{DropsOldest, SameOptions, KeepsUntouched, AllStand, Reran, RanTo, CountsAnew, TicksTo};
 ghost use Rattle.replay.specs.RunnerView.{kept_steps, rerun_start, with_no_checkpoint};
 

@@ -1,5 +1,5 @@
-//! The tests of the calls of files, over a plain memory, host files and a desk. Expected values are worked out by hand from the
-//! CP/M 2.2 Interface Guide and this project's profile.
+//! The tests of the calls of files, over a plain memory, host files and a desk. Expected values are worked out by hand from
+//! [Interface Guide 1979, operating system call conventions] and this project's profile.
 //!
 //! - `sequential`, `random`: tests of files that are opened, made, read and written, one record after another or at
 //!   random places

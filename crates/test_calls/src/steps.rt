@@ -8,7 +8,7 @@ use std::alloc::{AllocError, Global};
 use std::process::Abort;
 use std::test::Fail;
 
-/// The numbers of the calls, by the CP/M 2.2 Interface Guide.
+/// The numbers of the calls. [Interface Guide 1979, system function summary]
 pub const RESET_DISKS: u8 = 13;
 
 pub const SELECT_DISK: u8 = 14;

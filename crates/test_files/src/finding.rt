@@ -1,6 +1,6 @@
 // What searches of the directory find.
 
-use crate::fixtures::ALL;
+use crate::keys::ALL;
 use cpmfiles::{Key, Table};
 use std::alloc::AllocError;
 

@@ -1,27 +1,42 @@
 // Host files that are set, and what they answer.
 
-use crate::fixtures::filled;
-use cpmfiles::{FilesError, HostFiles, Key, Name, Record};
+use crate::acts::Act::{self, HostCount, HostKeys, HostRecord, HostRecords, Remove, Set, SetMany};
+use crate::contents::filled_up;
+use crate::telling::{Names, are_keys};
+use cpmfiles::{Changes, FilesError, HostFiles, Key, Name};
 use std::alloc::{AllocError, Global};
+use std::test::Fail;
 
-/// The number of a refusal; 0 where the file was set.
-pub fn number_of(answer: Result<(), FilesError>) -> u8 {
+/// Bytes, told by each byte and how often it comes.
+pub type Bytes<'a> = &'a [(u8, usize)];
+
+fn bytes_of(alloc: Global, bytes: Bytes<'_>) -> Result<Vec<u8>, AllocError> {
+    let mut list = Vec::new(alloc);
+    for (byte, count) in bytes {
+        let length = list.len().saturating_add(*count);
+        list.resize(length, *byte)?;
+    }
+    Ok(list)
+}
+
+/// Sets a file of these bytes, or gives the refusal.
+pub fn set(
+    host: &mut HostFiles,
+    alloc: Global,
+    text: &str,
+    bytes: Bytes<'_>,
+) -> Result<Result<(), FilesError>, Fail> {
+    let name = Name::parse(text)?;
+    let list = bytes_of(alloc, bytes)?;
+    Ok(host.set(name, list.as_slice()))
+}
+
+// The number of a refusal; 0 where the file was set.
+fn number_of(answer: Result<(), FilesError>) -> u8 {
     match answer {
         Ok(()) => 0,
         Err(refused) => refused.number(),
     }
-}
-
-/// Sets a file of so many bytes, all the same, or gives the refusal.
-pub fn set(
-    host: &mut HostFiles,
-    alloc: Global,
-    name: Name,
-    byte: u8,
-    length: usize,
-) -> Result<Result<(), FilesError>, AllocError> {
-    let bytes = vec![in alloc; byte; length]?;
-    Ok(host.set(name, bytes.as_slice()))
 }
 
 // One of a thousand names, on all four drives.
@@ -34,8 +49,8 @@ fn numbered(n: usize) -> Key {
     key
 }
 
-/// Sets so many files of one record, and gives whether each has a name.
-pub fn set_many(host: &mut HostFiles, count: usize) -> Result<bool, FilesError> {
+// Sets so many files of one record, and gives whether each has a name.
+fn set_many(host: &mut HostFiles, count: usize) -> Result<bool, FilesError> {
     for n in 0..count {
         let Some(name) = Name::from_key(&numbered(n)) else {
             return Ok(false);
@@ -45,30 +60,23 @@ pub fn set_many(host: &mut HostFiles, count: usize) -> Result<bool, FilesError> 
     Ok(true)
 }
 
-// A record of so many bytes `x`, filled up with 1AH.
-fn filled_up(count: usize) -> Record {
-    let mut record = filled(0x1a);
-    for i in 0..128 {
-        if i < count {
-            record[i] = b'x';
+/// Whether host files are set, removed or asked, and answer so.
+pub fn serve(
+    host: &mut HostFiles,
+    alloc: Global,
+    changes: &Changes,
+    act: Act<'_>,
+) -> Result<bool, Fail> {
+    Ok(match act {
+        Set(text, bytes, number) => number_of(set(host, alloc, text, bytes)?) == number,
+        SetMany(count) => set_many(host, count)?,
+        Remove(text, there) => host.remove(&Name::parse(text)?) == there,
+        HostCount(count) => host.len() == count,
+        HostRecords(text, count) => host.records(&Name::parse(text)?) == count,
+        HostRecord(text, place, count) => {
+            host.record(&Name::parse(text)?, place) == count.map(filled_up)
         }
-    }
-    record
-}
-
-/// Whether a record is of so many bytes `x`, filled up.
-pub fn is_host_record(host: &HostFiles, name: &Name, place: u32, count: Option<usize>) -> bool {
-    host.record(name, place) == count.map(filled_up)
-}
-
-/// Whether these are the keys of all host files, in their order.
-pub fn are_host_keys(host: &HostFiles, keys: &[Key]) -> bool {
-    let mut after: Option<Name> = None;
-    for key in keys {
-        after = host.next(after.as_ref());
-        if after.map(|name: Name| name.key()) != Some(*key) {
-            return false;
-        }
-    }
-    host.next(after.as_ref()).is_none()
+        HostKeys(keys) => are_keys(host, changes, Names::Host, keys),
+        _ => false,
+    })
 }

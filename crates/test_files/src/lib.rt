@@ -1,41 +1,25 @@
-//! The tests of files that cross crates: names, host files, what a program does to files, and their directory. Expected values
-//! are worked out by hand from the CP/M 2.2 Interface Guide and this project's profile.
+//! The words in which tests tell files: what is done with them and with host files, what that answers, and what then stands; and
+//! a player of tables of them.
 //!
-//! - `names`, `hosts`: tests of names and file control blocks, and of host files
-//! - `tables`, `renames`, `deletions`: tests of what is made, written, read, renamed and deleted, with the questions
-//!   that each call asks
-//! - `entries`, `searches`: tests of the directory's entries, and of searches that go on while files change
-//! - `changes`: tests of what stands after a run, of its copies, and of its questions
-//! - `acts`, `fixtures`: cases of acts with their answers, carried out; names and records
-//! - `finding`, `hosting`, `telling`, `questions`: what searches find; host files that are set; what is told of files
-//!   without a question; the questions that were asked
+//! - `acts`, `playing`: acts with their answers, and cases of them; cases carried out
+//! - `keys`, `contents`, `hosting`: keys of files; records that are told by a byte; host files that are set, and what they answer
+//! - `calling`, `finding`, `questions`: the calls of a table; what its searches find; the questions that were asked
+//! - `telling`, `stepping`: what is told of files without a question, and which are changed; first steps of questions, and
+//!   what the change of a host file touches
 #![tactic(auto)]
 
-#[cfg(test)]
 mod acts;
-#[cfg(test)]
-mod changes;
-#[cfg(test)]
-mod deletions;
-#[cfg(test)]
-mod entries;
-#[cfg(test)]
+mod calling;
+mod contents;
 mod finding;
-#[cfg(test)]
-mod fixtures;
-#[cfg(test)]
 mod hosting;
-#[cfg(test)]
-mod hosts;
-#[cfg(test)]
-mod names;
-#[cfg(test)]
+mod keys;
+mod playing;
 mod questions;
-#[cfg(test)]
-mod renames;
-#[cfg(test)]
-mod searches;
-#[cfg(test)]
-mod tables;
-#[cfg(test)]
+mod stepping;
 mod telling;
+
+pub use acts::{Act, Case, Row};
+pub use finding::Found;
+pub use keys::{ALL, ANN, B_ANN, BEN, CAT};
+pub use playing::play;

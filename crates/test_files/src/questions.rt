@@ -1,6 +1,6 @@
 // The questions that were asked of host files.
 
-use crate::fixtures::ANN;
+use crate::keys::ANN;
 use cpmfiles::Ask::{Directory, Length, Rec};
 use cpmfiles::{Ask, Changes};
 use std::alloc::AllocError;

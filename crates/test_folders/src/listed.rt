@@ -1,7 +1,7 @@
 // What is told of folders that are read.
 
 use filenames::Name;
-use folders::{Fault, SystemFiles, read_folders};
+use folders::{Failure, SystemFiles, read_folders};
 use hostfiles::HostFiles;
 use std::alloc::{AllocError, Global};
 use std::test::Fail;
@@ -23,7 +23,7 @@ pub fn told(
 ) -> Result<String, Fail> {
     match read_folders(&SystemFiles::new(rt), &folders) {
         Ok(files) => tell(rt.alloc(), &files, telling),
-        Err(fault) => Ok(text(rt.alloc(), &fault)?),
+        Err(failure) => Ok(text(rt.alloc(), &failure)?),
     }
 }
 
@@ -45,9 +45,12 @@ fn both(alloc: Global, files: &HostFiles) -> Result<String, Fail> {
     Ok(String::from_str(alloc, told)?)
 }
 
-/// What is told of a fault.
-pub fn text(alloc: Global, fault: &Fault) -> Result<String, AllocError> {
-    format!(in alloc; "{fault}")
+/// What is told of a failure.
+pub fn text(alloc: Global, failure: &Failure) -> Result<String, AllocError> {
+    match failure {
+        Failure::AtFault(fault) => format!(in alloc; "{fault}"),
+        Failure::OutOfMemory => String::from_str(alloc, "out of memory"),
+    }
 }
 
 fn names(alloc: Global, files: &HostFiles) -> Result<String, AllocError> {

@@ -1,9 +1,9 @@
 // Files that a run made, and that are written.
 
 use crate::listed::text;
-use filenames::Name;
+use filenames::{Drive, Name};
 use folders::{
-    ChangedFile, Fault, SystemFiles, name_in_folder, temporary_name, write_file, write_to_drive,
+    ChangedFile, Failure, SystemFiles, name_in_folder, temporary_name, write_file, write_to_drive,
 };
 use hostfiles::{HostFiles, Journal, told_count};
 use std::alloc::{AllocError, Global};
@@ -77,10 +77,10 @@ fn write(
 }
 
 // What is told of a fault; nothing where there is none.
-fn text_of(alloc: Global, answer: Result<(), Fault>) -> Result<String, AllocError> {
+fn text_of(alloc: Global, answer: Result<(), Failure>) -> Result<String, AllocError> {
     match answer {
         Ok(()) => Ok(String::new(alloc)),
-        Err(fault) => text(alloc, &fault),
+        Err(failure) => text(alloc, &failure),
     }
 }
 
@@ -120,7 +120,7 @@ pub fn is_passed_over(alloc: Global, name: &str, file: &str) -> Result<bool, Fai
 }
 
 fn is_no_name(file: &str) -> bool {
-    for drive in 0..4 {
+    for drive in Drive::ALL {
         if name_in_folder(drive, file).is_some() {
             return false;
         }

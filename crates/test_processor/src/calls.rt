@@ -3,6 +3,7 @@
 use crate::fixtures::{WARM_BOOT, blank};
 use console_calls::Cause::{self, BadDrive, NoDollar, Unsupported, WarmBoot};
 use console_calls::{Desk, Served, call};
+use filenames::Drive;
 use i8080::{Bus, Regs};
 use pagemem::PlainMemory;
 use std::alloc::{AllocError, Global};
@@ -73,7 +74,7 @@ enum Row<'a> {
     // The byte behind the string, the stop if there is one, and all that was printed so far.
     Prints(u8, u8, Option<Cause>, &'a [u8]),
     // E, and the value or the drive that is not there, and then the current drive and the buffer address.
-    Selects(u8, u8, Result<u8, u8>, u8, u16),
+    Selects(u8, u8, Result<u8, u8>, Drive, u16),
 }
 
 fn is_printed(
@@ -158,15 +159,15 @@ fn calls_print_and_return_or_stop(rt: HostRuntime) -> Result<(), Fail> {
 #[test]
 fn drives_are_selected_and_reset(rt: HostRuntime) -> Result<(), Fail> {
     let rows = [
-        Row::Selects(25, 0, Ok(0), 0, 0x0080),
-        Row::Selects(14, 3, Ok(0), 3, 0x0080),
-        Row::Selects(25, 0, Ok(3), 3, 0x0080),
-        Row::Selects(14, 4, Err(4), 3, 0x0080),
-        Row::Selects(24, 0, Ok(0x0f), 3, 0x0080),
-        Row::Selects(26, 0x78, Ok(0), 3, 0x0278),
-        Row::Selects(14, 1, Ok(0), 1, 0x0278),
-        Row::Selects(13, 0, Ok(0), 0, 0x0080),
-        Row::Selects(25, 0, Ok(0), 0, 0x0080),
+        Row::Selects(25, 0, Ok(0), Drive::A, 0x0080),
+        Row::Selects(14, 3, Ok(0), Drive::D, 0x0080),
+        Row::Selects(25, 0, Ok(3), Drive::D, 0x0080),
+        Row::Selects(14, 4, Err(4), Drive::D, 0x0080),
+        Row::Selects(24, 0, Ok(0x0f), Drive::D, 0x0080),
+        Row::Selects(26, 0x78, Ok(0), Drive::D, 0x0278),
+        Row::Selects(14, 1, Ok(0), Drive::B, 0x0278),
+        Row::Selects(13, 0, Ok(0), Drive::A, 0x0080),
+        Row::Selects(25, 0, Ok(0), Drive::A, 0x0080),
     ];
     rows_hold(&rt, rt.alloc(), &rows)
 }

@@ -2,7 +2,7 @@ use Rattle.std.proofs.Common.{◌≡◌, ◌-◌}
 use Rattle.std.specs.Option.{option_map}
 use Rattle.i8080.specs.Memory.{Extends, bytes, look_all}
 use Rattle.i8080.specs.Reading.{end_of, asked}
-use Rattle.console_calls.specs.Desk.{desk_printing}
+use Rattle.console_calls.specs.DeskAfter.{desk_printing}
 use Rattle.console_calls.specs.Strings.{string_at}
 use Rattle.console_calls.specs.Printing.{Grown}
 use Rattle.console_calls.proofs.calls.print_until_dollar.Given as goal

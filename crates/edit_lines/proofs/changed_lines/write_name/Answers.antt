@@ -1,27 +1,48 @@
-use Rattle.std.proofs.Common.{ap}
+use Rattle.std.proofs.Common.{◌++◌, refl}
 use Rattle.filenames.specs.Names.{printed}
-use Rattle.filenames.proofs.NameLemmas.{sayable_parts, drive_below}
-use Rattle.edit_lines.proofs.WrittenPieces.{all_then, writes_then, writes_part, writes_same, part_then, part_more}
+use Rattle.edit_lines.proofs.WrittenPieces.{all_then, name_of_pieces, writes_then, writes_part, writes_same, part_then, part_more}
 use Rattle.edit_lines.proofs.changed_lines.write_name.Goals as goal
 
-pub write_letter-requires-clause-drive : goal.write_letter-requires-clause-drive
-write_letter-requires-clause-drive g c = drive_below _ (sayable_parts c.key-key.result c.key-key.ensures.sayable).drive
+pub returns-in_err-write_piece : goal.returns-in_err-write_piece
+returns-in_err-write_piece g c =
+    let p = c.pieces.result in
+    let drive = c.as_bytes.result.now in
+    writes_same _ _ _ _ (((drive ++ p.name.now) ++ p.dot.now) ++ p.kind.now) (printed c.args.name.now) c.from_residual.result
+    (name_of_pieces _ _ _ _ _ _ _ _ _ c.as_bytes.ensures.value refl refl refl c.pieces.ensures)
+    (writes_part _ _ _ _ _ c.from_residual.result c.from_residual.ensures.0
+    (part_more _ _ _ _ ((drive ++ p.name.now) ++ p.dot.now) p.kind.now (part_more _ _ _ _ (drive ++ p.name.now) p.dot.now (part_more _ _ _ _ drive p.name.now c.in_err-write_piece.ensures))))
 
-pub returns-in_err-write_letter : goal.returns-in_err-write_letter
-unfolding printed
-returns-in_err-write_letter g c =
-    writes_same _ _ _ _ (printed c.key-key.result) (printed c.args.name.now) c.from_residual.result (ap printed c.key-key.ensures.key)
-    (writes_part _ _ _ _ _ c.from_residual.result c.from_residual.ensures.0 (part_more _ _ _ _ _ _ (part_more _ _ _ _ _ _ c.in_err-write_letter.ensures)))
+pub returns-in_err-write_piece-2 : goal.returns-in_err-write_piece-2
+returns-in_err-write_piece-2 g c =
+    let p = c.pieces.result in
+    let drive = c.as_bytes.result.now in
+    let name = c.as_bytes-2.result.now in
+    writes_same _ _ _ _ (((drive ++ name) ++ p.dot.now) ++ p.kind.now) (printed c.args.name.now) c.from_residual-in_err-write_piece-2.result
+    (name_of_pieces _ _ _ _ _ _ _ _ _ c.as_bytes.ensures.value c.as_bytes-2.ensures.value refl refl c.pieces.ensures)
+    (writes_part _ _ _ _ _ c.from_residual-in_err-write_piece-2.result c.from_residual-in_err-write_piece-2.ensures.0
+    (part_more _ _ _ _ ((drive ++ name) ++ p.dot.now) p.kind.now (part_more _ _ _ _ (drive ++ name) p.dot.now
+    (part_then _ _ _ _ _ _ drive name c.in_ok-write_piece.ensures c.in_err-write_piece-2.ensures))))
 
-pub returns-in_err-write_field : goal.returns-in_err-write_field
-unfolding printed
-returns-in_err-write_field g c =
-    writes_same _ _ _ _ (printed c.key-key.result) (printed c.args.name.now) c.from_residual-in_err-write_field.result (ap printed c.key-key.ensures.key)
-    (writes_part _ _ _ _ _ c.from_residual-in_err-write_field.result c.from_residual-in_err-write_field.ensures.0
-    (part_more _ _ _ _ _ _ (part_then _ _ _ _ _ _ _ _ c.in_ok-write_letter.ensures c.in_err-write_field.ensures)))
+pub returns-in_err-write_piece-3 : goal.returns-in_err-write_piece-3
+returns-in_err-write_piece-3 g c =
+    let p = c.pieces.result in
+    let drive = c.as_bytes.result.now in
+    let name = c.as_bytes-2.result.now in
+    let dot = c.as_bytes-3.result.now in
+    writes_same _ _ _ _ (((drive ++ name) ++ dot) ++ p.kind.now) (printed c.args.name.now) c.from_residual-in_err-write_piece-3.result
+    (name_of_pieces _ _ _ _ _ _ _ _ _ c.as_bytes.ensures.value c.as_bytes-2.ensures.value c.as_bytes-3.ensures.value refl c.pieces.ensures)
+    (writes_part _ _ _ _ _ c.from_residual-in_err-write_piece-3.result c.from_residual-in_err-write_piece-3.ensures.0
+    (part_more _ _ _ _ ((drive ++ name) ++ dot) p.kind.now
+    (part_then _ _ _ _ _ _ (drive ++ name) dot (all_then _ _ _ _ _ _ drive name c.in_ok-write_piece.ensures c.in_ok-write_piece-2.ensures) c.in_err-write_piece-3.ensures)))
 
 pub returns : goal.returns
-unfolding printed
 returns g c =
-    writes_same _ _ _ _ (printed c.key-key.result) (printed c.args.name.now) c.write_type.result (ap printed c.key-key.ensures.key)
-    (writes_then _ _ _ _ _ _ _ _ c.write_type.result (all_then _ _ _ _ _ _ _ _ c.in_ok-write_letter.ensures c.in_ok-write_field.ensures) c.write_type.ensures)
+    let drive = c.as_bytes.result.now in
+    let name = c.as_bytes-2.result.now in
+    let dot = c.as_bytes-3.result.now in
+    let kind = c.as_bytes-4.result.now in
+    writes_same _ _ _ _ (((drive ++ name) ++ dot) ++ kind) (printed c.args.name.now) c.write_piece-4.result
+    (name_of_pieces _ _ _ _ _ _ _ _ _ c.as_bytes.ensures.value c.as_bytes-2.ensures.value c.as_bytes-3.ensures.value c.as_bytes-4.ensures.value c.pieces.ensures)
+    (writes_then _ _ _ _ _ _ ((drive ++ name) ++ dot) kind c.write_piece-4.result
+    (all_then _ _ _ _ _ _ (drive ++ name) dot (all_then _ _ _ _ _ _ drive name c.in_ok-write_piece.ensures c.in_ok-write_piece-2.ensures) c.in_ok-write_piece-3.ensures)
+    c.write_piece-4.ensures)

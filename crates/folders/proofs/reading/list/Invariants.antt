@@ -1,8 +1,9 @@
 use Rattle.std.proofs.Common.{◌≡◌, map, take, IfSome}
 use Rattle.std.specs.Prelude.{string_bytes}
+use Rattle.filenames.specs.Drives.{drive_number}
 use Rattle.folders.specs.Listings.{Lists}
 use Rattle.folders.proofs.reading.list.Given as goal
 
 abbrev pub invariant-loop-name : goal.invariant-loop-name
-invariant-loop-name g l = (l.listing.drive ≡ l.drive)
-    × IfSome (g.S.FileSystem.files l.system) (λ stored. Lists stored l.drive l.folder (take l.name-index (map string_bytes l.name-items)) l.listing.files l.listing.twice)
+invariant-loop-name g l = (l.listing.drive ≡ l.fn.drive)
+    × IfSome (g.S.FileSystem.files l.system) (λ stored. Lists stored (drive_number l.fn.drive) l.folder (take l.name-index (map string_bytes l.name-items)) l.listing.files l.listing.twice)

@@ -1,4 +1,4 @@
-use Rattle.keymaps.specs.Order.{left}
+use Rattle.keymaps.specs.Walks.{left}
 use Rattle.folders.proofs.ReadLemmas.{SetUpTo, WantedOf}
 use Rattle.folders.proofs.reading.read_listed.Given as goal
 

@@ -1,5 +1,5 @@
 use Rattle.std.proofs.Common.{◌≡◌, ◌<◌, ℕ, get_or, unwrap_or}
-use Rattle.records.specs.Extents.{zeros}
+use Rattle.records.specs.Records.{zeros}
 use Rattle.hostfiles.specs.Files.{entry_at, place_of}
 use Rattle.hostfiles.proofs.changed.has_other_record.Given as goal
 

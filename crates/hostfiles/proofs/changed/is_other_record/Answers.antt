@@ -2,7 +2,7 @@ use Rattle.std.proofs.Common.{◌≡◌, sym, ap, ◌∙◌, not, bytes_eq, get_
 use Rattle.std.specs.Cmp.Lexicographic.{nat_list_eq_equiv}
 use Rattle.hostfiles.specs.Files.{entry_at, place_of}
 use Rattle.std.proofs.lemmas.Option.{get_or_from_slice_get, slice_get-get_or}
-use Rattle.records.specs.Extents.{zeros}
+use Rattle.records.specs.Records.{zeros}
 use Rattle.hostfiles.proofs.Differences.{unwritten_same, not_there}
 use Rattle.hostfiles.proofs.changed.is_other_record.Goals as goal
 

@@ -1,5 +1,5 @@
 use Rattle.std.proofs.Common.{◌+◌}
-use Rattle.keymaps.specs.Order.{left}
+use Rattle.keymaps.specs.Walks.{left}
 use Rattle.hostfiles.proofs.NameWalk.{Passed}
 use Rattle.hostfiles.proofs.listed.next_name.Given as goal
 

@@ -1,5 +1,5 @@
 use Rattle.std.proofs.Common.{◌≤◌, ◌+◌}
-use Rattle.keymaps.specs.Order.{left}
+use Rattle.keymaps.specs.Walks.{left}
 use Rattle.hostfiles.proofs.DeleteLemmas.{DeletedTo, CountedTo}
 use Rattle.hostfiles.proofs.listed.without_matches.Given as goal
 

@@ -1,4 +1,4 @@
-use Rattle.keymaps.specs.Order.{left}
+use Rattle.keymaps.specs.Walks.{left}
 use Rattle.hostfiles.proofs.ChangedWalk.{Passed}
 use Rattle.hostfiles.proofs.names.next_above.Given as goal
 

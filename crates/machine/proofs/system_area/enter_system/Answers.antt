@@ -26,7 +26,7 @@ returns c =
     let new = c.serve.new in
     subst (λ (v : Running). TakesStep c.args.session.now v (Ok c.stop_of_call.result) (running_with new.regs (devices_of new.desk new.changes) new.overlay)) c.running.view_is
     (subst (λ (x : Option Cause). TakesStep c.args.session.now (running_with old.regs (devices_of old.desk old.changes) old.overlay) (Ok x) (running_with new.regs (devices_of new.desk new.changes) new.overlay))
-    (sym c.stop_of_call.ensures) (called _ _ _ _ _ _ _ old.overlay new.overlay (c.args.running.ghost_name) (rw (← c.running.view_is) at c.requires.sound) c.if-regs-2.false _ c.serve.ensures.marks c.serve.ensures.drives (c.in_ok-served.ensures.serves c.args.running.ghost_name)))
+    (sym c.stop_of_call.ensures) (called _ _ _ _ _ _ _ old.overlay new.overlay (c.args.running.ghost_name) (rw (← c.running.view_is) at c.requires.sound) c.if-regs-2.false _ (c.in_ok-served.ensures c.args.running.ghost_name)))
 
 pub returns-in_err-served : goal.returns-in_err-served
 returns-in_err-served c =
@@ -34,4 +34,4 @@ returns-in_err-served c =
     let new = c.serve.new in
     subst (λ (v : Running). TakesStep c.args.session.now v c.from_residual.result (running_with new.regs (devices_of new.desk new.changes) new.overlay)) c.running.view_is
     (fails_as c.in_err-served.field-0.0 c.from_residual.result c.from_residual.ensures.0
-    (call_fails _ _ _ _ _ _ _ old.overlay new.overlay c.args.running.ghost_name (rw (← c.running.view_is) at c.requires.sound) c.if-regs-2.false _ c.serve.ensures.marks c.serve.ensures.drives (c.in_err-served.ensures.serves c.args.running.ghost_name)))
+    (call_fails _ _ _ _ _ _ _ old.overlay new.overlay c.args.running.ghost_name (rw (← c.running.view_is) at c.requires.sound) c.if-regs-2.false _ (c.in_err-served.ensures c.args.running.ghost_name)))

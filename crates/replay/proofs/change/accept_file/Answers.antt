@@ -6,7 +6,8 @@ use Rattle.std.proofs.lemmas.Result.{err_from_is_err_and}
 use Rattle.hostfiles.specs.Hosts.{has_room, records_in}
 use Rattle.replay.specs.declared.change.Change.{Change}
 use Rattle.replay.specs.declared.edit.EditError.{EditError}
-use Rattle.replay.specs.Edits.{Refuses, with_host_file, with_set_file}
+use Rattle.replay.specs.Edits.{with_host_file, with_set_file}
+use Rattle.replay.specs.EditAnswers.{Refuses}
 use Rattle.replay.proofs.change.accept_file.Goals as goal
 
 -- the edit can be carried out: the file is not too long, and there is room for it

@@ -30,6 +30,7 @@ resume-ran-requires-clause-begins c = record {
   seen = begins_below c.in_ok-from.from c.args.checkpoints.now.notes.looks.seen c.args.checkpoints.now.ring.items c.in_ok-from.ensures.started c.requires.sound.below;
   low = rw c.in_ok-from.ensures.step (start_within c.args.last_run.now.session.limit c.args.checkpoints.now.ring.items);
   started = c.in_ok-from.ensures.started;
+  room = c.in_ok-from.ensures.room;
 }
 
 pub resume-ran-requires-clause-sound : goal.resume-ran-requires-clause-sound
@@ -88,7 +89,7 @@ pub returns-in_err-from-clause-adds : goal.returns-in_err-from-clause-adds
 returns-in_err-from-clause-adds c =
     match_err c.from_residual.result _ _ c.from_residual.ensures.0
     (record {
-      adds = none_added _ _ _ _ _ _ (rw (← c.len.ensures.len) c.len.ensures.within.0);
+      adds = none_added _ _ _ _ _ _ c.in_err-from.ensures.room;
       counted = counts_none _ _ _ _ c.requires.sound.spacing_in.0 (start_within c.args.last_run.now.session.limit c.args.checkpoints.now.ring.items) (omega arith);
       capacity = refl;
       spacing = refl;

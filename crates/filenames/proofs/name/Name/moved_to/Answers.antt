@@ -5,4 +5,4 @@ use Rattle.filenames.proofs.name.Name.moved_to.Goals as goal
 pub invariant_of-result : goal.invariant_of-result
 invariant_of-result c =
     let whole : length c.self.inside.key ≡ 12 = search rules in
-    moved_is_sayable c.self.inside.key c.args.drive whole c.requires c.self.invariant
+    moved_is_sayable c.self.inside.key c.number.result whole c.number.ensures.within c.self.invariant

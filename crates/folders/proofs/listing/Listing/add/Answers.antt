@@ -1,4 +1,5 @@
 use Rattle.std.proofs.Common.{◌≡◌, true, slice_index, rules}
+use Rattle.filenames.specs.Drives.{drive_number}
 use Rattle.filenames.specs.Names.{is_sayable}
 use Rattle.folders.proofs.ListingLemmas.{put_or_not, still_there}
 use Rattle.folders.proofs.listing.Listing.add.Goals as goal
@@ -9,6 +10,6 @@ invariant_of-self-2 c =
     let key = c.key-key.result in
     record {
       names = put_or_not (λ k. is_sayable k ≡ true) _ _ key _ c.insert.result c.insert.ensures.ok c.insert.ensures.err c.key-key.ensures.sayable own.names;
-      on_drive = put_or_not (λ k. slice_index k 0 ≡ own.drive) _ _ key _ c.insert.result c.insert.ensures.ok c.insert.ensures.err (search rules) own.on_drive;
+      on_drive = put_or_not (λ k. slice_index k 0 ≡ drive_number own.drive) _ _ key _ c.insert.result c.insert.ensures.ok c.insert.ensures.err (search rules) own.on_drive;
       twice_there = λ k h. still_there _ _ key _ c.insert.result c.insert.ensures.ok c.insert.ensures.err k (own.twice_there k h);
     }

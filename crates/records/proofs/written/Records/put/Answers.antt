@@ -4,7 +4,8 @@ use Rattle.std.specs.Option.{option_copied_mut}
 use Rattle.std.specs.FinMap as finmap
 use Rattle.std.specs.BTreeMap.{get_by}
 use Rattle.std.specs.Ordering.{nat_cmp}
-use Rattle.records.specs.Extents.{Record, own_of, kept, place_in}
+use Rattle.records.specs.Extents.{own_of, kept, place_in}
+use Rattle.records.specs.Records.{Record}
 use Rattle.records.proofs.KeptLemmas.{kept_put, kept_same}
 use Rattle.records.proofs.Laws.{own_put, own_same}
 use Rattle.records.proofs.written.Records.put.Goals as goal

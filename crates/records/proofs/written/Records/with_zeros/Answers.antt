@@ -1,6 +1,6 @@
 use Rattle.std.proofs.Common.{ap, ◌∙◌, arith}
 use Rattle.std.specs.FinMap as finmap
-use Rattle.records.specs.Extents.{zeros}
+use Rattle.records.specs.Records.{zeros}
 use Rattle.records.proofs.ZerosLaws.{zeros_none, zeros_more}
 use Rattle.records.proofs.written.Records.with_zeros.Goals as goal
 

@@ -1,5 +1,5 @@
 use Rattle.std.proofs.Common.{◌≡◌, ◌≤◌, ◌-◌}
-use Rattle.records.specs.Extents.{zeros_at}
+use Rattle.records.specs.Records.{zeros_at}
 use Rattle.records.proofs.written.Records.with_zeros.Given as goal
 
 abbrev pub invariant-loop-place : goal.invariant-loop-place

@@ -2,7 +2,8 @@ use Rattle.std.proofs.Common.{subst, sym, refl}
 use Rattle.std.specs.declared.result.Result.{Result}
 use Rattle.std.proofs.lemmas.Result.{err_from_is_err_and}
 use Rattle.replay.specs.declared.edit.EditError.{EditError}
-use Rattle.replay.specs.Edits.{AnswersEdit, Refuses, edited}
+use Rattle.replay.specs.Edits.{edited}
+use Rattle.replay.specs.EditAnswers.{AnswersEdit, Refuses}
 use Rattle.replay.specs.Changes.{changed}
 use Rattle.replay.specs.RunnerView.{RunnerView}
 use Rattle.replay.proofs.RunnerLemmas.{sound_edit, keeps_edit, all_stand}

@@ -1,0 +1,13 @@
+-- The numbers at whose places a mark stands. (This project's own.)
+use Rattle.std.specs.Prelude.{ℕ, suc, Bool, true, false, List, [], ◌∷◌}
+use Rattle.std.specs.Ordering.{nat_cmp}
+use Rattle.std.specs.FinMap.{FinMap, from_entries}
+
+-- where the first mark's place is a number
+abbrev pub marked_from : ℕ → List Bool → List (ℕ × Unit {0})
+marked_from n [] = []
+marked_from n (true ∷ marks) = (n, tt) ∷ marked_from (suc n) marks
+marked_from n (false ∷ marks) = marked_from (suc n) marks
+
+unfoldable pub marked : List Bool → FinMap nat_cmp (Unit {0})
+marked marks = from_entries (marked_from 0 marks)

@@ -1,0 +1,133 @@
+// Cases carried out, act by act.
+
+use crate::acts::Act::{
+    Anew, Changed, ChangedAfter, Copy, Delete, EraseFrom, Exchange, Extent, Fill, Find, FindBytes,
+    FindFull, FindNext, Has, Make, Note, Read, Records, Rename, Same, StepOf, Take, TellKeys,
+    TellRecord, TellRecords, Touch, Write, WriteOther,
+};
+use crate::acts::{Act, Case};
+use crate::calling::{ask, change, search};
+use crate::hosting::{serve, set};
+use crate::questions::{are_asked, sum_taken};
+use crate::stepping::step;
+use crate::telling::tell;
+use cpmfiles::{Changes, HostFiles, Table};
+use file_steps::FileSteps;
+use std::alloc::{AllocError, Global};
+use std::mem;
+use std::process::Abort;
+use std::test::Fail;
+
+// Host files, what was done, and a copy of it; first steps, and what the host files are to become.
+#[derive(Drop)]
+struct Scene {
+    host: HostFiles,
+    changes: Changes,
+    copy: Changes,
+    steps: FileSteps,
+    next: HostFiles,
+}
+
+/// Carries out the acts of each case, and then its rows.
+pub fn play(rt: &impl Abort, alloc: Global, cases: &[Case<'_>]) -> Result<(), Fail> {
+    for case in cases {
+        play_case(rt, alloc, case)?;
+    }
+    Ok(())
+}
+
+// Owns what the others are lent.
+fn play_case(rt: &impl Abort, alloc: Global, case: &Case<'_>) -> Result<(), Fail> {
+    let mut scene = Scene {
+        host: HostFiles::new(alloc),
+        changes: Changes::new(alloc),
+        copy: Changes::new(alloc),
+        steps: FileSteps::new(alloc),
+        next: HostFiles::new(alloc),
+    };
+    carry_out(rt, alloc, &mut scene, case)
+}
+
+fn carry_out(
+    rt: &impl Abort,
+    alloc: Global,
+    scene: &mut Scene,
+    case: &Case<'_>,
+) -> Result<(), Fail> {
+    for (text, length) in case.files {
+        set(&mut scene.host, alloc, text, &[(b'x', *length)])??;
+    }
+    let wrong = first_wrong(scene, alloc, case)?;
+    assert!(rt; wrong == 0, "{}: act {wrong}", case.name);
+    Ok(())
+}
+
+// The number of the first act or row, counted from 1, whose answer is another one; 0 if there is none.
+fn first_wrong(scene: &mut Scene, alloc: Global, case: &Case<'_>) -> Result<u32, Fail> {
+    let mut number: u32 = 0;
+    for act in case.acts {
+        number = number.wrapping_add(1);
+        if !answers(scene, alloc, *act)? {
+            return Ok(number);
+        }
+    }
+    for (act, asks) in case.rows {
+        number = number.wrapping_add(1);
+        if !answers(scene, alloc, *act)? || !are_asked(&scene.changes, asks)? {
+            return Ok(number);
+        }
+    }
+    Ok(0)
+}
+
+// Whether an act answers as it is to.
+fn answers(scene: &mut Scene, alloc: Global, act: Act<'_>) -> Result<bool, Fail> {
+    let Scene {
+        host,
+        changes,
+        copy,
+        steps,
+        next,
+    } = scene;
+    match act {
+        Has(_, _) | Records(_, _) | Extent(_, _, _) | Read(_, _, _) => {
+            Ok(ask(&mut Table::new(host, changes), act)?)
+        }
+        Write(_, _, _, _)
+        | WriteOther(_, _, _)
+        | Fill(_, _, _, _)
+        | Make(_, _)
+        | Delete(_, _)
+        | Rename(_, _, _) => { Ok(change(&mut Table::new(host, changes), act)?) }
+        Find(_, _, _) | FindBytes(_, _, _) | FindFull(_, _) | FindNext(_, _) => {
+            Ok(search(&mut Table::new(host, changes), act)?)
+        }
+        Anew => {
+            *changes = Changes::new(alloc);
+            *steps = FileSteps::new(alloc);
+            Ok(true)
+        }
+        Copy | Exchange | Take(_, _) => Ok(turn(changes, copy, act)?),
+        TellRecords(_, _)
+        | TellRecord(_, _, _)
+        | TellKeys(_)
+        | Changed(_)
+        | ChangedAfter(_, _)
+        | Same(_) => { tell(host, changes, act) }
+        Note(_, _) | EraseFrom(_) | StepOf(_, _) | Touch(_, _, _) => {
+            Ok(step(steps, host, next, act)?)
+        }
+        Act::SetNext(text, bytes) => Ok(set(next, alloc, text, bytes)?.is_ok()),
+        _ => serve(host, alloc, changes, act),
+    }
+}
+
+fn turn(changes: &mut Changes, copy: &mut Changes, act: Act<'_>) -> Result<bool, AllocError> {
+    match act {
+        Copy => *copy = changes.snapshot()?,
+        Exchange => mem::swap(changes, copy),
+        Take(count, sum) => return Ok(sum_taken(changes, count) == sum),
+        _ => return Ok(false),
+    }
+    Ok(true)
+}

@@ -1,0 +1,134 @@
+// What stands after a run's changes, without a question; copies of them; and the questions, one by one.
+
+use cpmfiles::Ask;
+use cpmfiles::Ask::{Length, Rec};
+use std::test::Fail;
+use test_files::Act::{
+    Copy, Delete, Exchange, Fill, Find, Has, HostRecords, Make, Read, Records, Rename, Take,
+    TellKeys, TellRecord, TellRecords, Write,
+};
+use test_files::{ALL, ANN, Act, BEN, CAT, Case, play};
+
+// ANN has a hole at 2 then, BEN is CAT, and there is a new file on drive B.
+const LONGER: Act<'_> = Write(ANN, 3, b'a', true);
+
+const RENAMED: Act<'_> = Rename(BEN, CAT, true);
+
+const NEW: Act<'_> = Make(*b"\x01DAN        ", true);
+
+const ASKED: &[Ask] = &[Ask::Has(ANN), Length(ANN)];
+
+const READ_1: &[Ask] = &[Ask::Has(ANN), Length(ANN), Rec(ANN, 1)];
+
+const CASES: &[Case<'_>] = &[
+    Case {
+        name: "records after changes",
+        files: &[("ann", 256), ("ben", 130)],
+        acts: &[
+            LONGER,
+            RENAMED,
+            NEW,
+            TellRecords("ann", Some(4)),
+            TellRecords("ben", None),
+            TellRecords("cat", Some(2)),
+            TellRecords("b:dan", Some(0)),
+            TellRecords("dan", None),
+            HostRecords("ann", Some(2)),
+        ],
+        rows: &[],
+    },
+    // A hole is told as zeros, and past the end there is no record.
+    Case {
+        name: "a record after changes",
+        files: &[("ann", 256), ("ben", 130)],
+        acts: &[
+            LONGER,
+            RENAMED,
+            NEW,
+            TellRecord("ann", 0, Some(b'x')),
+            TellRecord("ann", 2, Some(0)),
+            TellRecord("ann", 3, Some(b'a')),
+            TellRecord("ann", 4, None),
+            TellRecord("ben", 0, None),
+            TellRecord("cat", 0, Some(b'x')),
+            TellRecord("cat", 2, None),
+            TellRecord("b:dan", 0, None),
+        ],
+        rows: &[],
+    },
+    Case {
+        name: "names after changes",
+        files: &[("ann", 256), ("ben", 130), ("d:a", 0)],
+        acts: &[
+            LONGER,
+            RENAMED,
+            NEW,
+            TellKeys(&[ANN, CAT, *b"\x01DAN        ", *b"\x03A          "]),
+        ],
+        rows: &[],
+    },
+    Case {
+        name: "what is told after changes is no question",
+        files: &[("ann", 256), ("ben", 130)],
+        acts: &[
+            TellRecords("ann", Some(2)),
+            TellRecord("ann", 1, Some(b'x')),
+        ],
+        rows: &[(TellKeys(&[ANN, BEN]), &[])],
+    },
+    // What is done to a run's changes, or asked through them, shows in no copy that was made before.
+    Case {
+        name: "a copy stays as it was",
+        files: &[("ann", 256)],
+        acts: &[
+            Write(ANN, 2, b'a', true),
+            Copy,
+            Write(ANN, 2, b'b', true),
+            Fill(ANN, 5, b'c', true),
+            Read(ANN, 0, Some(b'x')),
+            Exchange,
+        ],
+        rows: &[
+            (Records(ANN, Some(3)), ASKED),
+            (Read(ANN, 2, Some(b'a')), ASKED),
+            (Read(ANN, 1, Some(b'x')), READ_1),
+        ],
+    },
+    Case {
+        name: "a copy goes its own way",
+        files: &[("ann", 256)],
+        acts: &[
+            Write(ANN, 2, b'a', true),
+            Copy,
+            Exchange,
+            Fill(ANN, 4, b'd', true),
+            Delete(ANN, 1),
+            Has(ANN, false),
+            Exchange,
+        ],
+        rows: &[
+            (Records(ANN, Some(3)), ASKED),
+            (Read(ANN, 2, Some(b'a')), ASKED),
+            (Read(ANN, 3, None), ASKED),
+        ],
+    },
+    // What was done stays, and no question is given twice.
+    Case {
+        name: "questions are taken one by one",
+        files: &[("ann", 256)],
+        acts: &[
+            Read(ANN, 1, Some(b'x')),
+            Write(ANN, 0, b'a', true),
+            Find(ALL, 0, &[(ANN, 0, 2)]),
+            Take(4, 1111),
+            Take(1, 0),
+            Read(ANN, 0, Some(b'a')),
+        ],
+        rows: &[],
+    },
+];
+
+#[test]
+fn what_stands_after_changes(rt: HostRuntime) -> Result<(), Fail> {
+    play(&rt, rt.alloc(), CASES)
+}

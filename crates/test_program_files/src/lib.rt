@@ -1,0 +1,29 @@
+//! The tests of files that cross crates: names, host files, what a program does to files, their directory, and which are
+//! changed. Expected values are worked out by hand from [Interface Guide 1979, operating system call conventions] and this
+//! project's profile.
+//!
+//! - `names`, `hosts`: tests of names and file control blocks, and of host files
+//! - `tables`, `renames`, `deletions`: tests of what is made, written, read, renamed and deleted, with the questions
+//!   that each call asks
+//! - `entries`, `searches`: tests of the directory's entries, and of searches that go on while files change
+//! - `changes`, `changed`: tests of what stands after a run, of its copies, and of its questions; of which files it changed
+#![tactic(auto)]
+
+#[cfg(test)]
+mod changed;
+#[cfg(test)]
+mod changes;
+#[cfg(test)]
+mod deletions;
+#[cfg(test)]
+mod entries;
+#[cfg(test)]
+mod hosts;
+#[cfg(test)]
+mod names;
+#[cfg(test)]
+mod renames;
+#[cfg(test)]
+mod searches;
+#[cfg(test)]
+mod tables;
