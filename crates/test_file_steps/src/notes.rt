@@ -96,5 +96,5 @@ const CASES: &[Case<'_>] = &[
 
 #[test]
 fn first_steps(rt: HostRuntime) -> Result<(), Fail> {
-    play(&rt, rt.alloc(), CASES)
+    play(rt.alloc(), CASES)
 }

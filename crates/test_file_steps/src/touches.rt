@@ -117,5 +117,5 @@ const CASES: &[Case<'_>] = &[
 
 #[test]
 fn what_a_change_touches(rt: HostRuntime) -> Result<(), Fail> {
-    play(&rt, rt.alloc(), CASES)
+    play(rt.alloc(), CASES)
 }

@@ -15,7 +15,6 @@ use cpmfiles::{Changes, HostFiles, Table};
 use file_steps::FileSteps;
 use std::alloc::{AllocError, Global};
 use std::mem;
-use std::process::Abort;
 use std::test::Fail;
 
 // Host files, what was done, and a copy of it; first steps, and what the host files are to become.
@@ -28,16 +27,16 @@ struct Scene {
     next: HostFiles,
 }
 
-/// Carries out the acts of each case, and then its rows.
-pub fn play(rt: &impl Abort, alloc: Global, cases: &[Case<'_>]) -> Result<(), Fail> {
+/// Carries out the acts of each case, and then its rows. `Err` names the case and the first act that answers otherwise, counted from 1.
+pub fn play(alloc: Global, cases: &[Case<'_>]) -> Result<(), Fail> {
     for case in cases {
-        play_case(rt, alloc, case)?;
+        play_case(alloc, case)?;
     }
     Ok(())
 }
 
 // Owns what the others are lent.
-fn play_case(rt: &impl Abort, alloc: Global, case: &Case<'_>) -> Result<(), Fail> {
+fn play_case(alloc: Global, case: &Case<'_>) -> Result<(), Fail> {
     let mut scene = Scene {
         host: HostFiles::new(alloc),
         changes: Changes::new(alloc),
@@ -45,20 +44,17 @@ fn play_case(rt: &impl Abort, alloc: Global, case: &Case<'_>) -> Result<(), Fail
         steps: FileSteps::new(alloc),
         next: HostFiles::new(alloc),
     };
-    carry_out(rt, alloc, &mut scene, case)
+    carry_out(alloc, &mut scene, case)
 }
 
-fn carry_out(
-    rt: &impl Abort,
-    alloc: Global,
-    scene: &mut Scene,
-    case: &Case<'_>,
-) -> Result<(), Fail> {
+fn carry_out(alloc: Global, scene: &mut Scene, case: &Case<'_>) -> Result<(), Fail> {
     for (text, length) in case.files {
         set(&mut scene.host, alloc, text, &[(b'x', *length)])??;
     }
     let wrong = first_wrong(scene, alloc, case)?;
-    assert!(rt; wrong == 0, "{}: act {wrong}", case.name);
+    if wrong != 0 {
+        return Err(Fail::new(format_args!("{}: act {wrong}", case.name)));
+    }
     Ok(())
 }
 

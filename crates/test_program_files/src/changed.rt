@@ -153,5 +153,5 @@ const CASES: &[Case<'_>] = &[
 
 #[test]
 fn files_that_are_changed(rt: HostRuntime) -> Result<(), Fail> {
-    play(&rt, rt.alloc(), CASES)
+    play(rt.alloc(), CASES)
 }

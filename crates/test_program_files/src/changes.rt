@@ -130,5 +130,5 @@ const CASES: &[Case<'_>] = &[
 
 #[test]
 fn what_stands_after_changes(rt: HostRuntime) -> Result<(), Fail> {
-    play(&rt, rt.alloc(), CASES)
+    play(rt.alloc(), CASES)
 }

@@ -57,5 +57,5 @@ const CASES: &[Case<'_>] = &[
 
 #[test]
 fn deletions_by_patterns(rt: HostRuntime) -> Result<(), Fail> {
-    play(&rt, rt.alloc(), CASES)
+    play(rt.alloc(), CASES)
 }

@@ -172,5 +172,5 @@ const CASES: &[Case<'_>] = &[
 
 #[test]
 fn entries_of_the_directory(rt: HostRuntime) -> Result<(), Fail> {
-    play(&rt, rt.alloc(), CASES)
+    play(rt.alloc(), CASES)
 }

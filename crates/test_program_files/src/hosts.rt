@@ -88,5 +88,5 @@ const CASES: &[Case<'_>] = &[
 
 #[test]
 fn records_limits_and_order(rt: HostRuntime) -> Result<(), Fail> {
-    play(&rt, rt.alloc(), CASES)
+    play(rt.alloc(), CASES)
 }

@@ -147,5 +147,5 @@ const CASES: &[Case<'_>] = &[
 
 #[test]
 fn files_under_other_keys(rt: HostRuntime) -> Result<(), Fail> {
-    play(&rt, rt.alloc(), CASES)
+    play(rt.alloc(), CASES)
 }

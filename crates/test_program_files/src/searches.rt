@@ -65,5 +65,5 @@ const CASES: &[Case<'_>] = &[
 
 #[test]
 fn searches_that_go_on(rt: HostRuntime) -> Result<(), Fail> {
-    play(&rt, rt.alloc(), CASES)
+    play(rt.alloc(), CASES)
 }

@@ -216,5 +216,5 @@ const CASES: &[Case<'_>] = &[
 
 #[test]
 fn files_of_a_program(rt: HostRuntime) -> Result<(), Fail> {
-    play(&rt, rt.alloc(), CASES)
+    play(rt.alloc(), CASES)
 }
