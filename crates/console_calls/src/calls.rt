@@ -262,7 +262,8 @@ fn line_input<B: Bus>(
 // Makes the cells of a line ready: the count's, and one for each byte.
 fn ready_line<B: Bus>(bus: &mut B, at: u16, count: u8) -> Result<(), AllocError>
     ensures count { OnOk result (IsTrue (B.is_ready bus.new (onward at 1))) }
-    ensures text { OnOk result ((i : ℕ) → i < count → IsTrue (B.is_ready bus.new (onward (onward at 2) i))) }
+    ensures text { OnOk result ((i : ℕ) → i < count
+        → IsTrue (B.is_ready bus.new (onward (onward at 2) i))) }
     ensures memory { B.memory bus.new ≡ B.memory bus.old }
 {
     bus.ready(at.wrapping_add(1))?;
@@ -273,7 +274,8 @@ fn ready_line<B: Bus>(bus: &mut B, at: u16, count: u8) -> Result<(), AllocError>
 fn store_line<B: Bus>(bus: &mut B, at: u16, text: &[u8])
     requires short { length text.now ≤ 255 }
     requires count { IsTrue (B.is_ready bus.old (onward at 1)) }
-    requires text { (i : ℕ) → i < length text.now → IsTrue (B.is_ready bus.old (onward (onward at 2) i)) }
+    requires text { (i : ℕ) → i < length text.now
+        → IsTrue (B.is_ready bus.old (onward (onward at 2) i)) }
     ensures own { (B.memory bus.new).own ≡ write_all (B.memory bus.old).own (line_cells at text.now) }
     ensures looks { (B.memory bus.new).looks ≡ (B.memory bus.old).looks }
     ensures beneath { (B.memory bus.new).beneath ≡ (B.memory bus.old).beneath }

@@ -182,7 +182,8 @@ impl Desk {
 
     /// Sets the address where records go.
     pub fn set_buffer(&mut self, buffer: u16)
-        ensures desk { self.new.desk ≡ at_spot self.old.desk (record self.old.desk.spot { buffer = buffer }) }
+        ensures desk { self.new.desk
+            ≡ at_spot self.old.desk (record self.old.desk.spot { buffer = buffer }) }
         ensures places { self.new.places ≡ self.old.places }
     {
         self.spot.buffer = buffer;
@@ -212,7 +213,8 @@ impl Desk {
 
     /// Sets where a search goes on.
     pub fn set_search(&mut self, search: Option<Search>)
-        ensures desk { self.new.desk ≡ at_spot self.old.desk (record self.old.desk.spot { search = search }) }
+        ensures desk { self.new.desk
+            ≡ at_spot self.old.desk (record self.old.desk.spot { search = search }) }
         ensures places { self.new.places ≡ self.old.places }
     {
         self.spot.search = search;

@@ -8,7 +8,8 @@ ghost use Rattle.cpmfiles.specs.Tables.{NamedAreGone, is_named};
 
 /// Carries the law that a deletion takes out of the map of all files those that are named, and no other.
 pub fn named_files_are_gone()
-    ensures { (host : Host) → (own after : Own) → (pattern : List ℕ) → NamedAreGone host own pattern after →
+    ensures { (host : Host) → (own after : Own)
+        → (pattern : List ℕ) → NamedAreGone host own pattern after →
         (q : List ℕ) → finmap.get (files host after) q ≡
         (if is_named pattern q && has host own q then None else finmap.get (files host own) q) }
 {}

@@ -86,7 +86,8 @@ fn replay_file<'a, S: FileSystem, O: Writer>(
 fn inform<'a, O: Writer>(text: &str, out: &mut O) -> Result<(), Fault<'a>>
     requires { O.failures out.old < 2 ^ 63 }
     ensures writes { Informs (O.holds out.old) (O.holds out.new) }
-    ensures fault { IfErr result (λ f. (f ≡ Fault.CannotWrite) × (O.failures out.old < O.failures out.new)) }
+    ensures fault { IfErr result
+        (λ f. (f ≡ Fault.CannotWrite) × (O.failures out.old < O.failures out.new)) }
 {
     match write_all(out, text.as_bytes()) {
         Ok(()) => Ok(()),

@@ -33,7 +33,8 @@ pub trait Files {
     /// An extent from which on the file of a key has no entry, at most 512.
     fn extents(&self, key: &Key) -> u32
         ensures within { result ≤ 512 }
-        ensures none { (e : ℕ) → result ≤ e → e < 512 → entry_count (files self.now) key.now e ≡ None };
+        ensures none { (e : ℕ) → result ≤ e → e < 512
+            → entry_count (files self.now) key.now e ≡ None };
 }
 
 // Whether an extent matches a pattern's byte.

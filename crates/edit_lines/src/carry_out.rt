@@ -39,7 +39,8 @@ fn carry_out_edit<W: Writer>(
     requires { W.failures writer.old < 2 ^ 63 }
     ensures does { Does (Command.Edit edit) runner.old.session runner.new.session (W.holds writer.old)
         (W.holds writer.new) result }
-    ensures effect { (meter : ℕ) → CommandDid (Command.Edit edit) runner.old meter runner.new meter result }
+    ensures effect { (meter : ℕ)
+        → CommandDid (Command.Edit edit) runner.old meter runner.new meter result }
     ensures options { SameOptions runner.old runner.new }
     ensures fine { OnOk result (W.failures writer.new ≡ W.failures writer.old) }
     ensures failed { result ≡ Err ReplayFault.Write → W.failures writer.old < W.failures writer.new }

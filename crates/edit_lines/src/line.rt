@@ -211,7 +211,8 @@ fn set_file(alloc: Global, name: &[u8], bytes: &[u8]) -> Result<Option<Command>,
 /// The command of three words.
 fn placed(alloc: Global, verb: &[u8], at: &[u8], last: &[u8]) -> Result<Option<Command>, AllocError>
     ensures found { IfOk result (λ r. IfSome r (IsPlaced verb.now at.now last.now)) }
-    ensures none { IfOk result (λ r. IfNone r ((c : Command) → IsPlaced verb.now at.now last.now c → ⊥)) }
+    ensures none { IfOk result
+        (λ r. IfNone r ((c : Command) → IsPlaced verb.now at.now last.now c → ⊥)) }
     ensures memory { OnErr result (NamesBytesAt verb.now at.now last.now) }
 {
     if verb == b"insert".as_slice() {

@@ -61,7 +61,8 @@ fn is_same_presence(old: Option<&HostFile>, new: Option<&HostFile>) -> bool
 
 // Whether two files have as many records, or are both not there.
 fn is_same_length(old: Option<&HostFile>, new: Option<&HostFile>) -> bool
-    ensures { IsTrue result ↔ (length_of (option_copied old.entry) ≡ length_of (option_copied new.entry)) }
+    ensures { IsTrue result
+        ↔ (length_of (option_copied old.entry) ≡ length_of (option_copied new.entry)) }
 {
     length_of(old) == length_of(new)
 }

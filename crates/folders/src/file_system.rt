@@ -47,7 +47,8 @@ pub trait FileSystem {
 
     /// Whether a regular file stands at a path, and no link to one.
     fn is_file(&self, path: &str) -> io::Result<bool>
-        ensures { IfOk result (λ is. IfSome (files self.now) (λ stored. is ≡ contains_key stored path.now)) };
+        ensures { IfOk result
+            (λ is. IfSome (files self.now) (λ stored. is ≡ contains_key stored path.now)) };
 
     /// Writes a new file, where nothing stands at the path. An error may leave a part of it there.
     fn write_new<C: Contents>(&mut self, path: &str, contents: &C) -> io::Result<()>

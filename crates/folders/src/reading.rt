@@ -64,7 +64,8 @@ fn host_file<S: FileSystem>(
     folder: &str,
     file: &str,
 ) -> io::Result<Option<Name>>
-    ensures drive { IfOk result (λ found. IfSome found (λ name. slice_index name 0 ≡ drive_number drive)) }
+    ensures drive { IfOk result
+        (λ found. IfSome found (λ name. slice_index name 0 ≡ drive_number drive)) }
     ensures finds { IfOk result (λ found. IfSome (S.files system.now) (λ stored.
         Finds stored (drive_number drive) folder.now file.now found)) }
 {
@@ -145,7 +146,8 @@ fn read_listed<S: FileSystem>(
     files: &mut HostFiles,
 ) -> Result<(), Failure>
     requires { listing.now.twice ≡ None }
-    ensures others { StaysWhere (λ k. finmap.contains_key listing.now.files k ≡ false) files.old files.new }
+    ensures others { StaysWhere
+        (λ k. finmap.contains_key listing.now.files k ≡ false) files.old files.new }
     ensures read { OnOk result (AreRead (S.files system.now) folder.now listing.now.files files.new) }
     ensures fault { IfErr result (FailsBy (FailsFolder (S.files system.now) (S.names system.now folder.now)
         (drive_number listing.now.drive) folder.now)) }
@@ -168,7 +170,8 @@ pub fn read_folder<S: FileSystem>(
     folder: &str,
     files: &mut HostFiles,
 ) -> Result<(), Failure>
-    requires { (k : List ℕ) → slice_index k 0 ≡ drive_number drive → finmap.contains_key files.old k ≡ false }
+    requires { (k : List ℕ) → slice_index k 0 ≡ drive_number drive
+        → finmap.contains_key files.old k ≡ false }
     ensures others { StaysWhere (λ k. slice_index k 0 ≢ drive_number drive) files.old files.new }
     ensures read { OnOk result (IfSome (S.files system.now) (λ stored.
         AreOf stored (S.names system.now folder.now) (drive_number drive) folder.now files.new)) }

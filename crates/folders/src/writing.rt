@@ -108,7 +108,8 @@ pub fn write_file<S: FileSystem, C: Contents>(
 // The path of a file in a folder, and the path under which it is written first.
 fn paths(alloc: Global, folder: &str, name: &Name) -> Result<(String, String), AllocError>
     ensures path { IfOk result (λ r. string_bytes r.0 ≡ path_text folder.now (file_text name.now)) }
-    ensures temporary { IfOk result (λ r. string_bytes r.1 ≡ path_text folder.now (temporary_text name.now)) }
+    ensures temporary { IfOk result
+        (λ r. string_bytes r.1 ≡ path_text folder.now (temporary_text name.now)) }
 {
     let file = file_name(alloc, name)?;
     let temporary = temporary_name(alloc, name)?;

@@ -79,7 +79,8 @@ impl DriveSet {
     pub fn pop(&mut self) -> Option<u8>
         ensures there { IfSome result (λ drive. finmap.contains_key self.old drive ≡ true) }
         ensures some { IfSome result (λ drive. self.new ≡ finmap.remove self.old drive) }
-        ensures none { IfNone result ((self.new ≡ self.old) × ((drive : ℕ) → IsAbsent self.old drive)) }
+        ensures none { IfNone result ((self.new ≡ self.old)
+            × ((drive : ℕ) → IsAbsent self.old drive)) }
     {
         if self.count == 0 {
             return None;

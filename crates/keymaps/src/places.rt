@@ -75,7 +75,8 @@ impl PlaceSet {
     pub fn pop(&mut self) -> Option<(Key, u32)>
         ensures there { IfSome result (λ p. finmap.contains_key self.old p ≡ true) }
         ensures some { IfSome result (λ p. self.new ≡ finmap.remove self.old p) }
-        ensures none { IfNone result ((self.new ≡ self.old) × ((p : List ℕ × ℕ) → IsAbsent self.old p)) }
+        ensures none { IfNone result ((self.new ≡ self.old)
+            × ((p : List ℕ × ℕ) → IsAbsent self.old p)) }
     {
         let Some((place, _)) = self.map.pop_first() else {
             return None;

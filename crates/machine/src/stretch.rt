@@ -24,7 +24,8 @@ fn instructions_over(
     steps: u64,
 ) -> (u64, Result<Option<Cause>, AllocError>)
     ensures goes { InstructionsGoOn steps regs.old view.old result regs.new view.new }
-    ensures progress { regs.old.pc < 0xfe00 → 0 < steps → IfOk result.1 (λ stop. IfNone stop (0 < result.0)) }
+    ensures progress { regs.old.pc < 0xfe00 → 0 < steps
+        → IfOk result.1 (λ stop. IfNone stop (0 < result.0)) }
     ensures loan { loan_of view.new ≡ loan_of view.old }
 {
     let looks = view.look_count();
@@ -53,7 +54,8 @@ fn instructions(
     steps: u64,
 ) -> (u64, Result<Option<Cause>, AllocError>)
     ensures goes { OverlayGoesOn session.now steps regs.old overlay.old result regs.new overlay.new }
-    ensures progress { regs.old.pc < 0xfe00 → 0 < steps → IfOk result.1 (λ stop. IfNone stop (0 < result.0)) }
+    ensures progress { regs.old.pc < 0xfe00 → 0 < steps
+        → IfOk result.1 (λ stop. IfNone stop (0 < result.0)) }
 {
     let mut view = View::new(session.image(), overlay);
     instructions_over(regs, &mut view, steps)

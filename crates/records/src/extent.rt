@@ -40,7 +40,8 @@ impl Extent {
     /// An extent with one record.
     pub fn new(alloc: Global, at: usize, content: &Record) -> Result<Extent, AllocError>
         requires { at < 128 }
-        ensures { IfOk result (λ x. (q : ℕ) → get_or x q None ≡ cond (q == at) (Some content.now) None) }
+        ensures { IfOk result
+            (λ x. (q : ℕ) → get_or x q None ≡ cond (q == at) (Some content.now) None) }
     {
         let mut places = [None; EXTENT_RECORDS as usize];
         places[at] = Some(*content);

@@ -83,7 +83,8 @@ impl FirstSteps {
     /// Erases every step from this one on, and looks only at those. It takes no memory.
     #[tactic(auto, using(crate::proofs::EntryLemmas::entry_at))]
     pub fn erase_from(&mut self, from: u64)
-        ensures entries { (k : ℕ) → step_in self.new.entries k ≡ erased from (step_in self.old.entries k) }
+        ensures entries { (k : ℕ) → step_in self.new.entries k
+            ≡ erased from (step_in self.old.entries k) }
         ensures latest { (self.new.latest ≤ self.old.latest) × (self.new.latest ≤ from) }
     {
         erase_from(&mut self.steps, &mut self.looks, from);

@@ -112,7 +112,8 @@ impl Report<'_> {
     pub fn next_changed(&self, after: Option<&Name>) -> Option<Name>
         ensures above { IfSome result (λ k. is_above (option_copied after.entry) k ≡ true) }
         ensures changed { IfSome result (λ k. is_left_changed self.now k ≡ true) }
-        ensures least { IfSome result (λ k. (x : List ℕ) → is_above (option_copied after.entry) x ≡ true
+        ensures least { IfSome result
+            (λ k. (x : List ℕ) → is_above (option_copied after.entry) x ≡ true
             → slice_cmp nat_cmp x k ≡ Less → is_left_changed self.now x ≡ false) }
         ensures none { IfNone result ((x : List ℕ) → is_above (option_copied after.entry) x ≡ true
             → is_left_changed self.now x ≡ false) }

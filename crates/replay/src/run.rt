@@ -44,7 +44,8 @@ fn keep_looks(notes: &mut RunNotes, running: &mut Running, noted: usize, n: u64,
     requires few { noted ≤ length running.old.looked.cells }
     requires room { notes.old.refusals < 2 ^ 63 }
     requires order { (n < reached) × (reached ≤ STEP_LIMIT) }
-    ensures other { (n ≡ notes.old.looks.seen → ⊥) → (notes.new ≡ notes.old) × (running.new ≡ running.old) }
+    ensures other { (n ≡ notes.old.looks.seen → ⊥)
+        → (notes.new ≡ notes.old) × (running.new ≡ running.old) }
     ensures here { n ≡ notes.old.looks.seen
         → (IsNoted (seen_to notes.old.looks (reached - 1)) notes.new.looks (since noted running.old.looked)
         × (notes.new.refusals ≡ notes.old.refusals)
@@ -96,7 +97,8 @@ fn advance(
     requires noted { AreNoted (ask session.now) notes.old.looks from running.old.looked }
     requires order { (from ≤ end) × (end ≤ STEP_LIMIT) }
     requires room { (meter.old + (end - from) < 2 ^ 64) × (notes.old.refusals ≤ STEP_LIMIT + from) }
-    ensures at { (n : ℕ) × (after (ask session.now) n ≡ Some running.new.state) × (from ≤ n) × (n ≤ end)
+    ensures at { (n : ℕ) × (after (ask session.now) n ≡ Some running.new.state)
+        × (from ≤ n) × (n ≤ end)
         × IfOk result (λ r. r.0 ≡ n) × (meter.new + from ≡ meter.old + n) }
     ensures stopped { IfOk result (λ r. MatchOption r.1 (r.0 ≡ end)
         (λ cause. (r.0 < end) × (outcome (ask session.now) running.new.state ≡ Stop cause))) }
@@ -138,7 +140,8 @@ pub fn resume(
     requires counts { (meter.old ≤ 2 ^ 63) × (checkpoints.old.notes.refusals ≡ 0) }
     ensures cold { IfOk result (λ r. cold session.now
         ≡ record { state = running.new.state; steps = r.0; cause = r.1 }) }
-    ensures at { (n : ℕ) × (after (ask session.now) n ≡ Some running.new.state) × (n ≤ session.now.limit)
+    ensures at { (n : ℕ) × (after (ask session.now) n ≡ Some running.new.state)
+        × (n ≤ session.now.limit)
         × (newest ≤ from → Each (λ c. c.step ≤ n) checkpoints.new.ring.items) × (from ≤ n)
         × (meter.new + from ≡ meter.old + n) × IfOk result (λ r. r.0 ≡ n) }
     ensures same { session.now.limit < newest → checkpoints.new.ring ≡ checkpoints.old.ring }
