@@ -153,6 +153,18 @@ impl Desk {
         self.places.from <= place && place < self.places.to
     }
 
+    /// The script's places that were looked at.
+    pub fn places(&self) -> Places
+        ensures { result ≡ self.now.places }
+    {
+        let Desk {
+            spot: _,
+            text: _,
+            places,
+        } = self;
+        *places
+    }
+
     /// Takes one of the script's places that were looked at out of them; `None` where there is none.
     pub fn take_look(&mut self) -> Option<usize>
         ensures desk { self.new.desk ≡ self.old.desk }

@@ -4,6 +4,7 @@ pub mod HostLemmas
 pub mod FitLemmas
 pub mod StepLemmas
 pub mod StretchLemmas
+pub mod JoinedStretches
 pub mod TidyFiles
 pub mod WholeFiles
 pub mod ChangedFileLemmas

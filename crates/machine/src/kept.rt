@@ -9,7 +9,7 @@ use crate::session::Session;
 use console_calls::{Desk, Spot};
 use hostfiles::{Changes, Journal, Looks};
 use i8080::Regs;
-use pagemem::{Cells, Overlay};
+use pagemem::{BlankMarks, Cells, Overlay};
 use std::alloc::{AllocError, Global};
 use std::marker::Model;
 
@@ -65,8 +65,8 @@ impl Running {
         })
     }
 
-    /// What is kept of the state, and its text, both moved out.
-    pub fn into_kept(self) -> (Kept, Vec<u8>)
+    /// What is kept of the state, its text, and the memory for its marks, all moved out. It takes no memory.
+    pub fn into_kept(self) -> (Kept, Vec<u8>, BlankMarks)
         ensures kept { result.0 ≡ kept_of self.state }
         ensures text { result.1.items ≡ self.state.core.desk.text }
     {
@@ -79,14 +79,15 @@ impl Running {
         let Changes { journal, looks: _ } = changes;
         let spot = desk.spot();
         let text = desk.into_text();
+        let (cells, marks) = overlay.into_parts();
         let kept = Kept {
             regs,
-            cells: overlay.into_cells(),
+            cells,
             spot,
             text_length: text.len(),
             journal,
         };
-        (kept, text)
+        (kept, text, marks)
     }
 }
 
@@ -108,13 +109,13 @@ impl Kept {
         self.regs
     }
 
-    /// What was written, again, with nothing looked at. `Err` where memory is refused.
-    pub fn overlay(&self, alloc: Global) -> Result<Overlay, AllocError>
+    /// What was written, again, over the memory for its marks, with nothing looked at. `Err` where memory is refused.
+    pub fn overlay(&self, marks: BlankMarks) -> Result<Overlay, AllocError>
         ensures own { IfOk result (λ o. written_cells (own_of o) ≡ self.now.own.cells) }
         ensures looks { IfOk result (λ o. looks_of o ≡ []) }
     {
         let cells = self.cells.snapshot()?;
-        Overlay::over(alloc, cells)
+        Ok(Overlay::over(marks, cells))
     }
 
     /// What was done to the files, again, with nothing asked of the host files. `Err` where memory is refused.

@@ -25,6 +25,7 @@ pub use i8080::Regs;
 pub use kept::Kept;
 pub use laws::whole_is_laid;
 pub use meter::Meter;
+pub use pagemem::BlankMarks;
 pub use running::Running;
 pub use session::{PROGRAM_LIMIT, SCRIPT_LIMIT, STEP_LIMIT, Session, SessionError, limits};
 pub use stretch::{run_from, step};

@@ -3,11 +3,10 @@ ghost use Rattle.console_calls.specs.Places.{is_within};
 ghost use Rattle.hostfiles.specs.Looks.{is_looked, asks_nothing, forgot};
 ghost use Rattle.machine.specs.Machine.{start, NothingLooked};
 
-use crate::session::Session;
-use console_calls::Desk;
+use console_calls::{Desk, Places};
 use hostfiles::{Ask, Changes};
 use i8080::{Flags, Regs};
-use pagemem::Overlay;
+use pagemem::{BlankMarks, Cells, Overlay};
 use std::alloc::{AllocError, Global};
 use std::marker::Model;
 
@@ -39,12 +38,12 @@ impl Model for Running {
 }
 
 impl Running {
-    /// The loaded state: nothing is written or looked at yet. `Err` where memory is refused.
-    pub fn load(alloc: Global, _session: &Session) -> Result<Running, AllocError>
+    /// The loaded state, over the memory for its marks: nothing is written or looked at yet. `Err` where memory is refused.
+    pub fn load(alloc: Global, marks: BlankMarks) -> Result<Running, AllocError>
         ensures state { IfOk result (λ r. r.state ≡ start) }
         ensures looked { IfOk result (λ r. NothingLooked r.looked) }
     {
-        let overlay = Overlay::new(alloc)?;
+        let cells = Cells::new(alloc)?;
         Ok(Running {
             regs: Regs {
                 a: 0,
@@ -64,7 +63,7 @@ impl Running {
                     cy: false,
                 },
             },
-            overlay,
+            overlay: Overlay::over(marks, cells),
             desk: Desk::new(alloc),
             changes: Changes::new(alloc),
         })
@@ -84,6 +83,24 @@ impl Running {
         ensures { result ≡ slice_index self.now.looked.cells index }
     {
         self.overlay.nth_look(index)
+    }
+
+    /// The script places that were looked at.
+    #[inline(always)]
+    pub(crate) fn places(&self) -> Places
+        ensures { result ≡ self.now.looked.places }
+    {
+        self.desk.places()
+    }
+
+    /// Whether so many cells and these script places were looked at, and no question of the host files was asked.
+    #[inline(always)]
+    pub(crate) fn looks_at_no_more(&self, cells: usize, places: Places) -> bool
+        ensures cells { result ≡ true → length self.now.looked.cells ≡ cells }
+        ensures places { result ≡ true → self.now.looked.places ≡ places }
+        ensures files { result ≡ true → (ask : Ask) → is_looked self.now.looked.files ask ≡ false }
+    {
+        self.look_count() == cells && self.places().is_same(places) && self.asks_nothing()
     }
 
     /// Takes a script place that was looked at out of those that were. `None` where there is none. The state and the cells

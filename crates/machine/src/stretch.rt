@@ -85,9 +85,9 @@ fn go_on(
 }
 
 /// Carries out steps from the step `from` on: at least one, and on up to the step `end`, to a step that looks at something new,
-/// to a call of the system, or to a stop. Answers the step that was reached, and the cause of a stop. A stop and `Err` leave
-/// the state that was reached, but for what was looked at; and at an `Err` what is looked at afterwards was looked at before, or is
-/// among what the step looks at that failed.
+/// or to a stop. Answers the step that was reached, and the cause of a stop. A stop and `Err` leave the state that was reached, but
+/// for what was looked at; and at an `Err` what is looked at afterwards was looked at before, or is among what the step looks at
+/// that failed.
 pub fn run_from(
     running: &mut Running,
     session: &Session,
@@ -101,9 +101,21 @@ pub fn run_from(
     ensures runs { RunsTo session.now from end (running.old, meter.old) result (running.new, meter.new) }
     ensures progress { IfOk result (λ r. IfNone r.1 (from < r.0)) }
 {
-    let (steps, stop) = go_on(running, session, end - from);
-    meter.count_on(steps);
-    Ok((from + steps, stop?))
+    let cells = running.look_count();
+    let places = running.places();
+    let mut n = from;
+    while n < end {
+        let (steps, stop) = go_on(running, session, end - n);
+        meter.count_on(steps);
+        n += steps;
+        if let Some(cause) = stop? {
+            return Ok((n, Some(cause)));
+        }
+        if !running.looks_at_no_more(cells, places) {
+            return Ok((n, None));
+        }
+    }
+    Ok((n, None))
 }
 
 /// One step, or the cause of a stop: a stretch of at most one step. A stop or `Err` leaves the state, but for what was looked at;

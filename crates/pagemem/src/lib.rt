@@ -21,6 +21,6 @@ mod view;
 pub use agreement::memories_agree;
 pub use cells::Cells;
 pub use image::Image;
-pub use overlay::Overlay;
+pub use overlay::{BlankMarks, Overlay};
 pub use plain::PlainMemory;
 pub use view::View;

@@ -18,6 +18,25 @@ pub struct Overlay {
     ghost rests: { (q : ℕ) → IsTrue (is_settled settled q) → Rests (own_in cells) looks q },
 }
 
+/// The memory for an overlay's marks, with nothing looked at. An overlay that is done with gives it to the next one, so that it is
+/// neither asked for nor cleared again.
+#[derive(Drop)]
+pub struct BlankMarks {
+    looks: Looks,
+    settled: Settled,
+    ghost unlooked: { looks ≡ [] },
+    ghost unsettled: { (q : ℕ) → is_settled settled q ≡ false },
+}
+
+impl BlankMarks {
+    /// New memory. `Err` where it is refused.
+    pub fn new(alloc: Global) -> Result<BlankMarks, AllocError> {
+        let looks = Looks::new(alloc)?;
+        let settled = Settled::new(alloc)?;
+        Ok(BlankMarks { looks, settled })
+    }
+}
+
 impl Overlay {
     ghost use Rattle.pagemem.specs.ImageView.{cells_of};
     ghost use Rattle.pagemem.specs.Overlay.{own_of, looks_of, is_ready_at};
@@ -28,33 +47,42 @@ impl Overlay {
         ensures looks { IfOk result (λ o. looks_of o ≡ []) }
     {
         let cells = Cells::new(alloc)?;
-        Overlay::over(alloc, cells)
+        Ok(Overlay::over(BlankMarks::new(alloc)?, cells))
     }
 
-    /// What was written, and nothing looked at. `Err` where memory is refused.
-    pub fn over(alloc: Global, cells: Cells) -> Result<Overlay, AllocError>
-        ensures own { IfOk result (λ o. own_of o ≡ own_in cells) }
-        ensures looks { IfOk result (λ o. looks_of o ≡ []) }
+    /// What was written, and nothing looked at. It takes no memory.
+    pub fn over(marks: BlankMarks, cells: Cells) -> Overlay
+        ensures own { own_of result ≡ own_in cells }
+        ensures looks { looks_of result ≡ [] }
     {
-        let looks = Looks::new(alloc)?;
-        let settled = Settled::new(alloc)?;
-        Ok(Overlay {
+        let BlankMarks { looks, settled } = marks;
+        Overlay {
             cells,
             looks,
             settled,
-        })
+        }
     }
 
-    /// What was written, moved out.
-    pub fn into_cells(self) -> Cells
-        ensures { own_in result ≡ own_of self }
+    /// What was written, and the marks, cleared, both moved out. It takes no memory, and goes over the cells alone that were looked at.
+    pub fn into_parts(self) -> (Cells, BlankMarks)
+        ensures { own_in result.0 ≡ own_of self }
     {
+        let mut overlay = self;
+        overlay.forget_looks();
         let Overlay {
             cells,
-            looks: _,
-            settled: _,
-        } = self;
-        cells
+            looks,
+            settled,
+        } = overlay;
+        (cells, BlankMarks { looks, settled })
+    }
+
+    // Takes away all looks.
+    fn forget_looks(&mut self)
+        ensures own { own_of self.new ≡ own_of self.old }
+        ensures looks { looks_of self.new ≡ [] }
+    {
+        while let Some(_) = self.take_look() {}
     }
 
     /// What was written, in pages that are shared with the overlay from now on: each costs a reference.

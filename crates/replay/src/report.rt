@@ -13,15 +13,16 @@ ghost use Rattle.replay.specs.Plain.{plain_run};
 ghost use Rattle.replay.specs.PlainIsCold.{equal_runs-prop, plainly};
 
 use hostfiles::{Record, joined, next_changed, told_count, told_record};
-use machine::{Cause, HostFiles, Journal, Kept, Name, Regs, Session};
+use machine::{BlankMarks, Cause, HostFiles, Journal, Kept, Name, Regs, Session};
 
 /// A session, the console text of its runs, and what is kept of the state in which the last run ended, until the
-/// next one begins.
+/// next one begins; and memory for the marks of that next run, once there was one.
 #[derive(Drop)]
 pub struct LastRun {
     pub session: Session,
     pub text: Vec<u8>,
     pub end: Option<Kept>,
+    pub marks: Option<BlankMarks>,
 }
 
 /// What a rerun came to: the end of the run of the session. It borrows the runner, and owns no memory.

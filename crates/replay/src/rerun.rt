@@ -14,7 +14,7 @@ use crate::report::LastRun;
 use crate::ring::{Checkpoint, Checkpoints, latest_within, newest_step};
 use crate::run::resume;
 use circular_buffer::HeapCircularBuffer;
-use machine::{Cause, Kept, Meter, Running, STEP_LIMIT, Session};
+use machine::{BlankMarks, Cause, Kept, Meter, Running, STEP_LIMIT, Session};
 use std::alloc::{AllocError, Global};
 use std::mem;
 
@@ -38,12 +38,21 @@ fn beginning_of(
     Ok(own)
 }
 
+// The memory for the marks of a run: that of the run before, where it is there.
+fn marks_for(alloc: Global, spare: &mut Option<BlankMarks>) -> Result<BlankMarks, AllocError> {
+    match spare.take() {
+        Some(marks) => Ok(marks),
+        None => BlankMarks::new(alloc),
+    }
+}
+
 // The greatest kept step that is not past the limit, with its state; else the start. The text is moved into the state, but
 // where a kept step past the limit needs it.
 fn begin(
     alloc: Global,
     session: &Session,
     text: &mut Vec<u8>,
+    spare: &mut Option<BlankMarks>,
     ring: &HeapCircularBuffer<Checkpoint>,
     is_needed: bool,
 ) -> Result<(u64, Running), AllocError>
@@ -58,10 +67,12 @@ fn begin(
     ensures err { OnErr result (text.new.items ≡ text.old.items) }
 {
     let Some(checkpoint) = latest_within(ring, session.limit()) else {
-        let running = Running::load(alloc, session)?;
+        let marks = marks_for(alloc, spare)?;
+        let running = Running::load(alloc, marks)?;
         return Ok((0, running));
     };
-    let overlay = checkpoint.state.overlay(alloc)?;
+    let marks = marks_for(alloc, spare)?;
+    let overlay = checkpoint.state.overlay(marks)?;
     let changes = checkpoint.state.changes(alloc)?;
     let own = beginning_of(alloc, text, checkpoint.state.text_length(), is_needed)?;
     Ok((
@@ -70,13 +81,20 @@ fn begin(
     ))
 }
 
-// What is kept of a state that a run left. Its text becomes the text, but where that is needed as it is.
-fn put_by(text: &mut Vec<u8>, running: Running, is_needed: bool) -> Kept
+// What is kept of a state that a run left. Its text becomes the text, but where that is needed as it is; the memory for its marks is
+// for the next run.
+fn put_by(
+    text: &mut Vec<u8>,
+    spare: &mut Option<BlankMarks>,
+    running: Running,
+    is_needed: bool,
+) -> Kept
     ensures kept { result ≡ kept_of running.state }
     ensures text { is_needed ≡ false → text.new.items ≡ running.state.core.desk.text }
     ensures needed { is_needed ≡ true → text.new.items ≡ text.old.items }
 {
-    let (kept, own) = running.into_kept();
+    let (kept, own, marks) = running.into_kept();
+    *spare = Some(marks);
     if is_needed {
         return kept;
     }
@@ -116,12 +134,13 @@ pub fn rerun(
         alloc,
         &last_run.session,
         &mut last_run.text,
+        &mut last_run.marks,
         &checkpoints.ring,
         is_needed,
     )?;
     let session = &last_run.session;
     let ran = resume(session, checkpoints, meter, newest, from, &mut running);
-    let kept = put_by(&mut last_run.text, running, is_needed);
+    let kept = put_by(&mut last_run.text, &mut last_run.marks, running, is_needed);
     let (steps, cause) = ran?;
     last_run.end = Some(kept);
     Ok((steps, cause))

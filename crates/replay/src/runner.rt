@@ -80,6 +80,7 @@ impl Runner {
                 session,
                 text: Vec::new(alloc),
                 end: None,
+                marks: None,
             },
             checkpoints: Checkpoints {
                 spacing: options.spacing,

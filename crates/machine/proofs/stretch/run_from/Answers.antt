@@ -1,15 +1,64 @@
-use Rattle.std.proofs.Common.{refl, ◌∙◌, ◌+◌, Ok}
+use Rattle.std.proofs.Common.{ap, arith, refl, sym, ◌∙◌, ◌≡◌, ◌+◌, ◌<◌, Ok, Some, None, Option}
+use Rattle.console_calls.specs.declared.cause.Cause.{Cause}
 use Rattle.std.proofs.lemmas.Result.{IfOk-from_err}
-use Rattle.machine.proofs.StretchLemmas.{fails_too, runs_to}
+use Rattle.machine.specs.Stretch.{Stretches, ended_of}
+use Rattle.machine.proofs.StretchLemmas.{fails_too, same_cells}
+use Rattle.machine.proofs.JoinedStretches.{ends_alike, joined_as, looks_alike, quiet_to}
 use Rattle.machine.proofs.stretch.run_from.Goals as goal
+
+pub returns-in_err-cause-clause-runs : goal.returns-in_err-cause-clause-runs
+returns-in_err-cause-clause-runs c =
+    let i = c.loop-n.invariant in (
+      c.loop-n.n + c.go_on-steps.result.0,
+      joined_as c.args.session.now c.args.from c.args.end c.loop-n.n c.go_on-steps.result.0 c.args.running.now.looked c.loop-n.running c.go_on-steps.new.running i.low c.loop-n-test.true i.same i.quiet c.go_on-steps.result.1 _
+          (c.in_err-cause.was ∙ fails_too c.from_residual.result _ c.from_residual.ensures.0) (c.go_on-steps.ensures.goes c.loop-n.n i.at) c.go_on-steps.ensures.progress,
+      omega (arith, c.count_on.ensures, i.meter),
+      IfOk-from_err _ _ c.from_residual.ensures.0,
+    )
+
+pub returns-in-Some-clause-runs : goal.returns-in-Some-clause-runs
+returns-in-Some-clause-runs c =
+    let i = c.loop-n.invariant in (
+      c.loop-n.n + c.go_on-steps.result.0,
+      joined_as c.args.session.now c.args.from c.args.end c.loop-n.n c.go_on-steps.result.0 c.args.running.now.looked c.loop-n.running c.go_on-steps.new.running i.low c.loop-n-test.true i.same i.quiet c.go_on-steps.result.1 _
+          (c.in_ok-cause.was ∙ ap (λ (x : Option Cause). Ok x) c.in-Some.is) (c.go_on-steps.ensures.goes c.loop-n.n i.at) c.go_on-steps.ensures.progress,
+      omega (arith, c.count_on.ensures, i.meter),
+      refl,
+    )
+
+pub returns-then-not-looks_at_no_more-clause-runs : goal.returns-then-not-looks_at_no_more-clause-runs
+returns-then-not-looks_at_no_more-clause-runs c =
+    let i = c.loop-n.invariant in (
+      c.loop-n.n + c.go_on-steps.result.0,
+      joined_as c.args.session.now c.args.from c.args.end c.loop-n.n c.go_on-steps.result.0 c.args.running.now.looked c.loop-n.running c.go_on-steps.new.running i.low c.loop-n-test.true i.same i.quiet c.go_on-steps.result.1 (Ok None)
+          (c.in_ok-cause.was ∙ ap (λ (x : Option Cause). Ok x) c.in_default.is) (c.go_on-steps.ensures.goes c.loop-n.n i.at) c.go_on-steps.ensures.progress,
+      omega (arith, c.count_on.ensures, i.meter),
+      refl,
+    )
+
+pub loop-n-preserved : goal.loop-n-preserved
+loop-n-preserved c =
+    let i = c.loop-n.invariant in
+    let stretch = joined_as c.args.session.now c.args.from c.args.end c.loop-n.n c.go_on-steps.result.0 c.args.running.now.looked c.loop-n.running c.go_on-steps.new.running i.low c.loop-n-test.true i.same i.quiet c.go_on-steps.result.1 (Ok None)
+    (c.in_ok-cause.was ∙ ap (λ (x : Option Cause). Ok x) c.in_default.is) (c.go_on-steps.ensures.goes c.loop-n.n i.at) c.go_on-steps.ensures.progress in
+    let e = c.if-not-looks_at_no_more.ensures in
+    let same = looks_alike c.args.running.now.looked c.go_on-steps.new.running.looked stretch.extends
+    (same_cells c.args.running.now.looked.cells c.go_on-steps.new.running.looked.cells stretch.extends.cells (e.cells refl ∙ c.look_count-cells.ensures)) (e.places refl ∙ c.places-places.ensures) (e.files refl) in
+    let more : 0 < c.go_on-steps.result.0 = rw c.in_default.is at (rw c.in_ok-cause.was at c.go_on-steps.ensures.progress) in
+    record {
+      at = stretch.at;
+      same = same;
+      quiet = quiet_to c.args.session.now c.args.from c.args.end (c.loop-n.n + c.go_on-steps.result.0) c.args.running.now.looked c.go_on-steps.new.running (omega (arith, i.low, more)) stretch same;
+      low = omega (arith, i.low);
+      high = omega (arith, stretch.within);
+      meter = omega (arith, c.count_on.ensures, i.meter);
+    }
 
 pub returns-clause-runs : goal.returns-clause-runs
 returns-clause-runs c =
-    runs_to c.args.session.now c.args.from c.args.end c.go_on-steps.result.0 _ _ c.args.running.now c.go_on-steps.new.running c.go_on-steps.result.1 (Ok (c.args.from + c.go_on-steps.result.0, c.in_ok-stop.field-0)) c.in_ok-stop.was refl c.requires.order
-    (c.go_on-steps.ensures.goes c.args.from c.requires.at) c.count_on.ensures
-
-pub returns-in_err-stop-clause-runs : goal.returns-in_err-stop-clause-runs
-returns-in_err-stop-clause-runs c =
-    runs_to c.args.session.now c.args.from c.args.end c.go_on-steps.result.0 _ _ c.args.running.now c.go_on-steps.new.running c.go_on-steps.result.1 c.from_residual.result
-    (c.in_err-stop.was ∙ fails_too c.from_residual.result _ c.from_residual.ensures.0) (IfOk-from_err _ _ c.from_residual.ensures.0) c.requires.order
-    (c.go_on-steps.ensures.goes c.args.from c.requires.at) c.count_on.ensures
+    let i = c.loop-n.invariant in (
+      c.loop-n.n,
+      ends_alike c.args.session.now c.args.from c.args.end c.loop-n.n c.args.running.now.looked c.loop-n.running i.low i.high i.same i.at i.quiet,
+      i.meter,
+      refl,
+    )

@@ -1,11 +1,13 @@
-use Rattle.std.proofs.Common.{rules}
+use Rattle.std.proofs.Common.{◌∙◌}
 use Rattle.machine.specs.Step.{first_regs}
 use Rattle.machine.proofs.HostLemmas.{nothing_asked}
 use Rattle.machine.proofs.WrittenCellLemmas.{cells_none}
 use Rattle.machine.proofs.running.Running.load.Goals as goal
 
 pub returns-clause-state : goal.returns-clause-state
-returns-clause-state c = λ i. record { core = record { regs = first_regs; desk = c.new-2.ensures.desk i }; own = record { cells = cells_none _ c.in_ok-overlay.ensures.own i; files = c.new-3.ensures.own i } }
+returns-clause-state c =
+    let none = c.over.ensures.own ∙ c.in_ok-cells.ensures in
+    λ i. record { core = record { regs = first_regs; desk = c.new-2.ensures.desk i }; own = record { cells = cells_none _ none i; files = c.new-3.ensures.own i } }
 
 pub returns-clause-looked : goal.returns-clause-looked
-returns-clause-looked c = record { cells = search rules; places = c.new-2.ensures.places; files = λ a. nothing_asked c.new-3.result.looks a c.new-3.ensures.looks }
+returns-clause-looked c = record { cells = c.over.ensures.looks; places = c.new-2.ensures.places; files = λ a. nothing_asked c.new-3.result.looks a c.new-3.ensures.looks }
