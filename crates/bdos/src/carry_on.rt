@@ -18,7 +18,7 @@ use console_calls::{Desk, Served, give_back};
 use cpmfiles::{Key, RECORD_BYTES, Record, Table};
 use directory::Search;
 use file_calls::{Finding, Write};
-use i8080::{Bus, Regs, ready_cells, word_of, write_cells};
+use i8080::{Bus, Regs, word_of};
 use std::alloc::AllocError;
 
 /// Carries a call on that found something, and goes back to an address. An `Err` leaves registers, cells,
@@ -239,9 +239,9 @@ fn make<B: Bus>(
         (scene regs.new (B.memory bus.new) desk.now (drives_of table.new)) }
 {
     let at = word_of(regs.e, regs.d).wrapping_add(13);
-    ready_cells(bus, at, 19)?;
+    bus.ready_cells(at, 19)?;
     table.changes.journal.make(key)?;
-    write_cells(bus, at, &made_bytes());
+    bus.write_cells(at, &made_bytes());
     give_back(regs, 0, to);
     Ok(Served::Went)
 }

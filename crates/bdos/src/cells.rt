@@ -7,7 +7,7 @@ ghost use Rattle.i8080.specs.End.{cells_from};
 ghost use Rattle.i8080.specs.Performs.{Reads, Writes};
 ghost use Rattle.bdos.specs.FileCalls.{bytes_at, place_cells};
 
-use i8080::{Bus, fetch, ready_cells, write_cells};
+use i8080::{Bus, fetch};
 use std::alloc::AllocError;
 
 /// Reads cells, from an address on; the cell after 0FFFFH is 0000H.
@@ -16,6 +16,10 @@ pub fn fetch_cells<B: Bus>(bus: &mut B, at: u16, cells: &mut [u8])
     ensures reads { Reads (bytes_at (length cells.old) at) (B.memory bus.old) cells.new (B.memory bus.new) }
     ensures length { length cells.new ≡ length cells.old }
 {
+    if let Some(bytes) = bus.written_cells(at, cells.len()) {
+        cells.copy_from_slice(bytes);
+        return;
+    }
     let mut address = at;
     for i in 0..cells.len() {
         cells[i] = fetch(bus, address);
@@ -28,8 +32,8 @@ pub fn put_cells<B: Bus>(bus: &mut B, at: u16, bytes: &[u8]) -> Result<(), Alloc
     requires { length bytes.now ≤ 128 }
     ensures { Writes (cells_from at bytes.now) (B.memory bus.old) result (B.memory bus.new) }
 {
-    ready_cells(bus, at, bytes.len() as u16)?;
-    write_cells(bus, at, bytes);
+    bus.ready_cells(at, bytes.len() as u16)?;
+    bus.write_cells(at, bytes);
     Ok(())
 }
 
@@ -74,9 +78,9 @@ pub fn put_record<B: Bus>(
     ensures { Writes (cells_from buffer bytes.now ++ place_cells at place)
         (B.memory bus.old) result (B.memory bus.new) }
 {
-    ready_cells(bus, buffer, bytes.len() as u16)?;
+    bus.ready_cells(buffer, bytes.len() as u16)?;
     ready_place(bus, at)?;
-    write_cells(bus, buffer, bytes);
+    bus.write_cells(buffer, bytes);
     write_place(bus, at, place);
     Ok(())
 }

@@ -12,7 +12,7 @@ use crate::disks::{current_disk, login_vector, reset_disks, select_disk, set_buf
 use crate::function::Function;
 use crate::line::{LineEnd, take_line};
 use crate::served::Served;
-use i8080::{Bus, Regs, fetch, fetch_word, ready_cells, word_of, write_cells};
+use i8080::{Bus, Regs, fetch, fetch_word, word_of};
 use std::alloc::AllocError;
 
 /// Where the I/O byte stands.
@@ -267,7 +267,7 @@ fn ready_line<B: Bus>(bus: &mut B, at: u16, count: u8) -> Result<(), AllocError>
     ensures memory { B.memory bus.new ≡ B.memory bus.old }
 {
     bus.ready(at.wrapping_add(1))?;
-    ready_cells(bus, at.wrapping_add(2), u16::from(count))
+    bus.ready_cells(at.wrapping_add(2), u16::from(count))
 }
 
 // Writes a line's cells, which are ready: the count's, and one for each byte.
@@ -282,7 +282,7 @@ fn store_line<B: Bus>(bus: &mut B, at: u16, text: &[u8])
     ensures lender { (B.memory bus.new).lender ≡ (B.memory bus.old).lender }
 {
     bus.write(at.wrapping_add(1), text.len() as u8);
-    write_cells(bus, at.wrapping_add(2), text);
+    bus.write_cells(at.wrapping_add(2), text);
 }
 
 /// Goes back to an address with a value: HL gets it, A is L and B is H, and the return address leaves the

@@ -1,4 +1,4 @@
-ghost use Rattle.std.specs.Prelude.{◌≡◌, ◌<◌, ℕ, Bool, IsTrue, OnOk, OnErr, Option, length};
+ghost use Rattle.std.specs.Prelude.{◌≡◌, ◌<◌, ℕ, Bool, IsTrue, OnOk, OnErr, Option, Some, IfSome, length, slice_index};
 ghost use Rattle.i8080.specs.Memory.{Memory, bytes, look, write, write_all};
 ghost use Rattle.i8080.specs.Reading.{Cell, Done};
 ghost use Rattle.i8080.specs.Registers.{onward};
@@ -41,6 +41,46 @@ pub trait Bus {
         ensures looks { (memory self.new).looks ≡ (memory self.old).looks }
         ensures beneath { (memory self.new).beneath ≡ (memory self.old).beneath }
         ensures lender { (memory self.new).lender ≡ (memory self.old).lender };
+
+    /// Makes `count` cells ready, from an address on; the cell after 0FFFFH is 0000H. No byte changes, and cells that were ready stay
+    /// so, at `Err` too.
+    fn ready_cells(&mut self, at: u16, count: u16) -> Result<(), AllocError>
+        ensures ready { OnOk result ((i : ℕ) → i < count → IsTrue (is_ready self.new (onward at i))) }
+        ensures kept { (q : ℕ) → IsTrue (is_ready self.old q) → IsTrue (is_ready self.new q) }
+        ensures memory { memory self.new ≡ memory self.old }
+    {
+        for i in 0..count {
+            self.ready(at.wrapping_add(i))?;
+        }
+        Ok(())
+    }
+
+    /// Writes bytes into cells that are ready, from an address on; the cell after 0FFFFH is 0000H. It takes no memory.
+    fn write_cells(&mut self, at: u16, values: &[u8])
+        requires ready { (i : ℕ) → i < length values.now → IsTrue (is_ready self.old (onward at i)) }
+        ensures kept { (q : ℕ) → IsTrue (is_ready self.old q) → IsTrue (is_ready self.new q) }
+        ensures own { (memory self.new).own ≡ write_all (memory self.old).own (cells_from at values.now) }
+        ensures looks { (memory self.new).looks ≡ (memory self.old).looks }
+        ensures beneath { (memory self.new).beneath ≡ (memory self.old).beneath }
+        ensures lender { (memory self.new).lender ≡ (memory self.old).lender }
+    {
+        let mut address = at;
+        for value in values {
+            self.write(address, *value);
+            address = address.wrapping_add(1);
+        }
+    }
+
+    /// The bytes of so many cells from an address on, where all were written and the memory can hand them out as one piece. That is
+    /// no look. `None` says nothing of the cells: they are to be read one by one.
+    fn written_cells(&self, at: u16, count: usize) -> Option<&[u8]>
+        ensures length { IfSome result (λ b. length b.now ≡ count) }
+        ensures written { IfSome result (λ b. (i : ℕ) → i < count
+            → (memory self.now).own (onward at i) ≡ Some (slice_index b.now i)) }
+    {
+        let _ = (at, count);
+        None
+    }
 }
 
 /// The byte of a cell.
@@ -60,34 +100,4 @@ pub fn fetch_word<B: Bus>(bus: &mut B, a: u16) -> u16
     let low = fetch(bus, a);
     let high = fetch(bus, a.wrapping_add(1));
     word_of(low, high)
-}
-
-/// Makes `count` cells ready, from an address on; the cell after 0FFFFH is 0000H. No byte changes,
-/// and cells that were ready stay so, at `Err` too.
-pub fn ready_cells<B: Bus>(bus: &mut B, at: u16, count: u16) -> Result<(), AllocError>
-    ensures ready { OnOk result ((i : ℕ) → i < count → IsTrue (B.is_ready bus.new (onward at i))) }
-    ensures kept { (q : ℕ) → IsTrue (B.is_ready bus.old q) → IsTrue (B.is_ready bus.new q) }
-    ensures memory { B.memory bus.new ≡ B.memory bus.old }
-{
-    for i in 0..count {
-        bus.ready(at.wrapping_add(i))?;
-    }
-    Ok(())
-}
-
-/// Writes bytes into cells that are ready, from an address on; the cell after 0FFFFH is 0000H.
-/// It takes no memory.
-pub fn write_cells<B: Bus>(bus: &mut B, at: u16, values: &[u8])
-    requires ready { (i : ℕ) → i < length values.now → IsTrue (B.is_ready bus.old (onward at i)) }
-    ensures kept { (q : ℕ) → IsTrue (B.is_ready bus.old q) → IsTrue (B.is_ready bus.new q) }
-    ensures own { (B.memory bus.new).own ≡ write_all (B.memory bus.old).own (cells_from at values.now) }
-    ensures looks { (B.memory bus.new).looks ≡ (B.memory bus.old).looks }
-    ensures beneath { (B.memory bus.new).beneath ≡ (B.memory bus.old).beneath }
-    ensures lender { (B.memory bus.new).lender ≡ (B.memory bus.old).lender }
-{
-    let mut address = at;
-    for value in values {
-        bus.write(address, *value);
-        address = address.wrapping_add(1);
-    }
 }

@@ -17,7 +17,7 @@ pub mod opcode;
 mod outcome;
 mod registers;
 
-pub use bus::{Bus, fetch, fetch_word, ready_cells, write_cells};
+pub use bus::{Bus, fetch, fetch_word};
 pub use decoder::{bytes_have_one_instruction, decode, opcodes_differ};
 pub use execution::execute;
 pub use flags::Flags;

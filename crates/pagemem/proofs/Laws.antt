@@ -62,7 +62,7 @@ own_same slots i slot h e = fun_ext (λ q. elim (eqb_tells (q / 256) i) [
 apart : (q a : ℕ) → q / 256 ≢ a / 256 → eqb q a ≡ false
 apart q a h = elim (eqb_tells q a) [ inl same ↦ absurd (h (ap (λ n. n / 256) same.1)) | inr other ↦ other.0 ]
 
-together : (q a : ℕ) → q / 256 ≡ a / 256 → eqb (q % 256) (a % 256) ≡ eqb q a
+pub together : (q a : ℕ) → q / 256 ≡ a / 256 → eqb (q % 256) (a % 256) ≡ eqb q a
 together q a h = elim (eqb_tells (q % 256) (a % 256)) [
   | inl same ↦ same.0 ∙ sym (eq-eqb q a (let e : q % 256 ≡ a % 256 = same.1 in omega arith))
   | inr other ↦ other.0 ∙ sym (elim (eqb_tells q a) [ inl equal ↦ absurd (other.1 (ap (λ n. n % 256) equal.1)) | inr far ↦ far.0 ])

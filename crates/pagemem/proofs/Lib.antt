@@ -1,4 +1,5 @@
 pub mod AgreementLemmas
 pub mod Laws
+pub mod RunLaws
 pub mod ListingLemmas
 pub mod SettledLemmas

@@ -4,6 +4,10 @@ use Rattle.std.proofs.lemmas.Bool.Decides.{eqb_tells}
 use Rattle.i8080.specs.Memory.{Own, Looks, look, write, is_among}
 use Rattle.i8080.proofs.LookLemmas.{is_among-append}
 use Rattle.pagemem.specs.Settled.{Rests}
+use Rattle.std.proofs.Common.{length, List, ◌<◌, ◌≤◌, ◌+◌, ◌⊎◌}
+use Rattle.i8080.specs.Memory.{write_all}
+use Rattle.i8080.specs.End.{cells_from}
+use Rattle.pagemem.proofs.RunLaws.{outside}
 
 -- a cell at rest is not looked at again
 pub look_at_rest : (own : Own) (looks : Looks) (a : ℕ) → Rests own looks a → looks ≡ look own looks a
@@ -57,3 +61,9 @@ settled_by_take own was is looks left a rests e last q h = elim (eqb_tells q a) 
   without : (b : Bool) → (b || (false || false)) ≡ true → b ≡ true
   without true s = refl
   without false s = s
+
+-- cells that are written one after another are taken out
+pub settled_by_writes : (own : Own) (was is : ℕ → Bool) (looks : Looks) (a : ℕ) (values : List ℕ) → a + length values ≤ 65536 → ((q : ℕ) → IsTrue (was q) → Rests own looks q)
+    → ((q : ℕ) → is q ≡ true → was q ≡ true) → ((q : ℕ) → is q ≡ true → (q < a) ⊎ (a + length values ≤ q)) → (q : ℕ) → IsTrue (is q) → Rests (write_all own (cells_from a values)) looks q
+settled_by_writes own was is looks a values fits rests kept gone q h =
+    let r = rests q (kept q h) in record { unwritten = outside own a values q fits (gone q h) ∙ r.unwritten; looked = r.looked }

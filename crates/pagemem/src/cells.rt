@@ -1,6 +1,8 @@
-ghost use Rattle.std.specs.Prelude.{◌≡◌, false, ◌<◌, ℕ, vec_len, IsTrue, IfOk, OnOk, OnErr, None, length};
+ghost use Rattle.std.specs.Prelude.{◌≡◌, false, ◌<◌, ◌≤◌, ◌+◌, ◌%◌, ℕ, vec_len, IsTrue, IfOk, IfSome, OnOk, OnErr, Some, None, length, slice_index};
 ghost use Rattle.pagemem.specs.Pages.{IsNotOwned, own_at, ready_at, is_owned_at};
-ghost use Rattle.i8080.specs.Memory.{write};
+ghost use Rattle.i8080.specs.End.{cells_from};
+ghost use Rattle.i8080.specs.Memory.{write, write_all};
+ghost use Rattle.i8080.specs.Registers.{onward};
 
 use crate::page::Slot;
 use std::alloc::{AllocError, Global};
@@ -65,6 +67,39 @@ impl Cells {
             Slot::Owned(page) => page.set((a % 256) as u8, value),
             Slot::Empty => unreachable!(),
             Slot::Shared(_) => unreachable!(),
+        }
+    }
+
+    /// Writes bytes into ready cells of one page, from an address on.
+    #[tactic(auto, using(crate::proofs::Laws::ready_kept, crate::proofs::RunLaws::own_write_all))]
+    pub fn write_in_page(&mut self, at: u16, values: &[u8])
+        requires ready { IsTrue (is_ready_in self.old at) }
+        requires page { at % 256 + length values.now ≤ 256 }
+        ensures kept { (q : ℕ) → IsTrue (is_ready_in self.old q) → IsTrue (is_ready_in self.new q) }
+        ensures own { own_in self.new ≡ write_all (own_in self.old) (cells_from at values.now) }
+    {
+        let slot = &mut self.slots[(at / 256) as usize];
+        match slot {
+            Slot::Owned(page) => page.set_cells((at % 256) as u8, values),
+            Slot::Empty => unreachable!(),
+            Slot::Shared(_) => unreachable!(),
+        }
+    }
+
+    /// The bytes of so many cells from an address on, where all were written and lie in one page; else none.
+    pub fn written_cells(&self, at: u16, count: usize) -> Option<&[u8]>
+        ensures length { IfSome result (λ b. length b.now ≡ count) }
+        ensures written { IfSome result (λ b. (i : ℕ) → i < count
+            → own_in self.now (onward at i) ≡ Some (slice_index b.now i)) }
+    {
+        let from = (at % 256) as usize;
+        if count > 256 - from {
+            return None;
+        }
+        match &self.slots[(at / 256) as usize] {
+            Slot::Empty => None,
+            Slot::Owned(page) => page.written_cells(from, count),
+            Slot::Shared(page) => page.written_cells(from, count),
         }
     }
 

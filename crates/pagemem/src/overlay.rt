@@ -1,5 +1,8 @@
-ghost use Rattle.std.specs.Prelude.{◌≡◌, false, ◌<◌, ◌∷◌, ◌++◌, [], ℕ, IsTrue, IfOk, OnOk, OnErr, IfNone, IfSome, None, length, slice_index};
-ghost use Rattle.i8080.specs.Memory.{bytes, look, write, is_among, over};
+ghost use Rattle.std.specs.Prelude.{◌≡◌, false, ◌<◌, ◌≤◌, ◌+◌, ◌%◌, ◌∷◌, ◌++◌, [], ℕ, IsTrue, IfOk, OnOk, OnErr};
+ghost use Rattle.std.specs.Prelude.{IfNone, IfSome, None, Some, length, slice_index};
+ghost use Rattle.i8080.specs.End.{cells_from};
+ghost use Rattle.i8080.specs.Memory.{bytes, look, write, write_all, is_among, over};
+ghost use Rattle.i8080.specs.Registers.{onward};
 ghost use Rattle.pagemem.specs.Cells.{own_in, is_ready_in};
 ghost use Rattle.pagemem.specs.Settled.{is_settled, Rests};
 
@@ -168,6 +171,62 @@ impl Overlay {
         self.settled.remove(a);
     }
 
+    // Writes bytes into ready cells of one page, from an address on.
+    fn write_in_page(&mut self, at: u16, values: &[u8])
+        requires ready { IsTrue (is_ready_at self.old at) }
+        requires page { at % 256 + length values.now ≤ 256 }
+        ensures kept { (q : ℕ) → IsTrue (is_ready_at self.old q) → IsTrue (is_ready_at self.new q) }
+        ensures own { own_of self.new ≡ write_all (own_of self.old) (cells_from at values.now) }
+        ensures looks { looks_of self.new ≡ looks_of self.old }
+    {
+        self.cells.write_in_page(at, values);
+        self.settled.remove_cells(at, values.len());
+    }
+
+    /// Writes bytes into ready cells, from an address on; the cell after 0FFFFH is 0000H.
+    pub fn write_cells(&mut self, at: u16, values: &[u8])
+        requires { (i : ℕ) → i < length values.now → IsTrue (is_ready_at self.old (onward at i)) }
+        ensures kept { (q : ℕ) → IsTrue (is_ready_at self.old q) → IsTrue (is_ready_at self.new q) }
+        ensures own { own_of self.new ≡ write_all (own_of self.old) (cells_from at values.now) }
+        ensures looks { looks_of self.new ≡ looks_of self.old }
+    {
+        let mut address = at;
+        let mut done = 0;
+        while done < values.len() {
+            let count = count_in_page(address, values.len() - done);
+            self.write_in_page(address, &values[done..done + count]);
+            address = address.wrapping_add(count as u16);
+            done += count;
+        }
+    }
+
+    /// Makes `count` cells ready, from an address on; the cell after 0FFFFH is 0000H. No byte and no look changes, and cells that were
+    /// ready stay so, at `Err` too.
+    pub fn ready_cells(&mut self, at: u16, count: u16) -> Result<(), AllocError>
+        ensures ready { OnOk result ((i : ℕ) → i < count → IsTrue (is_ready_at self.new (onward at i))) }
+        ensures kept { (q : ℕ) → IsTrue (is_ready_at self.old q) → IsTrue (is_ready_at self.new q) }
+        ensures own { own_of self.new ≡ own_of self.old }
+        ensures looks { looks_of self.new ≡ looks_of self.old }
+    {
+        // one cell of each page: the page is made ready with it
+        let mut done = 0;
+        while done < u32::from(count) {
+            let address = at.wrapping_add(done as u16);
+            self.ready(address)?;
+            done += 256 - u32::from(address % 256);
+        }
+        Ok(())
+    }
+
+    /// The bytes of so many cells from an address on, where all were written and lie in one page; else none. That is no look.
+    pub fn written_cells(&self, at: u16, count: usize) -> Option<&[u8]>
+        ensures length { IfSome result (λ b. length b.now ≡ count) }
+        ensures written { IfSome result (λ b. (i : ℕ) → i < count
+            → own_of self.now (onward at i) ≡ Some (slice_index b.now i)) }
+    {
+        self.cells.written_cells(at, count)
+    }
+
     /// How many cells were looked at.
     #[inline(always)]
     pub fn look_count(&self) -> usize
@@ -220,4 +279,13 @@ impl Overlay {
             settled,
         })
     }
+}
+
+// How many of so many bytes have room in the page of a cell, from it on.
+fn count_in_page(address: u16, left: usize) -> usize
+    ensures within { (result ≤ left) × (address % 256 + result ≤ 256) }
+    ensures some { 0 < left → 0 < result }
+{
+    let room = 256 - usize::from(address % 256);
+    if left < room { left } else { room }
 }

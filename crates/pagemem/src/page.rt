@@ -1,6 +1,7 @@
-ghost use Rattle.std.specs.Prelude.{◌≡◌, false, None, IfOk, IsTrue, OnOk, OnErr};
+ghost use Rattle.std.specs.Prelude.{◌≡◌, ◌+◌, ◌<◌, ◌≤◌, ℕ, false, Some, None, IfOk, IfSome, IsTrue, OnOk, OnErr, length, slice_index};
 ghost use Rattle.pagemem.specs.Pages.{page_own, slot_own, is_owned};
-ghost use Rattle.i8080.specs.Memory.{write};
+ghost use Rattle.i8080.specs.End.{cells_from};
+ghost use Rattle.i8080.specs.Memory.{write, write_all};
 
 use std::alloc::{AllocError, Global};
 use std::rc::Rc;
@@ -53,6 +54,33 @@ impl Page {
         let at = at as usize;
         self.bytes[at] = value;
         self.written[at] = true;
+    }
+
+    /// Writes cells of the page, from one on.
+    pub fn set_cells(&mut self, from: u8, values: &[u8])
+        requires { from + length values.now ≤ 256 }
+        ensures { page_own self.new ≡ write_all (page_own self.old) (cells_from from values.now) }
+    {
+        let mut at = u16::from(from);
+        for value in values {
+            self.set(at as u8, *value);
+            at += 1;
+        }
+    }
+
+    /// The bytes of so many cells of the page from one on, where all were written; none where one was not.
+    pub fn written_cells(&self, from: usize, count: usize) -> Option<&[u8]>
+        requires { from + count ≤ 256 }
+        ensures length { IfSome result (λ b. length b.now ≡ count) }
+        ensures written { IfSome result (λ b. (i : ℕ) → i < count
+            → page_own self.now (from + i) ≡ Some (slice_index b.now i)) }
+    {
+        for i in from..from + count {
+            if !self.written[i] {
+                return None;
+            }
+        }
+        Some(&self.bytes[from..from + count])
     }
 }
 

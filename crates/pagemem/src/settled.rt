@@ -1,4 +1,4 @@
-ghost use Rattle.std.specs.Prelude.{◌≡◌, ◌==◌, ℕ, true, false, if◌then◌else◌, IfOk, get_or, vec_len};
+ghost use Rattle.std.specs.Prelude.{◌≡◌, ◌==◌, ◌+◌, ◌<◌, ◌≤◌, ◌⊎◌, ℕ, true, false, if◌then◌else◌, IfOk, get_or, vec_len};
 
 use crate::looks::{CELLS, blank_marks};
 use std::alloc::{AllocError, Global};
@@ -52,5 +52,17 @@ impl Settled {
         ensures { (q : ℕ) → is_settled self.new q ≡ (if q == a then false else is_settled self.old q) }
     {
         self.marks[a as usize] = false;
+    }
+
+    /// Takes so many cells out, from an address on.
+    pub fn remove_cells(&mut self, at: u16, count: usize)
+        requires { at + count ≤ 65536 }
+        ensures kept { (q : ℕ) → is_settled self.new q ≡ true → is_settled self.old q ≡ true }
+        ensures gone { (q : ℕ) → is_settled self.new q ≡ true → (q < at) ⊎ (at + count ≤ q) }
+    {
+        let from = usize::from(at);
+        for i in from..from + count {
+            self.marks[i] = false;
+        }
     }
 }

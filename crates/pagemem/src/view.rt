@@ -61,4 +61,16 @@ impl Bus for View<'_> {
     fn write(&mut self, a: u16, value: u8) {
         self.overlay.write(a, value)
     }
+
+    fn ready_cells(&mut self, at: u16, count: u16) -> Result<(), AllocError> {
+        self.overlay.ready_cells(at, count)
+    }
+
+    fn write_cells(&mut self, at: u16, values: &[u8]) {
+        self.overlay.write_cells(at, values)
+    }
+
+    fn written_cells(&self, at: u16, count: usize) -> Option<&[u8]> {
+        self.overlay.written_cells(at, count)
+    }
 }

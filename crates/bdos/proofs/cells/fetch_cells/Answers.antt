@@ -1,6 +1,9 @@
 use Rattle.std.proofs.Common.{rules, arith, ◌∙◌, refl, ap, ◌-◌, length}
 use Rattle.console_calls.proofs.Scanning.{byte_read, looked_at}
-use Rattle.bdos.proofs.Runs.{taken_on, looked_on, taken_all, looked_all}
+use Rattle.bdos.proofs.Runs.{taken_on, looked_on, taken_all, looked_all, reads_written}
+use Rattle.std.proofs.Common.{List, ℕ, subst, sym}
+use Rattle.i8080.specs.Performs.{Reads}
+use Rattle.bdos.specs.FileCalls.{bytes_at}
 use Rattle.bdos.proofs.cells.fetch_cells.Goals as goal
 
 pub loop-i-preserved : goal.loop-i-preserved
@@ -27,3 +30,10 @@ returns-clause-reads g c =
       beneath = i.beneath;
       lender = i.lender;
     }
+
+pub returns-in-Some-clause-reads : goal.returns-in-Some-clause-reads
+returns-in-Some-clause-reads g c =
+    let e = c.in-Some.ensures in
+    let same = c.copy_from_slice.ensures.after in
+    subst (λ (cells : List ℕ). Reads (bytes_at (length c.args.cells.now) c.args.at) (g.B.Bus.memory c.args.bus.now) cells (g.B.Bus.memory c.args.bus.now)) (sym same)
+    (reads_written (g.B.Bus.memory c.args.bus.now) c.args.at (length c.args.cells.now) c.in-Some.bytes.now (omega arith) e.length e.written)
