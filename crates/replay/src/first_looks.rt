@@ -6,6 +6,7 @@ ghost use Rattle.replay.specs.FirstLooks.{step_of, erased, is_cell_of, is_place_
 ghost use Rattle.replay.specs.FirstLooks.{Notes, ErasesLast, SameBelow, NoPlaces, NoAsks};
 
 use crate::first_steps::FirstSteps;
+use crate::place_steps::PlaceSteps;
 use file_steps::FileSteps;
 use machine::{Ask, Running, STEP_LIMIT};
 use std::alloc::{AllocError, Global};
@@ -15,7 +16,7 @@ use std::marker::Model;
 #[derive(Drop)]
 pub struct FirstLooks {
     cells: FirstSteps,
-    places: FirstSteps,
+    places: PlaceSteps,
     files: FileSteps,
     seen: u64,
 }
@@ -50,7 +51,7 @@ impl FirstLooks {
     {
         FirstLooks {
             cells: FirstSteps::new(alloc),
-            places: FirstSteps::new(alloc),
+            places: PlaceSteps::new(alloc),
             files: FileSteps::new(alloc),
             seen: 0,
         }
