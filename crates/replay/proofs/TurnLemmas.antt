@@ -3,11 +3,11 @@ use Rattle.std.proofs.Common.{◌≡◌, ℕ, zero, suc, ◌+◌, ◌-◌, ◌<�
 use Rattle.std.specs.Prelude.{◌==◌, slice_index}
 use Rattle.std.specs.List.Sorted.{IsNonDecreasing}
 use Rattle.std.proofs.lemmas.Bool.{cases_lt, cases_Bool, lt-ltb, le-ltb}
-use Rattle.std.proofs.lemmas.List.{length-append, length-drop, length-map, length-take-le, length_push, get_or_append_left, get_or-append_right, get_or-drop, get_or-map, get_or-take, get_or_push, get_or_default}
+use Rattle.std.proofs.lemmas.List.{length-append, length-drop, length-map, length-take-le, length_push, get_or_append_left, get_or-append_right, get_or-drop, get_or-map, get_or-take, get_or_push, get_or_default, get_or_past}
 use Rattle.std.proofs.lemmas.List.Sorted.{IsNonDecreasingBy-push}
 use Rattle.replay.specs.FirstLooks.{or_else, mark, erased}
 use Rattle.replay.specs.FirstSteps.{step_in}
-use Rattle.replay.specs.PlaceSteps.{AreInTurn, joined, last_step}
+use Rattle.replay.specs.PlaceSteps.{AreInTurn, IsEarliestFrom, joined, last_step}
 
 -- ---- the step of one place
 
@@ -25,6 +25,23 @@ module _ (xs : List ℕ) (ys : List (Option ℕ)) where
 
   pub length-joined : length (joined xs ys) ≡ max (length xs) (length ys)
   length-joined = simp (length-append, length-map, length-drop) (omega arith)
+
+-- where none of the others has a step behind the places in turn, no place behind one of these has an earlier one
+pub earliest : (xs : List ℕ) (ys : List (Option ℕ)) → AreInTurn xs ys → length ys ≤ length xs → (place : ℕ) → place < length xs → IsEarliestFrom (joined xs ys) place
+earliest xs ys turn short place h = (slice_index xs place, in_turn_at xs ys place h, later)
+  where
+    later : (k n : ℕ) → place ≤ k → step_in (joined xs ys) k ≡ Some n → slice_index xs place ≤ n
+    later k n behind there = elim (cases_lt k (length xs)) [
+      | inl inside ↦
+          let both : Some (slice_index xs k) ≡ Some n = sym (in_turn_at xs ys k inside) ∙ there in
+          let same : slice_index xs k ≡ n = cc in
+          let up : slice_index xs place ≤ slice_index xs k = turn.rise place k 0 behind inside in
+          omega (arith, same, up)
+      | inr past ↦
+          let none : step_in ys k ≡ None = get_or_past ys k None (omega arith) in
+          let both : None ≡ Some n = sym none ∙ sym (other_at xs ys k past) ∙ there in
+          absurd (cc)
+    ]
 
 or_none : (o : Option ℕ) → or_else o None ≡ o
 or_none None = refl

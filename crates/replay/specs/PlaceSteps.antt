@@ -1,5 +1,5 @@
 -- The first steps that looked at places which are mostly looked at one after the other. (This project's own.)
-use Rattle.std.specs.Prelude.{◌≡◌, ℕ, ◌-◌, ◌<◌, List, ◌++◌, Option, Some, None, drop, length, map, slice_index}
+use Rattle.std.specs.Prelude.{◌≡◌, ℕ, ◌-◌, ◌<◌, ◌≤◌, List, ◌++◌, Option, Some, None, drop, length, map, slice_index}
 use Rattle.std.specs.List.Sorted.{IsNonDecreasing}
 use Rattle.replay.specs.FirstSteps.{step_in}
 
@@ -15,3 +15,7 @@ last_step steps = slice_index steps (length steps - 1)
 pub record AreInTurn (in_turn : List ℕ) (others : List (Option ℕ)) : Type 0 where
   pub rise : IsNonDecreasing in_turn
   pub apart : (k : ℕ) → k < length in_turn → step_in others k ≡ None
+
+-- this place has a step, and no place behind it has an earlier one
+abbrev pub IsEarliestFrom : List (Option ℕ) → ℕ → Type 0
+IsEarliestFrom entries place = (m : ℕ) × (step_in entries place ≡ Some m) × ((k n : ℕ) → place ≤ k → step_in entries k ≡ Some n → m ≤ n)

@@ -1,7 +1,8 @@
-ghost use Rattle.std.specs.Prelude.{◌≡◌, ◌<◌, ◌≤◌, ◌==◌, [], ℕ, OnOk, OnErr, length, slice_index};
+ghost use Rattle.std.specs.Prelude.{◌≡◌, ◌<◌, ◌≤◌, ◌==◌, [], ℕ, OnOk, OnErr, length, slice_index, true};
 ghost use Rattle.std.specs.List.Sorted.{IsNonDecreasing};
 ghost use Rattle.replay.specs.FirstLooks.{erased, or_else, mark};
 ghost use Rattle.replay.specs.FirstSteps.{step_in};
+ghost use Rattle.replay.specs.PlaceSteps.{IsEarliestFrom};
 
 use crate::first_steps::FirstSteps;
 use std::alloc::{AllocError, Global};
@@ -57,6 +58,15 @@ impl PlaceSteps {
         ensures { result ≡ length self.now.entries }
     {
         self.in_turn.len().max(self.others.end())
+    }
+
+    /// Whether this place has a step, and no place behind it has an earlier one; told only where no place was looked
+    /// at out of turn, else `false`.
+    pub fn is_earliest_from(&self, place: usize) -> bool
+        ensures { result ≡ true → IsEarliestFrom self.now.entries place }
+    {
+        let next = self.in_turn.len();
+        place < next && self.others.end() <= next
     }
 
     /// Notes a step, which none that is noted is past, at a place that has none. `Err` where memory is refused:

@@ -53,8 +53,13 @@ pub fn splice_touch(
     let script = session.script();
     let mut touch = looks.seen();
     for place in at..changes_end(looks, at, removed, bytes.len()) {
-        let is_same = is_same_byte(script, at, removed, bytes, place);
-        touch = lesser_unless(looks, is_same, place, touch);
+        if is_same_byte(script, at, removed, bytes, place) {
+            continue;
+        }
+        touch = lesser_step(looks.place(place), touch);
+        if looks.is_earliest_from(place) {
+            return touch;
+        }
     }
     touch
 }
@@ -105,16 +110,6 @@ fn byte_after(script: &[u8], at: usize, removed: usize, bytes: &[u8], place: usi
     }
     let end = &script[at + removed..];
     end.get(place - at - bytes.len()).copied()
-}
-
-// The lesser of a step and the first that looked at a place of the script, unless that has the same byte.
-fn lesser_unless(looks: &FirstLooks, is_same: bool, place: usize, least: u64) -> u64
-    ensures { result ≡ (if is_same then least else lesser (step_of looks.now (Script place)) least) }
-{
-    if is_same {
-        return least;
-    }
-    lesser_step(looks.place(place), least)
 }
 
 // The lesser of two steps, the first of which may not be there.
