@@ -32,9 +32,6 @@ module _ (list bytes : List ℕ) (at removed : ℕ) (inside : at + removed ≤ l
 abbrev pub IsPlace : ℕ → ℕ → Question → Type 0
 IsPlace from n q = (j : ℕ) × (from ≤ j) × (j < n) × (q ≡ Script j)
 
-pub no_place : (from : ℕ) (q : Question) → IsPlace from from q → ⊥
-no_place from q done = omega (arith, done.1, done.2)
-
 pub one_more_place : (from i : ℕ) (q : Question) → IsPlace from (i + 1) q → IsPlace from i q ⊎ (q ≡ Script i)
 one_more_place from i q (j, later, below, is) = elim (cases_lt j i) [
   | inl low ↦ inl (j, later, low, is)
