@@ -25,7 +25,7 @@ least_of_all IsDone f g k t least all = record {
 
 module _ (IsDone IsDoneThen : Question → Type 0) (f g : Answers) (k : Noted) (c : Question) (split : (q : Question) → IsDoneThen q → IsDone q ⊎ (q ≡ c)) (t : ℕ) (least : IsLeast IsDone f g k t) where
   -- a question more is done, which has the same answer
-  more_same : f c ≡ g c → IsLeast IsDoneThen f g k t
+  pub more_same : f c ≡ g c → IsLeast IsDoneThen f g k t
   more_same same = record {
     within = least.within;
     below = λ q m done there low. elim (split q done) [
@@ -36,7 +36,7 @@ module _ (IsDone IsDoneThen : Question → Type 0) (f g : Answers) (k : Noted) (
   }
 
   -- or another
-  more_changed : (f c ≡ g c → ⊥) → (o : Option ℕ) → step_of k c ≡ o → ((m : ℕ) → o ≡ Some m → m < k.seen) → IsLeast IsDoneThen f g k (lesser o t)
+  pub more_changed : (f c ≡ g c → ⊥) → (o : Option ℕ) → step_of k c ≡ o → ((m : ℕ) → o ≡ Some m → m < k.seen) → IsLeast IsDoneThen f g k (lesser o t)
   more_changed differs None at short = record {
     within = least.within;
     below = λ q m done there low. elim (split q done) [

@@ -18,6 +18,7 @@ pub mod CompleteLemmas
 pub mod RefusalLemmas
 pub mod EntryLemmas
 pub mod PlaceLemmas
+pub mod TurnLemmas
 pub mod AskLemmas
 pub mod NewLooks
 pub mod FileTouch

@@ -1,35 +1,69 @@
 -- What a splice of the script changes.
-use Rattle.std.proofs.Common.{◌≡◌, ℕ, ◌+◌, ◌<◌, ◌≤◌, List, length, Option, Some, None, ◌⊎◌, inl, inr, refl, ap, sym, ◌∙◌, arith}
-use Rattle.std.specs.Prelude.{slice_index_or}
-use Rattle.std.proofs.lemmas.Bool.{cases_lt}
+use Rattle.std.proofs.Common.{◌≡◌, ℕ, ◌+◌, ◌<◌, ◌≤◌, ◌==◌, cond, min, List, length, Option, Some, None, ◌⊎◌, inl, inr, refl, ap, sym, ◌∙◌, arith, eqb-true}
+use Rattle.std.specs.Prelude.{slice_get, slice_index_or}
+use Rattle.std.proofs.lemmas.Bool.{cases_lt, cases_Bool, lt-ltb, le-ltb}
+use Rattle.std.proofs.lemmas.Grind.{common_steps}
 use Rattle.std.proofs.lemmas.List.{get_or_past}
+use Rattle.std.proofs.lemmas.Option.{gets}
+use Rattle.file_steps.specs.Steps.{lesser}
 use Rattle.machine.specs.Given.{Session}
 use Rattle.machine.specs.Machine.{Question, Cell, Script, OfHost, ask}
-use Rattle.replay.specs.FirstLooks.{Noted, step_of}
+use Rattle.machine.specs.Session.{spliced}
+use Rattle.replay.specs.FirstLooks.{IsFirstLooks, Noted, step_of}
+use Rattle.replay.specs.FirstSteps.{step_in}
+use Rattle.replay.specs.PlaceSteps.{IsEarliestFrom}
 use Rattle.replay.specs.Edits.{with_splice}
 use Rattle.replay.specs.Touch.{IsNotedTouch}
-use Rattle.replay.proofs.LeastLemmas.{IsLeast}
+use Rattle.replay.proofs.FirstLemmas.{noted_below}
+use Rattle.replay.proofs.LeastLemmas.{IsLeast, more_same, more_changed}
 
--- one of the first n places
-abbrev pub IsPlace : ℕ → Question → Type 0
-IsPlace n q = (j : ℕ) × (j < n) × (q ≡ Script j)
+-- ---- a byte that stays
 
-pub no_place : (q : Question) → IsPlace 0 q → ⊥
-no_place q done = omega (arith, done.1)
+module _ (list bytes : List ℕ) (at removed : ℕ) (inside : at + removed ≤ length list) where
+  pub stays_before : (k : ℕ) → k < at → slice_get list k ≡ slice_get (spliced list at removed bytes) k
+  stays_before k h = grind (arith, common_steps, gets)
 
-pub one_more_place : (i : ℕ) (q : Question) → IsPlace (i + 1) q → IsPlace i q ⊎ (q ≡ Script i)
-one_more_place i q (j, below, is) = elim (cases_lt j i) [
-  | inl low ↦ inl (j, low, is)
+  pub stays_behind : removed ≡ length bytes → (k : ℕ) → at + removed ≤ k → slice_get list k ≡ slice_get (spliced list at removed bytes) k
+  stays_behind same k h = grind (arith, common_steps, gets)
+
+-- ---- the places that are gone over
+
+-- a place from one on, below another
+abbrev pub IsPlace : ℕ → ℕ → Question → Type 0
+IsPlace from n q = (j : ℕ) × (from ≤ j) × (j < n) × (q ≡ Script j)
+
+pub one_more_place : (from i : ℕ) (q : Question) → IsPlace from (i + 1) q → IsPlace from i q ⊎ (q ≡ Script i)
+one_more_place from i q (j, later, below, is) = elim (cases_lt j i) [
+  | inl low ↦ inl (j, later, low, is)
   | inr high ↦ inr (is ∙ ap Script (let e : j ≡ i = omega arith in e))
 ]
 
 no_entry : (entries : List (Option ℕ)) (k m : ℕ) → length entries ≤ k → slice_index_or entries k None ≡ Some m → ⊥
 no_entry entries k m past there = let none : slice_index_or entries k None ≡ None = get_or_past entries k None past in let both : None ≡ Some m = sym none ∙ there in cc
 
-module _ (s : Session) (at removed : ℕ) (bytes : List ℕ) (k : Noted) (t : ℕ) where
-  -- places that have no entry were looked at by no step, and no other question has another answer
-  pub splice_touched : IsLeast (IsPlace (length k.places)) (ask s) (ask (with_splice s at removed bytes)) k t → IsNotedTouch (ask s) (ask (with_splice s at removed bytes)) k t
-  splice_touched least = record {
+-- the rest of the places keep their bytes, or have no step that is earlier than this one
+abbrev pub IsRestLater : Session → ℕ → ℕ → List ℕ → Noted → ℕ → ℕ → Type 0
+IsRestLater s at removed bytes k n t = (j m : ℕ) → n ≤ j → step_in k.places j ≡ Some m → m < t → slice_get s.script j ≡ slice_get (spliced s.script at removed bytes) j
+
+module _ (s : Session) (at removed : ℕ) (bytes : List ℕ) (inside : at + removed ≤ length s.script) (k : Noted) (n t : ℕ) where
+  -- behind the end of the changes a place keeps its byte, or was looked at by no step
+  pub rest_unchanged : cond (removed == length bytes) (min (length k.places) (at + removed)) (length k.places) ≤ n → IsRestLater s at removed bytes k n t
+  rest_unchanged all j m past there low = elim (cases_Bool (removed == length bytes)) [
+    | inl same ↦
+        let end : min (length k.places) (at + removed) ≤ n = rw same at all in
+        elim (cases_lt j (length k.places)) [
+          | inl looked ↦ stays_behind s.script bytes at removed inside (eqb-true removed (length bytes) same) j (omega arith)
+          | inr beyond ↦ absurd (no_entry k.places j m beyond there)
+        ]
+    | inr other ↦
+        let end : length k.places ≤ n = rw other at all in
+        absurd (no_entry k.places j m (omega arith) there)
+  ]
+
+  -- a place before the first that is gone over keeps its byte, and no other question has another answer
+  pub splice_touched : IsRestLater s at removed bytes k n t
+      → IsLeast (IsPlace at n) (ask s) (ask (with_splice s at removed bytes)) k t → IsNotedTouch (ask s) (ask (with_splice s at removed bytes)) k t
+  splice_touched rest least = record {
     within = least.within;
     below = below;
     here = least.here;
@@ -37,7 +71,29 @@ module _ (s : Session) (at removed : ℕ) (bytes : List ℕ) (k : Noted) (t : �
     below : (q : Question) (m : ℕ) → step_of k q ≡ Some m → m < t → ask s q ≡ ask (with_splice s at removed bytes) q
     below (Cell a) m there low = refl
     below (OfHost a) m there low = refl
-    below (Script j) m there low = elim (cases_lt j (length k.places)) [
-      | inl inside ↦ least.below (Script j) m (j, inside, refl) there low
-      | inr past ↦ absurd (no_entry k.places j m past there)
+    below (Script j) m there low = elim (cases_lt j at) [
+      | inl before ↦ stays_before s.script bytes at removed inside j before
+      | inr from ↦ elim (cases_lt j n) [
+        | inl done ↦ least.below (Script j) m (j, from, done, refl) there low
+        | inr past ↦ rest j m past there low
+      ]
     ]
+
+module _ (s : Session) (at removed : ℕ) (bytes : List ℕ) (k : Noted) (i t : ℕ) (least : IsLeast (IsPlace at i) (ask s) (ask (with_splice s at removed bytes)) k t) where
+  -- one place more, which has the same byte
+  pub same_place : ask s (Script i) ≡ ask (with_splice s at removed bytes) (Script i) → IsLeast (IsPlace at (i + 1)) (ask s) (ask (with_splice s at removed bytes)) k t
+  same_place = more_same (IsPlace at i) (IsPlace at (i + 1)) (ask s) (ask (with_splice s at removed bytes)) k (Script i) (one_more_place at i) t least
+
+  -- or another
+  pub changed_place : IsFirstLooks (ask s) k → (ask s (Script i) ≡ ask (with_splice s at removed bytes) (Script i) → ⊥)
+      → IsLeast (IsPlace at (i + 1)) (ask s) (ask (with_splice s at removed bytes)) k (lesser (step_in k.places i) t)
+  changed_place noted differs =
+      more_changed (IsPlace at i) (IsPlace at (i + 1)) (ask s) (ask (with_splice s at removed bytes)) k (Script i) (one_more_place at i) t least differs (step_in k.places i) refl (noted_below (ask s) k noted (Script i))
+
+lesser_low : (o : Option ℕ) (m t : ℕ) → o ≡ Some m → lesser o t ≤ m
+lesser_low o m t e = rw e (elim (cases_lt m t) [ inl low ↦ rw (lt-ltb m t low) (omega arith) | inr high ↦ rw (le-ltb m t high) high ])
+
+-- no place behind one whose byte changes has an earlier step
+pub rest_later : (s : Session) (at removed : ℕ) (bytes : List ℕ) (k : Noted) (place t : ℕ) → IsEarliestFrom k.places place → IsRestLater s at removed bytes k (place + 1) (lesser (step_in k.places place) t)
+rest_later s at removed bytes k place t (m, here, later) j n behind there low =
+    absurd (omega (arith, lesser_low (step_in k.places place) m t here, later j n (omega arith) there, low))

@@ -7,6 +7,7 @@ pub mod Cold
 pub mod Plain
 pub mod PlainIsCold
 pub mod FirstSteps
+pub mod PlaceSteps
 pub mod Codes
 pub mod FirstLooks
 pub mod Ring

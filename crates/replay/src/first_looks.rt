@@ -1,11 +1,13 @@
-ghost use Rattle.std.specs.Prelude.{◌≡◌, ◌+◌, ◌^◌, ◌<◌, ◌≤◌, ◌||◌, [], None, OnOk, OnErr, drop, length};
+ghost use Rattle.std.specs.Prelude.{◌≡◌, ◌+◌, ◌^◌, ◌<◌, ◌≤◌, ◌||◌, [], None, OnOk, OnErr, drop, length, true};
 ghost use Rattle.hostfiles.specs.declared.looks.Ask.{Ask as HostAsk};
 ghost use Rattle.file_steps.specs.Steps.{step_of_ask};
 ghost use Rattle.machine.specs.Machine.{Question, Cell, Script, OfHost, same_question};
 ghost use Rattle.replay.specs.FirstLooks.{step_of, erased, is_cell_of, is_place_of, is_ask_of, is_new_in};
+ghost use Rattle.replay.specs.PlaceSteps.{IsEarliestFrom};
 ghost use Rattle.replay.specs.FirstLooks.{Notes, ErasesLast, SameBelow, NoPlaces, NoAsks};
 
 use crate::first_steps::FirstSteps;
+use crate::place_steps::PlaceSteps;
 use file_steps::FileSteps;
 use machine::{Ask, Running, STEP_LIMIT};
 use std::alloc::{AllocError, Global};
@@ -15,7 +17,7 @@ use std::marker::Model;
 #[derive(Drop)]
 pub struct FirstLooks {
     cells: FirstSteps,
-    places: FirstSteps,
+    places: PlaceSteps,
     files: FileSteps,
     seen: u64,
 }
@@ -50,7 +52,7 @@ impl FirstLooks {
     {
         FirstLooks {
             cells: FirstSteps::new(alloc),
-            places: FirstSteps::new(alloc),
+            places: PlaceSteps::new(alloc),
             files: FileSteps::new(alloc),
             seen: 0,
         }
@@ -83,6 +85,14 @@ impl FirstLooks {
         ensures { result ≡ length self.now.places }
     {
         self.places.end()
+    }
+
+    /// Whether this place of the script was looked at, and no place behind it earlier; told only where places were
+    /// looked at in turn, else `false`.
+    pub fn is_earliest_from(&self, place: usize) -> bool
+        ensures { result ≡ true → IsEarliestFrom self.now.places place }
+    {
+        self.places.is_earliest_from(place)
     }
 
     /// The first steps of the questions of the host files.

@@ -1,4 +1,4 @@
-ghost use Rattle.std.specs.Prelude.{◌≡◌, ◌==◌, ◌+◌, ◌<◌, ◌≤◌, IsTrue, ◌↔◌, option_copied, length, slice_get, if◌then◌else◌};
+ghost use Rattle.std.specs.Prelude.{◌≡◌, ◌==◌, ◌+◌, ◌^◌, ◌<◌, ◌≤◌, IsTrue, ◌↔◌, option_copied, length, min, slice_get, if◌then◌else◌};
 ghost use Rattle.file_steps.specs.Steps.{lesser};
 ghost use Rattle.machine.specs.Machine.{ask, Cell, Script};
 ghost use Rattle.machine.specs.Session.{spliced};
@@ -52,11 +52,30 @@ pub fn splice_touch(
 {
     let script = session.script();
     let mut touch = looks.seen();
-    for place in 0..looks.places_end() {
-        let is_same = is_same_byte(script, at, removed, bytes, place);
-        touch = lesser_unless(looks, is_same, place, touch);
+    for place in at..changes_end(looks, at, removed, bytes.len()) {
+        if is_same_byte(script, at, removed, bytes, place) {
+            continue;
+        }
+        touch = lesser_step(looks.place(place), touch);
+        if looks.is_earliest_from(place) {
+            return touch;
+        }
     }
     touch
+}
+
+// No place from this one on, of those that were looked at, has another byte after a splice: where as many bytes are
+// put in as are taken out, none behind them moves.
+fn changes_end(looks: &FirstLooks, at: usize, removed: usize, added: usize) -> usize
+    requires { at + removed < 2 ^ 64 }
+    ensures { result ≡ (if removed == added then min (length looks.now.places) (at + removed)
+        else length looks.now.places) }
+{
+    let end = looks.places_end();
+    if removed == added {
+        return end.min(at + removed);
+    }
+    end
 }
 
 /// The least noted step that asked something of the host files which has another answer, once the file of a key is set to these
@@ -70,38 +89,27 @@ pub fn file_touch(looks: &FirstLooks, session: &Session, key: &Key, new: Option<
         .touch_of_change(looks.seen(), session.files(), key, new)
 }
 
-// Whether a place has the same byte, or none, before and after.
+// Whether a place, from that of the splice on, has the same byte, or none, before and after.
 fn is_same_byte(script: &[u8], at: usize, removed: usize, bytes: &[u8], place: usize) -> bool
-    requires { at + removed ≤ length script.now }
+    requires inside { at + removed ≤ length script.now }
+    requires later { at ≤ place }
     ensures { IsTrue result
         ↔ (slice_get script.now place ≡ slice_get (spliced script.now at removed bytes.now) place) }
 {
     script.get(place).copied() == byte_after(script, at, removed, bytes, place)
 }
 
-// The byte of a place, once so many bytes from another on are exchanged for others.
+// The byte of a place, once so many bytes from it, or from one before it, on are exchanged for others.
 fn byte_after(script: &[u8], at: usize, removed: usize, bytes: &[u8], place: usize) -> Option<u8>
-    requires { at + removed ≤ length script.now }
+    requires inside { at + removed ≤ length script.now }
+    requires later { at ≤ place }
     ensures { result ≡ slice_get (spliced script.now at removed bytes.now) place }
 {
-    if place < at {
-        return script.get(place).copied();
-    }
     if place - at < bytes.len() {
         return bytes.get(place - at).copied();
     }
     let end = &script[at + removed..];
     end.get(place - at - bytes.len()).copied()
-}
-
-// The lesser of a step and the first that looked at a place of the script, unless that has the same byte.
-fn lesser_unless(looks: &FirstLooks, is_same: bool, place: usize, least: u64) -> u64
-    ensures { result ≡ (if is_same then least else lesser (step_of looks.now (Script place)) least) }
-{
-    if is_same {
-        return least;
-    }
-    lesser_step(looks.place(place), least)
 }
 
 // The lesser of two steps, the first of which may not be there.

@@ -1,22 +1,35 @@
-use Rattle.std.proofs.Common.{◌≡◌, ◌+◌, arith, length, sym, ◌∙◌, true, false}
-use Rattle.machine.specs.Machine.{Script, ask}
-use Rattle.replay.specs.Edits.{with_splice}
-use Rattle.replay.proofs.FirstLemmas.{noted_below}
-use Rattle.replay.proofs.LeastLemmas.{least_more}
-use Rattle.replay.proofs.SpliceLemmas.{IsPlace, one_more_place, splice_touched}
+use Rattle.std.proofs.Common.{◌≡◌, ◌+◌, sym, ◌∙◌, true, false}
+use Rattle.replay.proofs.SpliceLemmas.{same_place, changed_place, rest_later, rest_unchanged, splice_touched}
 use Rattle.replay.proofs.touch.splice_touch.Goals as goal
+
+pub loop-place-preserved-then-is_same_byte : goal.loop-place-preserved-then-is_same_byte
+loop-place-preserved-then-is_same_byte c =
+    let same = rw c.script-script.ensures.value at c.is_same_byte.ensures in
+    same_place c.args.session.now c.args.at c.args.removed c.args.bytes.now c.args.looks.now c.loop-place.place c.loop-place.touch c.loop-place.invariant (same.0 c.if-is_same_byte.true)
 
 pub loop-place-preserved : goal.loop-place-preserved
 loop-place-preserved c =
+    let same = rw c.script-script.ensures.value at c.is_same_byte.ensures in
+    rw (c.lesser_step-touch.ensures, c.place.ensures)
+    (changed_place c.args.session.now c.args.at c.args.removed c.args.bytes.now c.args.looks.now c.loop-place.place c.loop-place.touch c.loop-place.invariant c.requires.noted
+    (λ answers. let yes = same.1 answers in let no : false ≡ true = sym c.if-is_same_byte.false ∙ yes in cc))
+
+pub returns-then-is_earliest_from : goal.returns-then-is_earliest_from
+returns-then-is_earliest_from c =
     let s = c.args.session.now in
-    let after = with_splice s c.args.at c.args.removed c.args.bytes.now in
+    let at = c.args.at in
     let i = c.loop-place.place in
-    let same = rw c.script-script.ensures.value at c.is_same_byte-is_same.ensures in
-    let one = least_more (IsPlace i) (IsPlace (i + 1)) (ask s) (ask after) c.args.looks.now (Script i) (one_more_place i) c.loop-place.touch c.loop-place.invariant
-    (noted_below _ _ c.requires.noted (Script i)) c.is_same_byte-is_same.result same.0 (λ e answers. let yes = same.1 answers in let no : false ≡ true = sym e ∙ yes in cc) in
-    rw c.lesser_unless-touch.ensures one
+    let same = rw c.script-script.ensures.value at c.is_same_byte.ensures in
+    rw (c.lesser_step-touch.ensures, c.place.ensures)
+    (splice_touched s at c.args.removed c.args.bytes.now c.requires.inside c.args.looks.now (i + 1) _
+    (rest_later s at c.args.removed c.args.bytes.now c.args.looks.now i c.loop-place.touch (c.is_earliest_from.ensures c.if-is_earliest_from.true))
+    (changed_place s at c.args.removed c.args.bytes.now c.args.looks.now i c.loop-place.touch c.loop-place.invariant c.requires.noted
+    (λ answers. let yes = same.1 answers in let no : false ≡ true = sym c.if-is_same_byte.false ∙ yes in cc)))
 
 pub returns : goal.returns
 returns c =
-    let all : c.loop-place.place ≡ length c.args.looks.now.places = omega (arith, c.places_end-place-end.ensures) in
-    splice_touched c.args.session.now c.args.at c.args.removed c.args.bytes.now c.args.looks.now c.loop-place.touch (rw all at c.loop-place.invariant)
+    let s = c.args.session.now in
+    let n = c.loop-place.place in
+    splice_touched s c.args.at c.args.removed c.args.bytes.now c.requires.inside c.args.looks.now n c.loop-place.touch
+    (rest_unchanged s c.args.at c.args.removed c.args.bytes.now c.requires.inside c.args.looks.now n c.loop-place.touch (rw c.changes_end-place-end.ensures at c.loop-place-test.false))
+    c.loop-place.invariant

@@ -5,4 +5,4 @@ use Rattle.replay.proofs.SpliceLemmas.{IsPlace}
 use Rattle.replay.proofs.touch.splice_touch.Given as goal
 
 abbrev pub invariant-loop-place : goal.invariant-loop-place
-invariant-loop-place l = IsLeast (IsPlace l.place) (ask l.session) (ask (with_splice l.session l.at l.removed l.bytes)) l.looks l.touch
+invariant-loop-place l = IsLeast (IsPlace l.at l.place) (ask l.session) (ask (with_splice l.session l.at l.removed l.bytes)) l.looks l.touch
