@@ -94,20 +94,17 @@ module _ (first : RunnerView) (begun : ℕ) (bytes : List ℕ) (now : RunnerView
   failed whole others cut U t n Read h = absurd h
   failed whole others cut U t n Write h = (count + 1, with_line whole others cut t n h.0 h.1 h.2)
   failed whole others cut U t n OutOfMemory (inl h) = inl (count, rw (h.0, h.1) (so_far whole (line ∷ others) cut))
-  failed whole others cut U t n OutOfMemory (inr h) = elim h.1 [
-    | inl ran ↦ inl (count + 1, with_line whole others cut t n Run h.0 ran)
-    | inr part ↦ inr (record {
-      done = r.done;
-      line = line;
-      others = others;
-      cut = cut;
-      is_run = h.0;
-      before = now;
-      metered = meter;
-      effects = r.effects;
-      part = part;
-    })
-  ]
+  failed whole others cut U t n OutOfMemory (inr h) = inr (record {
+    done = r.done;
+    line = line;
+    others = others;
+    cut = cut;
+    is_run = h.0;
+    before = now;
+    metered = meter;
+    effects = r.effects;
+    part = h.1;
+  })
 
   -- the line ends, and failed
   pub effects_failing : (U : Type 0) (rest : List ℕ) (t : RunnerView) (n : ℕ) (f : ReplayFault) (given : List ℕ) → given ≡ line

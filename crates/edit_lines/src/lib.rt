@@ -23,7 +23,6 @@ mod stream;
 pub use changed_lines::{Asked, write_changed_files};
 pub use ending::{Ending, ReplayFault};
 pub use ends::{Failed, Over, Reader, Writer, write_all, write_piece};
-pub use hex_writer::write_hex;
 pub use limits::{LINE_LIMIT, LINES_LIMIT};
 pub use line::{Command, one_command, parse_line};
 pub use reply::{cause_text, refused};
