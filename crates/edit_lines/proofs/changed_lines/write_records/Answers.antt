@@ -1,4 +1,4 @@
-use Rattle.std.proofs.Common.{◌≡◌, ◌++◌, ◌+◌, ◌≤◌, List, ℕ, Some, slice_get, [], take, drop, length, unwrap_or, refl, ◌∙◌, sym, arith, ap, append-nil, rules}
+use Rattle.std.proofs.Common.{◌≡◌, ◌++◌, ◌≤◌, Some, slice_get, [], drop, length, unwrap_or, refl, ◌∙◌, arith, ap, append-nil, rules}
 use Rattle.std.specs.List.{concat}
 use Rattle.std.proofs.KnownBytes.{Appends-nil}
 use Rattle.hex.specs.Hex.{encode_lower}

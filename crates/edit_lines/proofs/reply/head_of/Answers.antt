@@ -1,6 +1,5 @@
-use Rattle.std.proofs.Common.{◌≡◌, ℕ, List, ◌++◌, codes, ap, ◌∙◌}
+use Rattle.std.proofs.Common.{ℕ, List, ◌++◌, codes, ap, ◌∙◌}
 use Rattle.std.specs.Fmt.{decimal}
-use Rattle.machine.specs.Cause.{Cause}
 use Rattle.machine.specs.Regs.{Regs}
 use Rattle.replay.specs.Report.{run_of}
 use Rattle.edit_lines.specs.ReportText.{cause_text, regs_text}

@@ -1,4 +1,4 @@
-use Rattle.std.proofs.Common.{◌≡◌, ℕ, ◌++◌, codes, ap, ◌∙◌, append_assoc}
+use Rattle.std.proofs.Common.{ℕ, ◌++◌, codes, ap, ◌∙◌, append_assoc}
 use Rattle.edit_lines.specs.ReportText.{byte_text}
 use Rattle.edit_lines.proofs.ReportLines.{named_behind}
 use Rattle.edit_lines.proofs.reply.push_regs.Goals as goal

@@ -1,4 +1,4 @@
-use Rattle.std.proofs.Common.{◌≡◌, ℕ, List, ◌++◌, ◌∷◌, [], ◌/◌, ◌%◌, ap, ◌∙◌, append_assoc, refl}
+use Rattle.std.proofs.Common.{◌≡◌, ℕ, List, ◌++◌, ◌/◌, ◌%◌, ap, ◌∙◌, append_assoc, refl}
 use Rattle.hex.specs.Hex.{encode_with}
 use Rattle.edit_lines.specs.ReportText.{byte_text, word_text}
 use Rattle.edit_lines.proofs.reply.push_word.Goals as goal

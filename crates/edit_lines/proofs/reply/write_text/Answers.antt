@@ -1,4 +1,4 @@
-use Rattle.std.proofs.Common.{◌≡◌, ◌++◌, ◌∷◌, [], List, ℕ, length, codes, ap, sym, refl, rules}
+use Rattle.std.proofs.Common.{◌≡◌, ◌++◌, ◌∷◌, [], length, codes, rules}
 use Rattle.hex.specs.Hex.{encode_lower}
 use Rattle.edit_lines.specs.ReportText.{hex_text, text_line}
 use Rattle.edit_lines.proofs.WrittenPieces.{all_then, part_then, part_more, writes_part, writes_then, writes_same, no_text, some_text}
