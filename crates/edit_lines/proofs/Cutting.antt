@@ -1,7 +1,8 @@
 -- A text cut at a byte, as it grows.
-use Rattle.std.proofs.Common.{◌≡◌, ℕ, suc, ◌<◌, List, [], ◌∷◌, ◌++◌, length, refl, sym, ap, ◌∙◌, arith, append_assoc, inl, inr, false, eqb, eqb-true}
-use Rattle.std.proofs.lemmas.Bool.{cases_Bool}
+use Rattle.std.proofs.Common.{◌≡◌, ℕ, suc, ◌<◌, List, [], ◌∷◌, ◌++◌, length, refl, sym, ap, ◌∙◌, ◌+◌, arith, add-one, zero-le, eqb-true, take-append-drop, drop-cons, append_assoc, inl, inr, eqb, take, drop, zero, slice_index}
+use Rattle.std.proofs.lemmas.Bool.{cases_Bool, eq-eqb, ne_eqb}
 use Rattle.std.proofs.lemmas.List.{append-nil}
+use Rattle.memchr.specs.Find.{Nowhere, NoneBefore, Passes, is_byte}
 use Rattle.edit_lines.specs.Pieces.{first_piece, other_pieces, pieces, without_empty_last, lines_of, past_lines}
 
 nil_ne_snoc : (ds : List (List ℕ)) (l : List ℕ) → [] ≡ ds ++ l ∷ [] → ⊥
@@ -86,13 +87,63 @@ pub lines_of-pieces : (xs : List ℕ) (ds : List (List ℕ)) (l : List ℕ) → 
     → lines_of xs ≡ ds ++ without_empty_last (l ∷ [])
 lines_of-pieces xs ds l e = ap without_empty_last e ∙ without_empty_last-append ds l []
 
-not_cut : (b : ℕ) → (b ≡ 10 → ⊥) → eqb b 10 ≡ false
-not_cut b ne = elim (cases_Bool (eqb b 10)) [ inl t ↦ absurd (ne (eqb-true b 10 t)) | inr f ↦ f ]
+-- bytes of which none cuts
+pub uncut : (cut : ℕ) (bs : List ℕ) → ((i : ℕ) → i < length bs → slice_index bs i ≡ cut → ⊥) → pieces cut bs ≡ bs ∷ []
+uncut cut [] none = refl
+uncut cut (b ∷ bs) none =
+    let f = ne_eqb b cut (none 0 (omega arith)) in
+    let again = uncut cut bs (λ i h. none (suc i) (omega (arith, h))) in
+    rw f cc
 
--- one more byte of a text, which is no 0AH, goes on with its last line
-pub cut_beside : (xs : List ℕ) (ds : List (List ℕ)) (l : List ℕ) → pieces 10 xs ≡ ds ++ l ∷ [] → (b : ℕ) → (b ≡ 10 → ⊥)
-    → pieces 10 (xs ++ b ∷ []) ≡ ds ++ (l ++ b ∷ []) ∷ []
-cut_beside xs ds l e b ne = let f = not_cut b ne in let p = pieces-append 10 xs (b ∷ []) ds l e in rw f at p
+-- bytes of which the first one that cuts stands at place k
+pub cut_at : (cut : ℕ) (bs : List ℕ) (k : ℕ) → k < length bs → ((i : ℕ) → i < k → slice_index bs i ≡ cut → ⊥) → slice_index bs k ≡ cut
+    → pieces cut bs ≡ take k bs ∷ pieces cut (drop (suc k) bs)
+cut_at cut [] k h none here = absurd (omega (arith, h))
+cut_at cut (b ∷ bs) zero h none here = let t = eq-eqb b cut here in rw t refl
+cut_at cut (b ∷ bs) (suc k) h none here =
+    let f = ne_eqb b cut (none 0 (omega arith)) in
+    let again = cut_at cut bs k (omega (arith, h)) (λ i below. none (suc i) (omega (arith, below))) here in
+    rw f cc
+
+-- what stands before such a place is one piece
+front_uncut : (cut : ℕ) (bs : List ℕ) (k : ℕ) → ((i : ℕ) → i < k → slice_index bs i ≡ cut → ⊥) → pieces cut (take k bs) ≡ take k bs ∷ []
+front_uncut cut bs zero none = refl
+front_uncut cut [] (suc k) none = refl
+front_uncut cut (b ∷ bs) (suc k) none =
+    let f = ne_eqb b cut (none 0 (omega arith)) in
+    let again = front_uncut cut bs k (λ i below. none (suc i) (omega (arith, below))) in
+    rw f cc
+
+-- ---- what a search for a byte found
+
+module _ (cut : ℕ) (bs : List ℕ) where
+  pub found_nowhere : Nowhere (Passes (is_byte cut) bs) 0 (length bs) → pieces cut bs ≡ bs ∷ []
+  found_nowhere none = uncut cut bs (λ i below same. none i zero-le below (eq-eqb (slice_index bs i) cut same))
+
+  module _ (k : ℕ) (first : NoneBefore (Passes (is_byte cut) bs) 0 (length bs) k) where
+    none_before : (i : ℕ) → i < k → slice_index bs i ≡ cut → ⊥
+    none_before i below same = first.before i zero-le below (eq-eqb (slice_index bs i) cut same)
+
+    pub found_front : pieces cut (take k bs) ≡ take k bs ∷ []
+    found_front = front_uncut cut bs k none_before
+
+    module _ (here : Passes (is_byte cut) bs k) where
+      pub found_pieces : pieces cut bs ≡ take k bs ∷ pieces cut (drop (k + 1) bs)
+      found_pieces = rw add-one (cut_at cut bs k first.high none_before (eqb-true (slice_index bs k) cut here))
+
+      pub found_split : take k bs ++ (cut ∷ drop (k + 1) bs) ≡ bs
+      found_split =
+          let one : drop k bs ≡ slice_index bs k ∷ drop (k + 1) bs = rw (add-one, drop-cons bs k 0 first.high) refl in
+          ap (λ (c : ℕ). take k bs ++ (c ∷ drop (k + 1) bs)) (sym (eqb-true (slice_index bs k) cut here))
+          ∙ ap (λ (t : List ℕ). take k bs ++ t) (sym one) ∙ take-append-drop k bs
+
+-- such bytes go on with the last line of a text
+pub cut_beside : (xs : List ℕ) (ds : List (List ℕ)) (l : List ℕ) → pieces 10 xs ≡ ds ++ l ∷ [] → (bs : List ℕ) → pieces 10 bs ≡ bs ∷ []
+    → pieces 10 (xs ++ bs) ≡ ds ++ (l ++ bs) ∷ []
+cut_beside xs ds l e bs part =
+    let first : first_piece 10 bs ≡ bs = cc in
+    let others : other_pieces 10 bs ≡ [] = cc in
+    let p = pieces-append 10 xs bs ds l e in rw (first, others) at p
 
 -- 0AH ends it
 pub cut_here : (xs : List ℕ) (ds : List (List ℕ)) (l : List ℕ) → pieces 10 xs ≡ ds ++ l ∷ []

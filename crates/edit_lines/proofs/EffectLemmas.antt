@@ -1,15 +1,15 @@
 -- What one more line, one more byte and the end of the input do to a runner and a meter.
-use Rattle.std.proofs.Common.{◌≡◌, ℕ, ◌+◌, ◌-◌, ◌<◌, List, [], ◌∷◌, ◌++◌, length, refl, sym, ap, subst, ◌∙◌, arith, append_assoc, length-append, inl, inr, Result, Ok, Err}
+use Rattle.std.proofs.Common.{◌≡◌, ℕ, ◌+◌, ◌-◌, ◌<◌, List, [], ◌∷◌, ◌++◌, length, refl, sym, ap, subst, ◌∙◌, arith, append_assoc, length-append, inl, inr, Result, Ok, Err, OnOk, IfErr}
 use Rattle.std.proofs.lemmas.List.{append-nil}
 use Rattle.replay.specs.Plain.{PlainRun, plain_run}
 use Rattle.replay.specs.RunnerView.{RunnerView, SameOptions, Reran, LeavesNoneOut, CountsAnew, rerun_start}
 use Rattle.edit_lines.specs.declared.line.Command.{Command}
-use Rattle.edit_lines.specs.declared.line.Command.TheVariants.{Run}
 use Rattle.edit_lines.specs.declared.ending.ReplayFault.{ReplayFault}
 use Rattle.edit_lines.specs.declared.ending.ReplayFault.TheVariants.{Malformed, LineTooLong, Read, Write, OutOfMemory}
 use Rattle.edit_lines.specs.EditLine.{EditLine}
-use Rattle.edit_lines.specs.Pieces.{first_piece, other_pieces, without_empty_last, lines_of}
-use Rattle.edit_lines.specs.Effects.{Effect, RunEffect, Effects, none, more, CommandDid, LineDid, EffectsSoFar, FirstEffects, EffectsAtFault}
+use Rattle.edit_lines.specs.Pieces.{first_piece, other_pieces, pieces, without_empty_last, lines_of}
+use Rattle.edit_lines.specs.Progress.{IsPartFault}
+use Rattle.edit_lines.specs.Effects.{Effect, RunEffect, Effects, none, more, CommandDid, LineDid, EffectsSoFar, FirstEffects, EffectsAfter, EffectsAtFault}
 use Rattle.edit_lines.proofs.Cutting.{cut_beside, cut_here, one_line, lines_of-append, lines_of-pieces}
 
 -- one more line has its effect
@@ -58,8 +58,8 @@ no_effects r m = record { done = []; cut = refl; effects = none; counted = refl 
 module _ (first : RunnerView) (begun : ℕ) (bytes : List ℕ) (now : RunnerView) (meter : ℕ) (line : List ℕ) (count : ℕ)
     (r : EffectsSoFar first begun bytes now meter line count) where
   -- the line goes on
-  pub effects_grow : (b : ℕ) → (b ≡ 10 → ⊥) → EffectsSoFar first begun (bytes ++ b ∷ []) now meter (line ++ b ∷ []) count
-  effects_grow b ne = record { done = r.done; cut = cut_beside bytes r.done line r.cut b ne; effects = r.effects; counted = r.counted }
+  pub effects_grow : (bs : List ℕ) → pieces 10 bs ≡ bs ∷ [] → EffectsSoFar first begun (bytes ++ bs) now meter (line ++ bs) count
+  effects_grow bs part = record { done = r.done; cut = cut_beside bytes r.done line r.cut bs part; effects = r.effects; counted = r.counted }
 
   -- the line ends, and its command has its effect
   pub effects_done : (t : RunnerView) (n : ℕ) (c : Command) → EditLine line c → Effect c now meter t n
@@ -94,20 +94,17 @@ module _ (first : RunnerView) (begun : ℕ) (bytes : List ℕ) (now : RunnerView
   failed whole others cut U t n Read h = absurd h
   failed whole others cut U t n Write h = (count + 1, with_line whole others cut t n h.0 h.1 h.2)
   failed whole others cut U t n OutOfMemory (inl h) = inl (count, rw (h.0, h.1) (so_far whole (line ∷ others) cut))
-  failed whole others cut U t n OutOfMemory (inr h) = elim h.1 [
-    | inl ran ↦ inl (count + 1, with_line whole others cut t n Run h.0 ran)
-    | inr part ↦ inr (record {
-      done = r.done;
-      line = line;
-      others = others;
-      cut = cut;
-      is_run = h.0;
-      before = now;
-      metered = meter;
-      effects = r.effects;
-      part = part;
-    })
-  ]
+  failed whole others cut U t n OutOfMemory (inr h) = inr (record {
+    done = r.done;
+    line = line;
+    others = others;
+    cut = cut;
+    is_run = h.0;
+    before = now;
+    metered = meter;
+    effects = r.effects;
+    part = h.1;
+  })
 
   -- the line ends, and failed
   pub effects_failing : (U : Type 0) (rest : List ℕ) (t : RunnerView) (n : ℕ) (f : ReplayFault) (given : List ℕ) → given ≡ line
@@ -118,13 +115,27 @@ module _ (first : RunnerView) (begun : ℕ) (bytes : List ℕ) (now : RunnerView
       (lines_of-append (bytes ++ 10 ∷ []) rest (r.done ++ line ∷ []) [] (cut_here bytes r.done line r.cut) ∙ append_assoc r.done (line ∷ []) others)
       U t n f (subst (λ x. LineDid {U = U} (count + 1) x now meter t n (Err f)) same h)
 
-  -- the line goes on with this byte and more, and is not carried out
-  pub effects_stay : (b : ℕ) (rest : List ℕ) → FirstEffects first begun ((bytes ++ b ∷ []) ++ rest) count now meter
-  effects_stay b rest = so_far ((bytes ++ b ∷ []) ++ rest) _
-      (ap lines_of (append_assoc bytes (b ∷ []) rest) ∙ lines_of-append bytes (b ∷ rest) r.done line r.cut)
+  -- the line goes on with these bytes and more, and is not carried out
+  effects_stay : (bs rest : List ℕ) → FirstEffects first begun ((bytes ++ bs) ++ rest) count now meter
+  effects_stay bs rest = so_far ((bytes ++ bs) ++ rest) _
+      (ap lines_of (append_assoc bytes bs rest) ∙ lines_of-append bytes (bs ++ rest) r.done line r.cut)
 
-  pub effects_too_long : (b : ℕ) (rest : List ℕ) → FirstEffects first begun ((bytes ++ b ∷ []) ++ rest) (count + 1 - 1) now meter
-  effects_too_long b rest = let e : count + 1 - 1 ≡ count = omega arith in rw e (effects_stay b rest)
+  -- the next part of the line is not taken
+  pub effects_part : (bs rest : List ℕ) (f : ReplayFault) → IsPartFault count (length line) (length bs) f
+      → EffectsAtFault first begun ((bytes ++ bs) ++ rest) now meter f
+  effects_part bs rest (LineTooLong k) h =
+      let e : k - 1 ≡ count = omega (arith, h.0) in rw e (effects_stay bs rest)
+  effects_part bs rest OutOfMemory h = inl (count, effects_stay bs rest)
+  effects_part bs rest (Malformed k) h = absurd h
+  effects_part bs rest Read h = absurd h
+  effects_part bs rest Write h = absurd h
+
+  -- what taking the next part of the line does
+  pub part_effects : (U : Type 0) (bs : List ℕ) → pieces 10 bs ≡ bs ∷ [] → (grown : List ℕ) (same : ℕ) (o : Result U ReplayFault)
+      → same ≡ count → OnOk o (grown ≡ line ++ bs) → IfErr o (IsPartFault count (length line) (length bs))
+      → EffectsAfter first begun (bytes ++ bs) [] now meter grown same o
+  part_effects U bs part grown same (Ok u) counted ok fault = rw (ok, counted) (effects_grow bs part)
+  part_effects U bs part grown same (Err f) counted ok fault = effects_part bs [] f fault
 
   -- the input ends after a whole line
   pub effects_whole : line ≡ [] → Effects first begun (lines_of bytes) now meter

@@ -9,3 +9,4 @@ pub mod Once
 pub mod SaidNames
 pub mod WrittenPieces
 pub mod Reporting
+pub mod ReportLines

@@ -1,7 +1,7 @@
 -- Taking a text in parts.
-use Rattle.std.proofs.Common.{◌≡◌, ℕ, ◌+◌, ◌-◌, List, ◌++◌, length, take, drop, refl, sym, ap, ◌∙◌, arith, Option, ◌<◌, ◌∷◌, [], get_or, add-one, append_assoc, take-append-drop, drop-cons}
+use Rattle.std.proofs.Common.{◌≡◌, ℕ, ◌+◌, ◌-◌, ◌≤◌, List, ◌++◌, length, take, drop, sym, ap, ◌∙◌, arith, Option, ◌∷◌, [], append_assoc, length-append}
 use Rattle.std.proofs.lemmas.List.{append-nil, drop-drop, take_all, length-drop}
-use Rattle.std.proofs.Math.Seq.{take-add, take-suc}
+use Rattle.std.proofs.Math.Seq.{take-add}
 use Rattle.std.specs.Io.KnownBytes.{Appends}
 use Rattle.std.proofs.KnownBytes.{Appends-trans}
 
@@ -16,14 +16,31 @@ pub Appends-more : (a b c : Option (List ℕ)) (n m : ℕ) (t r : List ℕ) → 
 Appends-more a b c n m t r e p q =
     rw (take-add n m t, ← e) (Appends-trans a b c (take n t) (take m r) p q)
 
--- a list in the parts before, at and after place i
-pub parted : (i : ℕ) (bs xs : List ℕ) → i < length xs → ((bs ++ take i xs) ++ get_or xs i 0 ∷ []) ++ drop (i + 1) xs ≡ (bs ++ xs) ++ []
-parted i bs xs h =
-    let one : drop i xs ≡ get_or xs i 0 ∷ drop (i + 1) xs = rw (add-one, drop-cons xs i 0) refl in
-    let all : take i xs ++ (get_or xs i 0 ∷ drop (i + 1) xs) ≡ xs = rw (← one) (take-append-drop i xs) in
-    append_assoc (bs ++ take i xs) (get_or xs i 0 ∷ []) (drop (i + 1) xs)
-    ∙ append_assoc bs (take i xs) (get_or xs i 0 ∷ drop (i + 1) xs)
-    ∙ ap (λ l. bs ++ l) all ∙ sym (append-nil (bs ++ xs))
+-- what stands behind a place
+pub all_after : (m : ℕ) (t : List ℕ) → take (length t - m) (drop m t) ≡ drop m t
+all_after m t = take_all (length t - m) (drop m t) (omega (arith, length-drop m t))
 
-pub one_further : (i : ℕ) (bs xs : List ℕ) → i < length xs → (bs ++ take i xs) ++ get_or xs i 0 ∷ [] ≡ bs ++ take (i + 1) xs
-one_further i bs xs h = append_assoc bs (take i xs) (get_or xs i 0 ∷ []) ∙ ap (λ l. bs ++ l) (sym (rw add-one (take-suc xs i 0 h)))
+-- ---- a piece of which some first bytes were taken, and then a part of what is left
+
+module _ (bytes taken part others rest piece : List ℕ) (cut : part ++ others ≡ rest) (whole : taken ++ rest ≡ piece) where
+  pub with_part : ((bytes ++ taken) ++ part) ++ others ≡ (bytes ++ piece) ++ []
+  with_part =
+      append_assoc (bytes ++ taken) part others ∙ append_assoc bytes taken (part ++ others)
+      ∙ ap (λ (t : List ℕ). bytes ++ (taken ++ t)) cut ∙ ap (λ (t : List ℕ). bytes ++ t) whole ∙ sym (append-nil (bytes ++ piece))
+
+  pub small_parts : length piece ≤ 65535 → length part + length others ≤ 65535
+  small_parts small = let all = ap length cut in let more = ap length whole in omega (arith, small, all, more, length-append part others, length-append taken rest)
+
+-- and the end of a line
+module _ (bytes taken part others rest piece : List ℕ) (cut : part ++ (10 ∷ others) ≡ rest) (whole : taken ++ rest ≡ piece) where
+  pub with_line : (((bytes ++ taken) ++ part) ++ 10 ∷ []) ++ others ≡ (bytes ++ piece) ++ []
+  with_line = append_assoc ((bytes ++ taken) ++ part) (10 ∷ []) others ∙ with_part bytes taken part (10 ∷ others) rest piece cut whole
+
+  pub line_taken : ((taken ++ part) ++ 10 ∷ []) ++ others ≡ piece
+  line_taken = append_assoc (taken ++ part) (10 ∷ []) others ∙ append_assoc taken part (10 ∷ others) ∙ ap (λ (t : List ℕ). taken ++ t) cut ∙ whole
+
+pub line_behind : (bytes taken part : List ℕ) → ((bytes ++ taken) ++ part) ++ 10 ∷ [] ≡ bytes ++ ((taken ++ part) ++ 10 ∷ [])
+line_behind bytes taken part = ap (λ (t : List ℕ). t ++ 10 ∷ []) (append_assoc bytes taken part) ∙ append_assoc bytes (taken ++ part) (10 ∷ [])
+
+pub rest_behind : (bytes taken rest piece : List ℕ) → taken ++ rest ≡ piece → (bytes ++ taken) ++ rest ≡ bytes ++ piece
+rest_behind bytes taken rest piece whole = append_assoc bytes taken rest ∙ ap (λ (t : List ℕ). bytes ++ t) whole

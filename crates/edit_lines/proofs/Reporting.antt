@@ -17,17 +17,19 @@ use Rattle.edit_lines.specs.declared.line.Command.TheVariants as command
 use Rattle.edit_lines.specs.Progress.{Does}
 use Rattle.edit_lines.specs.Replay.{edit_after, edit_reply}
 use Rattle.edit_lines.specs.Writing.{Replies}
-use Rattle.edit_lines.specs.ReportText.{line, head_text}
+use Rattle.edit_lines.specs.ReportText.{line, head_text, text_line}
 use Rattle.edit_lines.specs.ChangedLines.{changed_lines}
 use Rattle.edit_lines.specs.Reports.{report_text}
 
-pub report_is : (s : Session) (run : PlainRun) (head : List ℕ) (host : Host) (all : Files) → head ≡ head_text run → host ≡ s.files → all ≡ run.machine.files
-    → ((head ++ changed_lines host all) ++ line (codes "end")) ≡ report_text s run
+pub report_is : (s : Session) (run : PlainRun) (head text : List ℕ) (host : Host) (all : Files) → head ≡ head_text run
+    → text ≡ run.machine.core.desk.text → host ≡ s.files → all ≡ run.machine.files
+    → (((head ++ text_line text) ++ changed_lines host all) ++ line (codes "end")) ≡ report_text s run
 unfolding report_text
-report_is s run head host all first files done =
-    ap (λ (h : List ℕ). (h ++ changed_lines host all) ++ line (codes "end")) first
-    ∙ ap (λ (h : Host). (head_text run ++ changed_lines h all) ++ line (codes "end")) files
-    ∙ ap (λ (m : Files). (head_text run ++ changed_lines s.files m) ++ line (codes "end")) done
+report_is s run head text host all first printed files done =
+    ap (λ (h : List ℕ). ((h ++ text_line text) ++ changed_lines host all) ++ line (codes "end")) first
+    ∙ ap (λ (t : List ℕ). ((head_text run ++ text_line t) ++ changed_lines host all) ++ line (codes "end")) printed
+    ∙ ap (λ (h : Host). ((head_text run ++ text_line run.machine.core.desk.text) ++ changed_lines h all) ++ line (codes "end")) files
+    ∙ ap (λ (m : Files). ((head_text run ++ text_line run.machine.core.desk.text) ++ changed_lines s.files m) ++ line (codes "end")) done
 
 -- the refusal that was answered
 pub refused_by : (wanted : Result Session ℕ) (e : EditError) (after : Session) → (e ≡ OutOfMemory → ⊥) → AnswersEdit {U = Unit {0}} wanted (Err e) after → wanted ≡ Err (number_of e)

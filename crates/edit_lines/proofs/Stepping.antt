@@ -1,5 +1,5 @@
--- What one more byte, and the end of the input, do to a replay.
-use Rattle.std.proofs.Common.{◌≡◌, ℕ, suc, ◌+◌, ◌-◌, ◌≤◌, ◌<◌, List, [], ◌∷◌, ◌++◌, length, refl, sym, ap, subst, ◌∙◌, arith, append_assoc, length-append, Option, Some, Err}
+-- What more of a line, its end, and the end of the input do to a replay.
+use Rattle.std.proofs.Common.{◌≡◌, ℕ, suc, ◌+◌, ◌*◌, ◌-◌, ◌≤◌, ◌<◌, List, [], ◌∷◌, ◌++◌, length, refl, sym, ap, subst, ◌∙◌, arith, append_assoc, length-append, Option, Some, Result, Ok, Err, OnOk, IfErr}
 use Rattle.std.proofs.lemmas.List.{append-nil}
 use Rattle.std.specs.List.{concat}
 use Rattle.std.specs.Io.KnownBytes.{Appends, IsAtEnd}
@@ -7,11 +7,12 @@ use Rattle.std.proofs.KnownBytes.{Appends-trans, Appends-nil}
 use Rattle.machine.specs.Given.{Session}
 use Rattle.edit_lines.specs.declared.line.Command.{Command}
 use Rattle.edit_lines.specs.declared.ending.ReplayFault.{ReplayFault}
+use Rattle.edit_lines.specs.declared.ending.ReplayFault.TheVariants.{Malformed, LineTooLong, Read, Write, OutOfMemory}
 use Rattle.edit_lines.specs.EditLine.{EditLine}
 use Rattle.edit_lines.specs.Pieces.{first_piece, other_pieces, pieces, without_empty_last, lines_of, past_lines}
 use Rattle.edit_lines.specs.Replay.{none, Finished, TooLongAt, EndsAt, Replays, reply, session_after}
 use Rattle.edit_lines.specs.Faults.{EndsWith, BreaksOff, Faults}
-use Rattle.edit_lines.specs.Progress.{StandsAt, CarriesOut}
+use Rattle.edit_lines.specs.Progress.{StandsAt, CarriesOut, Goes, IsPartFault}
 use Rattle.edit_lines.proofs.Cutting.{cut_beside, cut_here, one_line, past_lines-pieces, past_lines-last, lines_of-append, lines_of-pieces}
 use Rattle.edit_lines.proofs.Carrying.{Carries-snoc, concat-snoc, Faults-from, stays_there}
 use Rattle.edit_lines.specs.declared.limits.TheConstants.{LINE_LIMIT, LINES_LIMIT}
@@ -58,11 +59,11 @@ module _ (first : Session) (held : Option (List ℕ)) (bytes : List ℕ) (now : 
   enough = omega (arith, r.counted)
 
   -- the line goes on
-  pub line_grows : (b : ℕ) → (b ≡ 10 → ⊥) → StandsAt first held (bytes ++ b ∷ []) now holds (line ++ b ∷ []) count
-  line_grows b ne = record {
+  pub line_grows : (bs : List ℕ) → pieces 10 bs ≡ bs ∷ [] → StandsAt first held (bytes ++ bs) now holds (line ++ bs) count
+  line_grows bs part = record {
     done = r.done;
     replies = r.replies;
-    cut = cut_beside bytes r.done line r.cut b ne;
+    cut = cut_beside bytes r.done line r.cut bs part;
     carried = r.carried;
     written = r.written;
     counted = r.counted;
@@ -107,53 +108,70 @@ module _ (first : Session) (held : Option (List ℕ)) (bytes : List ℕ) (now : 
       (rw (← e, past') (omega arith))
       (subst (λ x. CarriesOut {U = U} (count + 1) x now t holds h₁ (Err f)) same h)
 
+  -- what stands past the lines that were carried out
+  past_here : (bs rest : List ℕ) → length bs + length rest ≤ 65536 → length (past_lines (length r.done) ((bytes ++ bs) ++ rest)) ≤ 2 * LINE_LIMIT
+  past_here bs rest few_more =
+      let past : past_lines (length r.done) ((bytes ++ bs) ++ rest) ≡ line ++ (bs ++ rest) =
+      ap (past_lines (length r.done)) (append_assoc bytes bs rest) ∙ past_lines-pieces bytes (bs ++ rest) r.done line r.cut in
+      rw past (omega (arith, length-append line (bs ++ rest), length-append bs rest))
+
   -- the line is too long
-  pub line_too_long : (left : Option (List ℕ)) (b : ℕ) (rest : List ℕ) → (b ≡ 10 → ⊥) → length line ≡ LINE_LIMIT → length rest ≤ 65535
-      → EndsWith left first held ((bytes ++ b ∷ []) ++ rest) now holds (count + 1) (TooLongAt (count + 1))
-  line_too_long left b rest ne full few_more = record {
+  line_too_long : (left : Option (List ℕ)) (bs rest : List ℕ) → pieces 10 bs ≡ bs ∷ [] → LINE_LIMIT < length line + length bs
+      → length bs + length rest ≤ 65536 → EndsWith left first held ((bytes ++ bs) ++ rest) now holds (count + 1) (TooLongAt (count + 1))
+  line_too_long left bs rest part full few_more = record {
     text = concat r.replies;
     written = r.written;
     replays = λ more e. too_long more;
     some = ([], too_long []);
-    near =
-        let past : past_lines (length r.done) ((bytes ++ b ∷ []) ++ rest) ≡ line ++ (b ∷ rest) =
-        ap (past_lines (length r.done)) (append_assoc bytes (b ∷ []) rest) ∙ past_lines-pieces bytes (b ∷ rest) r.done line r.cut in
-        let k : count + 1 - 1 ≡ length r.done = omega (arith, r.counted) in
-        rw (k, past) (omega (arith, length-append line (b ∷ rest)));
+    near = let k : count + 1 - 1 ≡ length r.done = omega (arith, r.counted) in rw k (past_here bs rest few_more);
   } where
-    too_long : (more : List ℕ) → Replays first (lines_of (((bytes ++ b ∷ []) ++ rest) ++ more)) (concat r.replies) now (TooLongAt (count + 1))
+    too_long : (more : List ℕ) → Replays first (lines_of (((bytes ++ bs) ++ rest) ++ more)) (concat r.replies) now (TooLongAt (count + 1))
     too_long more =
-        let q = (line ++ b ∷ []) ++ first_piece 10 (rest ++ more) in
+        let q = (line ++ bs) ++ first_piece 10 (rest ++ more) in
         let qs = other_pieces 10 (rest ++ more) in record {
           done = r.done;
           left = without_empty_last (q ∷ qs);
           replies = r.replies;
-          cut = ap lines_of (append_assoc (bytes ++ b ∷ []) rest more)
-              ∙ lines_of-append (bytes ++ b ∷ []) (rest ++ more) r.done (line ++ b ∷ []) (cut_beside bytes r.done line r.cut b ne);
+          cut = ap lines_of (append_assoc (bytes ++ bs) rest more)
+              ∙ lines_of-append (bytes ++ bs) (rest ++ more) r.done (line ++ bs) (cut_beside bytes r.done line r.cut bs part);
           few = enough;
           carried = r.carried;
           written = refl;
           ends = rw r.counted (ends_long (length r.done) q qs
-              (omega (arith, length-append (line ++ b ∷ []) (first_piece 10 (rest ++ more)), length-append line (b ∷ []))));
+              (omega (arith, length-append (line ++ bs) (first_piece 10 (rest ++ more)), length-append line bs)));
         }
 
-  -- the lines, where the line goes on with this byte and more
-  lines_on : (b : ℕ) (more : List ℕ) → (others : List (List ℕ)) × (lines_of ((bytes ++ b ∷ []) ++ more) ≡ r.done ++ others)
-  lines_on b more = (
-    without_empty_last ((line ++ first_piece 10 (b ∷ more)) ∷ other_pieces 10 (b ∷ more)),
-    ap lines_of (append_assoc bytes (b ∷ []) more) ∙ lines_of-append bytes (b ∷ more) r.done line r.cut,
+  -- the lines, where the line goes on with these bytes and more
+  lines_on : (bs more : List ℕ) → (others : List (List ℕ)) × (lines_of ((bytes ++ bs) ++ more) ≡ r.done ++ others)
+  lines_on bs more = (
+    without_empty_last ((line ++ first_piece 10 (bs ++ more)) ∷ other_pieces 10 (bs ++ more)),
+    ap lines_of (append_assoc bytes bs more) ∙ lines_of-append bytes (bs ++ more) r.done line r.cut,
   )
 
-  -- no memory for one more byte
-  pub line_stays : (left : Option (List ℕ)) (b : ℕ) (rest : List ℕ) → length rest ≤ 65535
-      → BreaksOff left first held ((bytes ++ b ∷ []) ++ rest) now holds
-  line_stays left b rest few_more =
-      let past : past_lines (length r.done) ((bytes ++ b ∷ []) ++ rest) ≡ line ++ (b ∷ rest) =
-      ap (past_lines (length r.done)) (append_assoc bytes (b ∷ []) rest) ∙ past_lines-pieces bytes (b ∷ rest) r.done line r.cut in
-      stays_there left first now now held holds holds ((bytes ++ b ∷ []) ++ rest) line r.done r.replies r.carried r.written enough
-      (lines_on b rest).0 (lines_on b rest).1
-      (λ more e. let on = lines_on b (rest ++ more) in (on.0, ap lines_of (append_assoc (bytes ++ b ∷ []) rest more) ∙ on.1))
-      (rw past (omega (arith, length-append line (b ∷ rest))))
+  -- no memory for more bytes
+  line_stays : (left : Option (List ℕ)) (bs rest : List ℕ) → length bs + length rest ≤ 65536
+      → BreaksOff left first held ((bytes ++ bs) ++ rest) now holds
+  line_stays left bs rest few_more =
+      stays_there left first now now held holds holds ((bytes ++ bs) ++ rest) line r.done r.replies r.carried r.written enough
+      (lines_on bs rest).0 (lines_on bs rest).1
+      (λ more e. let on = lines_on bs (rest ++ more) in (on.0, ap lines_of (append_assoc (bytes ++ bs) rest more) ∙ on.1))
+      (past_here bs rest few_more)
+
+  -- the next part of the line is not taken
+  pub part_fails : (left : Option (List ℕ)) (bs rest : List ℕ) → pieces 10 bs ≡ bs ∷ [] → length bs + length rest ≤ 65536 → (f : ReplayFault)
+      → IsPartFault count (length line) (length bs) f → Faults left first held ((bytes ++ bs) ++ rest) now holds f
+  part_fails left bs rest part few_more (LineTooLong k) h = rw h.0 (line_too_long left bs rest part h.1 few_more)
+  part_fails left bs rest part few_more OutOfMemory h = line_stays left bs rest few_more
+  part_fails left bs rest part few_more (Malformed k) h = absurd h
+  part_fails left bs rest part few_more Read h = absurd h
+  part_fails left bs rest part few_more Write h = absurd h
+
+  -- what taking the next part of the line answers
+  pub part_goes : (U : Type 0) (bs : List ℕ) → pieces 10 bs ≡ bs ∷ [] → length bs ≤ 65536 → (grown : List ℕ) (same : ℕ) (r : Result U ReplayFault)
+      → same ≡ count → OnOk r (grown ≡ line ++ bs) → IfErr r (IsPartFault count (length line) (length bs))
+      → Goes first held (bytes ++ bs) [] now holds grown same r
+  part_goes U bs part few_bytes grown same (Ok u) counted ok fault = rw (ok, counted) (line_grows bs part)
+  part_goes U bs part few_bytes grown same (Err f) counted ok fault = λ left few_more. part_fails left bs [] part (omega (arith, few_bytes)) f fault
 
   -- the input ends after a whole line
   pub ends_whole : line ≡ [] → Replays first (lines_of bytes) (concat r.replies) now (Finished count)

@@ -11,7 +11,7 @@ use Rattle.std.proofs.lemmas.Option.{get_or_from_slice_get, slice_get_past, slic
 use Rattle.hostfiles.specs.Files.{Own, told}
 use Rattle.hostfiles.specs.Changed.{changed_names, changed_keys}
 use Rattle.hostfiles.proofs.ChangedWalk.{keys_above, keys_above_none}
-use Rattle.edit_lines.specs.ReportText.{line}
+use Rattle.edit_lines.specs.ReportText.{line, text_line}
 use Rattle.hex.specs.Hex.{encode_with, encode_lower, lower_digits}
 use Rattle.filenames.specs.Names.{Key, printed}
 use Rattle.hostfiles.specs.Hosts.{Record, Host}
@@ -70,14 +70,14 @@ writes_or_fails a b before after x (Err e) w = let more = w.1 in inr (omega (ari
 
 -- ---- the digits of records
 
-encode-append : (xs ys : List ℕ) → encode_lower (xs ++ ys) ≡ encode_lower xs ++ encode_lower ys
+pub no_bytes : encode_lower [] ≡ []
+unfolding encode_with
+no_bytes = refl
+
+pub encode-append : (xs ys : List ℕ) → encode_lower (xs ++ ys) ≡ encode_lower xs ++ encode_lower ys
 unfolding encode_with
 encode-append [] ys = refl
 encode-append (x ∷ xs) ys = ap (λ t. slice_index lower_digits (x / 16) ∷ slice_index lower_digits (x % 16) ∷ t) (encode-append xs ys)
-
-pub no_digits : (rs : List Record) → encode_lower (concat (take 0 rs)) ≡ []
-unfolding encode_with
-no_digits rs = refl
 
 concat-push : (rs : List Record) (r : Record) → concat (rs ++ r ∷ []) ≡ concat rs ++ r
 concat-push [] r = append-nil r
@@ -90,34 +90,49 @@ within rs i r h = elim (cases_lt i (length rs)) [
 ]
 
 -- one record more
-pub more_digits : (rs : List Record) (i : ℕ) (r : Record) → slice_get rs i ≡ Some r → encode_lower (concat (take i rs)) ++ encode_lower r ≡ encode_lower (concat (take (i + 1) rs))
-more_digits rs i r h =
+pub one_record_more : (rs : List Record) (i : ℕ) (r first block : List ℕ) → slice_get rs i ≡ Some r → first ++ block ≡ concat (take i rs)
+    → first ++ (block ++ r) ≡ concat (take (i + 1) rs)
+one_record_more rs i r first block h split =
     let below : i < length rs = within rs i r h in
     let one : take (i + 1) rs ≡ take i rs ++ r ∷ [] = rw add-one (take-suc rs i r below) ∙ ap (λ q. take i rs ++ q ∷ []) (get_or_from_slice_get rs i r r h) in
-    sym (ap (λ t. encode_lower (concat t)) one ∙ ap encode_lower (concat-push (take i rs) r) ∙ encode-append (concat (take i rs)) r)
-
--- the digits of all records, of which there are some
-pub all_digits : (rs : List Record) (i : ℕ) → length rs ≤ i → (length rs ≡ 0 → ⊥) → encode_lower (concat (take i rs)) ≡ records_text rs
-all_digits [] i h some = absurd (some refl)
-all_digits (r ∷ rs) i h some = ap (λ t. encode_lower (concat t)) (take_all i (r ∷ rs) h)
+    sym (append_assoc first block r) ∙ ap (λ (t : List ℕ). t ++ r) split ∙ sym (ap concat one ∙ concat-push (take i rs) r)
 
 concat-append : (xs ys : List Record) → concat (xs ++ ys) ≡ concat xs ++ concat ys
 concat-append [] ys = refl
 concat-append (x ∷ xs) ys = ap (λ t. x ++ t) (concat-append xs ys) ∙ sym (append_assoc x (concat xs) (concat ys))
 
--- the digits of all records are those of the first ones and of the others
-pub split_digits : (rs : List Record) (n : ℕ) → (length rs ≡ 0 → ⊥) → encode_lower (concat (take n rs)) ++ encode_lower (concat (drop n rs)) ≡ records_text rs
-split_digits rs n some =
-    sym (encode-append (concat (take n rs)) (concat (drop n rs)))
+-- the digits of all records, of which there are some
+whole_digits : (rs : List Record) → (length rs ≡ 0 → ⊥) → encode_lower (concat rs) ≡ records_text rs
+whole_digits [] some = absurd (some refl)
+whole_digits (r ∷ rs) some = refl
+
+-- they are those of the first records, in two parts, and of the others
+pub first_digits : (rs : List Record) (n : ℕ) (first block : List ℕ) → first ++ block ≡ concat (take n rs) → (length rs ≡ 0 → ⊥)
+    → (encode_lower first ++ encode_lower block) ++ encode_lower (concat (drop n rs)) ≡ records_text rs
+first_digits rs n first block split some =
+    ap (λ (t : List ℕ). t ++ encode_lower (concat (drop n rs))) (sym (encode-append first block) ∙ ap encode_lower split)
+    ∙ sym (encode-append (concat (take n rs)) (concat (drop n rs)))
     ∙ ap encode_lower (sym (concat-append (take n rs) (drop n rs)) ∙ ap concat (take-append-drop n rs))
-    ∙ whole rs some where
-      whole : (rs : List Record) → (length rs ≡ 0 → ⊥) → encode_lower (concat rs) ≡ records_text rs
-      whole [] some = absurd (some refl)
-      whole (r ∷ rs) some = refl
+    ∙ whole_digits rs some
+
+pub last_digits : (rs : List Record) (n : ℕ) (first block : List ℕ) → first ++ block ≡ concat (take n rs) → length rs ≤ n → (length rs ≡ 0 → ⊥)
+    → encode_lower first ++ encode_lower block ≡ records_text rs
+last_digits rs n first block split past some =
+    sym (encode-append first block) ∙ ap encode_lower (split ∙ ap concat (take_all n rs past)) ∙ whole_digits rs some
 
 pub no_records : (rs : List Record) → length rs ≡ 0 → codes "-" ≡ records_text rs
 no_records [] h = refl
 no_records (r ∷ rs) h = cc
+
+-- ---- the text
+
+pub no_text : (xs : List ℕ) → length xs ≡ 0 → codes "text " ++ codes "-\n" ≡ text_line xs
+no_text [] h = refl
+no_text (x ∷ xs) h = cc
+
+pub some_text : (xs : List ℕ) → (length xs ≡ 0 → ⊥) → (codes "text " ++ encode_lower xs) ++ 10 ∷ [] ≡ text_line xs
+some_text [] some = absurd (some refl)
+some_text (x ∷ xs) some = refl
 
 -- ---- a name
 

@@ -54,17 +54,13 @@ pub record RunCutShort (old : RunnerView) (meter : ℕ) (new : RunnerView) (mete
   pub reran : Reran old new old.session.limit
   pub counted : CountsAnew old new old.session.limit
 
--- a run that was answered by want of memory: it was carried out, or cut short
-abbrev pub RunWithoutReport : RunnerView → ℕ → RunnerView → ℕ → Type 0
-RunWithoutReport old meter new metered = RunEffect old meter new metered ⊎ RunCutShort old meter new metered
-
 -- what a command did, by what carrying it out answered: where its reply could not be written it was carried out, and where
--- memory was wanted nothing was done, or it is a run
+-- memory was wanted nothing was done, or it is a run that was cut short
 abbrev pub CommandDid : {U : Type 0} → Command → RunnerView → ℕ → RunnerView → ℕ → Result U ReplayFault → Type 0
 CommandDid c old meter new metered (Ok _) = Effect c old meter new metered
 CommandDid c old meter new metered (Err Write) = Effect c old meter new metered
 CommandDid c old meter new metered (Err OutOfMemory) =
-    IsUnchanged old meter new metered ⊎ ((c ≡ Run) × RunWithoutReport old meter new metered)
+    IsUnchanged old meter new metered ⊎ ((c ≡ Run) × RunCutShort old meter new metered)
 CommandDid c old meter new metered (Err (Malformed k)) = ⊥
 CommandDid c old meter new metered (Err (LineTooLong k)) = ⊥
 CommandDid c old meter new metered (Err Read) = ⊥
@@ -74,7 +70,7 @@ abbrev pub LineDid : {U : Type 0} → ℕ → List ℕ → RunnerView → ℕ �
 LineDid n line old meter new metered (Ok _) = (c : Command) × EditLine line c × Effect c old meter new metered
 LineDid n line old meter new metered (Err Write) = (c : Command) × EditLine line c × Effect c old meter new metered
 LineDid n line old meter new metered (Err OutOfMemory) =
-    IsUnchanged old meter new metered ⊎ (EditLine line Run × RunWithoutReport old meter new metered)
+    IsUnchanged old meter new metered ⊎ (EditLine line Run × RunCutShort old meter new metered)
 LineDid n line old meter new metered (Err (Malformed k)) = (k ≡ n) × IsUnchanged old meter new metered
 LineDid n line old meter new metered (Err (LineTooLong k)) = ⊥
 LineDid n line old meter new metered (Err Read) = ⊥

@@ -1,5 +1,5 @@
 -- Where a replay stands, and what each of its parts answers. (This project's own.)
-use Rattle.std.specs.Prelude.{◌≡◌, ℕ, ◌≤◌, List, [], ◌∷◌, ◌++◌, length, take, Option, Result, Ok, Err}
+use Rattle.std.specs.Prelude.{◌≡◌, ℕ, ◌+◌, ◌<◌, ◌≤◌, List, [], ◌∷◌, ◌++◌, length, take, Option, Result, Ok, Err}
 use Rattle.std.specs.List.{concat}
 use Rattle.std.specs.Io.KnownBytes.{Appends, IsAtEnd}
 use Rattle.machine.specs.Given.{Session}
@@ -12,7 +12,7 @@ use Rattle.edit_lines.specs.LineParts.{WantsMemory, MayWantMemory}
 use Rattle.edit_lines.specs.Faults.{Faults}
 use Rattle.edit_lines.specs.Pieces.{pieces, lines_of}
 use Rattle.edit_lines.specs.Replay.{Carries, Finished, IsMalformed, Replays, reply, session_after}
-use Rattle.edit_lines.specs.declared.limits.TheConstants.{LINES_LIMIT}
+use Rattle.edit_lines.specs.declared.limits.TheConstants.{LINE_LIMIT, LINES_LIMIT}
 
 -- the bytes read so far are whole lines, all carried out, and the beginning of one more
 pub record StandsAt (first : Session) (held : Option (List ℕ)) (bytes : List ℕ) (now : Session) (holds : Option (List ℕ)) (line : List ℕ) (count : ℕ) : Type 0 where
@@ -42,6 +42,15 @@ CarriesOut n line s t held holds (Err OutOfMemory) = (n ≤ LINES_LIMIT) × MayW
 CarriesOut n line s t held holds (Err (Malformed k)) = (k ≡ n) × IsMalformed n line × (t ≡ s) × (holds ≡ held)
 CarriesOut n line s t held holds (Err (LineTooLong k)) = ⊥
 CarriesOut n line s t held holds (Err Read) = ⊥
+
+-- why the next part of a line is not taken, by how many lines were carried out, and how many bytes the line has and the part: the
+-- line would be too long, or memory for it was refused
+abbrev pub IsPartFault : ℕ → ℕ → ℕ → ReplayFault → Type 0
+IsPartFault count taken more (LineTooLong k) = (k ≡ count + 1) × (LINE_LIMIT < taken + more)
+IsPartFault count taken more OutOfMemory = (0 < more) × (taken + more ≤ LINE_LIMIT)
+IsPartFault count taken more (Malformed k) = ⊥
+IsPartFault count taken more Read = ⊥
+IsPartFault count taken more Write = ⊥
 
 -- what a step over some bytes answers, where the rest was read too
 abbrev pub Goes : {U : Type 0} → Session → Option (List ℕ) → List ℕ → List ℕ → Session → Option (List ℕ) → List ℕ → ℕ → Result U ReplayFault → Type 0

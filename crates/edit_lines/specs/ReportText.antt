@@ -45,10 +45,13 @@ regs_text r =
     ++ codes " H=" ++ byte_text r.h ++ codes " L=" ++ byte_text r.l
     ++ codes " SP=" ++ word_text r.sp ++ codes " PC=" ++ word_text r.pc
 
--- the first lines of the reply to `run`, of a run
+-- the first lines of the reply to `run`, of a run: why it stopped, after how many steps, and with which registers
 abbrev pub head_text : PlainRun → List ℕ
 head_text run =
     line (codes "stop " ++ cause_text run.cause)
     ++ line (codes "steps " ++ decimal run.steps)
     ++ line (regs_text run.machine.core.regs)
-    ++ line (codes "text " ++ hex_text run.machine.core.desk.text)
+
+-- the line of the console text
+abbrev pub text_line : List ℕ → List ℕ
+text_line text = line (codes "text " ++ hex_text text)

@@ -4,16 +4,16 @@ ghost use Rattle.replay.specs.RunnerView.{DropsOldest, SameOptions, rerun_start}
 ghost use Rattle.replay.specs.Report.{run_of, session_of};
 ghost use Rattle.edit_lines.specs.Effects.{CommandDid, LineDid};
 ghost use Rattle.edit_lines.specs.Progress.{CarriesOut, Does};
-ghost use Rattle.edit_lines.specs.ReportText.{head_text};
 ghost use Rattle.edit_lines.specs.Reports.{report_text};
 ghost use Rattle.edit_lines.specs.Writing.{Replies, Writes};
 
-use crate::changed_lines::{Asked, write_changed_files, write_piece};
+use crate::changed_lines::{Asked, write_changed_files};
 use crate::ending::ReplayFault;
-use crate::ends::{Failed, Writer, write_all};
+use crate::ends::{Failed, Over, Writer, write_all, write_piece};
 use crate::limits::LINES_LIMIT;
 use crate::line::{Command, parse_line};
-use crate::reply::{head_of, refused};
+use crate::reply::{head_of, refused, write_text};
+use arrayvec::ArrayVec;
 use machine::{Meter, STEP_LIMIT};
 use replay::{Edit, EditError, Report, Runner};
 use std::alloc::Global;
@@ -72,27 +72,35 @@ fn drop_oldest<W: Writer>(
     write_reply(writer, b"ok\n")
 }
 
-/// Writes a report whose first lines are these: then the lines of the changed files, and `end`. They are written in pieces, and
-/// no memory is taken.
-fn write_report<W: Writer>(report: &Report<'_>, head: &str, writer: &mut W) -> Result<(), Failed>
-    requires writer { W.failures writer.old < 2 ^ 63 }
-    requires head { head.now ≡ head_text (run_of report.now) }
+/// Writes a report: its first lines, the line of its text, the lines of the changed files, and `end`. They are written in pieces,
+/// and no memory is taken.
+fn write_report<W: Writer>(report: &Report<'_>, writer: &mut W) -> Result<(), Failed>
+    requires { W.failures writer.old < 2 ^ 63 }
     ensures { Writes (W.holds writer.old) (W.holds writer.new) (W.failures writer.old) (W.failures writer.new)
         (report_text (session_of report.now) (run_of report.now)) result }
 {
-    write_piece(writer, head.as_bytes())?;
+    write_piece(writer, head_of(report).as_bytes())?;
+    write_text(writer, report.text())?;
     write_changed_files(writer, Asked::All, report.files(), report.journal())?;
     write_piece(writer, b"end\n")
 }
 
+/// Writes a report as `write_report` does, but one of at most 1024 bytes at once.
+fn write_short_at_once<W: Writer>(report: &Report<'_>, writer: &mut W) -> Result<(), Failed>
+    requires { W.failures writer.old < 2 ^ 63 }
+    ensures { Writes (W.holds writer.old) (W.holds writer.new) (W.failures writer.old) (W.failures writer.new)
+        (report_text (session_of report.now) (run_of report.now)) result }
+{
+    let mut whole = Over::new(ArrayVec::<u8, 1024>::new());
+    if write_report(report, &mut whole).is_err() {
+        return write_report(report, writer);
+    }
+    write_piece(writer, whole.into_inner().as_slice())
+}
+
 /// Runs the session, from where the runner begins a rerun, and writes its report. Only the steps from there on are added to the
 /// meter.
-fn run<W: Writer>(
-    alloc: Global,
-    runner: &mut Runner,
-    meter: &mut Meter,
-    writer: &mut W,
-) -> Result<(), ReplayFault>
+fn run<W: Writer>(runner: &mut Runner, meter: &mut Meter, writer: &mut W) -> Result<(), ReplayFault>
     requires writer { W.failures writer.old < 2 ^ 63 }
     requires meter { meter.old ≤ 2 ^ 63 }
     ensures does { Does Command.Run runner.old.session runner.new.session (W.holds writer.old)
@@ -106,8 +114,7 @@ fn run<W: Writer>(
     ensures meter { meter.new ≤ meter.old + STEP_LIMIT }
 {
     let report = runner.rerun(meter)?;
-    let head = head_of(alloc, &report)?;
-    match write_report(&report, head.as_str(), writer) {
+    match write_short_at_once(&report, writer) {
         Ok(()) => Ok(()),
         Err(Failed) => Err(ReplayFault::Write),
     }
@@ -140,7 +147,7 @@ pub fn carry_out<W: Writer>(
     match parse_line(alloc, line)? {
         None => Err(ReplayFault::Malformed(number)),
         Some(Command::Edit(edit)) => carry_out_edit(runner, edit, writer),
-        Some(Command::Run) => run(alloc, runner, meter, writer),
+        Some(Command::Run) => run(runner, meter, writer),
         Some(Command::DropOldest(count)) => drop_oldest(runner, count, writer),
     }
 }

@@ -1,15 +1,16 @@
 // The lines that tell the changed files. They are written in pieces, and no memory is taken.
 
 ghost use Rattle.std.specs.Prelude.{◌≡◌, ◌^◌, ◌<◌, ◌++◌, [], length, unwrap_or};
-ghost use Rattle.hex.specs.Hex.{encode_lower};
 ghost use Rattle.filenames.specs.Names.{printed};
 ghost use Rattle.hostfiles.specs.Files.{files, told};
 ghost use Rattle.edit_lines.specs.ChangedLines.{records_text, changed_line, gone_line, line_of_file, lines_of_files};
 ghost use Rattle.edit_lines.specs.Writing.{Writes};
 
-use crate::ends::{Failed, Writer, write_all};
+use crate::ends::{Failed, Writer, write_piece};
+use crate::hex_writer::write_hex;
+use arrayvec::ArrayVec;
 use filenames::Pieces;
-use hostfiles::{HostFiles, Journal, Key, Name, Record, next_changed, told_count, told_record};
+use hostfiles::{HostFiles, Journal, Key, Name, next_changed, told_count, told_record};
 
 /// Which changed files are told.
 #[derive(Clone, Copy, Debug, PartialEq, Eq)]
@@ -142,33 +143,18 @@ fn write_records<W: Writer>(
     if count == 0 {
         return write_piece(writer, b"-");
     }
+    let mut block = ArrayVec::<u8, 2048>::new();
     for place in 0..count {
         let Some(record) = told_record(host, journal, key, place) else {
             unreachable!();
         };
-        write_record(writer, &record)?;
+        if block.remaining_capacity() < record.len() {
+            write_hex(writer, block.as_slice())?;
+            block.clear();
+        }
+        if block.try_extend_from_slice(record.as_slice()).is_err() {
+            unreachable!();
+        }
     }
-    Ok(())
-}
-
-// Writes two digits for each byte of a record.
-fn write_record<W: Writer>(writer: &mut W, bytes: &Record) -> Result<(), Failed>
-    requires { W.failures writer.old < 2 ^ 63 }
-    ensures { Writes (W.holds writer.old) (W.holds writer.new) (W.failures writer.old)
-        (W.failures writer.new) (encode_lower bytes.now) result }
-{
-    let mut digits = [0; 256];
-    if hex::encode_to_slice(bytes.as_slice(), &mut digits).is_err() {
-        unreachable!();
-    }
-    write_piece(writer, &digits)
-}
-
-/// Writes a piece of a text, or some first part of it where the writer fails.
-pub fn write_piece<W: Writer>(writer: &mut W, text: &[u8]) -> Result<(), Failed>
-    requires { W.failures writer.old < 2 ^ 63 }
-    ensures { Writes (W.holds writer.old) (W.holds writer.new) (W.failures writer.old)
-        (W.failures writer.new) text.now result }
-{
-    write_all(writer, text)
+    write_hex(writer, block.as_slice())
 }

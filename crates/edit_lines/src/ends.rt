@@ -1,5 +1,6 @@
 ghost use Rattle.std.specs.Prelude.{◌≡◌, ℕ, ◌+◌, ◌^◌, ◌<◌, ◌≤◌, List, Option, length, take, IfOk, OnOk, OnErr};
 ghost use Rattle.std.specs.Io.KnownBytes.{ReadConsumes, WriteAppends, Appends};
+ghost use Rattle.edit_lines.specs.Writing.{Writes};
 
 use std::io;
 
@@ -119,4 +120,13 @@ pub fn write_all<W: Writer>(writer: &mut W, text: &[u8]) -> Result<(), Failed>
         rest = &rest[n..];
     }
     Ok(())
+}
+
+/// Writes a piece of a text, or some first part of it where the writer fails.
+pub fn write_piece<W: Writer>(writer: &mut W, text: &[u8]) -> Result<(), Failed>
+    requires { W.failures writer.old < 2 ^ 63 }
+    ensures { Writes (W.holds writer.old) (W.holds writer.new) (W.failures writer.old)
+        (W.failures writer.new) text.now result }
+{
+    write_all(writer, text)
 }

@@ -5,8 +5,8 @@
 //!   written in pieces
 //! - `carry_out`, `stream`, `ending`: one line carried out; lines cut from a reader and carried out one by one; how a
 //!   replay ends
-//! - `ends`, `limits`: `Reader` and `Writer`, whose failures are counted; the most bytes of a line, and the most
-//!   lines
+//! - `ends`, `hex_writer`, `limits`: `Reader` and `Writer`, whose failures are counted; bytes written as hexadecimal
+//!   digits; the most bytes of a line, and the most lines
 #![tactic(auto)]
 
 mod carry_out;
@@ -14,14 +14,15 @@ mod changed_lines;
 mod ending;
 mod ends;
 mod file_lines;
+mod hex_writer;
 mod limits;
 mod line;
 mod reply;
 mod stream;
 
-pub use changed_lines::{Asked, write_changed_files, write_piece};
+pub use changed_lines::{Asked, write_changed_files};
 pub use ending::{Ending, ReplayFault};
-pub use ends::{Failed, Over, Reader, Writer, write_all};
+pub use ends::{Failed, Over, Reader, Writer, write_all, write_piece};
 pub use limits::{LINE_LIMIT, LINES_LIMIT};
 pub use line::{Command, one_command, parse_line};
 pub use reply::{cause_text, refused};

@@ -7,6 +7,7 @@ ghost use Rattle.edit_lines.specs.declared.line.Command.{Command};
 use crate::file_lines::{file, name};
 use hex::{FromHex, FromHexError};
 use machine::Bytes;
+use memchr::memchr;
 use replay::Edit;
 use std::alloc::{AllocError, Global};
 
@@ -41,12 +42,10 @@ fn split_word(line: &[u8]) -> (&[u8], Option<&[u8]>)
     ensures rest { MatchOption result.1 (other_pieces 32 line.now ≡ [])
         (λ r. other_pieces 32 line.now ≡ pieces 32 r.now) }
 {
-    for i in 0..line.len() {
-        if line[i] == b' ' {
-            return (&line[..i], Some(&line[i + 1..]));
-        }
+    match memchr(b' ', line) {
+        Some(at) => (&line[..at], Some(&line[at + 1..])),
+        None => (line, None),
     }
-    (line, None)
 }
 
 /// A line split into its words.

@@ -1,4 +1,4 @@
-ghost use Rattle.std.specs.Prelude.{◌≡◌, ℕ, ◌+◌, ◌*◌, ◌^◌, ◌<◌, ◌≤◌, ◌⊎◌, List, Option, ◌∷◌, ◌++◌, [], length, IfOk, OnOk, IfErr, vec_len};
+ghost use Rattle.std.specs.Prelude.{◌≡◌, ℕ, ◌+◌, ◌*◌, ◌^◌, ◌<◌, ◌≤◌, List, Option, ◌∷◌, ◌++◌, [], length, IfOk, OnOk, IfErr, OnErr, vec_len};
 ghost use Rattle.std.specs.Io.KnownBytes.{Appends, Consumes, IsAtEnd};
 ghost use Rattle.machine.specs.Given.{Session};
 ghost use Rattle.replay.specs.RunnerView.{RunnerView, SameOptions};
@@ -8,15 +8,16 @@ ghost use Rattle.edit_lines.specs.Effects.{Effects, EffectsAfter, EffectsAtEnd, 
 ghost use Rattle.edit_lines.specs.Pieces.{lines_of};
 ghost use Rattle.edit_lines.specs.Replay.{End, Finished, Replays};
 ghost use Rattle.edit_lines.specs.Faults.{Faults};
-ghost use Rattle.edit_lines.specs.Progress.{Finishes, Goes, StandsAt};
+ghost use Rattle.edit_lines.specs.Progress.{Finishes, Goes, IsPartFault, StandsAt};
 
 use crate::carry_out::carry_out;
 use crate::ending::{Ending, ReplayFault};
 use crate::ends::{Reader, Writer};
 use crate::limits::{LINE_LIMIT, LINES_LIMIT};
 use machine::{Meter, STEP_LIMIT};
+use memchr::memchr;
 use replay::Runner;
-use std::alloc::{AllocError, Global};
+use std::alloc::Global;
 
 /// The beginning of a line that was read, and how many lines were carried out.
 #[derive(Drop)]
@@ -27,44 +28,48 @@ struct Place {
     ghost few: { lines ≤ LINES_LIMIT },
 }
 
-/// Takes one byte of the text.
-fn take_byte<W: Writer>(
+/// Takes the next part of a line, which has no 0AH. Where it is not taken, the line is as it was.
+fn take_part(place: &mut Place, part: &[u8]) -> Result<(), ReplayFault>
+    ensures lines { place.new.lines ≡ place.old.lines }
+    ensures taken { OnOk result (place.new.line.items ≡ place.old.line.items ++ part.now) }
+    ensures stays { OnErr result (place.new.line.items ≡ place.old.line.items) }
+    ensures fault { IfErr result
+        (IsPartFault place.old.lines (length place.old.line.items) (length part.now)) }
+{
+    if part.len() > LINE_LIMIT - place.line.len() {
+        return Err(ReplayFault::LineTooLong(place.lines + 1));
+    }
+    place.line.extend_from_slice(part)?;
+    Ok(())
+}
+
+/// Carries out the line, whose 0AH was read, and begins the next one.
+fn end_line<W: Writer>(
     alloc: Global,
     place: &mut Place,
     runner: &mut Runner,
     meter: &mut Meter,
     writer: &mut W,
-    byte: u8,
 ) -> Result<(), ReplayFault>
     requires writer { W.failures writer.old < 2 ^ 63 }
     requires meter { meter.old ≤ STEP_LIMIT * place.old.lines }
     ensures goes { (first : Session) (held : Option (List ℕ)) (bytes rest : List ℕ)
         → StandsAt first held bytes runner.old.session
         (W.holds writer.old) place.old.line.items place.old.lines
-        → Goes first held (bytes ++ byte ∷ []) rest runner.new.session
+        → Goes first held (bytes ++ 10 ∷ []) rest runner.new.session
         (W.holds writer.new) place.new.line.items place.new.lines result }
     ensures effects { (first : RunnerView) (begun : ℕ) (bytes rest : List ℕ)
         → EffectsSoFar first begun bytes runner.old meter.old place.old.line.items place.old.lines
         → EffectsAfter first begun
-        (bytes ++ byte ∷ []) rest runner.new meter.new place.new.line.items place.new.lines result }
+        (bytes ++ 10 ∷ []) rest runner.new meter.new place.new.line.items place.new.lines result }
     ensures options { SameOptions runner.old runner.new }
     ensures fine { OnOk result (W.failures writer.new ≡ W.failures writer.old) }
     ensures failed { result ≡ Err ReplayFault.Write → W.failures writer.old < W.failures writer.new }
     ensures reads { result ≡ Err ReplayFault.Read → ⊥ }
     ensures meter { OnOk result (meter.new ≤ STEP_LIMIT * place.new.lines) }
-    ensures on { OnOk result (65537 * place.old.lines + vec_len place.old.line
-        < 65537 * place.new.lines + vec_len place.new.line) }
-    ensures memory { result ≡ Err ReplayFault.OutOfMemory
-        → ((byte ≡ 10 → ⊥) × (vec_len place.old.line < LINE_LIMIT))
-        ⊎ ((byte ≡ 10) × MayWantMemory place.old.line.items) }
+    ensures on { OnOk result ((place.new.lines ≡ place.old.lines + 1) × (place.new.line.items ≡ [])) }
+    ensures memory { result ≡ Err ReplayFault.OutOfMemory → MayWantMemory place.old.line.items }
 {
-    if byte != b'\n' {
-        if place.line.len() == LINE_LIMIT {
-            return Err(ReplayFault::LineTooLong(place.lines + 1));
-        }
-        place.line.push(byte).map_err(AllocError::from)?;
-        return Ok(());
-    }
     carry_out(
         alloc,
         place.line.as_slice(),
@@ -107,10 +112,13 @@ fn take_piece<W: Writer>(
     ensures on { OnOk result (65537 * place.old.lines + vec_len place.old.line + length piece.now
         ≤ 65537 * place.new.lines + vec_len place.new.line) }
 {
-    for byte in piece {
-        take_byte(alloc, place, runner, meter, writer, *byte)?;
+    let mut rest = piece;
+    while let Some(at) = memchr(b'\n', rest) {
+        take_part(place, &rest[..at])?;
+        end_line(alloc, place, runner, meter, writer)?;
+        rest = &rest[at + 1..];
     }
-    Ok(())
+    take_part(place, rest)
 }
 
 /// Carries out a last line that has no end.

@@ -7,11 +7,12 @@ use machine::Meter;
 use replay::Runner;
 use std::alloc::Global;
 use test_sessions::worked::PRINTS;
-use test_sessions::{Trouble, make};
+use test_sessions::{Given, Trouble, make};
 
-/// A replay of an edit text over the program that prints `Hi`, and what is wanted of it.
+/// A replay of an edit text over a program, and what is wanted of it.
 #[derive(Clone, Copy)]
 pub struct Replay<'a> {
+    pub program: &'a [u8],
     pub text: &'a [u8],
     /// The most bytes that are read at once.
     pub longest: usize,
@@ -95,7 +96,11 @@ fn replays_over(alloc: Global, runner: &mut Runner, wanted: &Replay<'_>) -> bool
 
 /// Whether a replay answers and writes what is wanted.
 pub fn replays(alloc: Global, wanted: &Replay<'_>) -> Result<bool, Trouble> {
-    let mut runner = make(alloc, &PRINTS)?;
+    let given = Given {
+        program: wanted.program,
+        ..PRINTS
+    };
+    let mut runner = make(alloc, &given)?;
     Ok(replays_over(alloc, &mut runner, wanted))
 }
 

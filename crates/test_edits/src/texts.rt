@@ -4,9 +4,10 @@ ghost use Rattle.std.specs.Prelude.{vec_len};
 
 use crate::replaying::{Replay, replays, takes_steps};
 use edit_lines::ReplayFault;
-use std::alloc::Global;
+use std::alloc::{AllocError, Global};
 use std::process::Abort;
 use std::test::Fail;
+use test_sessions::worked::PRINTS;
 
 const REPORT: &[u8] =
     b"stop WarmBoot\nsteps 7\nregs A=00 F=02 B=00 C=09 D=01 E=09 H=00 L=00 SP=FE00 PC=FF03\ntext 4869\nend\n";
@@ -23,13 +24,14 @@ const NO_DOLLAR: &[u8] =
 const FORGETFUL: &[u8] =
     b"ok\nstop WarmBoot\nsteps 7\nregs A=00 F=02 B=00 C=09 D=01 E=09 H=00 L=00 SP=FE00 PC=FF03\ntext 4869\nend\nok\n";
 
-// A replay of an edit text that is read and written to its end.
+// A replay of an edit text over the program that prints `Hi`, which is read and written to its end.
 fn whole<'a>(text: &'a [u8], replies: &'a [u8], answer: Result<u64, ReplayFault>) -> Replay<'a> {
     Replay {
+        program: PRINTS.program,
         text,
         longest: 4096,
         fails: false,
-        room: 4096,
+        room: usize::MAX,
         replies,
         answer,
     }
@@ -118,4 +120,51 @@ fn a_line_may_be_too_long(rt: HostRuntime) -> Result<(), Fail> {
     let text = vec![in rt.alloc(); b'a'; 65_537]?;
     let replay = whole(text.as_slice(), b"", Err(ReplayFault::LineTooLong(1)));
     replayed(&rt, rt.alloc(), &replay)
+}
+
+// What stands before the string of the program that prints `Hi`, and before the digits of its report.
+const BEFORE_STRING: &[u8] = b"\x0e\x09\x11\x09\x01\xcd\x05\x00\xc9";
+
+const BEFORE_DIGITS: &[u8] =
+    b"stop WarmBoot\nsteps 7\nregs A=00 F=02 B=00 C=09 D=01 E=09 H=00 L=00 SP=FE00 PC=FF03\ntext ";
+
+// What stands before, a part so many times over, and what stands behind.
+fn repeated(
+    alloc: Global,
+    before: &[u8],
+    part: &[u8],
+    count: usize,
+    behind: &[u8],
+) -> Result<Vec<u8>, AllocError> {
+    let mut text = Vec::from_slice(alloc, before)?;
+    for _ in 0..count {
+        text.extend_from_slice(part)?;
+    }
+    text.extend_from_slice(behind)?;
+    Ok(text)
+}
+
+// `Hi` is printed so many times over by one call. A report of 1024 bytes has 926 digits.
+#[test]
+fn a_text_is_told_whole_however_long(rt: HostRuntime) -> Result<(), Fail> {
+    for count in [2, 231, 232, 512, 1023, 1024, 1025, 2048, 3000] {
+        let program = repeated(rt.alloc(), BEFORE_STRING, b"Hi", count, b"$")?;
+        let replies = repeated(rt.alloc(), BEFORE_DIGITS, b"4869", count, b"\nend\n")?;
+        let replay = Replay {
+            program: program.as_slice(),
+            ..whole(b"run\n", replies.as_slice(), Ok(1))
+        };
+        replayed(&rt, rt.alloc(), &replay)?;
+        for room in [100, 1024, 4096] {
+            if room < replies.len() {
+                let replay = Replay {
+                    program: program.as_slice(),
+                    room,
+                    ..whole(b"run\n", &replies[..room], Err(ReplayFault::Write))
+                };
+                replayed(&rt, rt.alloc(), &replay)?;
+            }
+        }
+    }
+    Ok(())
 }

@@ -1,40 +1,69 @@
-use Rattle.std.proofs.Common.{◌≡◌, ◌++◌, Some, slice_get, ◌+◌, [], take, drop, length, unwrap_or, refl, ◌∙◌, arith}
+use Rattle.std.proofs.Common.{◌≡◌, ◌++◌, ◌≤◌, Some, slice_get, [], drop, length, unwrap_or, refl, ◌∙◌, arith, ap, append-nil, rules}
 use Rattle.std.specs.List.{concat}
 use Rattle.std.proofs.KnownBytes.{Appends-nil}
 use Rattle.hex.specs.Hex.{encode_lower}
 use Rattle.hostfiles.specs.Files.{told}
 use Rattle.edit_lines.specs.ChangedLines.{records_text}
-use Rattle.edit_lines.proofs.WrittenPieces.{all_then, part_then, part_more, writes_part, writes_same, no_digits, more_digits, split_digits, record_here, no_record}
+use Rattle.edit_lines.proofs.WrittenPieces.{all_then, part_then, part_more, writes_part, writes_then, writes_same, no_bytes, encode-append, one_record_more, first_digits, last_digits, record_here, no_record}
+use Rattle.edit_lines.proofs.changed_lines.write_records.Goals.{then-remaining_capacity-lt128+in_ok-write_hex, else-remaining_capacity-lt128}
 use Rattle.edit_lines.proofs.changed_lines.write_records.Goals as goal
 
 pub loop-place-init : goal.loop-place-init
-loop-place-init g c = rw no_digits (Appends-nil _, refl)
+loop-place-init g c = record { first = []; split = c.new-block.ensures; written = rw no_bytes (Appends-nil _); same = refl }
 
 pub unreachable-requires : goal.unreachable-requires
 unreachable-requires g c =
     no_record (told c.args.host.now c.args.journal.now.entries c.args.key.now) c.loop-place.place (let n = c.requires.count in let h = c.loop-place-test.true in omega arith) c.in_default.ensures
 
-pub returns-in_err-write_record : goal.returns-in_err-write_record
-returns-in_err-write_record g c =
-    let t = told c.args.host.now c.args.journal.now.entries c.args.key.now in
-    let records = unwrap_or t [] in
+pub returns-in_err-write_hex : goal.returns-in_err-write_hex
+returns-in_err-write_hex g c =
+    let records = unwrap_or (told c.args.host.now c.args.journal.now.entries c.args.key.now) [] in
     let place = c.loop-place.place in
-    let bytes = c.in-Some.record in
-    let count : length records ≡ 0 → ⊥ = λ none. c.if-count-eq0.false (c.requires.count ∙ none) in
-    let here : slice_get records place ≡ Some bytes = record_here t place bytes c.in-Some.ensures in
-    writes_same _ _ _ _ (encode_lower (concat (take (place + 1) records)) ++ encode_lower (concat (drop (place + 1) records))) (records_text records) c.from_residual.result
-    (split_digits records (place + 1) count)
+    let first = c.loop-place.invariant.first in
+    let block = c.as_slice.result.now in
+    let others = encode_lower (concat (drop place records)) in
+    let some : length records ≡ 0 → ⊥ = λ none. c.if-count-eq0.false (c.requires.count ∙ none) in
+    writes_same _ _ _ _ ((encode_lower first ++ encode_lower block) ++ others) (records_text records) c.from_residual.result
+    (first_digits records place first block (ap (λ b. first ++ b) c.as_slice.ensures.value ∙ c.loop-place.invariant.split) some)
     (writes_part _ _ _ _ _ c.from_residual.result c.from_residual.ensures.0
-    (part_more _ _ _ _ (encode_lower (concat (take (place + 1) records))) (encode_lower (concat (drop (place + 1) records)))
-    (rw (more_digits records place bytes here) at
-    (part_then _ _ _ _ _ _ (encode_lower (concat (take place records))) (encode_lower bytes) c.loop-place.invariant c.in_err-write_record.ensures))))
+    (part_more _ _ _ _ (encode_lower first ++ encode_lower block) others
+    (part_then _ _ _ _ _ _ (encode_lower first) (encode_lower block) (c.loop-place.invariant.written, c.loop-place.invariant.same) c.in_err-write_hex.ensures)))
 
 pub loop-place-preserved : goal.loop-place-preserved
 loop-place-preserved g c =
     let t = told c.args.host.now c.args.journal.now.entries c.args.key.now in
     let records = unwrap_or t [] in
     let place = c.loop-place.place in
-    let bytes = c.in-Some.record in
-    let here : slice_get records place ≡ Some bytes = record_here t place bytes c.in-Some.ensures in
-    rw (more_digits records place bytes here) at
-    (all_then _ _ _ _ _ _ (encode_lower (concat (take place records))) (encode_lower bytes) c.loop-place.invariant c.in_ok-write_record.ensures)
+    let first = c.loop-place.invariant.first in
+    let here : slice_get records place ≡ Some c.in-Some.record = record_here t place c.in-Some.record c.in-Some.ensures in
+    let grown : c.try_extend_from_slice.new.self.items ≡ c.if-remaining_capacity-lt128.block.items ++ c.in-Some.record = search rules in
+    elim c.if-remaining_capacity-lt128.branch [
+      | then-remaining_capacity-lt128+in_ok-write_hex w ↦
+          let block = w.as_slice.result.now in
+          let all = ap (λ b. first ++ b) w.as_slice.ensures.value ∙ c.loop-place.invariant.split in
+          let more = all_then _ _ _ _ _ _ (encode_lower first) (encode_lower block) (c.loop-place.invariant.written, c.loop-place.invariant.same) w.in_ok-write_hex.ensures in
+          record {
+            first = first ++ block;
+            split = rw (grown, w.block-is, w.clear.ensures) (one_record_more records place c.in-Some.record (first ++ block) [] here (append-nil (first ++ block) ∙ all));
+            written = rw (w.writer-is, encode-append first block) more.0;
+            same = rw w.writer-is more.1;
+          }
+      | else-remaining_capacity-lt128 w ↦
+          record {
+            first = first;
+            split = rw (grown, w.block-is) (one_record_more records place c.in-Some.record first c.loop-place.block.items here c.loop-place.invariant.split);
+            written = rw w.writer-is c.loop-place.invariant.written;
+            same = rw w.writer-is c.loop-place.invariant.same;
+          }
+    ]
+
+pub returns : goal.returns
+returns g c =
+    let records = unwrap_or (told c.args.host.now c.args.journal.now.entries c.args.key.now) [] in
+    let first = c.loop-place.invariant.first in
+    let block = c.as_slice-2.result.now in
+    let some : length records ≡ 0 → ⊥ = λ none. c.if-count-eq0.false (c.requires.count ∙ none) in
+    let past : length records ≤ c.loop-place.place = let n = c.requires.count in let h = c.loop-place-test.false in omega arith in
+    writes_same _ _ _ _ (encode_lower first ++ encode_lower block) (records_text records) c.write_hex-2.result
+    (last_digits records c.loop-place.place first block (ap (λ b. first ++ b) c.as_slice-2.ensures.value ∙ c.loop-place.invariant.split) past some)
+    (writes_then _ _ _ _ _ _ (encode_lower first) (encode_lower block) c.write_hex-2.result (c.loop-place.invariant.written, c.loop-place.invariant.same) c.write_hex-2.ensures)

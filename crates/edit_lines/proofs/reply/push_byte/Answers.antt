@@ -1,0 +1,18 @@
+use Rattle.std.proofs.Common.{◌≡◌, ℕ, List, ◌++◌, ◌∷◌, [], ◌/◌, ◌%◌, slice_index, ap, ◌∙◌, append_assoc, refl}
+use Rattle.hex.specs.Hex.{encode_with, upper_digits}
+use Rattle.edit_lines.specs.ReportText.{byte_text}
+use Rattle.edit_lines.proofs.reply.push_byte.Goals as goal
+
+-- the two digits of a byte
+two_digits : (b high low : ℕ) → high ≡ slice_index upper_digits (b / 16) → low ≡ slice_index upper_digits (b % 16)
+    → high ∷ low ∷ [] ≡ byte_text b
+unfolding encode_with
+two_digits b high low h l = rw (h, l) refl
+
+pub returns-clause-digits : goal.returns-clause-digits
+returns-clause-digits g c =
+    let old = c.args.text.now.bytes in
+    c.push-2.ensures.ascii c.digit-2.ensures.ascii
+    ∙ ap (λ (t : List ℕ). t ++ c.digit-2.result ∷ []) (c.push.ensures.ascii c.digit.ensures.ascii)
+    ∙ append_assoc old (c.digit.result ∷ []) (c.digit-2.result ∷ [])
+    ∙ ap (λ (t : List ℕ). old ++ t) (two_digits c.args.value c.digit.result c.digit-2.result c.digit.ensures.value c.digit-2.ensures.value)

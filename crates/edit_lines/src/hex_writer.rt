@@ -1,0 +1,44 @@
+// Bytes written as hexadecimal digits, a chunk at a time. No memory is taken.
+
+ghost use Rattle.std.specs.Prelude.{◌^◌, ◌<◌, ◌≤◌, length};
+ghost use Rattle.hex.specs.Hex.{encode_lower};
+ghost use Rattle.edit_lines.specs.Writing.{Writes};
+
+use crate::ends::{Failed, Writer, write_piece};
+
+/// How many bytes are written at once.
+const CHUNK_BYTES: usize = 2048;
+
+/// How many digits these have.
+const CHUNK_DIGITS: usize = 4096;
+
+/// Writes two digits in lower case for each byte, or some first part of them where the writer fails. The writer gets 4096 digits at
+/// a time, and the rest at the end.
+pub fn write_hex<W: Writer>(writer: &mut W, bytes: &[u8]) -> Result<(), Failed>
+    requires { W.failures writer.old < 2 ^ 63 }
+    ensures { Writes (W.holds writer.old) (W.holds writer.new) (W.failures writer.old)
+        (W.failures writer.new) (encode_lower bytes.now) result }
+{
+    let mut rest = bytes;
+    while !rest.is_empty() {
+        let (chunk, others) = rest.split_at(rest.len().min(CHUNK_BYTES));
+        write_chunk(writer, chunk)?;
+        rest = others;
+    }
+    Ok(())
+}
+
+// Writes the digits of a chunk.
+fn write_chunk<W: Writer>(writer: &mut W, chunk: &[u8]) -> Result<(), Failed>
+    requires room { W.failures writer.old < 2 ^ 63 }
+    requires small { length chunk.now ≤ 2048 }
+    ensures { Writes (W.holds writer.old) (W.holds writer.new) (W.failures writer.old)
+        (W.failures writer.new) (encode_lower chunk.now) result }
+{
+    let mut buffer = [0; CHUNK_DIGITS];
+    let digits = &mut buffer[..2 * chunk.len()];
+    if hex::encode_to_slice(chunk, digits).is_err() {
+        unreachable!();
+    }
+    write_piece(writer, digits)
+}
