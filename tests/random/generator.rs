@@ -67,7 +67,7 @@ pub fn case(number: u64) -> Case {
     let session = Session {
         program: program.bytes.clone(),
         tail: tail(random, &names),
-        hosts: files.iter().map(|file| (file.key, File::of_host(&file.bytes))).collect(),
+        hosts: files.iter().map(|file| (file.key, File::of_host(&file.bytes).into())).collect(),
         script: if in_lines { Vec::new() } else { typed.clone() },
         limit: limit(random),
     };
@@ -422,7 +422,7 @@ impl Editor<'_> {
         let Some(key) = self.host_file().filter(|_| self.random.chance(60)) else {
             return Edit::SetFile(self.file_name(), file_bytes(self.random));
         };
-        let mut bytes = self.session.hosts[&key].bytes();
+        let mut bytes = self.session.hosts[&key].bytes().to_vec();
         match self.random.below(4) {
             0 => {}
             1 => bytes.truncate(self.random.between(0, bytes.len())),

@@ -5,10 +5,11 @@ mod calls;
 mod files;
 mod processor;
 
-use calls::Desk;
+use calls::{names_a_file, Desk};
 pub use files::{matches, name_in_folder, printed, File, Files, Key, RECORD};
 use processor::{Did, Processor, A, B, C, D, E, H, L};
 use std::fmt;
+use std::rc::Rc;
 
 const MOST_SCRIPT_BYTES: usize = 1_048_576;
 const MOST_HOST_FILES: usize = 512;
@@ -58,7 +59,7 @@ impl Session {
             }
             Edit::SetFile(key, _) if !self.hosts.contains_key(key) && self.hosts.len() == MOST_HOST_FILES => return Err(5),
             Edit::SetFile(key, bytes) => {
-                self.hosts.insert(*key, File::of_host(bytes));
+                self.hosts.insert(*key, Rc::new(File::of_host(bytes)));
             }
             Edit::RemoveFile(key) => {
                 self.hosts.remove(key).ok_or(3)?;
@@ -124,7 +125,6 @@ pub struct State {
     processor: Processor,
     files: Files,
     desk: Desk,
-    keys: Vec<Key>,
 }
 
 // The drive byte and the name of one word of the command tail, as they stand in page zero.
@@ -190,14 +190,57 @@ pub struct Run {
     pub taken: usize,
 }
 
+// Who is told of each step, before it is tried, and when it was carried out.
+pub trait Watch {
+    fn tries(&mut self, state: &State);
+    fn went(&mut self);
+}
+
+impl Watch for () {
+    fn tries(&mut self, _: &State) {}
+    fn went(&mut self) {}
+}
+
+// What the steps of a run were.
+#[derive(Default)]
+struct Notes {
+    opcodes: Vec<u8>,
+    calls: Vec<u8>,
+    trace: Vec<Moment>,
+    keys: Vec<Key>,
+    last: Option<(Moment, u8)>,
+}
+
+impl Watch for Notes {
+    fn tries(&mut self, state: &State) {
+        let moment = state.moment();
+        let number = moment.registers[C];
+        self.last = Some((moment, state.processor.byte(moment.next)));
+        if moment.next == ENTRY_FOR_CALLS {
+            self.calls.push(number);
+            if names_a_file(number) {
+                self.keys.extend(state.key(1).ok());
+            }
+        }
+    }
+
+    fn went(&mut self) {
+        let (moment, opcode) = self.last.expect("a step is tried before it went");
+        if moment.next < SYSTEM_AREA {
+            self.opcodes.push(opcode);
+        }
+        self.trace.push(moment);
+    }
+}
+
 impl State {
-    fn load(session: &Session) -> State {
+    pub fn load(session: &Session) -> State {
         let mut memory = Box::new([0; 65536]);
         memory[..PROGRAM_START].copy_from_slice(&page_zero(&session.tail));
         memory[PROGRAM_START..PROGRAM_START + session.program.len()].copy_from_slice(&session.program);
         let processor =
             Processor { registers: [0; 8], stack: LOADED_STACK, next: PROGRAM_START as u16, flags: Default::default(), memory };
-        State { processor, files: session.hosts.clone(), desk: Desk::new(), keys: Vec::new() }
+        State { processor, files: session.hosts.clone(), desk: Desk::new() }
     }
 
     fn moment(&self) -> Moment {
@@ -231,18 +274,38 @@ impl State {
         format!("regs A={a:02X} F={flags:02X} {bytes}SP={:04X} PC={:04X}\n", processor.stack, processor.next)
     }
 
+    // Steps up to the limit or a stop: how many were carried out, and why there is no further one.
+    pub fn run(&mut self, session: &Session, watch: &mut impl Watch) -> (u64, Cause) {
+        let mut steps = 0;
+        while steps < session.limit {
+            watch.tries(self);
+            if let Err(cause) = self.step(session) {
+                return (steps, cause);
+            }
+            watch.went();
+            steps += 1;
+        }
+        (steps, Cause::Limit)
+    }
+
+    pub fn text(&self) -> &[u8] {
+        &self.desk.text
+    }
+
     // The files that are told otherwise than the host files of their names, in order; those without bytes are gone.
-    fn changed(&self, session: &Session) -> Vec<(Key, Option<Vec<u8>>)> {
-        let mut keys: Vec<&Key> = self.files.keys().chain(session.hosts.keys()).collect();
+    pub fn changed(&self, session: &Session) -> Vec<(Key, Option<&[u8]>)> {
+        let is_same = |key: &Key| match (self.files.get(key), session.hosts.get(key)) {
+            (Some(file), Some(host)) => Rc::ptr_eq(file, host) || file.bytes() == host.bytes(),
+            _ => false,
+        };
+        let mut keys: Vec<&Key> = self.files.keys().chain(session.hosts.keys()).filter(|key| !is_same(key)).collect();
         keys.sort();
         keys.dedup();
-        let told = |files: &Files, key: &Key| files.get(key).map(File::bytes);
-        let changed = keys.into_iter().filter(|key| told(&self.files, key) != told(&session.hosts, key));
-        changed.map(|key| (*key, told(&self.files, key))).collect()
+        keys.into_iter().map(|key| (*key, self.files.get(key).map(|file| file.bytes()))).collect()
     }
 }
 
-fn changed_line((key, bytes): &(Key, Option<Vec<u8>>)) -> String {
+fn changed_line((key, bytes): &(Key, Option<&[u8]>)) -> String {
     match bytes {
         None => format!("gone {}\n", printed(key)),
         Some(bytes) => format!("file {} {}\n", printed(key), digits(bytes)),
@@ -261,28 +324,14 @@ pub fn digits(bytes: &[u8]) -> String {
 // The run of a session from its loaded state, with its report.
 pub fn run(session: &Session) -> Run {
     let mut state = State::load(session);
-    let (mut opcodes, mut calls, mut trace) = (Vec::new(), Vec::new(), Vec::new());
-    let cause = loop {
-        if trace.len() as u64 == session.limit {
-            break Cause::Limit;
-        }
-        let moment = state.moment();
-        let opcode = state.processor.byte(moment.next);
-        if moment.next == ENTRY_FOR_CALLS {
-            calls.push(moment.registers[C]);
-        }
-        if let Err(cause) = state.step(session) {
-            break cause;
-        }
-        if moment.next < SYSTEM_AREA {
-            opcodes.push(opcode);
-        }
-        trace.push(moment);
-    };
+    let mut notes = Notes::default();
+    let (steps, cause) = state.run(session, &mut notes);
     let changed = state.changed(session);
-    let (steps, registers, text) = (trace.len(), state.registers_line(), digits(&state.desk.text));
+    let (registers, text) = (state.registers_line(), digits(state.text()));
     let lines: String = changed.iter().map(changed_line).collect();
     let report = format!("stop {cause}\nsteps {steps}\n{registers}text {text}\n{lines}end\n");
-    let State { desk, keys, .. } = state;
+    let changed = changed.into_iter().map(|(key, bytes)| (key, bytes.map(<[u8]>::to_vec))).collect();
+    let Notes { opcodes, calls, trace, keys, .. } = notes;
+    let State { desk, .. } = state;
     Run { cause, report, text: desk.text, changed, opcodes, calls, trace, keys, taken: desk.cursor }
 }

@@ -1,8 +1,9 @@
 // The calls of CP/M, over a state with its whole memory and all its files.
 
-use super::files::{is_sayable, matches, File, Key, Record, Search, MOST_RECORDS};
+use super::files::{is_sayable, matches, Key, Record, Search, MOST_RECORDS};
 use super::processor::{A, B, C, D, E, H, L};
 use super::{Cause, State};
+use std::rc::Rc;
 
 const ABSENT: u16 = 0xff;
 const NO_RECORD: u16 = 1;
@@ -105,6 +106,11 @@ fn take_line(capacity: usize, rest: &[u8]) -> Result<Line, Cause> {
     Ok(line)
 }
 
+// Whether a call of this number has a control block with a name.
+pub fn names_a_file(number: u8) -> bool {
+    matches!(number, 15..=17 | 19..=23 | 33..=36 | 40)
+}
+
 impl State {
     // The call whose number is in C. A stop changes nothing.
     pub fn call(&mut self, script: &[u8]) -> Result<(), Cause> {
@@ -115,7 +121,7 @@ impl State {
             1 | 2 | 6..=12 => self.console_call(number, script)?,
             13 | 14 | 24..=26 => self.drive_call(number)?,
             18 => self.search_next(),
-            15..=17 | 19..=23 | 33..=36 | 40 => self.file_call(number)?,
+            _ if names_a_file(number) => self.file_call(number)?,
             _ => return Err(Cause::Unsupported(number)),
         };
         self.processor.set_pair(H, value);
@@ -186,14 +192,21 @@ impl State {
         Ok(0)
     }
 
+    // Bytes into the cells from an address on; those behind the last cell begin again at the first.
     fn put(&mut self, start: u16, bytes: &[u8]) {
+        if let Some(cells) = self.processor.memory[start as usize..].get_mut(..bytes.len()) {
+            return cells.copy_from_slice(bytes);
+        }
         for (offset, byte) in (0..).zip(bytes) {
             self.processor.set_byte(start.wrapping_add(offset), *byte);
         }
     }
 
     fn get(&self, start: u16) -> Record {
-        std::array::from_fn(|offset| self.processor.byte(start.wrapping_add(offset as u16)))
+        match self.processor.memory[start as usize..].first_chunk() {
+            Some(cells) => *cells,
+            None => std::array::from_fn(|offset| self.processor.byte(start.wrapping_add(offset as u16))),
+        }
     }
 
     // A byte of the control block.
@@ -207,7 +220,7 @@ impl State {
     }
 
     // The key of the name that stands at this place of the control block, on the control block's drive.
-    fn key(&self, offset: u16) -> Result<Key, Cause> {
+    pub fn key(&self, offset: u16) -> Result<Key, Cause> {
         let mut key = [0; 12];
         key[0] = match self.field(0) {
             0 => self.desk.drive,
@@ -236,7 +249,6 @@ impl State {
 
     fn file_call(&mut self, number: u8) -> Result<u16, Cause> {
         let key = self.key(1)?;
-        self.keys.push(key);
         Ok(match number {
             17 => {
                 self.desk.search = Some(Search { pattern: key, extent: self.field(EXTENT_BYTE), last: None });
@@ -259,7 +271,7 @@ impl State {
     }
 
     fn tell_size(&mut self, key: &Key) -> u16 {
-        let length = self.files.get(key).map(File::length);
+        let length = self.files.get(key).map(|file| file.length());
         self.set_random_place(length.unwrap_or(0));
         if length.is_some() {
             0
@@ -312,7 +324,7 @@ impl State {
 
     fn write(&mut self, key: &Key, place: usize, after: usize, filled: bool) {
         let record = self.get(self.desk.buffer);
-        let file = self.files.get_mut(key).expect("the file is there");
+        let file = Rc::make_mut(self.files.get_mut(key).expect("the file is there"));
         if filled {
             file.write_filled(place, &record);
         } else {
@@ -325,7 +337,7 @@ impl State {
         if self.files.contains_key(key) || !is_sayable(key) {
             return ABSENT;
         }
-        self.files.insert(*key, File::default());
+        self.files.insert(*key, Rc::default());
         (13..32).for_each(|offset| self.set_field(offset, 0));
         0
     }

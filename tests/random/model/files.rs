@@ -1,6 +1,7 @@
-// Files by their keys, a drive and the eleven bytes of a name; a file as its length and the records that were written.
+// Files by their keys, a drive and the eleven bytes of a name; a file as its bytes, and which of its records were written.
 
 use std::collections::BTreeMap;
+use std::rc::Rc;
 
 pub const RECORD: usize = 128;
 pub const EXTENT: usize = 128;
@@ -10,68 +11,75 @@ const UNUSED_ENTRY: u8 = 0xe5;
 
 pub type Key = [u8; 12];
 pub type Record = [u8; RECORD];
-pub type Files = BTreeMap<Key, File>;
+// A file that a run does not change is shared with the host files.
+pub type Files = BTreeMap<Key, Rc<File>>;
 
 #[derive(Clone, Default)]
 pub struct File {
-    length: usize,
-    records: BTreeMap<usize, Record>,
+    // Zeros in the holes.
+    bytes: Vec<u8>,
+    is_written: Vec<bool>,
 }
 
 impl File {
     // The file of the host that has these bytes.
     pub fn of_host(bytes: &[u8]) -> File {
-        let mut file = File::default();
-        for piece in bytes.chunks(RECORD) {
-            let mut record = [FILLER; RECORD];
-            record[..piece.len()].copy_from_slice(piece);
-            file.write(file.length, &record);
-        }
+        let length = bytes.len().div_ceil(RECORD);
+        let mut file = File { bytes: Vec::with_capacity(length * RECORD), is_written: vec![true; length] };
+        file.bytes.extend_from_slice(bytes);
+        file.bytes.resize(length * RECORD, FILLER);
         file
     }
 
     pub fn length(&self) -> usize {
-        self.length
+        self.is_written.len()
     }
 
     pub fn read(&self, place: usize) -> Option<&Record> {
-        self.records.get(&place)
+        if *self.is_written.get(place)? {
+            self.bytes[place * RECORD..].first_chunk()
+        } else {
+            None
+        }
+    }
+
+    fn lengthen(&mut self, length: usize, is_written: bool) {
+        if length > self.length() {
+            self.bytes.resize(length * RECORD, 0);
+            self.is_written.resize(length, is_written);
+        }
     }
 
     // Leaves the places between the end and this one as holes.
     pub fn write(&mut self, place: usize, record: &Record) {
-        self.records.insert(place, *record);
-        self.length = self.length.max(place + 1);
+        self.lengthen(place + 1, false);
+        self.bytes[place * RECORD..][..RECORD].copy_from_slice(record);
+        self.is_written[place] = true;
     }
 
     pub fn write_filled(&mut self, place: usize, record: &Record) {
-        for between in self.length..place {
-            self.records.insert(between, [0; RECORD]);
-        }
+        self.lengthen(place, true);
         self.write(place, record);
     }
 
     // The greatest written place of an extent plus one, counted within the extent; 0 where none is written.
     pub fn extent_count(&self, extent: usize) -> u8 {
         let first = extent * EXTENT;
-        self.records.range(first..first + EXTENT).next_back().map_or(0, |(place, _)| (place - first + 1) as u8)
+        let last = self.length().min(first + EXTENT);
+        self.is_written.get(first..last).and_then(|extent| extent.iter().rposition(|it| *it)).map_or(0, |place| place as u8 + 1)
     }
 
-    // The extents that have an entry in the directory.
-    fn listed_extents(&self) -> Vec<usize> {
-        if self.length == 0 {
-            return vec![0];
+    // The first extent, from this one on, that has an entry in the directory.
+    fn listed_extent(&self, from: usize) -> Option<usize> {
+        if self.length() == 0 {
+            return (from == 0).then_some(0);
         }
-        (0..self.length.div_ceil(EXTENT)).filter(|extent| self.extent_count(*extent) > 0).collect()
+        (from..self.length().div_ceil(EXTENT)).find(|extent| self.extent_count(*extent) > 0)
     }
 
     // All records as they are told, with zeros in the holes.
-    pub fn bytes(&self) -> Vec<u8> {
-        let mut bytes = vec![0; self.length * RECORD];
-        for (place, record) in &self.records {
-            bytes[place * RECORD..][..RECORD].copy_from_slice(record);
-        }
-        bytes
+    pub fn bytes(&self) -> &[u8] {
+        &self.bytes
     }
 }
 
@@ -117,14 +125,23 @@ pub struct Search {
 }
 
 impl Search {
+    // The first extent of a file, from this one on, whose entry is looked for.
+    fn entry_of(&self, file: &File, from: usize) -> Option<usize> {
+        let wanted = self.extent as usize;
+        match self.extent {
+            b'?' => file.listed_extent(from),
+            _ if wanted < from => None,
+            _ => file.listed_extent(wanted).filter(|extent| *extent == wanted),
+        }
+    }
+
     // Goes to the next entry, which it gives as it stands in the buffer.
     pub fn advance(&mut self, files: &Files) -> Option<Record> {
-        let (key, extent, count) = files
-            .iter()
-            .filter(|(key, _)| matches(&self.pattern, key))
-            .flat_map(|(key, file)| file.listed_extents().into_iter().map(|extent| (*key, extent, file.extent_count(extent))))
-            .filter(|(_, extent, _)| self.extent == b'?' || self.extent as usize == *extent)
-            .find(|(key, extent, _)| self.last.is_none_or(|last| (*key, *extent) > last))?;
+        let (from, after) = self.last.map_or(([0; 12], 0), |(key, extent)| (key, extent + 1));
+        let (key, extent, count) = files.range(from..).filter(|(key, _)| matches(&self.pattern, key)).find_map(|(key, file)| {
+            let extent = self.entry_of(file, if *key == from { after } else { 0 })?;
+            Some((*key, extent, file.extent_count(extent)))
+        })?;
         self.last = Some((key, extent));
         let mut buffer = [UNUSED_ENTRY; RECORD];
         buffer[..32].fill(0);

@@ -40,8 +40,7 @@ impl Flags {
     }
 
     fn of_result(result: u8, half_carry: bool, carry: bool) -> Flags {
-        let ones = (0..8).filter(|bit| result >> bit & 1 == 1).count();
-        Flags { sign: result >= 0x80, zero: result == 0, half_carry, parity: ones % 2 == 0, carry }
+        Flags { sign: result >= 0x80, zero: result == 0, half_carry, parity: result.count_ones() % 2 == 0, carry }
     }
 }
 
