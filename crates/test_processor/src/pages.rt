@@ -2,7 +2,7 @@
 
 use crate::fixtures::{HI, blank};
 use i8080::{Bus, fetch};
-use pagemem::{Cells, Image, Overlay, View, memories_agree};
+use pagemem::{BlankMarks, Cells, Image, Overlay, View, memories_agree};
 use std::alloc::AllocError;
 use std::process::Abort;
 use std::test::Fail;
@@ -117,7 +117,7 @@ fn cells_are_shared_and_copied(rt: HostRuntime) -> Result<(), Fail> {
     cells.ready(0x0101)?;
     cells.write(0x0101, 0x5a);
     cells.share()?;
-    let mut copy = Overlay::over(rt.alloc(), cells.snapshot()?)?;
+    let mut copy = Overlay::over(BlankMarks::new(rt.alloc())?, cells.snapshot()?);
     copy_is_as_before(&rt, &mut cells, &mut copy)
 }
 
