@@ -118,11 +118,10 @@ impl<V: Drop> KeyMap<V> {
         ensures some { IfSome result (λ key. self.new ≡ finmap.remove self.old key) }
         ensures none { IfNone result ((self.new ≡ self.old) × ((x : List ℕ) → IsAbsent self.old x)) }
     {
-        let Some((first, _)) = self.first() else {
+        let Some(first) = self.map.pop_first() else {
             return None;
         };
-        let key = *first;
-        self.remove(&key);
+        let key = first.0;
         Some(key)
     }
 
