@@ -2,13 +2,12 @@
 // more finds the file once, as a `SeenFile`.
 
 ghost use Rattle.std.specs.Prelude.{◌≡◌};
-ghost use Rattle.hostfiles.specs.Files.{has, length_at, place_of, records, entry_at};
+ghost use Rattle.hostfiles.specs.Files.{has, length_at, records};
 
 use crate::host::HostFiles;
 use crate::journal::Journal;
 use crate::seen::SeenFile;
 use filenames::Key;
-use records::Record;
 
 /// Whether there is a file of the key.
 pub fn has(host: &HostFiles, journal: &Journal, key: &Key) -> bool
@@ -29,11 +28,4 @@ pub fn length(host: &HostFiles, journal: &Journal, key: &Key) -> u32
     ensures { result ≡ length_at host.now journal.now.entries key.now }
 {
     SeenFile::find(host, journal, key).length()
-}
-
-/// The record at a place below the length; none in a hole.
-pub fn content(host: &HostFiles, journal: &Journal, key: &Key, k: u32) -> Option<Record>
-    ensures { result ≡ place_of host.now key.now (entry_at journal.now.entries key.now) k }
-{
-    SeenFile::find(host, journal, key).record(k).copied()
 }
