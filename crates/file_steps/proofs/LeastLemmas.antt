@@ -1,19 +1,24 @@
 -- The least step that an exchanged file touches.
-use Rattle.std.proofs.Common.{◌≡◌, ◌<◌, ◌≤◌, ◌-◌, ◌⊎◌, inl, inr, ℕ, Bool, true, false, cond, List, length, Option, Some, None, is_some, get_or, nat_lt, refl, sym, ap, subst, ◌∙◌, eqb-true, eq-eqb, arith}
-use Rattle.std.specs.Prelude.{IsTrue, ◌↔◌, slice_index}
+use Rattle.std.proofs.Common.{◌≡◌, ◌<◌, ◌≤◌, ◌+◌, max, ◌⊎◌, inl, inr, ℕ, Bool, true, false, cond, List, [], length, Option, Some, None, is_some, get_or, nat_lt, refl, sym, ap, subst, ◌∙◌, eqb-true, eq-eqb, arith}
+use Rattle.std.specs.Prelude.{IsTrue, ◌↔◌, slice_index, unwrap_or}
+use Rattle.std.proofs.lemmas.Bool.{cases_lt}
+use Rattle.std.proofs.lemmas.List.{get_or_past}
+use Rattle.std.proofs.lemmas.Option.{slice_get_past}
 use Rattle.std.specs.Option.{option_map}
 use Rattle.std.proofs.lemmas.Bool.Decides.{nat_tests}
 use Rattle.std.proofs.Math.Nat.{eq-or-lt_of_le}
 use Rattle.std.specs.FinMap.{get}
-use Rattle.keymaps.specs.Walks.{is_past}
 use Rattle.hostfiles.specs.Hosts.{Key, Record, Host}
 use Rattle.hostfiles.specs.declared.looks.Ask.{Ask}
 use Rattle.hostfiles.specs.declared.looks.Ask.TheVariants.{Has, Length, Rec, Directory}
 use Rattle.file_calls.specs.Questions.{is_on}
 use Rattle.file_calls.specs.Passing.{host_answers}
 use Rattle.file_steps.specs.declared.steps.FileSteps.{FileSteps}
+use Rattle.file_steps.specs.FirstSteps.{Steps, step_in}
+use Rattle.file_steps.specs.PlaceSteps.{IsEarliestFrom}
+use Rattle.file_steps.specs.RecordSteps.{step_of_record, step_within, steps_of}
 use Rattle.file_steps.specs.Steps.{lesser, step_of_ask}
-use Rattle.file_steps.specs.Touch.{record_of, IsFileTouch, IsPlaceTouch}
+use Rattle.file_steps.specs.Touch.{count_of, record_of, IsFileTouch, IsPlaceTouch}
 use Rattle.file_steps.specs.Setting.{with_file}
 use Rattle.file_steps.proofs.AnswerLemmas.{file_here, cases_key, answers_apart, directory_same, names_tell}
 
@@ -38,42 +43,63 @@ lesser_by b step least t e = subst (IsLesser b step least) (sym e) (lesser_is b 
 
 -- ---- the records of a file
 
--- the same, of the places that are not past one
-pub record IsTouchUpTo (after : Option ℕ) (key : Key) (old new : Option (List Record)) (steps : FileSteps) (least touch : ℕ) : Type 0 where
+-- the same, of the places below one
+pub record IsTouchUpTo (n : ℕ) (old new : Option (List Record)) (steps : Option Steps) (least touch : ℕ) : Type 0 where
   pub within : touch ≤ least
-  pub below : (k m : ℕ) → is_past after k ≡ false → get steps.records (key, k) ≡ Some m → m < touch → record_of old k ≡ record_of new k
-  pub here : (touch ≡ least) ⊎ ((k : ℕ) × (get steps.records (key, k) ≡ Some touch) × (record_of old k ≡ record_of new k → ⊥))
+  pub below : (k m : ℕ) → k < n → step_within steps k ≡ Some m → m < touch → record_of old k ≡ record_of new k
+  pub here : (touch ≡ least) ⊎ ((k : ℕ) × (step_within steps k ≡ Some touch) × (record_of old k ≡ record_of new k → ⊥))
 
--- how many places lie past one
-abbrev pub places_past : Option ℕ → ℕ
-places_past None = 4294967296
-places_past (Some n) = 4294967295 - n
+module _ (old new : Option (List Record)) (steps : Option Steps) (least : ℕ) where
+  pub touch_of_none : IsTouchUpTo 0 old new steps least least
+  touch_of_none = record { within = omega arith; below = λ k m l e h. absurd (omega arith); here = inl refl }
 
-module _ (key : Key) (old new : Option (List Record)) (steps : FileSteps) (least : ℕ) where
-  up_to : (after : Option ℕ) (place step : ℕ) → get steps.records (key, place) ≡ Some step → ((p : ℕ) → is_past after p ≡ true → p < place → get steps.records (key, p) ≡ None)
-      → (k m : ℕ) (b : Bool) → is_past after k ≡ b → nat_lt place k ≡ false → get steps.records (key, k) ≡ Some m → (is_past after k ≡ false) ⊎ ((k ≡ place) × (step ≡ m))
-  up_to after place step there none k m false p high e = inl p
-  up_to after place step there none k m true p high e =
-      let within : k ≤ place = grind (arith, nat_tests) in
-      elim (eq-or-lt_of_le {n = k} {m = place} within) [
-        | inl is ↦ let same : get steps.records (key, place) ≡ Some m = ap (λ x. get steps.records (key, x)) (sym is) ∙ e in inr (is, (cc))
-        | inr lt ↦ let gone : get steps.records (key, k) ≡ None = none k p lt in absurd (cc)
-      ]
-
-  pub touch_of_more : (after : Option ℕ) (touch place step : ℕ) → IsTouchUpTo after key old new steps least touch → get steps.records (key, place) ≡ Some step
-      → ((p : ℕ) → is_past after p ≡ true → p < place → get steps.records (key, p) ≡ None)
-      → (b : Bool) → (IsTrue b ↔ (record_of old place ≡ record_of new place)) → (t : ℕ) → IsLesser b (Some step) touch t → IsTouchUpTo (Some place) key old new steps least t
-  touch_of_more after touch place step so there none b same t one = record {
+  pub touch_of_more : (n touch : ℕ) → IsTouchUpTo n old new steps least touch → (b : Bool) → (IsTrue b ↔ (record_of old n ≡ record_of new n)) → (t : ℕ) → IsLesser b (step_within steps n) touch t
+      → IsTouchUpTo (n + 1) old new steps least t
+  touch_of_more n touch so b same t one = record {
     within = (let x = so.within in let y = one.within in omega arith);
-    below = λ k m p e l. elim (up_to after place step there none k m (is_past after k) refl p e) [
-      | inl before ↦ so.below k m before e (let y = one.within in omega arith)
-      | inr is ↦ (let yes = one.below m (ap (λ n. Some n) is.1) l in let q : record_of old place ≡ record_of new place = same.0 yes in subst (λ x. record_of old x ≡ record_of new x) (sym is.0) q)
-    ];
+    below = λ k m l e h. (let within : k ≤ n = omega arith in elim (eq-or-lt_of_le {n = k} {m = n} within) [
+      | inl is ↦
+          let q : record_of old n ≡ record_of new n = same.0 (one.below m (ap (step_within steps) (sym is) ∙ e) h) in
+          subst (λ x. record_of old x ≡ record_of new x) (sym is) q
+      | inr low ↦ so.below k m low e (let y = one.within in omega arith)
+    ]);
     here = elim one.here [
-      | inl is ↦ subst (λ x. (x ≡ least) ⊎ ((k : ℕ) × (get steps.records (key, k) ≡ Some x) × (record_of old k ≡ record_of new k → ⊥))) (sym is) so.here
-      | inr h ↦ inr (place, there ∙ h.0, λ e. let yes = same.1 e in cc)
+      | inl is ↦ subst (λ x. (x ≡ least) ⊎ ((k : ℕ) × (step_within steps k ≡ Some x) × (record_of old k ≡ record_of new k → ⊥))) (sym is) so.here
+      | inr h ↦ inr (n, h.0, λ e. let yes = same.1 e in cc)
     ];
   }
+
+  -- where no place from here on has an earlier step of another record
+  abbrev pub IsRestPast : ℕ → ℕ → Type 0
+  IsRestPast n touch = (k m : ℕ) → n ≤ k → step_within steps k ≡ Some m → m < touch → record_of old k ≡ record_of new k
+
+  pub touch_of_all : (key : Key) (all : FileSteps) → steps_of all.records.files key ≡ steps → (n touch : ℕ) → IsTouchUpTo n old new steps least touch → IsRestPast n touch → IsPlaceTouch key old new all least touch
+  touch_of_all key all is n touch so rest =
+      let same : (k : ℕ) → step_of_record all.records key k ≡ step_within steps k = λ k. ap (λ s. step_within s k) is in
+      record {
+        within = so.within;
+        below = λ k m e l. (elim (cases_lt k n) [ inl low ↦ so.below k m low (sym (same k) ∙ e) l | inr high ↦ rest k m high (sym (same k) ∙ e) l ]);
+        here = elim so.here [ inl e ↦ inl e | inr h ↦ inr (h.0, same h.0 ∙ h.1, h.2) ];
+      }
+
+-- where no record of the file has a step
+pub touch_of_no_step : (key : Key) (old new : Option (List Record)) (all : FileSteps) (least : ℕ) → steps_of all.records.files key ≡ None → IsPlaceTouch key old new all least least
+touch_of_no_step key old new all least none =
+    touch_of_all old new None least key all none 0 least (touch_of_none old new None least) (λ k m h e l. cc)
+
+-- past both files there is no record, past the last place no step, and none is earlier past a place that is the earliest
+pub past_both : (old new : Option (List Record)) (steps : Option Steps) (least n touch : ℕ) → max (count_of old) (count_of new) ≤ n → IsRestPast old new steps least n touch
+past_both old new steps least n touch h = λ k m high e l. slice_get_past (unwrap_or old []) k (omega arith) ∙ sym (slice_get_past (unwrap_or new []) k (omega arith))
+
+pub past_steps : (old new : Option (List Record)) (steps : Steps) (least n touch : ℕ) → length steps.entries ≤ n → IsRestPast old new (Some steps) least n touch
+past_steps old new steps least n touch h = λ k m high e l. let none : step_in steps.entries k ≡ None = get_or_past steps.entries k None (omega arith) in cc
+
+pub past_earliest : (old new : Option (List Record)) (steps : Steps) (least n before touch : ℕ) (b : Bool) → b ≡ false → IsLesser b (step_in steps.entries n) before touch → IsEarliestFrom steps.entries n → IsRestPast old new (Some steps) least (n + 1) touch
+past_earliest old new steps least n before touch b other one (first, here, earliest) = λ k m high e l.
+    let low : first ≤ m = earliest k m (omega arith) e in
+    let yes : b ≡ true = one.below first here (omega arith) in
+    let both : false ≡ true = sym other ∙ yes in
+    cc
 
 -- ---- all questions
 
@@ -116,7 +142,7 @@ module _ (host : Host) (key : Key) (file : Option (List Record)) (steps : FileSt
     ]
     touch_below (Rec q k) m e l = elim (cases_key q key) [
       | inl is ↦
-          let same = last.below k m (ap (λ x. get steps.records (x, k)) (sym is) ∙ e) l in
+          let same = last.below k m (ap (λ x. step_of_record steps.records x k) (sym is) ∙ e) l in
           let P : Key → Type 0 = λ x. host_answers host (Rec x k) ≡ host_answers then (Rec x k) in subst P (sym is) (here_record k same)
       | inr apart ↦ answers_apart host key file (Rec q k) apart
     ]

@@ -3,20 +3,19 @@ use Rattle.std.proofs.Common.{◌≡◌, ℕ, zero, suc, Bool, true, false, cond
 use Rattle.std.proofs.lemmas.List.{get_or-replicate, get_or_past, length-replicate}
 use Rattle.std.proofs.lemmas.Bool.{cases_lt}
 use Rattle.std.proofs.lemmas.List.Edits.{map_over_more}
-use Rattle.std.specs.Ordering.{nat_cmp, eq_by_cmp, is_eq, ordering_then}
+use Rattle.std.specs.Ordering.{nat_cmp, eq_by_cmp}
 use Rattle.std.specs.declared.cmp.Ordering.{Ordering}
-use Rattle.std.specs.declared.cmp.Ordering.TheVariants.{Less, Equal, Greater}
-use Rattle.std.specs.Cmp.{IsTotalOrder, unsigned_tied}
+use Rattle.std.specs.Cmp.{IsTotalOrder}
 use Rattle.std.specs.Cmp.Lexicographic.{slice_cmp, nat_list_cmp_total}
 use Rattle.std.specs.FinMap.{FinMap, IsAntisymmetric, get, insert, empty, get-insert, get-empty}
-use Rattle.keymaps.specs.Order.{place_cmp}
-use Rattle.keymaps.proofs.Views.{same_key, same_place, places_total, key_of}
+use Rattle.keymaps.proofs.Views.{same_key, key_of}
 use Rattle.hostfiles.specs.Hosts.{Key}
 use Rattle.hostfiles.specs.Looks.{is_same_ask}
 use Rattle.hostfiles.specs.declared.looks.Ask.{Ask}
 use Rattle.hostfiles.specs.declared.looks.Ask.TheVariants.{Has, Length, Rec, Directory}
 use Rattle.file_steps.specs.declared.steps.FileSteps.{FileSteps}
-use Rattle.file_steps.specs.Steps.{or_else, mark, erased, step_of_ask}
+use Rattle.file_steps.specs.RecordSteps.{RecordNotes, NotesRecord, SameRecords, step_of_record}
+use Rattle.file_steps.specs.Steps.{SameSteps, or_else, mark, erased, step_of_ask}
 
 -- ---- notes
 
@@ -27,14 +26,6 @@ unmarked (Some m) n = refl
 marked : (b : Bool) (r : Option ℕ) (n : ℕ) → (b ≡ true → r ≡ None) → cond b (Some n) r ≡ or_else r (mark b n)
 marked true r n h = ap (λ x. or_else x (Some n)) (sym (h refl))
 marked false r n h = unmarked r n
-
--- two places tie where their files do and their numbers are equal
-place_tied : (a b : Key) (j k : ℕ) → eq_by_cmp place_cmp (a, j) (b, k) ≡ (eq_by_cmp (slice_cmp nat_cmp) a b && (j == k))
-place_tied a b j k = elim (slice_cmp nat_cmp a b) as (λ r. is_eq (ordering_then r (nat_cmp j k)) ≡ (is_eq r && (j == k))) [
-  | Less ↦ refl
-  | Equal ↦ unsigned_tied j k
-  | Greater ↦ refl
-]
 
 abbrev pub NotedAs : FileSteps → FileSteps → Ask → ℕ → Type 0
 NotedAs old new ask step = (q : Ask) → step_of_ask new q ≡ or_else (step_of_ask old q) (mark (is_same_ask q ask) step)
@@ -78,22 +69,28 @@ module _ {K : Type 0} {R : K → K → Ordering} where
 pub noted_has : (s : FileSteps) (key : Key) (step : ℕ) → get s.has key ≡ None → NotedAs s (record s { has = insert s.has key step }) (Has key) step
 noted_has s key step none (Has a) = entered nat_list_cmp_total same_key s.has key step none a
 noted_has s key step none (Length a) = unmarked (get s.lengths a) step
-noted_has s key step none (Rec a k) = unmarked (get s.records (a, k)) step
+noted_has s key step none (Rec a k) = unmarked (step_of_record s.records a k) step
 noted_has s key step none (Directory d) = unmarked (get_or s.directories d None) step
 
 pub noted_length : (s : FileSteps) (key : Key) (step : ℕ) → get s.lengths key ≡ None → NotedAs s (record s { lengths = insert s.lengths key step }) (Length key) step
 noted_length s key step none (Has a) = unmarked (get s.has a) step
 noted_length s key step none (Length a) = entered nat_list_cmp_total same_key s.lengths key step none a
-noted_length s key step none (Rec a k) = unmarked (get s.records (a, k)) step
+noted_length s key step none (Rec a k) = unmarked (step_of_record s.records a k) step
 noted_length s key step none (Directory d) = unmarked (get_or s.directories d None) step
 
-pub noted_record : (s : FileSteps) (key : Key) (place step : ℕ) → get s.records (key, place) ≡ None → NotedAs s (record s { records = insert s.records (key, place) step }) (Rec key place) step
-noted_record s key place step none (Has a) = unmarked (get s.has a) step
-noted_record s key place step none (Length a) = unmarked (get s.lengths a) step
-noted_record s key place step none (Rec a k) =
-    entered places_total same_place s.records (key, place) step none (a, k)
-    ∙ ap (λ b. or_else (get s.records (a, k)) (mark b step)) (place_tied a key k place)
-noted_record s key place step none (Directory d) = unmarked (get_or s.directories d None) step
+-- a record that is noted among the records
+pub noted_record : (s : FileSteps) (records : RecordNotes) (key : Key) (place step : ℕ) → NotesRecord s.records key place step records → NotedAs s (record s { records = records }) (Rec key place) step
+noted_record s records key place step notes (Has a) = unmarked (get s.has a) step
+noted_record s records key place step notes (Length a) = unmarked (get s.lengths a) step
+noted_record s records key place step notes (Rec a k) = notes a k
+noted_record s records key place step notes (Directory d) = unmarked (get_or s.directories d None) step
+
+-- the same records
+pub same_records : (s : FileSteps) (records : RecordNotes) → SameRecords s.records records → SameSteps s (record s { records = records })
+same_records s records same (Has a) = refl
+same_records s records same (Length a) = refl
+same_records s records same (Rec a k) = same a k
+same_records s records same (Directory d) = refl
 
 -- the same, of a question that is one of these
 module _ (s : FileSteps) (ask : Ask) (key : Key) (step : ℕ) (none : step_of_ask s ask ≡ None) where
@@ -107,10 +104,8 @@ module _ (s : FileSteps) (ask : Ask) (key : Key) (step : ℕ) (none : step_of_as
       let one = noted_length s key step (sym (ap (step_of_ask s) is) ∙ none) in
       subst (λ a. NotedAs s (record s { lengths = m }) a step) (sym is) (subst (λ x. NotedAs s (record s { lengths = x }) (Length key) step) (sym e) one)
 
-  pub entered_record : (k : ℕ) (m : FinMap place_cmp ℕ) → ask ≡ Rec key k → m ≡ insert s.records (key, k) step → NotedAs s (record s { records = m }) ask step
-  entered_record k m is e =
-      let one = noted_record s key k step (sym (ap (step_of_ask s) is) ∙ none) in
-      subst (λ a. NotedAs s (record s { records = m }) a step) (sym is) (subst (λ x. NotedAs s (record s { records = x }) (Rec key k) step) (sym e) one)
+  pub entered_record : (k : ℕ) (records : RecordNotes) → ask ≡ Rec key k → NotesRecord s.records key k step records → NotedAs s (record s { records = records }) ask step
+  entered_record k records is notes = subst (λ a. NotedAs s (record s { records = records }) a step) (sym is) (noted_record s records key k step notes)
 
 -- ---- erasures
 
@@ -126,10 +121,10 @@ erased_more ds es from i x low so is = ap (slice_set es i) is ∙ map_over_more 
 
 -- ---- no step
 
-pub no_steps : (s : FileSteps) → s.has ≡ empty → s.lengths ≡ empty → s.records ≡ empty → ((d : ℕ) → get_or s.directories d None ≡ None) → (q : Ask) → step_of_ask s q ≡ None
+pub no_steps : (s : FileSteps) → s.has ≡ empty → s.lengths ≡ empty → s.records ≡ record { files = []; latest = 0 } → ((d : ℕ) → get_or s.directories d None ≡ None) → (q : Ask) → step_of_ask s q ≡ None
 no_steps s a b c d (Has key) = ap (λ m. get m key) a ∙ get-empty (slice_cmp nat_cmp) key
 no_steps s a b c d (Length key) = ap (λ m. get m key) b ∙ get-empty (slice_cmp nat_cmp) key
-no_steps s a b c d (Rec key k) = ap (λ m. get m (key, k)) c ∙ get-empty place_cmp (key, k)
+no_steps s a b c d (Rec key k) = ap (λ m. step_of_record m key k) c
 no_steps s a b c d (Directory drive) = d drive
 
 abbrev pub nothing : Option ℕ

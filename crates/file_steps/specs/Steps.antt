@@ -1,25 +1,12 @@
 -- For each question that was asked of the host files the first step that asked it. (This project's own.)
-use Rattle.std.specs.Prelude.{◌≡◌, ℕ, Bool, true, false, List, Option, Some, None, nat_lt, if◌then◌else◌, get_or}
+use Rattle.std.specs.Prelude.{◌≡◌, ℕ, List, Option, Some, None, nat_lt, if◌then◌else◌, get_or}
 use Rattle.std.specs.FinMap.{get}
 use Rattle.hostfiles.specs.declared.looks.Ask.{Ask}
 use Rattle.hostfiles.specs.declared.looks.Ask.TheVariants.{Has, Length, Rec, Directory}
 use Rattle.hostfiles.specs.Looks.{is_same_ask}
+pub use Rattle.file_steps.specs.Noting.{or_else, mark, erased}
+use Rattle.file_steps.specs.RecordSteps.{step_of_record}
 use Rattle.file_steps.specs.declared.steps.FileSteps.{FileSteps}
-
--- the first step, where there is one, else the second
-abbrev pub or_else : Option ℕ → Option ℕ → Option ℕ
-or_else None b = b
-or_else (Some a) b = Some a
-
--- a step, if a test passes
-abbrev pub mark : Bool → ℕ → Option ℕ
-mark true n = Some n
-mark false n = None
-
--- what is left of a step when those from t on are taken away
-abbrev pub erased : ℕ → Option ℕ → Option ℕ
-erased t None = None
-erased t (Some m) = if nat_lt m t then Some m else None
 
 -- the lesser of two steps, the first of which may not be there
 abbrev pub lesser : Option ℕ → ℕ → ℕ
@@ -38,16 +25,20 @@ ErasesSteps from old new = (drive : ℕ) → step_of_drive new drive ≡ erased 
 abbrev pub step_of_ask : FileSteps → Ask → Option ℕ
 step_of_ask s (Has key) = get s.has key
 step_of_ask s (Length key) = get s.lengths key
-step_of_ask s (Rec key k) = get s.records (key, k)
+step_of_ask s (Rec key k) = step_of_record s.records key k
 step_of_ask s (Directory drive) = step_of_drive s.directories drive
 
 -- a question has a step, unless it had one before, and those of all others stay
 abbrev pub NotesStep : FileSteps → Ask → ℕ → FileSteps → Type 0
 NotesStep old ask step new = (q : Ask) → step_of_ask new q ≡ or_else (step_of_ask old q) (mark (is_same_ask q ask) step)
 
+-- each question has the step that it had
+abbrev pub SameSteps : FileSteps → FileSteps → Type 0
+SameSteps old new = (q : Ask) → step_of_ask new q ≡ step_of_ask old q
+
 -- a note of this question takes memory: it has no step, and is not about a drive
 abbrev pub TakesMemory : FileSteps → Ask → Type 0
 TakesMemory s (Has key) = get s.has key ≡ None
 TakesMemory s (Length key) = get s.lengths key ≡ None
-TakesMemory s (Rec key k) = get s.records (key, k) ≡ None
+TakesMemory s (Rec key k) = step_of_record s.records key k ≡ None
 TakesMemory s (Directory drive) = ⊥

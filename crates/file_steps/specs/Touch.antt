@@ -1,10 +1,10 @@
 -- Which steps the change of a host file touches. (This project's own.)
 use Rattle.std.specs.Prelude.{◌≡◌, ◌<◌, ◌≤◌, ◌⊎◌, ℕ, List, [], Option, Some, length, option_map, unwrap_or, slice_get}
-use Rattle.std.specs.FinMap.{get}
 use Rattle.hostfiles.specs.Hosts.{Key, Record, Host}
 use Rattle.hostfiles.specs.declared.looks.Ask.{Ask}
 use Rattle.file_calls.specs.Passing.{host_answers}
 use Rattle.file_steps.specs.declared.steps.FileSteps.{FileSteps}
+use Rattle.file_steps.specs.RecordSteps.{step_of_record}
 use Rattle.file_steps.specs.Steps.{step_of_ask}
 
 -- the least step of a question that the new host files answer in another way, or `least`
@@ -17,6 +17,10 @@ pub record IsFileTouch (old new : Host) (steps : FileSteps) (least touch : ℕ) 
 abbrev pub length_of : Option (List Record) → Option ℕ
 length_of file = option_map length file
 
+-- how many records a file has; one that is not there has none
+abbrev pub count_of : Option (List Record) → ℕ
+count_of file = length (unwrap_or file [])
+
 -- a file that is not there has no record
 abbrev pub record_of : Option (List Record) → ℕ → Option Record
 record_of file k = slice_get (unwrap_or file []) k
@@ -24,5 +28,5 @@ record_of file k = slice_get (unwrap_or file []) k
 -- the least step of a record of the key that two files have not alike, or `least`
 pub record IsPlaceTouch (key : Key) (old new : Option (List Record)) (steps : FileSteps) (least touch : ℕ) : Type 0 where
   pub within : touch ≤ least
-  pub below : (k m : ℕ) → get steps.records (key, k) ≡ Some m → m < touch → record_of old k ≡ record_of new k
-  pub here : (touch ≡ least) ⊎ ((k : ℕ) × (get steps.records (key, k) ≡ Some touch) × (record_of old k ≡ record_of new k → ⊥))
+  pub below : (k m : ℕ) → step_of_record steps.records key k ≡ Some m → m < touch → record_of old k ≡ record_of new k
+  pub here : (touch ≡ least) ⊎ ((k : ℕ) × (step_of_record steps.records key k ≡ Some touch) × (record_of old k ≡ record_of new k → ⊥))

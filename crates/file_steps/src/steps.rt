@@ -1,11 +1,12 @@
 // The first steps.
 
-ghost use Rattle.std.specs.Prelude.{◌≡◌, OnOk, OnErr, None};
+ghost use Rattle.std.specs.Prelude.{◌≡◌, ◌<◌, ◌≤◌, OnOk, OnErr, None};
 ghost use Rattle.hostfiles.specs.declared.looks.Ask.{Ask as HostAsk};
-ghost use Rattle.file_steps.specs.Steps.{ErasesSteps, NotesStep, TakesMemory, erased, step_of_ask};
+ghost use Rattle.file_steps.specs.Steps.{ErasesSteps, NotesStep, SameSteps, TakesMemory, erased, step_of_ask};
 
+use crate::record_steps::RecordSteps;
 use hostfiles::Ask;
-use keymaps::{KeyMap, PlaceMap};
+use keymaps::KeyMap;
 use std::alloc::{AllocError, Global};
 
 /// For each question that was asked of the host files the first step that asked it.
@@ -16,7 +17,7 @@ pub struct FileSteps {
     /// For keys whose lengths were asked.
     pub lengths: KeyMap<u64>,
     /// For records that were asked.
-    pub records: PlaceMap,
+    pub records: RecordSteps,
     /// For each drive, where its directory was asked.
     pub directories: [Option<u64>; 256],
 }
@@ -24,12 +25,13 @@ pub struct FileSteps {
 impl FileSteps {
     /// No question has a step. Takes no memory.
     pub fn new(alloc: Global) -> Self
-        ensures { (q : HostAsk) → step_of_ask result q ≡ None }
+        ensures steps { (q : HostAsk) → step_of_ask result q ≡ None }
+        ensures latest { result.records.latest ≡ 0 }
     {
         Self {
             has: KeyMap::new(alloc),
             lengths: KeyMap::new(alloc),
-            records: PlaceMap::new(alloc),
+            records: RecordSteps::new(alloc),
             directories: [None; 256],
         }
     }
@@ -41,16 +43,19 @@ impl FileSteps {
         match *ask {
             Ask::Has(key) => self.has.get(&key).copied(),
             Ask::Length(key) => self.lengths.get(&key).copied(),
-            Ask::Rec(key, k) => self.records.get(&key, k),
+            Ask::Rec(key, k) => self.records.of(&key, k),
             Ask::Directory(drive) => self.directories[drive as usize],
         }
     }
 
-    /// Gives a question a step, unless it has one. An `Err` changes nothing, and comes only where that takes
-    /// memory.
+    /// Gives a question a step, which no step of a record is past, unless it has one. An `Err` leaves each
+    /// question its step, and comes only where the note takes memory.
     pub fn note(&mut self, ask: &Ask, step: u64) -> Result<(), AllocError>
+        requires held { step < 4294967295 }
+        requires latest { self.old.records.latest ≤ step }
         ensures ok { OnOk result (NotesStep self.old ask.now step self.new) }
-        ensures err { OnErr result (self.new ≡ self.old) }
+        ensures err { OnErr result (SameSteps self.old self.new) }
+        ensures latest { self.new.records.latest ≤ step }
         ensures refusal { OnErr result (TakesMemory self.old ask.now) }
     {
         if self.of(ask).is_some() {
@@ -61,15 +66,18 @@ impl FileSteps {
 
     // Gives a step to a question that has none.
     fn enter(&mut self, ask: &Ask, step: u64) -> Result<(), AllocError>
-        requires { step_of_ask self.old ask.now ≡ None }
+        requires held { step < 4294967295 }
+        requires latest { self.old.records.latest ≤ step }
+        requires none { step_of_ask self.old ask.now ≡ None }
         ensures ok { OnOk result (NotesStep self.old ask.now step self.new) }
-        ensures err { OnErr result (self.new ≡ self.old) }
+        ensures err { OnErr result (SameSteps self.old self.new) }
+        ensures latest { self.new.records.latest ≤ step }
         ensures refusal { OnErr result (TakesMemory self.old ask.now) }
     {
         match *ask {
             Ask::Has(key) => self.has.insert(key, step),
             Ask::Length(key) => self.lengths.insert(key, step),
-            Ask::Rec(key, k) => self.records.insert(key, k, step),
+            Ask::Rec(key, k) => self.records.note(&key, k, step),
             Ask::Directory(drive) => {
                 self.directories[drive as usize] = Some(step);
                 Ok(())
@@ -79,11 +87,13 @@ impl FileSteps {
 
     /// Takes away every step from this one on. Takes no memory.
     pub fn erase_from(&mut self, from: u64)
-        ensures { (q : HostAsk) → step_of_ask self.new q ≡ erased from (step_of_ask self.old q) }
+        ensures steps { (q : HostAsk) → step_of_ask self.new q ≡ erased from (step_of_ask self.old q) }
+        ensures latest { (self.new.records.latest ≤ self.old.records.latest)
+            × (self.new.records.latest ≤ from) }
     {
         self.has.retain_below(from);
         self.lengths.retain_below(from);
-        self.records.retain_below(from);
+        self.records.erase_from(from);
         erase_drives(&mut self.directories, from);
     }
 }

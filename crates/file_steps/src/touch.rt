@@ -1,8 +1,8 @@
 // The first step that a change of a host file touches.
 
-ghost use Rattle.std.specs.Prelude.{◌≡◌, ◌↔◌, IsTrue, is_some, option_copied, if◌then◌else◌};
+ghost use Rattle.std.specs.Prelude.{◌≡◌, ◌↔◌, IsTrue, is_some, option_copied, if◌then◌else◌, max};
 ghost use Rattle.file_steps.specs.Steps.{lesser};
-ghost use Rattle.file_steps.specs.Touch.{IsFileTouch, IsPlaceTouch, length_of, record_of};
+ghost use Rattle.file_steps.specs.Touch.{IsFileTouch, IsPlaceTouch, count_of, length_of, record_of};
 ghost use Rattle.file_steps.specs.Setting.{with_file};
 
 use crate::steps::FileSteps;
@@ -41,14 +41,39 @@ impl FileSteps {
         ensures { IsPlaceTouch key.now (option_copied old.entry) (option_copied new.entry)
             self.now least result }
     {
+        let Some(steps) = self.records.file(key) else {
+            return least;
+        };
+        let end = longer(old, new);
+        let noted = steps.end();
         let mut touch = least;
-        let mut after = None;
-        while let Some((place, step)) = self.records.next_place(key, after) {
+        let mut place = 0;
+        while place < end && (place as usize) < noted {
             let is_same = is_same_record(old, new, place);
-            touch = lesser_unless(is_same, Some(step), touch);
-            after = Some(place);
+            touch = lesser_unless(is_same, steps.of(place as usize), touch);
+            if !is_same && steps.is_earliest_from(place as usize) {
+                return touch;
+            }
+            place += 1;
         }
         touch
+    }
+}
+
+// How many records the longer of two files has; a file that is not there has none.
+fn longer(old: Option<&HostFile>, new: Option<&HostFile>) -> u32
+    ensures { result ≡ max (count_of (option_copied old.entry)) (count_of (option_copied new.entry)) }
+{
+    count_of(old).max(count_of(new))
+}
+
+// How many records a file has; one that is not there has none.
+fn count_of(file: Option<&HostFile>) -> u32
+    ensures { result ≡ count_of (option_copied file.entry) }
+{
+    match file {
+        Some(file) => file.len(),
+        None => 0,
     }
 }
 

@@ -1,6 +1,5 @@
 pub mod Views
 pub mod Below
-pub mod PlaceOrder
 pub mod Rising
 pub mod Left
 pub mod MarkLemmas

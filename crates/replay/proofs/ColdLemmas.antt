@@ -1,7 +1,6 @@
 -- Where a cold run ends.
 use Rattle.std.proofs.Common.{◌≡◌, ℕ, zero, suc, ◌+◌, ◌-◌, ◌<◌, refl, ap, sym, ◌∙◌, arith, Some}
 use Rattle.machine.specs.Outcome.{Outcome, Step, Stop}
-use Rattle.machine.specs.Dependence.{state_of}
 use Rattle.machine.specs.Dependence as dependence
 use Rattle.machine.specs.Cause.{Cause}
 use Rattle.machine.specs.Cause.TheVariants.{Limit}

@@ -16,10 +16,7 @@ pub mod KeepingLemmas
 pub mod StepsLemmas
 pub mod CompleteLemmas
 pub mod RefusalLemmas
-pub mod EntryLemmas
 pub mod PlaceLemmas
-pub mod TurnLemmas
 pub mod AskLemmas
 pub mod NewLooks
 pub mod FileTouch
-pub mod OrderLemmas

@@ -4,6 +4,7 @@ use Rattle.std.specs.Prelude.{slice_get, Result, Ok, Err, OnErr}
 use Rattle.std.proofs.lemmas.Bool.{cases_lt}
 use Rattle.std.proofs.lemmas.List.{drop-append-le, drop-drop, append-nil}
 use Rattle.circular_buffer.specs.Buffer.{Buffer, keep_last, last_item}
+use Rattle.file_steps.proofs.OrderLemmas.{taken_last}
 use Rattle.replay.specs.declared.ring.Checkpoint.{Checkpoint}
 use Rattle.replay.specs.Ring.{Each, Rising, IsDue, Adds, Keeps, SomeStep, KeptUpTo}
 
@@ -218,16 +219,6 @@ none_made old slots from last spacing newest short below start = record {
   made_below = tt;
   start_below = begins_below from newest old start below;
 }
-
-pub taken_last : {X : Type 0} (xs : List X) (c : X) → last_item xs ≡ Some c → xs ≡ take (length xs - 1) xs ++ c ∷ []
-taken_last [] c e = cc
-taken_last (x ∷ []) c e = let same : x ≡ c = cc in rw same refl
-taken_last (x ∷ (y ∷ ys)) c e =
-    let two : suc (suc (length ys)) - 1 ≡ suc (length ys) = omega arith in
-    let one : suc (length ys) - 1 ≡ length ys = omega arith in
-    let there : slice_get (y ∷ ys) (length ys) ≡ Some c = rw two at e in
-    let rest = taken_last (y ∷ ys) c (rw one there) in
-    rw two (ap (λ zs. x ∷ zs) (rest ∙ rw one refl))
 
 pub popped : (old new gone : List Checkpoint) (c : Checkpoint) (touch : ℕ) → last_item old ≡ Some c → new ≡ take (length old - 1) old → touch < c.step → Each (λ d. touch < d.step) gone
     → Rising old → (old ++ gone ≡ new ++ (c ∷ gone)) × Rising new

@@ -10,8 +10,8 @@ use Rattle.machine.specs.Given.{Session}
 use Rattle.machine.specs.Machine.{Question, Cell, Script, OfHost, ask}
 use Rattle.machine.specs.Session.{spliced}
 use Rattle.replay.specs.FirstLooks.{IsFirstLooks, Noted, step_of}
-use Rattle.replay.specs.FirstSteps.{step_in}
-use Rattle.replay.specs.PlaceSteps.{IsEarliestFrom}
+use Rattle.file_steps.specs.FirstSteps.{step_in}
+use Rattle.file_steps.specs.PlaceSteps.{IsEarliestFrom}
 use Rattle.replay.specs.Edits.{with_splice}
 use Rattle.replay.specs.Touch.{IsNotedTouch}
 use Rattle.replay.proofs.FirstLemmas.{noted_below}

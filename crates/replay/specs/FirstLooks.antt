@@ -11,7 +11,7 @@ use Rattle.hostfiles.specs.declared.looks.Ask.{Ask}
 use Rattle.file_steps.specs.Steps.{step_of_ask}
 pub use Rattle.file_steps.specs.Steps.{or_else, mark, erased}
 use Rattle.file_steps.specs.declared.steps.FileSteps.{FileSteps}
-use Rattle.replay.specs.FirstSteps.{step_in}
+use Rattle.file_steps.specs.FirstSteps.{step_in}
 use Rattle.machine.specs.Machine.{Question, Cell, Script, OfHost, Answers, is_in, looks, looked_at}
 
 -- the first step below n whose looks hold q

@@ -6,8 +6,6 @@ pub mod Changes
 pub mod Cold
 pub mod Plain
 pub mod PlainIsCold
-pub mod FirstSteps
-pub mod PlaceSteps
 pub mod Codes
 pub mod FirstLooks
 pub mod Ring

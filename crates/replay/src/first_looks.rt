@@ -3,12 +3,10 @@ ghost use Rattle.hostfiles.specs.declared.looks.Ask.{Ask as HostAsk};
 ghost use Rattle.file_steps.specs.Steps.{step_of_ask};
 ghost use Rattle.machine.specs.Machine.{Question, Cell, Script, OfHost, same_question};
 ghost use Rattle.replay.specs.FirstLooks.{step_of, erased, is_cell_of, is_place_of, is_ask_of, is_new_in};
-ghost use Rattle.replay.specs.PlaceSteps.{IsEarliestFrom};
+ghost use Rattle.file_steps.specs.PlaceSteps.{IsEarliestFrom};
 ghost use Rattle.replay.specs.FirstLooks.{Notes, ErasesLast, SameBelow, NoPlaces, NoAsks};
 
-use crate::first_steps::FirstSteps;
-use crate::place_steps::PlaceSteps;
-use file_steps::FileSteps;
+use file_steps::{FileSteps, FirstSteps, PlaceSteps};
 use machine::{Ask, Running, STEP_LIMIT};
 use std::alloc::{AllocError, Global};
 use std::marker::Model;
@@ -39,7 +37,8 @@ impl Model for FirstLooks {
       seen = t.seen;
     } };
 
-    ghost invariant = { λ t. (t.cells.latest ≤ t.seen) × (t.places.latest ≤ t.seen) };
+    ghost invariant = { λ t. (t.cells.latest ≤ t.seen) × (t.places.latest ≤ t.seen)
+      × (t.files.records.latest ≤ t.seen) };
 }
 
 impl FirstLooks {
@@ -193,6 +192,7 @@ impl FirstLooks {
     // Notes the question of the host files that was taken, and then each that is left.
     #[tactic(auto)]
     fn note_asks(&mut self, running: &mut Running, asked: Option<Ask>) -> Result<(), AllocError>
+        requires seen { self.old.seen ≤ STEP_LIMIT }
         requires asked { asked ≡ None → NoAsks running.old.looked.files }
         ensures ok { OnOk result (Notes self.old self.new (is_ask_of asked running.old.looked.files)) }
         ensures err { OnErr result (SameBelow self.old self.new) }
@@ -262,6 +262,7 @@ impl FirstLooks {
 
     // Notes a question of the host files at the step `seen`, unless it has a step.
     fn enter_ask(&mut self, ask: &Ask) -> Result<(), AllocError>
+        requires { self.old.seen ≤ STEP_LIMIT }
         ensures ok { OnOk result (Notes self.old self.new (λ q. same_question q (OfHost ask.now))) }
         ensures err { OnErr result ((q : Question) → step_of self.new q ≡ step_of self.old q) }
         ensures seen { self.new.seen ≡ self.old.seen }

@@ -2,9 +2,8 @@
 //!
 //! - `edit`, `change`, `touch`: an edit and its refusals; what an edit that fits is to change, checked once, touched
 //!   and carried out; the touch of changed bytes
-//! - `first_steps`, `place_steps`, `first_looks`: the first step that looked at each place of one kind; the same where
-//!   places are mostly looked at in turn; that of cells, of script places and of questions of the host files, and the
-//!   step `seen`
+//! - `first_looks`: the first step that looked at each cell, at each script place and at each question of the host files,
+//!   and the step `seen`
 //! - `ring`, `keeping`: checkpoints, and which are due; what may be refused memory, with a count of refusals
 //! - `run`, `rerun`: the loop from one due step to the next; where a rerun begins, and what it leaves
 //! - `runner`, `options`, `report`: `Runner`; how checkpoints are made; what a rerun came to
@@ -13,10 +12,8 @@
 mod change;
 mod edit;
 mod first_looks;
-mod first_steps;
 mod keeping;
 mod options;
-mod place_steps;
 mod report;
 mod rerun;
 mod ring;

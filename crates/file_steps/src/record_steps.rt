@@ -1,0 +1,94 @@
+// The first steps of the records of files.
+
+ghost use Rattle.std.specs.Prelude.{◌≡◌, ◌≤◌, ◌<◌, [], OnOk, OnErr, option_copied};
+ghost use Rattle.file_steps.specs.RecordSteps.{ErasesRecords, NotesRecord, SameRecords, step_of_record, steps_of};
+
+use crate::place_steps::PlaceSteps;
+use hostfiles::Key;
+use std::alloc::{AllocError, Global};
+use std::collections::BTreeMap;
+use std::marker::Model;
+
+/// For each record of a file that was asked the first step that asked it.
+#[derive(Drop)]
+pub struct RecordSteps {
+    files: BTreeMap<Key, PlaceSteps>,
+    latest: u64,
+    alloc: Global,
+}
+
+impl Model for RecordSteps {
+    ghost use Rattle.file_steps.specs.RecordSteps.{AreWithin, RecordNotes, record_notes_code};
+
+    ghost Value = { RecordNotes };
+
+    ghost coded = { record_notes_code };
+
+    ghost view = { λ r. record {
+      files = r.files.entries;
+      latest = r.latest;
+    } };
+
+    ghost invariant = { λ r. AreWithin r.latest r.files.entries };
+}
+
+impl RecordSteps {
+    /// No record has a step. Takes no memory.
+    pub fn new(alloc: Global) -> Self
+        ensures { result ≡ record { files = []; latest = 0 } }
+    {
+        Self {
+            files: BTreeMap::new(alloc),
+            latest: 0,
+            alloc,
+        }
+    }
+
+    /// The steps of the records of a file, where one was noted.
+    pub fn file(&self, key: &Key) -> Option<&PlaceSteps>
+        ensures { option_copied result ≡ steps_of self.now.files key.now }
+    {
+        self.files.get(key)
+    }
+
+    /// The step of a record, if it has one.
+    pub fn of(&self, key: &Key, place: u32) -> Option<u64>
+        ensures { result ≡ step_of_record self.now key.now place }
+    {
+        match self.file(key) {
+            Some(steps) => steps.of(place as usize),
+            None => None,
+        }
+    }
+
+    /// Gives a record a step, which none that is noted is past, unless it has one. `Err` where memory is refused:
+    /// every record then keeps its step.
+    pub fn note(&mut self, key: &Key, place: u32, step: u64) -> Result<(), AllocError>
+        requires held { step < 4294967295 }
+        requires latest { self.old.latest ≤ step }
+        ensures ok { OnOk result (NotesRecord self.old key.now place step self.new) }
+        ensures err { OnErr result (SameRecords self.old self.new) }
+        ensures latest { self.new.latest ≤ step }
+    {
+        self.latest = step;
+        if let Some(steps) = self.files.get_mut(key) {
+            return steps.note(place as usize, step);
+        }
+        let mut steps = PlaceSteps::new(self.alloc);
+        steps.note(place as usize, step)?;
+        self.files.insert(*key, steps)?;
+        Ok(())
+    }
+
+    /// Takes away every step from this one on. Takes no memory.
+    pub fn erase_from(&mut self, from: u64)
+        ensures entries { ErasesRecords from self.old self.new }
+        ensures latest { (self.new.latest ≤ self.old.latest) × (self.new.latest ≤ from) }
+    {
+        self.latest = self.latest.min(from);
+        self.files.retain(|_, steps| {
+            steps.erase_from(from);
+            true
+        });
+    }
+}
