@@ -38,7 +38,7 @@ impl Model for FirstLooks {
     } };
 
     ghost invariant = { λ t. (t.cells.latest ≤ t.seen) × (t.places.latest ≤ t.seen)
-      × (t.files.records.latest ≤ t.seen) };
+        × (t.files.records.latest ≤ t.seen) };
 }
 
 impl FirstLooks {
