@@ -8,14 +8,14 @@ use test_files::{ANN, Act, B_ANN, BEN, Case, play};
 const TWO_RECORDS: &[(&str, usize)] = &[("ann", 200)];
 
 const ASKED: &[Act<'_>] = &[
-    Note(Rec(ANN, 0), 7),
-    Note(Rec(ANN, 1), 6),
-    Note(Rec(ANN, 2), 5),
-    Note(Directory(0), 4),
-    Note(Length(ANN), 3),
-    Note(Has(ANN), 2),
-    Note(Directory(1), 1),
     Note(Has(BEN), 0),
+    Note(Directory(1), 1),
+    Note(Has(ANN), 2),
+    Note(Length(ANN), 3),
+    Note(Directory(0), 4),
+    Note(Rec(ANN, 2), 5),
+    Note(Rec(ANN, 1), 6),
+    Note(Rec(ANN, 0), 7),
 ];
 
 const CASES: &[Case<'_>] = &[
@@ -41,6 +41,17 @@ const CASES: &[Case<'_>] = &[
             (Touch(9, ANN, 6), &[]),
             (SetNext("ann", &[(b'y', 200)]), &[]),
             (Touch(9, ANN, 6), &[]),
+        ],
+    },
+    Case {
+        name: "records that were read in turn touch the first that differs",
+        files: TWO_RECORDS,
+        acts: &[Note(Rec(ANN, 0), 3), Note(Rec(ANN, 1), 4)],
+        rows: &[
+            (SetNext("ann", &[(b'x', 128), (b'y', 1), (b'x', 71)]), &[]),
+            (Touch(9, ANN, 4), &[]),
+            (SetNext("ann", &[(b'y', 200)]), &[]),
+            (Touch(9, ANN, 3), &[]),
         ],
     },
     Case {

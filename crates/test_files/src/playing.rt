@@ -9,10 +9,9 @@ use crate::acts::{Act, Case};
 use crate::calling::{ask, change, search};
 use crate::hosting::{serve, set};
 use crate::questions::{are_asked, sum_taken};
-use crate::stepping::step;
+use crate::stepping::{Steps, step};
 use crate::telling::tell;
 use cpmfiles::{Changes, HostFiles, Table};
-use file_steps::FileSteps;
 use std::alloc::{AllocError, Global};
 use std::mem;
 use std::test::Fail;
@@ -23,7 +22,7 @@ struct Scene {
     host: HostFiles,
     changes: Changes,
     copy: Changes,
-    steps: FileSteps,
+    steps: Steps,
     next: HostFiles,
 }
 
@@ -41,7 +40,7 @@ fn play_case(alloc: Global, case: &Case<'_>) -> Result<(), Fail> {
         host: HostFiles::new(alloc),
         changes: Changes::new(alloc),
         copy: Changes::new(alloc),
-        steps: FileSteps::new(alloc),
+        steps: Steps::new(alloc),
         next: HostFiles::new(alloc),
     };
     carry_out(alloc, &mut scene, case)
@@ -100,7 +99,7 @@ fn answers(scene: &mut Scene, alloc: Global, act: Act<'_>) -> Result<bool, Fail>
         }
         Anew => {
             *changes = Changes::new(alloc);
-            *steps = FileSteps::new(alloc);
+            *steps = Steps::new(alloc);
             Ok(true)
         }
         Copy | Exchange | Take(_, _) => Ok(turn(changes, copy, act)?),
