@@ -203,7 +203,8 @@ impl Overlay {
     /// Makes `count` cells ready, from an address on; the cell after 0FFFFH is 0000H. No byte and no look changes, and cells that were
     /// ready stay so, at `Err` too.
     pub fn ready_cells(&mut self, at: u16, count: u16) -> Result<(), AllocError>
-        ensures ready { OnOk result ((i : ℕ) → i < count → IsTrue (is_ready_at self.new (onward at i))) }
+        ensures ready { OnOk result ((i : ℕ) → i < count
+            → IsTrue (is_ready_at self.new (onward at i))) }
         ensures kept { (q : ℕ) → IsTrue (is_ready_at self.old q) → IsTrue (is_ready_at self.new q) }
         ensures own { own_of self.new ≡ own_of self.old }
         ensures looks { looks_of self.new ≡ looks_of self.old }
