@@ -1,5 +1,5 @@
 -- Cells that are read and written one after another.
-use Rattle.std.proofs.Common.{◌≡◌, ℕ, zero, suc, ◌+◌, ◌-◌, ◌<◌, ◌≤◌, List, [], ◌∷◌, ◌++◌, length, take, slice_set, replicate, refl, sym, ap, subst, ◌∙◌, arith, Some, slice_index}
+use Rattle.std.proofs.Common.{◌≡◌, ℕ, zero, suc, ◌+◌, ◌-◌, ◌<◌, ◌≤◌, List, [], ◌∷◌, ◌++◌, length, take, slice_set, replicate, refl, sym, ap, subst, ◌∙◌, arith, slice_index}
 use Rattle.std.proofs.lemmas.List.{take_more_set, take_all, append_assoc, append-nil}
 use Rattle.i8080.specs.Memory.{Memory, Own, Looks, look, look_all, write, write_all, bytes, over}
 use Rattle.i8080.specs.Reading.{end_of, asked}
@@ -76,44 +76,49 @@ block_of length drive dr at a {m = m} {m1 = m1} {cells = cells} e h f =
       lender = w.lender;
     }
 
--- ---- cells that were all written
+-- ---- cells whose bytes are known
 
-looked_written : (own : Own) (looks : Looks) (a v : ℕ) → own a ≡ Some v → look own looks a ≡ looks
-unfolding look
-looked_written own looks a v e = rw e refl
+-- a cell has this byte, and a read does not look at it
+record IsKnown (own : Own) (beneath : ℕ → ℕ) (looks : Looks) (a v : ℕ) : Type 0 where
+  value : v ≡ over own beneath a
+  unlooked : look own looks a ≡ looks
+
+-- so have the cells from an address on
+abbrev AreKnown : Own → (ℕ → ℕ) → Looks → ℕ → List ℕ → Type 0
+AreKnown own beneath looks a values = (i : ℕ) → i < length values → IsKnown own beneath looks (onward a i) (slice_index values i)
 
 -- of the cells after the first
-further : (own : Own) (a v : ℕ) (rest : List ℕ) → ((i : ℕ) → i < length (v ∷ rest) → own (onward a i) ≡ Some (slice_index (v ∷ rest) i)) → (i : ℕ) → i < length rest → own (onward (onward a 1) i) ≡ Some (slice_index rest i)
-further own a v rest w i h = ap own (let e : onward (onward a 1) i ≡ onward a (suc i) = omega arith in e) ∙ w (suc i) (omega (arith, h))
+further : (own : Own) (beneath : ℕ → ℕ) (looks : Looks) (a v : ℕ) (rest : List ℕ) → AreKnown own beneath looks a (v ∷ rest) → AreKnown own beneath looks (onward a 1) rest
+further own beneath looks a v rest w i h = subst (λ (x : ℕ). IsKnown own beneath looks x (slice_index rest i)) (let e : onward a (suc i) ≡ onward (onward a 1) i = omega arith in e) (w (suc i) (omega (arith, h)))
 
-first_of : (own : Own) (a v : ℕ) (rest : List ℕ) → a < 65536 → ((i : ℕ) → i < length (v ∷ rest) → own (onward a i) ≡ Some (slice_index (v ∷ rest) i)) → own a ≡ Some v
-first_of own a v rest low w = ap own (let e : a ≡ onward a 0 = omega (arith, low) in e) ∙ w 0 (omega arith)
+first_of : (own : Own) (beneath : ℕ → ℕ) (looks : Looks) (a v : ℕ) (rest : List ℕ) → a < 65536 → AreKnown own beneath looks a (v ∷ rest) → IsKnown own beneath looks a v
+first_of own beneath looks a v rest low w = subst (λ (x : ℕ). IsKnown own beneath looks x v) (let e : onward a 0 ≡ a = omega (arith, low) in e) (w 0 (omega arith))
 
-taken_written : (own : Own) (beneath : ℕ → ℕ) (a : ℕ) (values : List ℕ) → a < 65536 → ((i : ℕ) → i < length values → own (onward a i) ≡ Some (slice_index values i)) → values ≡ end_of (bytes_at (length values) a) (over own beneath)
-taken_written own beneath a [] low w = sym (end_none (over own beneath) a)
-taken_written own beneath a (v ∷ rest) low w =
-    ap (λ (xs : List ℕ). v ∷ xs) (taken_written own beneath (onward a 1) rest (omega arith) (further own a v rest w))
-    ∙ ap (λ (x : ℕ). x ∷ end_of (bytes_at (length rest) (onward a 1)) (over own beneath)) (let e : v ≡ over own beneath a = rw (first_of own a v rest low w) refl in e)
+taken_known : (own : Own) (beneath : ℕ → ℕ) (looks : Looks) (a : ℕ) (values : List ℕ) → a < 65536 → AreKnown own beneath looks a values → values ≡ end_of (bytes_at (length values) a) (over own beneath)
+taken_known own beneath looks a [] low w = sym (end_none (over own beneath) a)
+taken_known own beneath looks a (v ∷ rest) low w =
+    ap (λ (xs : List ℕ). v ∷ xs) (taken_known own beneath looks (onward a 1) rest (omega arith) (further own beneath looks a v rest w))
+    ∙ ap (λ (x : ℕ). x ∷ end_of (bytes_at (length rest) (onward a 1)) (over own beneath)) (first_of own beneath looks a v rest low w).value
     ∙ sym (end_more (over own beneath) (length rest) a)
 
-looks_written : (own : Own) (beneath : ℕ → ℕ) (looks : Looks) (a : ℕ) (values : List ℕ) → a < 65536 → ((i : ℕ) → i < length values → own (onward a i) ≡ Some (slice_index values i))
-    → looks ≡ look_all own (asked (bytes_at (length values) a) (over own beneath)) looks
-looks_written own beneath looks a [] low w = sym (ap (λ (at : List ℕ). look_all own at looks) (asked_none (over own beneath) a))
-looks_written own beneath looks a (v ∷ rest) low w =
-    looks_written own beneath looks (onward a 1) rest (omega arith) (further own a v rest w)
-    ∙ ap (look_all own (asked (bytes_at (length rest) (onward a 1)) (over own beneath))) (sym (looked_written own looks a v (first_of own a v rest low w)))
+looks_known : (own : Own) (beneath : ℕ → ℕ) (looks : Looks) (a : ℕ) (values : List ℕ) → a < 65536 → AreKnown own beneath looks a values → looks ≡ look_all own (asked (bytes_at (length values) a) (over own beneath)) looks
+looks_known own beneath looks a [] low w = sym (ap (λ (at : List ℕ). look_all own at looks) (asked_none (over own beneath) a))
+looks_known own beneath looks a (v ∷ rest) low w =
+    looks_known own beneath looks (onward a 1) rest (omega arith) (further own beneath looks a v rest w)
+    ∙ ap (look_all own (asked (bytes_at (length rest) (onward a 1)) (over own beneath))) (sym (first_of own beneath looks a v rest low w).unlooked)
     ∙ sym (ap (λ (at : List ℕ). look_all own at looks) (asked_more (over own beneath) (length rest) a))
 
 -- they are read at once, and nothing is looked at
-pub reads_written : (m : Memory) (a n : ℕ) (values : List ℕ) → a < 65536 → length values ≡ n → ((i : ℕ) → i < n → m.own (onward a i) ≡ Some (slice_index values i)) → Reads (bytes_at n a) m values m
-reads_written m a n values low count w =
+pub reads_known : (m : Memory) (a n : ℕ) (values : List ℕ) → a < 65536 → length values ≡ n → ((i : ℕ) → i < n → slice_index values i ≡ bytes m (onward a i)) → ((i : ℕ) → i < n → look m.own m.looks (onward a i) ≡ m.looks)
+    → Reads (bytes_at n a) m values m
+reads_known m a n values low count value unlooked =
     subst (λ (k : ℕ). Reads (bytes_at k a) m values m) count (record {
-      value = taken_written m.own m.beneath a values low here;
-      looks = looks_written m.own m.beneath m.looks a values low here;
+      value = taken_known m.own m.beneath m.looks a values low here;
+      looks = looks_known m.own m.beneath m.looks a values low here;
       own = refl;
       beneath = refl;
       lender = refl;
     })
   where
-    here : (i : ℕ) → i < length values → m.own (onward a i) ≡ Some (slice_index values i)
-    here i h = w i (omega (arith, h, count))
+    here : AreKnown m.own m.beneath m.looks a values
+    here i h = record { value = value i (omega (arith, h, count)); unlooked = unlooked i (omega (arith, h, count)) }

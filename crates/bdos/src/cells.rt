@@ -16,8 +16,7 @@ pub fn fetch_cells<B: Bus>(bus: &mut B, at: u16, cells: &mut [u8])
     ensures reads { Reads (bytes_at (length cells.old) at) (B.memory bus.old) cells.new (B.memory bus.new) }
     ensures length { length cells.new ≡ length cells.old }
 {
-    if let Some(bytes) = bus.written_cells(at, cells.len()) {
-        cells.copy_from_slice(bytes);
+    if bus.known_cells(at, cells) {
         return;
     }
     let mut address = at;

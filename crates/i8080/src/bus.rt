@@ -1,4 +1,4 @@
-ghost use Rattle.std.specs.Prelude.{◌≡◌, ◌<◌, ℕ, Bool, IsTrue, OnOk, OnErr, Option, Some, IfSome, length, slice_index};
+ghost use Rattle.std.specs.Prelude.{◌≡◌, ◌<◌, ℕ, Bool, true, IsTrue, OnOk, OnErr, length, slice_index};
 ghost use Rattle.i8080.specs.Memory.{Memory, bytes, look, write, write_all};
 ghost use Rattle.i8080.specs.Reading.{Cell, Done};
 ghost use Rattle.i8080.specs.Registers.{onward};
@@ -71,15 +71,17 @@ pub trait Bus {
         }
     }
 
-    /// The bytes of so many cells from an address on, where all were written and the memory can hand them out as one piece. That is
-    /// no look. `None` says nothing of the cells: they are to be read one by one.
-    fn written_cells(&self, at: u16, count: usize) -> Option<&[u8]>
-        ensures length { IfSome result (λ b. length b.now ≡ count) }
-        ensures written { IfSome result (λ b. (i : ℕ) → i < count
-            → (memory self.now).own (onward at i) ≡ Some (slice_index b.now i)) }
+    /// Copies the bytes of cells from an address on, where the memory can do so at once and reading them is no look; the cell after
+    /// 0FFFFH is 0000H. `false` says nothing of the cells: they are to be read one by one.
+    fn known_cells(&self, at: u16, cells: &mut [u8]) -> bool
+        ensures length { length cells.new ≡ length cells.old }
+        ensures value { result ≡ true → (i : ℕ) → i < length cells.old
+            → slice_index cells.new i ≡ bytes (memory self.now) (onward at i) }
+        ensures unlooked { result ≡ true → (i : ℕ) → i < length cells.old
+            → look (memory self.now).own (memory self.now).looks (onward at i) ≡ (memory self.now).looks }
     {
-        let _ = (at, count);
-        None
+        let _ = (at, cells);
+        false
     }
 }
 

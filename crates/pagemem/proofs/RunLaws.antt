@@ -1,5 +1,5 @@
 -- Writes to cells one after another.
-use Rattle.std.proofs.Common.{◌≡◌, ◌≢◌, ℕ, ◌<◌, ◌≤◌, ◌+◌, ◌/◌, ◌%◌, ◌⊎◌, inl, inr, Bool, true, false, cond, List, length, get_or, set, Option, Some, refl, sym, ◌∙◌, ap, subst, arith, ◌∷◌, [], zero, suc, take, drop, None, IfSome, slice_index, ◌-◌}
+use Rattle.std.proofs.Common.{◌≡◌, ◌≢◌, ℕ, ◌<◌, ◌≤◌, ◌+◌, ◌/◌, ◌%◌, ◌⊎◌, inl, inr, Bool, true, false, cond, List, length, get_or, set, Option, Some, refl, sym, ◌∙◌, ap, subst, arith, ◌∷◌, [], zero, suc, take, drop, slice_index}
 use Rattle.std.proofs.Math.Path.{fun_ext}
 use Rattle.std.proofs.lemmas.Bool.Decides.{eqb_tells}
 use Rattle.std.proofs.lemmas.Bool.{cases_lt}
@@ -7,7 +7,7 @@ use Rattle.std.proofs.Common.{◌==◌}
 use Rattle.i8080.specs.Memory.{Own, write, write_all}
 use Rattle.i8080.specs.Registers.{onward}
 use Rattle.i8080.specs.End.{cells_from}
-use Rattle.pagemem.specs.Pages.{slot_own, own_at}
+use Rattle.pagemem.specs.Pages.{slot_own, own_at, IsLaid}
 use Rattle.pagemem.specs.declared.page.Slot.{Slot}
 use Rattle.pagemem.specs.declared.page.Slot.TheVariants.{Empty}
 use Rattle.pagemem.proofs.Laws.{set_read, together}
@@ -66,15 +66,16 @@ write_split own a (suc n) (v ∷ rest) low within =
     ∙ ap (λ k. write_all (write_all (write own a v) (cells_from (onward a 1) (take n rest))) (cells_from k (drop n rest))) (let e : onward (onward a 1) n ≡ onward a (suc n) = omega arith in e)
 
 -- a cell further on in the page
-run_at : (slots : List Slot) (own : Own) (a i : ℕ) → a < 65536 → a % 256 + i < 256 → slot_own (get_or slots (a / 256) Empty) ≡ own → own_at slots (onward a i) ≡ own (a % 256 + i)
+in_page : (slots : List Slot) (own : Own) (a i : ℕ) → a % 256 + i < 256 → slot_own (get_or slots (a / 256) Empty) ≡ own → own_at slots (a + i) ≡ own (a % 256 + i)
 unfolding own_at
-run_at slots own a i low fits e =
-    let page : onward a i / 256 ≡ a / 256 = omega (arith, low, fits) in
-    let place : onward a i % 256 ≡ a % 256 + i = omega (arith, low, fits) in
-    ap (λ n. slot_own (get_or slots n Empty) (onward a i % 256)) page ∙ ap (slot_own (get_or slots (a / 256) Empty)) place ∙ ap (λ (f : Own). f (a % 256 + i)) e
+in_page slots own a i fits e =
+    let page : (a + i) / 256 ≡ a / 256 = omega (arith, fits) in
+    let place : (a + i) % 256 ≡ a % 256 + i = omega (arith, fits) in
+    ap (λ n. slot_own (get_or slots n Empty) ((a + i) % 256)) page ∙ ap (slot_own (get_or slots (a / 256) Empty)) place ∙ ap (λ (f : Own). f (a % 256 + i)) e
 
--- the written cells of a page are those of the memory
-pub run_of_page : {B : Type 0} (of : B → List ℕ) (slots : List Slot) (own : Own) (a count : ℕ) (bytes : Option B) → a < 65536 → count ≤ 256 - a % 256 → slot_own (get_or slots (a / 256) Empty) ≡ own
-    → IfSome bytes (λ b. (i : ℕ) → i < count → own (a % 256 + i) ≡ Some (slice_index (of b) i)) → IfSome bytes (λ b. (i : ℕ) → i < count → own_at slots (onward a i) ≡ Some (slice_index (of b) i))
-run_of_page of slots own a count None low fits e w = tt
-run_of_page of slots own a count (Some b) low fits e w = λ i h. run_at slots own a i low (omega (arith, h, fits)) e ∙ w i h
+-- what is laid over in a page is laid over in the memory
+pub laid_in_page : (slots : List Slot) (own : Own) (a n : ℕ) (beneath cells : List ℕ) (marks : List Bool) → a % 256 + n ≤ 256 → slot_own (get_or slots (a / 256) Empty) ≡ own
+    → ((i : ℕ) → i < n → IsLaid (own (a % 256 + i)) (slice_index beneath i) (get_or marks i false) (slice_index cells i))
+    → (i : ℕ) → i < n → IsLaid (own_at slots (a + i)) (slice_index beneath i) (get_or marks i false) (slice_index cells i)
+laid_in_page slots own a n beneath cells marks fits e w i h =
+    subst (λ (o : Option ℕ). IsLaid o (slice_index beneath i) (get_or marks i false) (slice_index cells i)) (sym (in_page slots own a i (omega (arith, h, fits)) e)) (w i h)

@@ -8,6 +8,9 @@ use Rattle.std.proofs.Common.{length, List, ◌<◌, ◌≤◌, ◌+◌, ◌⊎�
 use Rattle.i8080.specs.Memory.{write_all}
 use Rattle.i8080.specs.End.{cells_from}
 use Rattle.pagemem.proofs.RunLaws.{outside}
+use Rattle.std.proofs.Common.{is_some}
+use Rattle.pagemem.specs.Pages.{IsLaid}
+use Rattle.pagemem.proofs.Laws.{look_written}
 
 -- a cell at rest is not looked at again
 pub look_at_rest : (own : Own) (looks : Looks) (a : ℕ) → Rests own looks a → looks ≡ look own looks a
@@ -67,3 +70,11 @@ pub settled_by_writes : (own : Own) (was is : ℕ → Bool) (looks : Looks) (a :
     → ((q : ℕ) → is q ≡ true → was q ≡ true) → ((q : ℕ) → is q ≡ true → (q < a) ⊎ (a + length values ≤ q)) → (q : ℕ) → IsTrue (is q) → Rests (write_all own (cells_from a values)) looks q
 settled_by_writes own was is looks a values fits rests kept gone q h =
     let r = rests q (kept q h) in record { unwritten = outside own a values q fits (gone q h) ∙ r.unwritten; looked = r.looked }
+
+-- a cell that was written or is settled is not looked at again
+pub known_unlooked : (own : Own) (settled : ℕ → Bool) (looks : Looks) (q beneath byte : ℕ) (mark : Bool) → ((q : ℕ) → IsTrue (settled q) → Rests own looks q) → mark ≡ settled q → IsLaid (own q) beneath mark byte → look own looks q ≡ looks
+known_unlooked own settled looks q beneath byte mark rests m w =
+    elim (is_some (own q)) as (λ b. is_some (own q) ≡ b → (b || mark) ≡ true → look own looks q ≡ looks) [
+      | true ↦ λ e k. sym (look_written own looks q e)
+      | false ↦ λ e k. sym (look_at_rest own looks q (rests q (sym m ∙ k)))
+    ] refl w.known

@@ -1,8 +1,7 @@
-ghost use Rattle.std.specs.Prelude.{◌≡◌, false, ◌<◌, ◌≤◌, ◌+◌, ◌%◌, ℕ, vec_len, IsTrue, IfOk, IfSome, OnOk, OnErr, Some, None, length, slice_index};
-ghost use Rattle.pagemem.specs.Pages.{IsNotOwned, own_at, ready_at, is_owned_at};
+ghost use Rattle.std.specs.Prelude.{◌≡◌, true, false, ◌<◌, ◌≤◌, ◌+◌, ◌%◌, ℕ, vec_len, IsTrue, IfOk, OnOk, OnErr, None, length, get_or, slice_index};
+ghost use Rattle.pagemem.specs.Pages.{IsLaid, IsNotOwned, own_at, ready_at, is_owned_at};
 ghost use Rattle.i8080.specs.End.{cells_from};
 ghost use Rattle.i8080.specs.Memory.{write, write_all};
-ghost use Rattle.i8080.specs.Registers.{onward};
 
 use crate::page::Slot;
 use std::alloc::{AllocError, Global};
@@ -86,20 +85,22 @@ impl Cells {
         }
     }
 
-    /// The bytes of so many cells from an address on, where all were written and lie in one page; else none.
-    pub fn written_cells(&self, at: u16, count: usize) -> Option<&[u8]>
-        ensures length { IfSome result (λ b. length b.now ≡ count) }
-        ensures written { IfSome result (λ b. (i : ℕ) → i < count
-            → own_in self.now (onward at i) ≡ Some (slice_index b.now i)) }
+    /// Copies the bytes of cells of one page from an address on: the written ones, and beneath them others. Answers whether each
+    /// cell was written or has a mark; `false` says nothing of the copy.
+    pub fn copy_over(&self, at: u16, beneath: &[u8], marks: &[bool], cells: &mut [u8]) -> bool
+        requires page { at % 256 + length cells.old ≤ 256 }
+        requires beneath { length beneath.now ≡ length cells.old }
+        requires marks { length marks.now ≡ length cells.old }
+        ensures length { length cells.new ≡ length cells.old }
+        ensures laid { result ≡ true → (i : ℕ) → i < length cells.old
+            → IsLaid (own_in self.now (at + i)) (slice_index beneath.now i) (get_or marks.now i false)
+            (slice_index cells.new i) }
     {
         let from = (at % 256) as usize;
-        if count > 256 - from {
-            return None;
-        }
         match &self.slots[(at / 256) as usize] {
-            Slot::Empty => None,
-            Slot::Owned(page) => page.written_cells(from, count),
-            Slot::Shared(page) => page.written_cells(from, count),
+            Slot::Empty => copy_marked(beneath, marks, cells),
+            Slot::Owned(page) => page.copy_over(from, beneath, marks, cells),
+            Slot::Shared(page) => page.copy_over(from, beneath, marks, cells),
         }
     }
 
@@ -152,6 +153,18 @@ fn make_shared(slots: &mut [Slot], at: usize, alloc: Global) -> Result<(), Alloc
 {
     let slot = &mut slots[at];
     slot.share(alloc)
+}
+
+// The same where none was written.
+fn copy_marked(beneath: &[u8], marks: &[bool], cells: &mut [u8]) -> bool
+    requires beneath { length beneath.now ≡ length cells.old }
+    requires marks { length marks.now ≡ length cells.old }
+    ensures length { length cells.new ≡ length cells.old }
+    ensures laid { result ≡ true → (i : ℕ) → i < length cells.old
+        → IsLaid None (slice_index beneath.now i) (get_or marks.now i false) (slice_index cells.new i) }
+{
+    cells.copy_from_slice(beneath);
+    marks.iter().all(|is_marked| *is_marked)
 }
 
 // Makes all slots shared whose pages are owned.

@@ -1,5 +1,8 @@
-ghost use Rattle.std.specs.Prelude.{◌≡◌, ◌≤◌, length};
+ghost use Rattle.std.specs.Prelude.{◌≡◌, ◌<◌, ◌≤◌, ◌+◌, ◌%◌, ℕ, IfSome, length, slice_index};
 ghost use Rattle.pagemem.specs.Image.{image_at};
+
+/// A page behind the program.
+static ZEROS: [u8; 256] = [0; 256];
 
 /// Page zero and the program, borrowed; every other cell is 0.
 #[derive(Clone, Copy)]
@@ -35,5 +38,27 @@ impl<'a> Image<'a> {
         } else {
             0
         }
+    }
+
+    /// The bytes of so many cells of one page, from an address on, where they stand in one piece: in page zero, in the program, or
+    /// behind it.
+    pub fn cells(self, at: u16, count: usize) -> Option<&'a [u8]>
+        requires { at % 256 + count ≤ 256 }
+        ensures length { IfSome result (λ b. length b.now ≡ count) }
+        ensures bytes { IfSome result (λ b. (i : ℕ) → i < count
+            → slice_index b.now i ≡ cells_of self.entry (at + i)) }
+    {
+        let start = usize::from(at);
+        if start < 256 {
+            return Some(&self.page_zero[start..start + count]);
+        }
+        let from = start - 256;
+        if from >= self.program.len() {
+            return Some(&ZEROS[..count]);
+        }
+        if count > self.program.len() - from {
+            return None;
+        }
+        Some(&self.program[from..from + count])
     }
 }

@@ -219,13 +219,42 @@ impl Overlay {
         Ok(())
     }
 
-    /// The bytes of so many cells from an address on, where all were written and lie in one page; else none. That is no look.
-    pub fn written_cells(&self, at: u16, count: usize) -> Option<&[u8]>
-        ensures length { IfSome result (λ b. length b.now ≡ count) }
-        ensures written { IfSome result (λ b. (i : ℕ) → i < count
-            → own_of self.now (onward at i) ≡ Some (slice_index b.now i)) }
+    /// Copies the bytes of cells from an address on, over an image, where each was written or looked at before; the cell after 0FFFFH
+    /// is 0000H. That is no look. `false` says nothing of the copy.
+    pub fn known_cells(&self, image: Image<'_>, at: u16, cells: &mut [u8]) -> bool
+        ensures length { length cells.new ≡ length cells.old }
+        ensures value { result ≡ true → (i : ℕ) → i < length cells.old
+            → slice_index cells.new i ≡ over (own_of self.now) (cells_of image.entry) (onward at i) }
+        ensures unlooked { result ≡ true → (i : ℕ) → i < length cells.old
+            → look (own_of self.now) (looks_of self.now) (onward at i) ≡ looks_of self.now }
     {
-        self.cells.written_cells(at, count)
+        let mut address = at;
+        let mut done = 0;
+        while done < cells.len() {
+            let count = count_in_page(address, cells.len() - done);
+            if !self.known_in_page(image, address, &mut cells[done..done + count]) {
+                return false;
+            }
+            address = address.wrapping_add(count as u16);
+            done += count;
+        }
+        true
+    }
+
+    // The same within a page.
+    fn known_in_page(&self, image: Image<'_>, at: u16, cells: &mut [u8]) -> bool
+        requires { at % 256 + length cells.old ≤ 256 }
+        ensures length { length cells.new ≡ length cells.old }
+        ensures value { result ≡ true → (i : ℕ) → i < length cells.old
+            → slice_index cells.new i ≡ over (own_of self.now) (cells_of image.entry) (at + i) }
+        ensures unlooked { result ≡ true → (i : ℕ) → i < length cells.old
+            → look (own_of self.now) (looks_of self.now) (at + i) ≡ looks_of self.now }
+    {
+        let Some(beneath) = image.cells(at, cells.len()) else {
+            return false;
+        };
+        let marks = self.settled.marks(at, cells.len());
+        self.cells.copy_over(at, beneath, marks, cells)
     }
 
     /// How many cells were looked at.

@@ -1,5 +1,5 @@
-ghost use Rattle.std.specs.Prelude.{◌≡◌, ◌+◌, ◌<◌, ◌≤◌, ℕ, false, Some, None, IfOk, IfSome, IsTrue, OnOk, OnErr, length, slice_index};
-ghost use Rattle.pagemem.specs.Pages.{page_own, slot_own, is_owned};
+ghost use Rattle.std.specs.Prelude.{◌≡◌, ◌+◌, ◌<◌, ◌≤◌, ℕ, true, false, None, IfOk, IsTrue, OnOk, OnErr, length, get_or, slice_index};
+ghost use Rattle.pagemem.specs.Pages.{page_own, slot_own, is_owned, IsLaid};
 ghost use Rattle.i8080.specs.End.{cells_from};
 ghost use Rattle.i8080.specs.Memory.{write, write_all};
 
@@ -68,19 +68,31 @@ impl Page {
         }
     }
 
-    /// The bytes of so many cells of the page from one on, where all were written; none where one was not.
-    pub fn written_cells(&self, from: usize, count: usize) -> Option<&[u8]>
-        requires { from + count ≤ 256 }
-        ensures length { IfSome result (λ b. length b.now ≡ count) }
-        ensures written { IfSome result (λ b. (i : ℕ) → i < count
-            → page_own self.now (from + i) ≡ Some (slice_index b.now i)) }
+    /// Copies the bytes of cells of the page from one on: the written ones, and beneath them others. Answers whether each cell was
+    /// written or has a mark; `false` says nothing of the copy.
+    pub fn copy_over(
+        &self,
+        from: usize,
+        beneath: &[u8],
+        marks: &[bool],
+        cells: &mut [u8],
+    ) -> bool
+        requires page { from + length cells.old ≤ 256 }
+        requires beneath { length beneath.now ≡ length cells.old }
+        requires marks { length marks.now ≡ length cells.old }
+        ensures length { length cells.new ≡ length cells.old }
+        ensures laid { result ≡ true → (i : ℕ) → i < length cells.old
+            → IsLaid (page_own self.now (from + i)) (slice_index beneath.now i) (get_or marks.now i false)
+            (slice_index cells.new i) }
     {
-        for i in from..from + count {
-            if !self.written[i] {
-                return None;
-            }
+        let mut is_known = true;
+        for i in 0..cells.len() {
+            let (byte, is_written) = (self.bytes[from + i], self.written[from + i]);
+            let (other, is_marked) = (beneath[i], marks[i]);
+            cells[i] = if is_written { byte } else { other };
+            is_known = is_known && (is_written || is_marked);
         }
-        Some(&self.bytes[from..from + count])
+        is_known
     }
 }
 

@@ -1,4 +1,4 @@
-ghost use Rattle.std.specs.Prelude.{◌≡◌, ◌==◌, ◌+◌, ◌<◌, ◌≤◌, ◌⊎◌, ℕ, true, false, if◌then◌else◌, IfOk, get_or, vec_len};
+ghost use Rattle.std.specs.Prelude.{◌≡◌, ◌==◌, ◌+◌, ◌<◌, ◌≤◌, ◌⊎◌, ℕ, true, false, if◌then◌else◌, IfOk, get_or, length, vec_len};
 
 use crate::looks::{CELLS, blank_marks};
 use std::alloc::{AllocError, Global};
@@ -52,6 +52,16 @@ impl Settled {
         ensures { (q : ℕ) → is_settled self.new q ≡ (if q == a then false else is_settled self.old q) }
     {
         self.marks[a as usize] = false;
+    }
+
+    /// The marks of so many cells, from an address on.
+    pub fn marks(&self, at: u16, count: usize) -> &[bool]
+        requires { at + count ≤ 65536 }
+        ensures length { length result.now ≡ count }
+        ensures marks { (i : ℕ) → i < count → get_or result.now i false ≡ is_settled self.now (at + i) }
+    {
+        let from = usize::from(at);
+        &self.marks[from..from + count]
     }
 
     /// Takes so many cells out, from an address on.

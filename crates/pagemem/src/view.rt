@@ -70,7 +70,7 @@ impl Bus for View<'_> {
         self.overlay.write_cells(at, values)
     }
 
-    fn written_cells(&self, at: u16, count: usize) -> Option<&[u8]> {
-        self.overlay.written_cells(at, count)
+    fn known_cells(&self, at: u16, cells: &mut [u8]) -> bool {
+        self.overlay.known_cells(self.image, at, cells)
     }
 }

@@ -1,6 +1,5 @@
 -- Records by place, as extents change.
-use Rattle.std.proofs.Common.{◌≡◌, ◌≢◌, ℕ, ◌<◌, ◌/◌, ◌%◌, ◌==◌, true, false, cond, List, [], length, get_or, set, Option, Some, None, refl, sym, ◌∙◌, ap, arith, inl, inr, replicate, zero, suc, get_or-set_same, get_or-set_other, eqb, length-set}
-use Rattle.std.proofs.lemmas.List.{length-replicate}
+use Rattle.std.proofs.Common.{◌≡◌, ◌≢◌, ℕ, ◌/◌, ◌%◌, ◌==◌, true, false, cond, List, [], get_or, Option, Some, None, refl, sym, ◌∙◌, ap, arith, inl, inr, eqb}
 use Rattle.std.proofs.lemmas.Bool.Decides.{eqb_tells}
 use Rattle.std.specs.Cmp.{unsigned_tied}
 use Rattle.std.specs.Map.{lookup}
@@ -8,32 +7,6 @@ use Rattle.std.specs.BTreeMap.{is_at}
 use Rattle.std.specs.Ordering.{nat_cmp}
 use Rattle.records.specs.Extents.{own_of, place_in}
 use Rattle.records.specs.Records.{Record}
-
--- what stands at a place after a write
-pub set_read : {X : Type 0} (xs : List X) (a : ℕ) (v d : X) → a < length xs → (q : ℕ) → get_or (set xs a v) q d ≡ cond (q == a) v (get_or xs q d)
-set_read xs a v d h q = elim (eqb_tells q a) [
-  | inl same ↦ rw same.0 (rw same.1 (get_or-set_same xs a v d h))
-  | inr other ↦ rw other.0 (get_or-set_other xs a q v d other.1)
-]
-
--- no record at n places
-abbrev pub nones : ℕ → List (Option Record)
-nones n = replicate n None
-
-pub none_set : (n q : ℕ) → get_or (nones n) q None ≡ None
-none_set zero q = refl
-none_set (suc n) zero = refl
-none_set (suc n) (suc q) = none_set n q
-
-nones_length : (n : ℕ) → length (nones n) ≡ n
-nones_length n = length-replicate n None
-
--- one record among none
-pub single : (n : ℕ) (places : List (Option Record)) (a : ℕ) (r : Record) → a < n → places ≡ set (nones n) a (Some r) → (q : ℕ) → get_or places q None ≡ cond (q == a) (Some r) None
-single n places a r h e q = rw e (set_read (nones n) a (Some r) None (rw (nones_length n) h) q ∙ ap (λ o. cond (q == a) (Some r) o) (none_set n q))
-
-pub single_length : (n : ℕ) (places : List (Option Record)) (a : ℕ) (r : Record) → places ≡ set (nones n) a (Some r) → length places ≡ n
-single_length n places a r e = ap length e ∙ length-set (nones n) a (Some r) ∙ nones_length n
 
 -- the record at a place of an extent that is there, and of one that is not
 pub own_found : (es : List (ℕ × List (Option Record))) (a : ℕ) (x : List (Option Record)) → Some x ≡ lookup (is_at (nat_cmp (a / 128))) es → get_or x (a % 128) None ≡ own_of es a
@@ -97,13 +70,13 @@ own_put es fs a w r h e q = elim (eqb_tells (a / 128) (q / 128)) [
       ∙ sym (ap (λ b. cond b (Some r) (place_in (lookup (is_at (nat_cmp (q / 128))) es) (q % 128))) (apart_at q a other.1))
 ]
 
--- an extent in place of one that is the same
+-- an extent in place of one with the same records
 pub own_same : (es fs : List (ℕ × List (Option Record))) (k : ℕ) (w : List (Option Record))
     → ((q : ℕ) → lookup (is_at (nat_cmp q)) fs ≡ cond (is_at (nat_cmp k) q) (Some w) (lookup (is_at (nat_cmp q)) es))
-    → Some w ≡ lookup (is_at (nat_cmp k)) es
+    → ((i : ℕ) → get_or w i None ≡ place_in (lookup (is_at (nat_cmp k)) es) i)
     → (q : ℕ) → own_of fs q ≡ own_of es q
 unfolding own_of
 own_same es fs k w h e q = elim (eqb_tells k (q / 128)) [
-  | inl same ↦ ap (λ (o : Option (List (Option Record))). place_in o (q % 128)) (here es fs k w h (q / 128) same.1 ∙ e ∙ ap (λ j. lookup (is_at (nat_cmp j)) es) same.1)
+  | inl same ↦ ap (λ (o : Option (List (Option Record))). place_in o (q % 128)) (here es fs k w h (q / 128) same.1) ∙ e (q % 128) ∙ ap (λ j. place_in (lookup (is_at (nat_cmp j)) es) (q % 128)) same.1
   | inr other ↦ ap (λ (o : Option (List (Option Record))). place_in o (q % 128)) (there es fs k w h (q / 128) other.1)
 ]

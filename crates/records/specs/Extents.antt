@@ -16,6 +16,10 @@ place_in (Some places) i = get_or places i None
 abbrev pub PutsRecord : List (Option Record) → ℕ → Record → List (Option Record) → Type 0
 PutsRecord old at content new = (q : ℕ) → get_or new q None ≡ cond (q == at) (Some content) (get_or old q None)
 
+-- each place has the record that it had
+abbrev pub SameRecords : List (Option Record) → List (Option Record) → Type 0
+SameRecords old new = (q : ℕ) → get_or new q None ≡ get_or old q None
+
 -- the record at each place, by extents of 128
 unfoldable pub own_of : List (ℕ × List (Option Record)) → ℕ → Option Record
 own_of extents place = place_in (lookup (is_at (nat_cmp (place / 128))) extents) (place % 128)

@@ -1,9 +1,6 @@
 use Rattle.std.proofs.Common.{rules, arith, ◌∙◌, refl, ap, ◌-◌, length}
 use Rattle.console_calls.proofs.Scanning.{byte_read, looked_at}
-use Rattle.bdos.proofs.Runs.{taken_on, looked_on, taken_all, looked_all, reads_written}
-use Rattle.std.proofs.Common.{List, ℕ, subst, sym}
-use Rattle.i8080.specs.Performs.{Reads}
-use Rattle.bdos.specs.FileCalls.{bytes_at}
+use Rattle.bdos.proofs.Runs.{taken_on, looked_on, taken_all, looked_all, reads_known}
 use Rattle.bdos.proofs.cells.fetch_cells.Goals as goal
 
 pub loop-i-preserved : goal.loop-i-preserved
@@ -31,9 +28,7 @@ returns-clause-reads g c =
       lender = i.lender;
     }
 
-pub returns-in-Some-clause-reads : goal.returns-in-Some-clause-reads
-returns-in-Some-clause-reads g c =
-    let e = c.in-Some.ensures in
-    let same = c.copy_from_slice.ensures.after in
-    subst (λ (cells : List ℕ). Reads (bytes_at (length c.args.cells.now) c.args.at) (g.B.Bus.memory c.args.bus.now) cells (g.B.Bus.memory c.args.bus.now)) (sym same)
-    (reads_written (g.B.Bus.memory c.args.bus.now) c.args.at (length c.args.cells.now) c.in-Some.bytes.now (omega arith) e.length e.written)
+pub returns-then-known_cells-clause-reads : goal.returns-then-known_cells-clause-reads
+returns-then-known_cells-clause-reads g c =
+    let e = c.known_cells.ensures in
+    reads_known (g.B.Bus.memory c.args.bus.now) c.args.at (length c.args.cells.now) c.known_cells.new.cells (omega arith) e.length (e.value c.if-known_cells.true) (e.unlooked c.if-known_cells.true)

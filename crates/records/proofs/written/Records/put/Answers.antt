@@ -1,10 +1,10 @@
-use Rattle.std.proofs.Common.{ap, sym, ◌∙◌, is_some, cond, Some, Option, List, ◌≡◌, ◌/◌, ◌%◌, ◌==◌}
+use Rattle.std.proofs.Common.{ap, sym, ◌∙◌, is_some, cond, Some, Option, List, ◌/◌, ◌%◌, ◌==◌}
 use Rattle.std.proofs.lemmas.Result.{on_ok_weaker, on_err_weaker}
 use Rattle.std.specs.Option.{option_copied_mut}
 use Rattle.std.specs.FinMap as finmap
 use Rattle.std.specs.BTreeMap.{get_by}
 use Rattle.std.specs.Ordering.{nat_cmp}
-use Rattle.records.specs.Extents.{own_of, kept, place_in}
+use Rattle.records.specs.Extents.{own_of, kept, place_in, SameRecords}
 use Rattle.records.specs.Records.{Record}
 use Rattle.records.proofs.KeptLemmas.{kept_put, kept_same}
 use Rattle.records.proofs.Laws.{own_put, own_same}
@@ -25,9 +25,9 @@ pub returns-in-Some-clause-err : goal.returns-in-Some-clause-err
 returns-in-Some-clause-err c =
     let there = sym (ap is_some c.in-Some.ensures.value) in
     let h = (c.get_mut.follows.holds c.put.new.self).3 there in
-    on_err_weaker c.put.result (λ (e : c.put.new.self ≡ c.in-Some.extent.now).
+    on_err_weaker c.put.result (λ (e : SameRecords c.in-Some.extent.now c.put.new.self).
     kept_same (own_of c.self.inside.extents.entries) _
-    (own_same c.self.inside.extents.entries (c.get_mut.follows.lender c.put.new.self).entries (c.args.place / 128) c.put.new.self h.0 (ap (λ (x : List (Option Record)). Some x) e ∙ c.in-Some.ensures.value))
+    (own_same c.self.inside.extents.entries (c.get_mut.follows.lender c.put.new.self).entries (c.args.place / 128) c.put.new.self h.0 (λ i. e i ∙ ap (λ (o : Option (List (Option Record))). place_in o i) c.in-Some.ensures.value))
     ∙ c.self.view_is)
     c.put.ensures.err
 
