@@ -80,7 +80,7 @@ pub trait Bus {
         ensures unlooked { result ≡ true → (i : ℕ) → i < length cells.old
             → look (memory self.now).own (memory self.now).looks (onward at i) ≡ (memory self.now).looks }
     {
-        let _ = (at, cells);
+        let _ = (at, cells.len());
         false
     }
 }
