@@ -1,5 +1,5 @@
 -- Writes to cells one after another.
-use Rattle.std.proofs.Common.{◌≡◌, ◌≢◌, ℕ, ◌<◌, ◌≤◌, ◌+◌, ◌/◌, ◌%◌, ◌⊎◌, inl, inr, Bool, true, false, cond, List, length, get_or, set, Option, Some, refl, sym, ◌∙◌, ap, subst, arith, ◌∷◌, [], zero, suc, take, drop, slice_index}
+use Rattle.std.proofs.Common.{◌≡◌, ◌≢◌, ℕ, ◌<◌, ◌≤◌, ◌+◌, ◌/◌, ◌%◌, ◌⊎◌, inl, inr, Bool, false, cond, List, length, get_or, set, Option, Some, refl, sym, ◌∙◌, ap, subst, arith, ◌∷◌, [], zero, suc, take, drop, slice_index}
 use Rattle.std.proofs.Math.Path.{fun_ext}
 use Rattle.std.proofs.lemmas.Bool.Decides.{eqb_tells}
 use Rattle.std.proofs.lemmas.Bool.{cases_lt}

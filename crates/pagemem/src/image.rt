@@ -48,17 +48,18 @@ impl<'a> Image<'a> {
         ensures bytes { IfSome result (λ b. (i : ℕ) → i < count
             → slice_index b.now i ≡ cells_of self.entry (at + i)) }
     {
+        let (page_zero, program) = (self.page_zero, self.program);
         let start = usize::from(at);
         if start < 256 {
-            return Some(&self.page_zero[start..start + count]);
+            return Some(&page_zero[start..start + count]);
         }
         let from = start - 256;
-        if from >= self.program.len() {
+        if from >= program.len() {
             return Some(&ZEROS[..count]);
         }
-        if count > self.program.len() - from {
+        if count > program.len() - from {
             return None;
         }
-        Some(&self.program[from..from + count])
+        Some(&program[from..from + count])
     }
 }

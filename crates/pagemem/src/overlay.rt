@@ -1,4 +1,4 @@
-ghost use Rattle.std.specs.Prelude.{◌≡◌, false, ◌<◌, ◌≤◌, ◌+◌, ◌%◌, ◌∷◌, ◌++◌, [], ℕ, IsTrue, IfOk, OnOk, OnErr};
+ghost use Rattle.std.specs.Prelude.{◌≡◌, true, false, ◌<◌, ◌≤◌, ◌+◌, ◌%◌, ◌∷◌, ◌++◌, [], ℕ, IsTrue, IfOk, OnOk, OnErr};
 ghost use Rattle.std.specs.Prelude.{IfNone, IfSome, None, Some, length, slice_index};
 ghost use Rattle.i8080.specs.End.{cells_from};
 ghost use Rattle.i8080.specs.Memory.{bytes, look, write, write_all, is_among, over};
@@ -229,14 +229,14 @@ impl Overlay {
             → look (own_of self.now) (looks_of self.now) (onward at i) ≡ looks_of self.now }
     {
         let mut address = at;
-        let mut done = 0;
-        while done < cells.len() {
-            let count = count_in_page(address, cells.len() - done);
-            if !self.known_in_page(image, address, &mut cells[done..done + count]) {
+        let mut copied = 0;
+        while copied < cells.len() {
+            let count = count_in_page(address, cells.len() - copied);
+            if !self.known_in_page(image, address, &mut cells[copied..copied + count]) {
                 return false;
             }
             address = address.wrapping_add(count as u16);
-            done += count;
+            copied += count;
         }
         true
     }

@@ -5,13 +5,13 @@ use Rattle.pagemem.specs.ImageView.{cells_of}
 use Rattle.pagemem.specs.Overlay.{own_of, looks_of}
 use Rattle.pagemem.proofs.overlay.Overlay.known_cells.Given as goal
 
-abbrev pub invariant-loop-done : goal.invariant-loop-done
-invariant-loop-done l = record {
-  within : l.done ≤ length l.cells;
-  address : l.address ≡ onward l.at l.done;
-  value : (i : ℕ) → i < l.done → get_or l.cells i 0 ≡ over (own_of l.self) (cells_of l.image) (onward l.at i);
-  unlooked : (i : ℕ) → i < l.done → look (own_of l.self) (looks_of l.self) (onward l.at i) ≡ looks_of l.self;
+abbrev pub invariant-loop-copied : goal.invariant-loop-copied
+invariant-loop-copied l = record {
+  within : l.copied ≤ length l.cells;
+  address : l.address ≡ onward l.at l.copied;
+  value : (i : ℕ) → i < l.copied → get_or l.cells i 0 ≡ over (own_of l.self) (cells_of l.image) (onward l.at i);
+  unlooked : (i : ℕ) → i < l.copied → look (own_of l.self) (looks_of l.self) (onward l.at i) ≡ looks_of l.self;
 }
 
-abbrev pub decreases-loop-done : goal.decreases-loop-done
-decreases-loop-done l = length l.cells - l.done
+abbrev pub decreases-loop-copied : goal.decreases-loop-copied
+decreases-loop-copied l = length l.cells - l.copied

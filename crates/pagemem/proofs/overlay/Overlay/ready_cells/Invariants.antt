@@ -1,4 +1,4 @@
-use Rattle.std.proofs.Common.{◌≡◌, ◌+◌, ◌-◌, ◌≤◌, ◌<◌, ℕ, IsTrue}
+use Rattle.std.proofs.Common.{◌≡◌, ◌-◌, ◌≤◌, ◌<◌, ℕ, IsTrue}
 use Rattle.i8080.specs.Registers.{onward}
 use Rattle.pagemem.specs.Overlay.{own_of, looks_of, is_ready_at}
 use Rattle.pagemem.proofs.overlay.Overlay.ready_cells.Given as goal

@@ -1,4 +1,4 @@
-use Rattle.std.proofs.Common.{arith, refl, sym, ◌∙◌, ◌≡◌, ◌+◌, ◌-◌, ◌≤◌, ◌<◌, ap, ℕ, List, take, drop, length}
+use Rattle.std.proofs.Common.{arith, sym, ◌∙◌, ◌≡◌, ◌+◌, ◌-◌, ◌≤◌, ◌<◌, ap, ℕ, List, take, drop, length}
 use Rattle.std.proofs.lemmas.List.{drop-drop, length-drop}
 use Rattle.i8080.specs.Memory.{write_all, Own}
 use Rattle.i8080.specs.Registers.{onward}

@@ -1,4 +1,4 @@
-use Rattle.std.proofs.Common.{◌≡◌, ◌+◌, ◌-◌, ◌≤◌, ◌<◌, ℕ, IsTrue, drop, length}
+use Rattle.std.proofs.Common.{◌≡◌, ◌-◌, ◌≤◌, ℕ, IsTrue, drop, length}
 use Rattle.i8080.specs.Memory.{write_all}
 use Rattle.i8080.specs.Registers.{onward}
 use Rattle.i8080.specs.End.{cells_from}

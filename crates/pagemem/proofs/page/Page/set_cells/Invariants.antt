@@ -1,4 +1,4 @@
-use Rattle.std.proofs.Common.{◌≡◌, ◌+◌, ◌≤◌, drop, length}
+use Rattle.std.proofs.Common.{◌≡◌, ◌+◌, drop}
 use Rattle.i8080.specs.Memory.{write_all}
 use Rattle.i8080.specs.End.{cells_from}
 use Rattle.pagemem.specs.Pages.{page_own}

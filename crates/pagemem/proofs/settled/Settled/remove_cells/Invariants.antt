@@ -1,4 +1,4 @@
-use Rattle.std.proofs.Common.{◌≡◌, ◌+◌, ◌≤◌, ◌<◌, ◌⊎◌, ℕ, true, false, get_or, length}
+use Rattle.std.proofs.Common.{◌≡◌, ◌≤◌, ◌<◌, ◌⊎◌, ℕ, true, false, get_or, length}
 use Rattle.pagemem.proofs.settled.Settled.remove_cells.Given as goal
 
 abbrev pub invariant-loop-i : goal.invariant-loop-i
