@@ -26,6 +26,25 @@ outside own a (v ∷ w ∷ rest) q fits out =
     ∙ outside (write own a v) (a + 1) (w ∷ rest) q (omega (arith, fits)) (elim out [ inl low ↦ inl (omega (arith, low)) | inr high ↦ inr (omega (arith, high)) ])
     ∙ other_cell own a v q (λ e. elim out [ inl low ↦ omega (arith, e, low) | inr high ↦ omega (arith, e, high) ])
 
+-- the first of them is written
+first_written : (own : Own) (a v : ℕ) (rest : List ℕ) → a + suc (length rest) ≤ 65536 → write_all own (cells_from a (v ∷ rest)) a ≡ Some v
+unfolding write
+first_written own a v [] fits = elim (eqb_tells a a) [ inl same ↦ rw same.0 refl | inr other ↦ absurd (other.1 refl) ]
+first_written own a v (w ∷ rest) fits =
+    let next : onward a 1 ≡ a + 1 = omega (arith, fits) in
+    ap (λ n. write_all (write own a v) (cells_from n (w ∷ rest)) a) next ∙ outside (write own a v) (a + 1) (w ∷ rest) a (omega (arith, fits)) (inl (omega arith))
+    ∙ (elim (eqb_tells a a) [ inl same ↦ rw same.0 refl | inr other ↦ absurd (other.1 refl) ])
+
+-- each of them is written
+pub each_written : (own : Own) (a : ℕ) (values : List ℕ) (j : ℕ) → a + length values ≤ 65536 → j < length values → write_all own (cells_from a values) (a + j) ≡ Some (slice_index values j)
+each_written own a [] j fits h = absurd (omega (arith, h))
+each_written own a (v ∷ rest) zero fits h = ap (write_all own (cells_from a (v ∷ rest))) (let e : a + 0 ≡ a = omega arith in e) ∙ first_written own a v rest (omega (arith, fits))
+each_written own a (v ∷ []) (suc j) fits h = absurd (omega (arith, h))
+each_written own a (v ∷ w ∷ rest) (suc j) fits h =
+    let next : onward a 1 ≡ a + 1 = omega (arith, fits) in
+    ap (λ n. write_all (write own a v) (cells_from n (w ∷ rest)) (a + suc j)) next ∙ ap (write_all (write own a v) (cells_from (a + 1) (w ∷ rest))) (let e : a + suc j ≡ a + 1 + j = omega arith in e)
+    ∙ each_written (write own a v) (a + 1) (w ∷ rest) j (omega (arith, fits)) (omega (arith, h))
+
 -- a cell is written in its page as in the whole memory
 one_written : (own' own : Own) (a v q : ℕ) → q / 256 ≡ a / 256 → own' (q % 256) ≡ own q → write own' (a % 256) v (q % 256) ≡ write own a v q
 unfolding write

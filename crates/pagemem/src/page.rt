@@ -61,22 +61,16 @@ impl Page {
         requires { from + length values.now ≤ 256 }
         ensures { page_own self.new ≡ write_all (page_own self.old) (cells_from from values.now) }
     {
-        let mut at = u16::from(from);
-        for value in values {
-            self.set(at as u8, *value);
-            at += 1;
-        }
+        let start = usize::from(from);
+        let end = start + values.len();
+        let (bytes, written) = (&mut self.bytes, &mut self.written);
+        bytes[start..end].copy_from_slice(values);
+        written[start..end].fill(true);
     }
 
     /// Copies the bytes of cells of the page from one on: the written ones, and beneath them others. Answers whether each cell was
     /// written or has a mark; `false` says nothing of the copy.
-    pub fn copy_over(
-        &self,
-        from: usize,
-        beneath: &[u8],
-        marks: &[bool],
-        cells: &mut [u8],
-    ) -> bool
+    pub fn copy_over(&self, from: usize, beneath: &[u8], marks: &[bool], cells: &mut [u8]) -> bool
         requires page { from + length cells.old ≤ 256 }
         requires beneath { length beneath.now ≡ length cells.old }
         requires marks { length marks.now ≡ length cells.old }
