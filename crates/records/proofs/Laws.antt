@@ -1,5 +1,5 @@
 -- Records by place, as extents change.
-use Rattle.std.proofs.Common.{◌≡◌, ◌≢◌, ℕ, ◌/◌, ◌%◌, ◌==◌, true, false, cond, List, [], get_or, Option, Some, None, refl, sym, ◌∙◌, ap, arith, inl, inr, eqb}
+use Rattle.std.proofs.Common.{◌≡◌, ◌≢◌, ℕ, ◌<◌, ◌/◌, ◌%◌, ◌==◌, true, false, cond, List, [], length, get_or, set, Option, Some, None, refl, sym, ◌∙◌, ap, arith, inl, inr, get_or-set_same, get_or-set_other, eqb}
 use Rattle.std.proofs.lemmas.Bool.Decides.{eqb_tells}
 use Rattle.std.specs.Cmp.{unsigned_tied}
 use Rattle.std.specs.Map.{lookup}
@@ -7,6 +7,13 @@ use Rattle.std.specs.BTreeMap.{is_at}
 use Rattle.std.specs.Ordering.{nat_cmp}
 use Rattle.records.specs.Extents.{own_of, place_in}
 use Rattle.records.specs.Records.{Record}
+
+-- what stands at a place after a write
+pub set_read : {X : Type 0} (xs : List X) (a : ℕ) (v d : X) → a < length xs → (q : ℕ) → get_or (set xs a v) q d ≡ cond (q == a) v (get_or xs q d)
+set_read xs a v d h q = elim (eqb_tells q a) [
+  | inl same ↦ rw same.0 (rw same.1 (get_or-set_same xs a v d h))
+  | inr other ↦ rw other.0 (get_or-set_other xs a q v d other.1)
+]
 
 -- the record at a place of an extent that is there, and of one that is not
 pub own_found : (es : List (ℕ × List (Option Record))) (a : ℕ) (x : List (Option Record)) → Some x ≡ lookup (is_at (nat_cmp (a / 128))) es → get_or x (a % 128) None ≡ own_of es a
