@@ -13,7 +13,7 @@ use crate::joined;
 use crate::journal::Journal;
 use crate::seen::SeenFile;
 use directory::{FileShape, Files, is_match};
-use filenames::{Key, Name, is_sayable};
+use filenames::{Key, Name};
 use keymaps::next_of_both;
 use records::EXTENT_RECORDS;
 use std::alloc::AllocError;
@@ -105,13 +105,11 @@ fn name_of(host: &HostFiles, journal: &Journal, key: &Key) -> Option<Name>
     ensures some { IfSome result (λ name. is_listed host.now journal.now.entries key.now ≡ true) }
     ensures none { IfNone result (is_listed host.now journal.now.entries key.now ≡ false) }
 {
+    let name = Name::from_key(key)?;
     if !joined::has(host, journal, key) {
         return None;
     }
-    if !is_sayable(key) {
-        return None;
-    }
-    Name::from_key(key)
+    Some(name)
 }
 
 /// What was done to the files, and beside it each file whose key matches a pattern deleted; and how many
