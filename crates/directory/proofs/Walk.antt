@@ -2,11 +2,11 @@
 use Rattle.std.proofs.Common.{◌≡◌, ℕ, zero, suc, ◌+◌, ◌-◌, ◌<◌, ◌≤◌, arith, Bool, true, false, cond, List, [], ◌∷◌, ◌++◌, Some, None, Option, refl, sym, ap, subst, ◌∙◌}
 use Rattle.std.proofs.Common.{rules, inl, inr}
 use Rattle.std.proofs.lemmas.Bool.{cases_lt}
-use Rattle.std.specs.Prelude.{T, ◌&&◌, ◌||◌, ◌==◌, flat_map, nat_lt}
+use Rattle.std.specs.Prelude.{T, ◌&&◌, ◌||◌, ◌==◌, nat_lt}
 use Rattle.std.specs.declared.cmp.Ordering.TheVariants.{Less, Equal, Greater}
 use Rattle.std.specs.Ordering.{is_lt, is_eq, nat_cmp}
 use Rattle.std.specs.Cmp.Lexicographic.{slice_cmp, nat_list_cmp_total}
-use Rattle.std.specs.List.{filter, range_with_len}
+use Rattle.std.specs.List.{filter, range_with_len, slice_get}
 use Rattle.std.specs.FinMap.{find, is_sorted, get, entries, entries_sorted, get-entries}
 use Rattle.std.specs.FinMap.Entries.{below_all}
 use Rattle.filenames.specs.Names.{Key}
@@ -16,7 +16,7 @@ use Rattle.keymaps.proofs.Left.{rises}
 use Rattle.directory.specs.declared.entry.Entry.{Entry}
 use Rattle.directory.specs.declared.entry.Position.{Position}
 use Rattle.directory.specs.Entries.{Shape, Shapes, entries_at, entries_of, count_in, count_by, with_entry, first_where, listed, is_after, is_match, matches, next_entry}
-use Rattle.directory.specs.Parts.{chunk_from, fitting, above}
+use Rattle.directory.specs.Parts.{chunk_from, entry_by, above}
 use Rattle.keymaps.proofs.Rising.{first_of_both, second_of_both, here, begins, ends, find_below, below_less}
 
 abbrev pub or_else : {X : Type 0} → Option X → Option X → Option X
@@ -42,6 +42,10 @@ alike_at k c p q h (e ∷ es) = alike_with k e (c e) p q h (entries_at k c es) (
 pub alike_of : (k : Key) (s : Shape) (p q : Entry → Bool) → Alike k p q → first_where p (entries_of k s) ≡ first_where q (entries_of k s)
 unfolding entries_of
 alike_of k s p q h = alike_at k (count_in s) p q h (range_with_len 0 512)
+
+first_passes : {X : Type 0} (xs : List X) → first_where (λ x. true) xs ≡ slice_get xs 0
+first_passes [] = refl
+first_passes (x ∷ xs) = refl
 
 nowhere : {X : Type 0} (xs : List X) → first_where (λ x. false) xs ≡ None
 nowhere [] = refl
@@ -204,17 +208,77 @@ pub no_match : (k : Key) (v : Option Shape) (n : ℕ) (pattern : Key) (ex : ℕ)
 unfolding chunk_from
 no_match k v n pattern ex differs = no_match_at k (count_by v) pattern ex differs (range_with_len n (512 - n))
 
-fits_first : (k : Key) (e : ℕ) (x : Option ℕ) (pattern : Key) (ex : ℕ) (xs : List Entry) → is_match pattern k ≡ true
-    → first_where (matches pattern ex) (with_entry k e x xs) ≡ or_else (fitting k e ex x) (first_where (matches pattern ex) xs)
-fits_first k e None pattern ex xs same = refl
-fits_first k e (Some n) pattern ex xs same =
+-- where each extent fits, the first match is the first entry
+first_of_any : (k : Key) (c : ℕ → Option ℕ) (pattern : Key) → is_match pattern k ≡ true → (es : List ℕ) → first_where (matches pattern 63) (entries_at k c es) ≡ slice_get (entries_at k c es) 0
+first_of_any k c pattern same es = alike_at k c (matches pattern 63) (λ x. true) (λ n m. ap (λ b. b && true) same) es ∙ first_passes (entries_at k c es)
+
+pub any_extent : (k : Key) (v : Option Shape) (n : ℕ) (pattern : Key) (ex : ℕ) → is_match pattern k ≡ true → ex ≡ 63 → first_where (matches pattern ex) (chunk_from k v n) ≡ slice_get (chunk_from k v n) 0
+unfolding chunk_from
+any_extent k v n pattern ex same is =
+    ap (λ x. first_where (matches pattern x) (entries_at k (count_by v) (range_with_len n (512 - n)))) is
+    ∙ first_of_any k (count_by v) pattern same (range_with_len n (512 - n))
+
+-- where one extent fits, the entry of another does not match
+passed_over : (k : Key) (e : ℕ) (x : Option ℕ) (pattern : Key) (ex : ℕ) (xs : List Entry) → (ex == 63) ≡ false → (ex == e) ≡ false
+    → first_where (matches pattern ex) (with_entry k e x xs) ≡ first_where (matches pattern ex) xs
+passed_over k e None pattern ex xs one other = refl
+passed_over k e (Some n) pattern ex xs one other =
+    let d : Entry = record { key = k; extent = e; count = n } in
+    ap (λ b. cond (is_match pattern k && (b || ex == e)) (Some d) (first_where (matches pattern ex) xs)) one
+    ∙ ap (λ b. cond (is_match pattern k && b) (Some d) (first_where (matches pattern ex) xs)) other
+    ∙ elim (is_match pattern k) as (λ b. cond (b && false) (Some d) (first_where (matches pattern ex) xs) ≡ first_where (matches pattern ex) xs) [ true ↦ refl | false ↦ refl ]
+
+-- and its own does
+taken_there : (k : Key) (e : ℕ) (x : Option ℕ) (pattern : Key) (ex : ℕ) (xs : List Entry) → is_match pattern k ≡ true → (ex == 63) ≡ false → (ex == e) ≡ true
+    → first_where (matches pattern ex) xs ≡ None → first_where (matches pattern ex) (with_entry k e x xs) ≡ entry_by k e x
+taken_there k e None pattern ex xs same one it none = none
+taken_there k e (Some n) pattern ex xs same one it none =
     let d : Entry = record { key = k; extent = e; count = n } in
     ap (λ b. cond (b && (ex == 63 || ex == e)) (Some d) (first_where (matches pattern ex) xs)) same
-    ∙ elim (ex == 63 || ex == e) as (λ b. cond b (Some d) (first_where (matches pattern ex) xs) ≡ or_else (cond b (Some d) None) (first_where (matches pattern ex) xs)) [ true ↦ refl | false ↦ refl ]
+    ∙ ap (λ b. cond (b || ex == e) (Some d) (first_where (matches pattern ex) xs)) one
+    ∙ ap (λ b. cond b (Some d) (first_where (matches pattern ex) xs)) it
 
-pub extent_turn : (k : Key) (v : Option Shape) (n : ℕ) (pattern : Key) (ex : ℕ) → is_match pattern k ≡ true → n < 512
-    → first_where (matches pattern ex) (chunk_from k v n) ≡ or_else (fitting k n ex (count_by v n)) (first_where (matches pattern ex) (chunk_from k v (n + 1)))
-extent_turn k v n pattern ex same l = ap (first_where (matches pattern ex)) (chunk_more k v n l) ∙ fits_first k n (count_by v n) pattern ex (chunk_from k v (n + 1)) same
+differ : (m n : ℕ) → (m ≡ n → ⊥) → (m == n) ≡ false
+differ m n h = grind (arith, h)
+
+itself : (m n : ℕ) → m ≡ n → (m == n) ≡ true
+itself m n e = grind arith
+
+none_past : (k : Key) (c : ℕ → Option ℕ) (pattern : Key) (ex : ℕ) → (ex == 63) ≡ false → (b a : ℕ) → ex < a → first_where (matches pattern ex) (entries_at k c (range_with_len a b)) ≡ None
+none_past k c pattern ex one zero a l = refl
+none_past k c pattern ex one (suc b) a l =
+    passed_over k a (c a) pattern ex (entries_at k c (range_with_len (a + 1) b)) one (differ ex a (λ e. omega arith))
+    ∙ none_past k c pattern ex one b (a + 1) (omega arith)
+
+one_of : (k : Key) (c : ℕ → Option ℕ) (pattern : Key) (ex : ℕ) → is_match pattern k ≡ true → (ex == 63) ≡ false → (b a : ℕ) → a ≤ ex → ex < a + b
+    → first_where (matches pattern ex) (entries_at k c (range_with_len a b)) ≡ entry_by k ex (c ex)
+one_of k c pattern ex same one zero a l u = absurd (omega arith)
+one_of k c pattern ex same one (suc b) a l u = elim (cases_lt a ex) [
+  | inl below ↦
+      passed_over k a (c a) pattern ex (entries_at k c (range_with_len (a + 1) b)) one (differ ex a (λ e. omega arith))
+      ∙ one_of k c pattern ex same one b (a + 1) (omega arith) (omega arith)
+  | inr past ↦
+      let here : ex ≡ a = omega arith in
+      taken_there k a (c a) pattern ex (entries_at k c (range_with_len (a + 1) b)) same one (itself ex a here) (none_past k c pattern ex one b (a + 1) (omega arith))
+      ∙ ap (λ n. entry_by k n (c n)) (sym here)
+]
+
+pub past_extent : (k : Key) (v : Option Shape) (n : ℕ) (pattern : Key) (ex : ℕ) → (ex ≡ 63 → ⊥) → ex < n → first_where (matches pattern ex) (chunk_from k v n) ≡ None
+unfolding chunk_from
+past_extent k v n pattern ex one l = none_past k (count_by v) pattern ex (differ ex 63 one) (512 - n) n l
+
+pub one_extent : (k : Key) (v : Option Shape) (n : ℕ) (pattern : Key) (ex : ℕ) → is_match pattern k ≡ true → (ex ≡ 63 → ⊥) → n ≤ ex → ex < 512
+    → first_where (matches pattern ex) (chunk_from k v n) ≡ entry_by k ex (count_by v ex)
+unfolding chunk_from
+one_extent k v n pattern ex same one l u = one_of k (count_by v) pattern ex same (differ ex 63 one) (512 - n) n l (omega arith)
+
+first_with : (k : Key) (e : ℕ) (x : Option ℕ) (xs : List Entry) → slice_get (with_entry k e x xs) 0 ≡ or_else (entry_by k e x) (slice_get xs 0)
+first_with k e None xs = refl
+first_with k e (Some n) xs = refl
+
+-- a turn over the extents of a file
+pub extent_turn : (k : Key) (v : Option Shape) (n : ℕ) → n < 512 → slice_get (chunk_from k v n) 0 ≡ or_else (entry_by k n (count_by v n)) (slice_get (chunk_from k v (n + 1)) 0)
+extent_turn k v n l = ap (λ es. slice_get es 0) (chunk_more k v n l) ∙ first_with k n (count_by v n) (chunk_from k v (n + 1))
 
 pub key_turn : (m : Shapes) (pattern : Key) (ex : ℕ) (after : Option Key) (k : Key) → is_above after k ≡ true
     → ((x : Key) → is_above after x ≡ true → slice_cmp nat_cmp x k ≡ Less → get m x ≡ None)

@@ -1,6 +1,6 @@
 -- Parts of the directory, as a search goes over them: the entries of one file from an extent on, those of the files above a key, and the
 -- entry of one extent. (This project's own.)
-use Rattle.std.specs.Prelude.{ℕ, ◌-◌, ◌||◌, ◌==◌, List, Option, Some, None, if◌then◌else◌, flat_map}
+use Rattle.std.specs.Prelude.{ℕ, ◌-◌, List, Option, Some, None, flat_map}
 use Rattle.std.specs.List.{range_with_len, filter}
 use Rattle.std.specs.FinMap.{get, entries}
 use Rattle.filenames.specs.Names.{Key}
@@ -20,7 +20,7 @@ entries_from m key n = chunk_from key (get m key) n
 unfoldable pub above : Option Key → Shapes → List Entry
 above after m = flat_map (λ e. entries_of e.0 e.1) (filter (λ e. is_above after e.0) (entries m))
 
--- an extent's entry, if it has one and the pattern's byte fits
-abbrev pub fitting : Key → ℕ → ℕ → Option ℕ → Option Entry
-fitting key e ex None = None
-fitting key e ex (Some n) = if ex == 63 || ex == e then Some (record { key = key; extent = e; count = n }) else None
+-- the entry of an extent, if it has one
+abbrev pub entry_by : Key → ℕ → Option ℕ → Option Entry
+entry_by key e None = None
+entry_by key e (Some n) = Some (record { key = key; extent = e; count = n })

@@ -1,19 +1,42 @@
 // A search in the directory.
 
-ghost use Rattle.std.specs.Prelude.{◌≡◌, ◌<◌, ◌≤◌, ◌||◌, ◌==◌, ℕ, List, Option, true, None, Some, IfSome, IfNone};
+ghost use Rattle.std.specs.Prelude.{◌≡◌, ◌<◌, ◌≤◌, ℕ, List, Option, true, None, Some, IfSome, IfNone};
+ghost use Rattle.std.specs.List.{slice_get};
+ghost use Rattle.std.specs.FinMap.{get};
 ghost use Rattle.keymaps.specs.Order.{is_above};
 ghost use Rattle.keymaps.specs.Walks.{EachAbove, EachBetween, IsAbsent};
-ghost use Rattle.directory.specs.Entries.{Shapes, entry_count, first_match, next_entry};
-ghost use Rattle.directory.specs.Parts.{entries_from, fitting, above};
+ghost use Rattle.directory.specs.Entries.{Shape, Shapes, count_by, first_match, next_entry};
+ghost use Rattle.directory.specs.Parts.{entries_from, chunk_from, entry_by, above};
 
 use crate::entry::{Entry, Position};
 use crate::pattern::is_match;
 use filenames::Key;
 
-/// Files by their keys, as a search sees them: each by its places, and whether a record stands there.
+/// The file of a key, found once, as a search sees it: its places, and whether a record stands there. There
+/// may be no file.
+pub trait FileShape {
+    ghost use Rattle.std.specs.Prelude.{ℕ, Option};
+    ghost use Rattle.directory.specs.Entries.{Shape};
+
+    ghost shape: { Self → Option Shape };
+
+    /// The count of an extent's entry, if it has one.
+    fn entry_count(&self, extent: u32) -> Option<u8>
+        ensures { result ≡ count_by (shape self.now) extent };
+
+    /// An extent from which on the file has no entry, at most 512.
+    fn extents(&self) -> u32
+        ensures within { result ≤ 512 }
+        ensures none { (e : ℕ) → result ≤ e → e < 512 → count_by (shape self.now) e ≡ None };
+}
+
+/// Files by their keys, as a search sees them.
 pub trait Files {
     ghost use Rattle.std.specs.Prelude.{ℕ, List, Option};
     ghost use Rattle.directory.specs.Entries.{Shapes};
+
+    /// The file of a key, found once.
+    type File: FileShape + Copy;
 
     ghost files: { Self → Shapes };
 
@@ -26,47 +49,40 @@ pub trait Files {
         ensures fewer { IfSome result (λ k. left self.now (Some k) < left self.now after) }
         ensures none { IfNone result (EachAbove after (IsAbsent (files self.now))) };
 
-    /// The count of an extent's entry, if it has one.
-    fn count(&self, key: &Key, extent: u32) -> Option<u8>
-        ensures { result ≡ entry_count (files self.now) key.now extent };
-
-    /// An extent from which on the file of a key has no entry, at most 512.
-    fn extents(&self, key: &Key) -> u32
-        ensures within { result ≤ 512 }
-        ensures none { (e : ℕ) → result ≤ e → e < 512
-            → entry_count (files self.now) key.now e ≡ None };
+    /// Finds the file of a key.
+    fn file(&self, key: &Key) -> Self::File
+        ensures { Self.File.shape result ≡ get (files self.now) key.now };
 }
 
-// Whether an extent matches a pattern's byte.
-fn fits_extent(ex: u8, extent: u32) -> bool
-    ensures { result ≡ (ex == 63 || ex == extent) }
-{
-    ex == 63 || ex as u32 == extent
-}
-
-// The entry of an extent, if it has one that matches.
-fn entry_at<T: Files>(files: &T, key: &Key, extent: u32, ex: u8) -> Option<Entry>
+// The entry of an extent, if it has one.
+fn entry_at<F: FileShape>(file: &F, key: &Key, extent: u32) -> Option<Entry>
     requires { extent < 512 }
-    ensures entry { result ≡ fitting key.now extent ex (entry_count (T.files files.now) key.now extent) }
+    ensures entry { result ≡ entry_by key.now extent (count_by (F.shape file.now) extent) }
     ensures within { IfSome result (λ e. e.extent < 512) }
 {
-    match files.count(key, extent) {
-        None => None,
-        Some(count) => {
-            if fits_extent(ex, extent) {
-                Some(Entry {
-                    key: *key,
-                    extent: extent as u16,
-                    count,
-                })
-            } else {
-                None
-            }
-        }
-    }
+    let count = file.entry_count(extent)?;
+    Some(Entry {
+        key: *key,
+        extent: extent as u16,
+        count,
+    })
 }
 
-// The first match among a file's extents from one on.
+// The first entry of a file from an extent on.
+fn first_from<F: FileShape>(file: &F, key: &Key, from: u32) -> Option<Entry>
+    ensures entry { result ≡ slice_get (chunk_from key.now (F.shape file.now) from) 0 }
+    ensures within { IfSome result (λ e. e.extent < 512) }
+{
+    for extent in from..file.extents() {
+        if let Some(found) = entry_at(file, key, extent) {
+            return Some(found);
+        }
+    }
+    None
+}
+
+// The first match among a file's extents from one on. The file is found once, and only where an entry of it
+// may match.
 fn first_extent<T: Files>(files: &T, key: &Key, from: u32, pattern: &Key, ex: u8) -> Option<Entry>
     ensures entry { result ≡ first_match pattern.now ex (entries_from (T.files files.now) key.now from) }
     ensures within { IfSome result (λ e. e.extent < 512) }
@@ -74,15 +90,14 @@ fn first_extent<T: Files>(files: &T, key: &Key, from: u32, pattern: &Key, ex: u8
     if !is_match(pattern, key) {
         return None;
     }
-    let end = files.extents(key);
-    let mut extent = from;
-    while extent < end {
-        if let Some(found) = entry_at(files, key, extent, ex) {
-            return Some(found);
-        }
-        extent += 1;
+    if ex == 63 {
+        // This is `?`, which each extent fits.
+        return first_from(&files.file(key), key, from);
     }
-    None
+    if (ex as u32) < from {
+        return None;
+    }
+    entry_at(&files.file(key), key, ex as u32)
 }
 
 // The first match among the files above a key.

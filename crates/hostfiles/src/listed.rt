@@ -4,16 +4,16 @@ ghost use Rattle.std.specs.Prelude.{◌≡◌, ◌<◌, ◌≤◌, ◌&&◌, ℕ
 ghost use Rattle.std.specs.Prelude.{if◌then◌else◌, IfOk, IfSome, IfNone};
 ghost use Rattle.std.specs.FinMap as finmap;
 ghost use Rattle.keymaps.specs.Order.{is_above};
-ghost use Rattle.directory.specs.Entries.{count_by, is_match};
+ghost use Rattle.directory.specs.Entries.{is_match};
 ghost use Rattle.hostfiles.specs.Above.{AllAbove, AllBetween};
-ghost use Rattle.hostfiles.specs.Files.{has, is_listed, nothing, shape_at, shapes};
+ghost use Rattle.hostfiles.specs.Files.{has, is_listed, nothing, shapes};
 
 use crate::host::HostFiles;
 use crate::joined;
 use crate::journal::Journal;
 use crate::seen::SeenFile;
-use directory::{Files, is_match};
-use filenames::{Key, Name, is_sayable};
+use directory::{FileShape, Files, is_match};
+use filenames::{Key, Name};
 use keymaps::next_of_both;
 use records::EXTENT_RECORDS;
 use std::alloc::AllocError;
@@ -27,10 +27,12 @@ pub struct Listed<'a> {
     pub journal: &'a Journal,
 }
 
-impl Files for Listed<'_> {
+impl<'a> Files for Listed<'a> {
     ghost use Rattle.std.specs.Prelude.{◌+◌};
     ghost use Rattle.keymaps.specs.Walks.{left};
     ghost use Rattle.hostfiles.specs.Files.{shapes};
+
+    type File = SeenFile<'a>;
 
     ghost files = { λ l. shapes l.host.now l.journal.now.entries };
 
@@ -40,49 +42,42 @@ impl Files for Listed<'_> {
         next_of_both(self.host.files(), &self.journal.entries, after)
     }
 
-    fn count(&self, key: &Key, extent: u32) -> Option<u8> {
-        entry_count(self.host, self.journal, key, extent)
-    }
-
-    fn extents(&self, key: &Key) -> u32 {
-        extents_of(self.host, self.journal, key)
+    fn file(&self, key: &Key) -> SeenFile<'a> {
+        SeenFile::find(self.host, self.journal, key)
     }
 }
 
-// An extent from which on the file of a key has no entry: that behind the file's last place, and 1 where it
-// has none.
-fn extents_of(host: &HostFiles, journal: &Journal, key: &Key) -> u32
-    ensures within { result ≤ 512 }
-    ensures none { (e : ℕ) → result ≤ e → e < 512 →
-        count_by (shape_at host.now journal.now.entries key.now) e ≡ None }
-{
-    let n = joined::length(host, journal, key);
-    if n == 0 {
-        return 1;
-    }
-    let last = (n - 1) / EXTENT_RECORDS;
-    if last >= 512 {
-        return 512;
-    }
-    last + 1
-}
+impl FileShape for SeenFile<'_> {
+    ghost use Rattle.hostfiles.specs.Files.{shape_at};
 
-// The count of an extent's entry, if it has one.
-fn entry_count(host: &HostFiles, journal: &Journal, key: &Key, extent: u32) -> Option<u8>
-    ensures { result ≡ count_by (shape_at host.now journal.now.entries key.now) extent }
-{
-    let file = SeenFile::find(host, journal, key);
-    if !file.is_there() {
-        return None;
+    ghost shape = { λ f. shape_at f.host.now f.journal.now.entries f.key };
+
+    fn entry_count(&self, extent: u32) -> Option<u8> {
+        if !self.is_there() {
+            return None;
+        }
+        if self.length() == 0 {
+            return if extent == 0 { Some(0) } else { None };
+        }
+        let count = self.count(extent);
+        if count == 0 {
+            return None;
+        }
+        Some(count)
     }
-    if file.length() == 0 {
-        return if extent == 0 { Some(0) } else { None };
+
+    // The extent behind the file's last place, and 1 where it has none.
+    fn extents(&self) -> u32 {
+        let n = self.length();
+        if n == 0 {
+            return 1;
+        }
+        let last = (n - 1) / EXTENT_RECORDS;
+        if last >= 512 {
+            return 512;
+        }
+        last + 1
     }
-    let count = file.count(extent);
-    if count == 0 {
-        return None;
-    }
-    Some(count)
 }
 
 /// The least name of a file by key, after the key given if there is one. A file whose key is that of no name
@@ -110,13 +105,11 @@ fn name_of(host: &HostFiles, journal: &Journal, key: &Key) -> Option<Name>
     ensures some { IfSome result (λ name. is_listed host.now journal.now.entries key.now ≡ true) }
     ensures none { IfNone result (is_listed host.now journal.now.entries key.now ≡ false) }
 {
+    let name = Name::from_key(key)?;
     if !joined::has(host, journal, key) {
         return None;
     }
-    if !is_sayable(key) {
-        return None;
-    }
-    Name::from_key(key)
+    Some(name)
 }
 
 /// What was done to the files, and beside it each file whose key matches a pattern deleted; and how many
