@@ -6,7 +6,7 @@ ghost use Rattle.hostfiles.specs.Looks.{look_has_by, look_length_by, look_record
 
 use crate::journal::{Base, Grown};
 use filenames::Key;
-use keymaps::{DriveSet, KeyMap, PlaceSet};
+use keymaps::{DriveSet, KeySet, PlaceSet};
 use std::alloc::{AllocError, Global};
 
 /// A question that a run asks of the host files.
@@ -26,9 +26,9 @@ pub enum Ask {
 #[derive(Drop)]
 pub struct Looks {
     /// The keys whose presence was asked.
-    pub has: KeyMap<()>,
+    pub has: KeySet,
     /// The keys whose lengths were asked.
-    pub lengths: KeyMap<()>,
+    pub lengths: KeySet,
     /// The records that were asked.
     pub records: PlaceSet,
     /// The drives whose directories were asked.
@@ -41,8 +41,8 @@ impl Looks {
         ensures { result ≡ no_looks }
     {
         Self {
-            has: KeyMap::new(alloc),
-            lengths: KeyMap::new(alloc),
+            has: KeySet::new(alloc),
+            lengths: KeySet::new(alloc),
             records: PlaceSet::new(alloc),
             directories: DriveSet::new(),
         }
@@ -77,7 +77,7 @@ impl Looks {
         ensures err { OnErr result (self.new ≡ self.old) }
     {
         match base {
-            Base::Same => self.has.insert(*key, ()),
+            Base::Same => self.has.insert(*key),
             Base::Gone => Ok(()),
             Base::New => Ok(()),
             Base::Moved(_) => Ok(()),
@@ -99,8 +99,8 @@ impl Looks {
             return Ok(());
         }
         match base {
-            Base::Same => self.lengths.insert(*key, ()),
-            Base::Moved(old) => self.lengths.insert(old, ()),
+            Base::Same => self.lengths.insert(*key),
+            Base::Moved(old) => self.lengths.insert(old),
             Base::Gone => Ok(()),
             Base::New => Ok(()),
         }

@@ -3,3 +3,4 @@ pub mod Below
 pub mod Rising
 pub mod Left
 pub mod MarkLemmas
+pub mod Firsts

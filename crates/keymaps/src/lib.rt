@@ -1,13 +1,16 @@
 //! Ordered maps from the keys of files, and sets of drives, seen by contracts as finite maps.
 //!
-//! - `map`, `places`: maps by the keys of files, in order; sets of a key and a number
+//! - `map`: maps by the keys of files, in order
+//! - `keys`, `places`: sets of keys of files; sets of a key and a number
 //! - `drives`: sets of drives
 #![tactic(auto)]
 
 pub mod drives;
+pub mod keys;
 pub mod map;
 pub mod places;
 
 pub use drives::DriveSet;
+pub use keys::KeySet;
 pub use map::{KeyMap, next_of_both};
 pub use places::PlaceSet;

@@ -1,6 +1,6 @@
 // A set of keys with places.
 
-ghost use Rattle.std.specs.Prelude.{◌≡◌, OnOk, OnErr, IfOk, IfSome, IfNone, ℕ, List, true};
+ghost use Rattle.std.specs.Prelude.{◌≡◌, ◌<◌, OnOk, OnErr, IfOk, IfSome, IfNone, ℕ, List, true};
 ghost use Rattle.std.specs.FinMap as finmap;
 ghost use Rattle.keymaps.specs.Walks.{IsAbsent};
 
@@ -9,13 +9,109 @@ use std::alloc::{AllocError, Global};
 use std::collections::BTreeMap;
 use std::marker::Model;
 
-/// A set of places of files: each the key of a file and a number.
+/// A set of places of files: each the key of a file and a number. The first one takes no memory.
 #[derive(Drop)]
 pub struct PlaceSet {
-    map: BTreeMap<(Key, u32), ()>,
+    // Where there is none, nothing is in the rest; where there is one, it is not in the rest.
+    first: Option<(Key, u32)>,
+    rest: Places,
 }
 
 impl Model for PlaceSet {
+    ghost use Rattle.std.specs.Prelude.{List, ℕ};
+    ghost use Rattle.std.specs.FinMap as finmap;
+    ghost use Rattle.std.specs.Coded.{coded_ℕ, coded_list, coded×};
+    ghost use base.Stored.{coded_unit};
+    ghost use Rattle.keymaps.specs.Order.{place_cmp};
+    ghost use Rattle.keymaps.specs.Firsts.{with_first, IsApart};
+
+    ghost Value = { finmap.FinMap place_cmp (Unit {0}) };
+
+    ghost coded = { finmap.code (coded× (coded_list coded_ℕ) coded_ℕ) coded_unit };
+
+    ghost view = { λ a. with_first a.first a.rest };
+
+    ghost invariant = { λ a. IsApart a.first a.rest };
+}
+
+impl PlaceSet {
+    /// No place. Takes no memory.
+    pub fn new(alloc: Global) -> Self
+        ensures { result ≡ finmap.empty }
+    {
+        Self {
+            first: None,
+            rest: Places::new(alloc),
+        }
+    }
+
+    /// How many places there are.
+    pub fn len(&self) -> usize
+        ensures { result ≡ finmap.len self.now }
+    {
+        match self.first {
+            None => 0,
+            Some(_) => self.rest.len() + 1,
+        }
+    }
+
+    /// Whether a place is in the set.
+    pub fn contains(&self, key: &Key, place: u32) -> bool
+        ensures { result ≡ finmap.contains_key self.now (key.now, place) }
+    {
+        match self.first {
+            None => false,
+            Some(first) => first == (*key, place) || self.rest.contains(key, place),
+        }
+    }
+
+    /// The place with the others. Takes no memory where the set is empty or has the place. An `Err` changes
+    /// nothing.
+    pub fn insert(&mut self, key: Key, place: u32) -> Result<(), AllocError>
+        ensures ok { OnOk result (self.new ≡ finmap.insert self.old (key, place) tt) }
+        ensures err { OnErr result (self.new ≡ self.old) }
+    {
+        let Some(first) = self.first else {
+            self.first = Some((key, place));
+            return Ok(());
+        };
+        if first == (key, place) {
+            return Ok(());
+        }
+        self.rest.insert(key, place)
+    }
+
+    /// The same set.
+    pub fn snapshot(&self) -> Result<PlaceSet, AllocError>
+        ensures { IfOk result (λ m. m ≡ self.now) }
+    {
+        Ok(PlaceSet {
+            first: self.first,
+            rest: self.rest.snapshot()?,
+        })
+    }
+
+    /// Takes one of the places out, where there is one. Takes no memory.
+    pub fn pop(&mut self) -> Option<(Key, u32)>
+        ensures there { IfSome result (λ p. finmap.contains_key self.old p ≡ true) }
+        ensures some { IfSome result (λ p. self.new ≡ finmap.remove self.old p) }
+        ensures none { IfNone result ((self.new ≡ self.old)
+            × ((p : List ℕ × ℕ) → IsAbsent self.old p)) }
+    {
+        if let Some(place) = self.rest.pop() {
+            return Some(place);
+        }
+        self.first.take()
+    }
+}
+
+// Places of files, each in the tree.
+#[derive(Drop)]
+struct Places {
+    map: BTreeMap<(Key, u32), ()>,
+}
+
+impl Model for Places {
     ghost use Rattle.std.specs.Prelude.{List, ℕ};
     ghost use Rattle.std.specs.FinMap as finmap;
     ghost use Rattle.std.specs.Coded.{coded_ℕ, coded_list, coded×};
@@ -29,9 +125,9 @@ impl Model for PlaceSet {
     ghost view = { λ a. finmap.from_entries a.map.entries };
 }
 
-impl PlaceSet {
-    /// No place. Takes no memory.
-    pub fn new(alloc: Global) -> Self
+impl Places {
+    // No place. Takes no memory.
+    fn new(alloc: Global) -> Self
         ensures { result ≡ finmap.empty }
     {
         Self {
@@ -39,22 +135,23 @@ impl PlaceSet {
         }
     }
 
-    /// How many places there are.
-    pub fn len(&self) -> usize
-        ensures { result ≡ finmap.len self.now }
+    // How many places there are.
+    fn len(&self) -> usize
+        ensures len { result ≡ finmap.len self.now }
+        ensures small { result < 9223372036854775808 }
     {
         self.map.len()
     }
 
-    /// Whether a place is in the set.
-    pub fn contains(&self, key: &Key, place: u32) -> bool
+    // Whether a place is in the set.
+    fn contains(&self, key: &Key, place: u32) -> bool
         ensures { result ≡ finmap.contains_key self.now (key.now, place) }
     {
         self.map.contains_key(&(*key, place))
     }
 
-    /// The place with the others. An `Err` changes nothing.
-    pub fn insert(&mut self, key: Key, place: u32) -> Result<(), AllocError>
+    // The place with the others. An `Err` changes nothing.
+    fn insert(&mut self, key: Key, place: u32) -> Result<(), AllocError>
         ensures ok { OnOk result (self.new ≡ finmap.insert self.old (key, place) tt) }
         ensures err { OnErr result (self.new ≡ self.old) }
     {
@@ -62,17 +159,17 @@ impl PlaceSet {
         Ok(())
     }
 
-    /// The same set.
-    pub fn snapshot(&self) -> Result<PlaceSet, AllocError>
+    // The same set.
+    fn snapshot(&self) -> Result<Places, AllocError>
         ensures { IfOk result (λ m. m ≡ self.now) }
     {
-        Ok(PlaceSet {
+        Ok(Places {
             map: self.map.clone()?,
         })
     }
 
-    /// Takes one of the places out, where there is one. Takes no memory.
-    pub fn pop(&mut self) -> Option<(Key, u32)>
+    // Takes one of the places out, where there is one. Takes no memory.
+    fn pop(&mut self) -> Option<(Key, u32)>
         ensures there { IfSome result (λ p. finmap.contains_key self.old p ≡ true) }
         ensures some { IfSome result (λ p. self.new ≡ finmap.remove self.old p) }
         ensures none { IfNone result ((self.new ≡ self.old)
