@@ -105,6 +105,7 @@ impl Running {
 
     /// Takes a script place that was looked at out of those that were. `None` where there is none. The state and the cells
     /// that were looked at stay.
+    #[inline(always)]
     pub fn take_place(&mut self) -> Option<usize>
         ensures state { self.new.state ≡ self.old.state }
         ensures cells { self.new.looked.cells ≡ self.old.looked.cells }
@@ -129,6 +130,7 @@ impl Running {
 
     /// Takes a question of the host files out of those that were asked. `None` where there is none. The state stays, and so do the
     /// cells and the script places that were looked at.
+    #[inline(always)]
     pub fn take_ask(&mut self) -> Option<Ask>
         ensures state { self.new.state ≡ self.old.state }
         ensures cells { self.new.looked.cells ≡ self.old.looked.cells }

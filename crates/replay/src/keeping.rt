@@ -65,6 +65,7 @@ pub struct RunNotes {
 /// Notes what was looked at as looks of the step `seen`: the cells from the one of this index on, the place and the question that
 /// were taken out of the others, and these, which are taken too. `Err` where memory is refused, which is counted; only entries from
 /// that step on are gone then.
+#[inline(always)]
 pub fn note(
     notes: &mut RunNotes,
     running: &mut Running,
