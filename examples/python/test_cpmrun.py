@@ -10,11 +10,11 @@ from pathlib import Path
 from cpmrun import LONGEST_DATA, LONGEST_LINE, Cause, ProgramEnded, Refused, Registers, Report, Session, UnknownReply
 
 TOP = Path(__file__).resolve().parent.parent.parent
-HI = TOP / "examples" / "hi.com"
-NAME = TOP / "examples" / "name.com"
+HI = TOP / "examples" / "hi" / "hi.com"
+GREETING = TOP / "examples" / "greeting" / "greeting.com"
 RECORDS = TOP / "tests" / "programs" / "randrec" / "randrec.com"
 
-# What README.md tells of examples/hi.com.
+# What README.md tells of examples/hi/hi.com.
 REPORT_OF_HI = Report(
     cause=Cause("WarmBoot"),
     steps=7,
@@ -52,7 +52,7 @@ class Answers(unittest.TestCase):
             self.assertEqual(session.run().text, b"Ho")
 
     def test_script(self) -> None:
-        with Session(runner(), NAME) as session:
+        with Session(runner(), GREETING) as session:
             session.insert(0, b"Ada\r")
             self.assertEqual(session.run().text, b"Name? Ada\r\nHello, Ada")
             session.replace(0, b"Eve")
@@ -89,7 +89,7 @@ class Answers(unittest.TestCase):
 
     def test_long_inserts(self) -> None:
         data = bytes(range(256)) * (LONGEST_DATA // 256 + 300)
-        with Session(runner(), NAME) as session:
+        with Session(runner(), GREETING) as session:
             session.insert(0, data)
             session.replace(0, data[::-1])
             self.refuses(1, session.replace, 1, data)
@@ -137,7 +137,7 @@ class Ends(unittest.TestCase):
     def test_malformed_line(self) -> None:
         session = Session(runner(), HI)
         with self.assertRaises(ProgramEnded) as caught:
-            session.gone("A NAME OF MANY WORDS")
+            session.gone("A GREETING OF MANY WORDS")
         self.assertEqual((caught.exception.status, caught.exception.errors), (2, "cpmrun: line 1 is malformed\n"))
         with self.assertRaises(ProgramEnded):
             session.run()

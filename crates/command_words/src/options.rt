@@ -30,7 +30,10 @@ Exit status:
   8   by NoDollar
   9   by Unsupported
   10  by BadDrive
-  12  memory was refused";
+  12  memory was refused
+
+The manual has each message, edit line and reply, and what the number of a refusal means: docs/MANUAL.md,
+or, where the program is installed, share/doc/cpmrun/MANUAL.md.";
 
 /// An option whose value is a path, with what that is called and what it is for.
 struct PathOption<'a> {

@@ -7,7 +7,7 @@ ghost use Rattle.hostfiles.specs.Files.{files};
 ghost use Rattle.replay.specs.Report.{run_of, session_of};
 ghost use Rattle.edit_lines.specs.ChangedLines.{gone_lines};
 ghost use Rattle.edit_lines.specs.Writing.{Writes, WritesOrFails};
-ghost use Rattle.cpmrun.specs.RawRun.{BreaksRun, IsOfFolder, RunsOnce, Unwritten, WritesAll, home, stop_line, stop_status};
+ghost use Rattle.cpmrun.specs.RawRun.{BreaksRun, IsOfFolder, RunsOnce, Unwritten, WritesAll, home, limit_line, stop_line, stop_status};
 ghost use Rattle.cpmrun.specs.World.{world};
 
 use crate::fault::Fault;
@@ -41,6 +41,16 @@ fn stop_line(alloc: Global, cause: Cause) -> Result<String, AllocError>
 {
     let cause = cause_text(alloc, cause)?;
     format!(in alloc; "stop {cause}\n")
+}
+
+/// The line that tells how many steps the limit was that stopped a run; no text after another stop.
+fn limit_line(alloc: Global, cause: Cause, limit: u64) -> Result<String, AllocError>
+    ensures { IfOk result (λ s. string_bytes s ≡ limit_line cause limit) }
+{
+    if let Cause::Limit = cause {
+        return format!(in alloc; "cpmrun: the limit was {limit} steps; --limit N sets another\n");
+    }
+    Ok(String::new(alloc))
 }
 
 /// Writes a file as the run left it into the folder of its drive, where that has one.
@@ -91,32 +101,35 @@ fn write_changed<'a, S: FileSystem>(
     Ok(())
 }
 
-/// Writes a line, and then the lines of the changed files that are gone. Where the writer fails, some first part of this is written.
+/// Writes a line, then the lines of the changed files that are gone, and then a last text. Where the writer fails, some first part
+/// of this is written.
 fn write_lines<E: Writer>(
     err: &mut E,
     line: &[u8],
     host: &HostFiles,
     journal: &Journal,
+    last: &[u8],
 ) -> Result<(), Failed>
     requires { E.failures err.old < 2 ^ 63 }
     ensures { Writes (E.holds err.old) (E.holds err.new) (E.failures err.old) (E.failures err.new)
-        (line.now ++ gone_lines host.now (files host.now journal.now.entries)) result }
+        (line.now ++ gone_lines host.now (files host.now journal.now.entries) ++ last.now) result }
 {
     write_piece(err, line)?;
-    write_changed_files(err, Asked::GoneAlone, host, journal)
+    write_changed_files(err, Asked::GoneAlone, host, journal)?;
+    write_piece(err, last)
 }
 
-/// Tells a line, and then the changed files that are gone. A failure of the writer ends this, and is passed over.
-fn tell_lines<E: Writer>(err: &mut E, line: &[u8], host: &HostFiles, journal: &Journal)
+/// Tells a line, then the changed files that are gone, and then a last text. A failure of the writer ends this, and is passed over.
+fn tell_lines<E: Writer>(err: &mut E, line: &[u8], host: &HostFiles, journal: &Journal, last: &[u8])
     requires { E.failures err.old < 2 ^ 63 }
     ensures { WritesOrFails (E.holds err.old) (E.holds err.new) (E.failures err.old) (E.failures err.new)
-        (line.now ++ gone_lines host.now (files host.now journal.now.entries)) }
+        (line.now ++ gone_lines host.now (files host.now journal.now.entries) ++ last.now) }
 {
-    let _ = write_lines(err, line, host, journal);
+    let _ = write_lines(err, line, host, journal, last);
 }
 
-/// Tells on standard error why the run stopped, and which of the changed files are gone. A failure of the writer is passed over;
-/// where memory is refused, nothing is written.
+/// Tells on standard error why the run stopped, which of the changed files are gone, and how many steps the limit was where that
+/// stopped it. A failure of the writer is passed over; where memory is refused, nothing is written.
 fn tell_stop<'a, E: Writer>(
     alloc: Global,
     report: &Report<'_>,
@@ -126,17 +139,19 @@ fn tell_stop<'a, E: Writer>(
     ensures told { OnOk result
         (WritesOrFails (E.holds err.old) (E.holds err.new) (E.failures err.old) (E.failures err.new)
         (stop_line (run_of report.now).cause
-        ++ gone_lines (session_of report.now).files (run_of report.now).machine.files)) }
+        ++ gone_lines (session_of report.now).files (run_of report.now).machine.files
+        ++ limit_line (run_of report.now).cause (session_of report.now).limit)) }
     ensures memory { IfErr result (λ f. f ≡ Fault.OutOfMemory) }
     ensures untold { OnErr result (err.new ≡ err.old) }
 {
-    match stop_line(alloc, report.cause()) {
-        Ok(text) => {
-            tell_lines(err, text.as_bytes(), report.files(), report.journal());
-            Ok(())
-        }
-        Err(AllocError) => Err(Fault::OutOfMemory),
-    }
+    let Ok(stop) = stop_line(alloc, report.cause()) else {
+        return Err(Fault::OutOfMemory);
+    };
+    let Ok(limit) = limit_line(alloc, report.cause(), report.limit()) else {
+        return Err(Fault::OutOfMemory);
+    };
+    tell_lines(err, stop.as_bytes(), report.files(), report.journal(), limit.as_bytes());
+    Ok(())
 }
 
 /// Tells a run: what it printed, its changed files, and its stop. It gives the exit status for the stop.
@@ -211,8 +226,8 @@ fn options() -> Options
 
 /// Runs a session once: what it prints goes to `out` as it is, then each changed file that is there at the
 /// stop is written into the folder of its drive, where that has one, and then a line on `err` tells why the
-/// run stopped, and one more each changed file that is gone. It gives the exit status for the stop. A fault
-/// leaves `err` as it was.
+/// run stopped, one more each changed file that is gone, and a last one the limit where that stopped it. It gives the exit status
+/// for the stop. A fault leaves `err` as it was.
 pub fn run_once<'a, S: FileSystem, O: Writer, E: Writer>(
     system: &mut S,
     folders: &[Option<&'a str>; 4],

@@ -4,7 +4,7 @@ use Rattle.std.specs.Prelude.{ℕ, ◌+◌, ◌-◌, ◌*◌, ◌/◌, ◌%◌, 
 use Rattle.std.specs.Ordering.{nat_cmp, is_lt, is_eq}
 use Rattle.std.specs.List.{range_with_len}
 use Rattle.std.specs.Cmp.Lexicographic.{slice_cmp}
-use Rattle.std.specs.FinMap.{FinMap, get, entries}
+use Rattle.std.specs.FinMap.{FinMap, entries}
 use Rattle.filenames.specs.Names.{Key}
 use Rattle.directory.specs.declared.entry.Entry.{Entry}
 use Rattle.directory.specs.declared.entry.Position.{Position}
@@ -35,10 +35,6 @@ count_in (b ∷ bs) e = if nat_lt 0 (count_at (b ∷ bs) e) then Some (count_at 
 abbrev pub count_by : Option Shape → ℕ → Option ℕ
 count_by None e = None
 count_by (Some s) e = count_in s e
-
--- the count of the entry of an extent of the file of a key, if it has one
-abbrev pub entry_count : Shapes → Key → ℕ → Option ℕ
-entry_count m key e = count_by (get m key) e
 
 -- an entry with this count before the others, if there is a count
 abbrev pub with_entry : Key → ℕ → Option ℕ → List Entry → List Entry

@@ -163,6 +163,16 @@ fn finish<W: Writer>(
 /// has given at most 131,072 bytes past them. Each line has its effect on the runner's checkpoints and on
 /// the meter, one after the other, and nothing else is done to them: an edit leaves exactly the checkpoints
 /// that it does not touch, and a run adds no steps but those from the kept one where it begins. The options stay.
+///
+/// # Example
+///
+/// The edit lines of a device are answered on another; `Over` makes a `Reader` of any `Read`, and a `Writer` of any `Write`:
+///
+/// ```text
+/// let mut reader = Over::new(fs::open(&rt, "edits.txt")?);
+/// let mut writer = Over::new(rt.stdout());
+/// let ending = replay(alloc, &mut runner, &mut Meter::new(), &mut reader, &mut writer)?;
+/// ```
 pub fn replay<R: Reader, W: Writer>(
     alloc: Global,
     runner: &mut Runner,

@@ -175,6 +175,16 @@ impl HostFiles {
     }
 
     /// Sets or exchanges a file: its bytes, filled up with 1AH to whole records. A refusal changes nothing.
+    ///
+    /// # Example
+    ///
+    /// One file on drive A and one on drive B:
+    ///
+    /// ```text
+    /// let mut files = HostFiles::new(alloc);
+    /// files.set(Name::parse("NOTE.TXT")?, b"a line\r\n")?;
+    /// files.set(Name::parse("B:DATA.BIN")?, &bytes)?;
+    /// ```
     pub fn set(&mut self, name: Name, bytes: &[u8]) -> Result<(), FilesError>
         ensures ok { OnOk result (self.new ≡ finmap.insert self.old name (records_in bytes.now)) }
         ensures err { OnErr result (self.new ≡ self.old) }

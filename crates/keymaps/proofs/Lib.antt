@@ -4,3 +4,4 @@ pub mod Rising
 pub mod Left
 pub mod MarkLemmas
 pub mod Firsts
+pub mod SpelledLemmas

@@ -5,6 +5,7 @@ ghost use Rattle.std.specs.FinMap as finmap;
 ghost use Rattle.keymaps.specs.Order.{is_above};
 ghost use Rattle.keymaps.specs.Walks.{EachAbove, EachBetween, IsAbsent, IsInNeither, left, lesser, if_below};
 
+use crate::ordered::OrderedKey;
 use filenames::Key;
 use std::alloc::{AllocError, Global};
 use std::cmp::Ordering;
@@ -16,7 +17,7 @@ use std::ops::Bound;
 /// A map from keys, in the order of their bytes.
 #[derive(Drop)]
 pub struct KeyMap<V> {
-    map: BTreeMap<Key, V>,
+    map: BTreeMap<OrderedKey, V>,
 }
 
 impl<V> Model for KeyMap<V> {
@@ -65,14 +66,14 @@ impl<V: Drop> KeyMap<V> {
     pub fn get(&self, key: &Key) -> Option<&V>
         ensures { option_copied result ≡ finmap.get self.now key.now }
     {
-        self.map.get(key)
+        self.map.get(&OrderedKey::new(*key))
     }
 
     /// Whether a key is there.
     pub fn contains_key(&self, key: &Key) -> bool
         ensures { result ≡ finmap.contains_key self.now key.now }
     {
-        self.map.contains_key(key)
+        self.map.contains_key(&OrderedKey::new(*key))
     }
 
     /// The value at the key, in place of the one before. An `Err` changes nothing.
@@ -80,7 +81,7 @@ impl<V: Drop> KeyMap<V> {
         ensures ok { OnOk result (self.new ≡ finmap.insert self.old key value) }
         ensures err { OnErr result (self.new ≡ self.old) }
     {
-        self.map.insert(key, value)?;
+        self.map.insert(OrderedKey::new(key), value)?;
         Ok(())
     }
 
@@ -89,7 +90,7 @@ impl<V: Drop> KeyMap<V> {
         ensures value { result ≡ finmap.get self.old key.now }
         ensures removed { self.new ≡ finmap.remove self.old key.now }
     {
-        self.map.remove(key)
+        self.map.remove(&OrderedKey::new(*key))
     }
 
     /// Another value at a key that is there. Takes no memory.
@@ -106,7 +107,7 @@ impl<V: Drop> KeyMap<V> {
         ensures some { IsSome result → self.new ≡ finmap.insert self.old key.now value }
         ensures none { IfNone result (self.new ≡ self.old) }
     {
-        let Some(place) = self.map.get_mut(key) else {
+        let Some(place) = self.map.get_mut(&OrderedKey::new(*key)) else {
             return None;
         };
         Some(replace(place, value))
@@ -121,8 +122,7 @@ impl<V: Drop> KeyMap<V> {
         let Some(first) = self.map.pop_first() else {
             return None;
         };
-        let key = first.0;
-        Some(key)
+        Some(*first.0.key())
     }
 
     // The least key, with its value.
@@ -133,7 +133,7 @@ impl<V: Drop> KeyMap<V> {
     {
         let mut all = self.map.range(..);
         match all.next() {
-            Some((key, value)) => Some((key, value)),
+            Some((least, value)) => Some((least.key(), value)),
             None => None,
         }
     }
@@ -145,9 +145,10 @@ impl<V: Drop> KeyMap<V> {
         ensures least { IfSome result (λ e. EachBetween (Some low) e.0.now (IsAbsent self.now)) }
         ensures none { IfNone result (EachAbove (Some low) (IsAbsent self.now)) }
     {
-        let mut rest = self.map.range((Bound::Excluded(low), Bound::Unbounded));
+        let past = Bound::Excluded(OrderedKey::new(low));
+        let mut rest = self.map.range((past, Bound::Unbounded));
         match rest.next() {
-            Some((key, value)) => Some((key, value)),
+            Some((least, value)) => Some((least.key(), value)),
             None => None,
         }
     }

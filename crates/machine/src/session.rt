@@ -103,6 +103,16 @@ impl Session {
     ghost use Rattle.machine.specs.SessionError.{MadeAs};
 
     /// The session of these, or the first refusal that fits. What is refused is dropped.
+    ///
+    /// # Example
+    ///
+    /// The twelve bytes that print `Hi`, with an empty tail, no files, nothing typed, and at most 1,000,000 steps:
+    ///
+    /// ```text
+    /// let program = b"\x0e\x09\x11\x09\x01\xcd\x05\x00\xc9Hi$".to_vec(alloc)?;
+    /// let files = HostFiles::new(alloc);
+    /// let session = Session::new(program, Vec::new(alloc), files, Vec::new(alloc), 1_000_000)?;
+    /// ```
     pub fn new(
         program: Vec<u8>,
         tail: Vec<u8>,

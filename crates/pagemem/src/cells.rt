@@ -164,7 +164,12 @@ fn copy_marked(beneath: &[u8], marks: &[bool], cells: &mut [u8]) -> bool
         → IsLaid None (slice_index beneath.now i) (get_or marks.now i false) (slice_index cells.new i) }
 {
     cells.copy_from_slice(beneath);
-    marks.iter().all(|is_marked| *is_marked)
+    let mut is_known = true;
+    for i in 0..marks.len() {
+        // without a branch, so that many marks are read at a time
+        is_known &= marks[i];
+    }
+    is_known
 }
 
 // Makes all slots shared whose pages are owned.

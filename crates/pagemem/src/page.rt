@@ -81,10 +81,10 @@ impl Page {
     {
         let mut is_known = true;
         for i in 0..cells.len() {
-            let (byte, is_written) = (self.bytes[from + i], self.written[from + i]);
-            let (other, is_marked) = (beneath[i], marks[i]);
-            cells[i] = if is_written { byte } else { other };
-            is_known = is_known && (is_written || is_marked);
+            let (is_written, is_marked) = (self.written[from + i], marks[i]);
+            // Of the two bytes one is taken without a branch, so that many cells are copied at a time.
+            cells[i] = self.bytes[from + i] * is_written as u8 + beneath[i] * !is_written as u8;
+            is_known &= is_written | is_marked;
         }
         is_known
     }

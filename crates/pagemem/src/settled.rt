@@ -71,8 +71,7 @@ impl Settled {
         ensures gone { (q : ℕ) → is_settled self.new q ≡ true → (q < at) ⊎ (at + count ≤ q) }
     {
         let from = usize::from(at);
-        for i in from..from + count {
-            self.marks[i] = false;
-        }
+        let marks = &mut self.marks[from..from + count];
+        marks.fill(false);
     }
 }

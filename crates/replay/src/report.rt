@@ -110,6 +110,21 @@ impl Report<'_> {
 
     /// The least name by key of a file that the run left otherwise than the host files have it, after the one given
     /// if there is one.
+    ///
+    /// # Example
+    ///
+    /// All changed files, in order; one that the run deleted is no longer there:
+    ///
+    /// ```text
+    /// let mut after: Option<Name> = None;
+    /// while let Some(name) = report.next_changed(after.as_ref()) {
+    ///     match report.records(&name) {
+    ///         Some(count) => { /* report.record(&name, place) for each place below count */ }
+    ///         None => { /* the file is gone */ }
+    ///     }
+    ///     after = Some(name);
+    /// }
+    /// ```
     pub fn next_changed(&self, after: Option<&Name>) -> Option<Name>
         ensures above { IfSome result (λ k. is_above (option_copied after.entry) k ≡ true) }
         ensures changed { IfSome result (λ k. is_left_changed self.now k ≡ true) }
@@ -120,6 +135,13 @@ impl Report<'_> {
             → is_left_changed self.now x ≡ false) }
     {
         next_changed(self.files(), self.journal(), after)
+    }
+
+    /// The limit of the session, in steps.
+    pub fn limit(&self) -> u64
+        ensures { result ≡ (session_of self.now).limit }
+    {
+        self.last_run.session.limit()
     }
 
     /// The host files of the session.

@@ -22,6 +22,20 @@ use std::alloc::{AllocError, Global};
 use std::marker::Model;
 
 /// A session that is edited and run again, with checkpoints of its runs.
+///
+/// # Example
+///
+/// A session is run, its first typed byte is replaced, and it is run again from the last checkpoint before the step that took that
+/// byte. The crate `embedding` is a whole program of this kind.
+///
+/// ```text
+/// let mut runner = Runner::new(alloc, session, Options { spacing: 10_000, slots: 64 })?;
+/// let mut meter = Meter::new();
+/// let first = runner.rerun(&mut meter)?.steps();
+/// runner.edit(Edit::Replace(0, Bytes::new(b"N".to_vec(alloc)?)))?;
+/// let report = runner.rerun(&mut meter)?;
+/// let carried_out = meter.count() - first; // report.steps() less the step of that checkpoint
+/// ```
 #[derive(Drop)]
 pub struct Runner {
     last_run: LastRun,

@@ -5,12 +5,12 @@ use Rattle.keymaps.proofs.map.KeyMap.first.Goals as goal
 pub returns-in-Some-clause-there : goal.returns-in-Some-clause-there
 returns-in-Some-clause-there g c =
     let h = rw c.in-Some.ensures.steps at (c.range-all.ensures.in_range tt).1 in
-    seen_at nat_list_cmp_total _ _ c.self.view_is _ _ h.1
+    rw c.key.ensures (seen_at nat_list_cmp_total _ _ c.self.view_is _ _ h.1)
 
 pub returns-in-Some-clause-least : goal.returns-in-Some-clause-least
-returns-in-Some-clause-least g c = λ x above high.
+returns-in-Some-clause-least g c = rw c.key.ensures (λ x above high.
     let h = rw c.in-Some.ensures.steps at (c.range-all.ensures.in_range tt).2 x (tt, tt) in
-    below_least nat_list_cmp_total _ _ c.self.view_is _ x h high
+    below_least nat_list_cmp_total _ _ c.self.view_is _ x h high)
 
 pub returns-in-None-clause-none : goal.returns-in-None-clause-none
 returns-in-None-clause-none g c = λ x above. seen_at nat_list_cmp_total _ _ c.self.view_is x _ ((c.range-all.ensures.in_range tt).5 c.in-None.ensures.steps.0 x (tt, tt))

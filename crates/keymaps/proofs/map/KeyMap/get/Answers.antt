@@ -5,4 +5,4 @@ use Rattle.keymaps.proofs.Views.{get_view}
 use Rattle.keymaps.proofs.map.KeyMap.get.Goals as goal
 
 pub returns : goal.returns
-returns g c = c.get.ensures.value ∙ sym (get_view nat_list_cmp_total _ _) ∙ ap (λ m. finmap.get m c.args.key.now) c.self.view_is
+returns g c = (rw c.new.ensures at c.get.ensures.value) ∙ sym (get_view nat_list_cmp_total _ _) ∙ ap (λ m. finmap.get m c.args.key.now) c.self.view_is

@@ -1,9 +1,9 @@
-use Rattle.std.proofs.Common.{◌≡◌, ◌+◌, ◌<◌, ◌||◌, ◌&&◌, ℕ, Bool, true, false, cond, List, Some, None, is_some, unwrap_or, length, get_or, slice_set, get_or-set_same, get_or-set_other, refl, ap, sym, ◌∙◌, inl, inr, arith}
+use Rattle.std.proofs.Common.{◌≡◌, ◌+◌, ◌<◌, ◌*◌, not, ◌||◌, ◌&&◌, ℕ, Bool, true, false, cond, List, Some, None, is_some, unwrap_or, length, get_or, slice_set, get_or-set_same, get_or-set_other, refl, ap, sym, ◌∙◌, inl, inr, arith}
+use mir.Val.{bool_byte}
 use Rattle.std.proofs.lemmas.Bool.Decides.{eqb_tells}
 use Rattle.pagemem.specs.Pages.{page_own, IsLaid}
 use Rattle.pagemem.specs.declared.page.Page.{Page}
 use Rattle.pagemem.proofs.page.Page.copy_over.Goals as goal
-use Rattle.pagemem.proofs.page.Page.copy_over.Goals.{then-is_written, else-is_written, then-is_known+then-is_written-2, then-is_known+else-is_written-2, else-is_known}
 
 -- the parts of a test that passed
 first_passed : (a b : Bool) → (a && b) ≡ true → a ≡ true
@@ -21,13 +21,6 @@ is_written false byte = refl
 read : (b : Bool) (byte other : ℕ) → unwrap_or (cond b (Some byte) None) other ≡ cond b byte other
 read true byte other = refl
 read false byte other = refl
-
--- what a test came to
-both : (a b was : Bool) → was ≡ true → a ≡ true → a ≡ (was && (a || b))
-both a b was h k = rw (h, k) refl
-
-mark : (a b was : Bool) → was ≡ true → a ≡ false → b ≡ (was && (a || b))
-mark a b was h k = rw (h, k) refl
 
 -- one cell
 laid_here : (page : Page) (at other byte : ℕ) (mark : Bool) → byte ≡ cond (get_or page.written at false) (get_or page.bytes at 0) other → (get_or page.written at false || mark) ≡ true → IsLaid (page_own page at) other mark byte
@@ -47,15 +40,16 @@ laid_more page from i byte beneath cells marks was is low e known before h j bel
   | inr other ↦ rw (get_or-set_other cells i j byte 0 other.1) (before (first_passed was _ (sym known ∙ h)) j (let apart : j ≡ i → ⊥ = other.1 in omega (arith, apart, below)))
 ]
 
+-- one of two bytes
+either : (b : Bool) (byte other : ℕ) → byte * bool_byte b + other * bool_byte (not b) ≡ cond b byte other
+either true byte other = omega arith
+either false byte other = omega arith
+
 pub loop-i-preserved : goal.loop-i-preserved
 loop-i-preserved c =
     let i = c.loop-i.i in
     let page = c.args.self.now in
-    laid_more page c.args.from i c.if-is_written.cells c.args.beneath.now c.loop-i.cells c.args.marks.now c.loop-i.is_known c.if-is_known.is_known (omega arith)
-    (elim c.if-is_written.branch [ then-is_written w ↦ rw w.if-is_written.true w.cells-is | else-is_written w ↦ rw w.if-is_written.false w.cells-is ])
-    (elim c.if-is_known.branch [
-      | then-is_known+then-is_written-2 w ↦ w.is_known-is ∙ both (get_or page.written (c.args.from + i) false) (get_or c.args.marks.now i false) c.loop-i.is_known w.if-is_known.true w.if-is_written-2.true
-      | then-is_known+else-is_written-2 w ↦ w.is_known-is ∙ mark (get_or page.written (c.args.from + i) false) (get_or c.args.marks.now i false) c.loop-i.is_known w.if-is_known.true w.if-is_written-2.false
-      | else-is_known w ↦ w.is_known-is ∙ rw w.if-is_known.false refl
-    ])
+    laid_more page c.args.from i _ c.args.beneath.now c.loop-i.cells c.args.marks.now c.loop-i.is_known _ (omega (arith, c.loop-i-test.true))
+    (either (get_or page.written (c.args.from + i) false) (get_or page.bytes (c.args.from + i) 0) (get_or c.args.beneath.now i 0))
+    refl
     c.loop-i.invariant

@@ -1,0 +1,95 @@
+// A key as the maps keep it: two of them compare as the numbers that their bytes spell.
+
+ghost use Rattle.std.specs.Prelude.{◌≡◌, ◌<◌, ℕ, refl, nat_eq, slice_index, take, drop};
+ghost use Rattle.std.specs.Ordering.{nat_cmp, as_partial_cmp};
+ghost use Rattle.std.specs.Slice.Scan.{big_endian};
+ghost use Rattle.std.specs.Cmp.{partial_equiv_from_equiv};
+ghost use Rattle.std.specs.Cmp.Lexicographic.{pointwise, slice_cmp, nat_list_eq_equiv, nat_list_cmp_total, texts_po, texts_ties};
+
+use filenames::Key;
+use std::cmp::Ordering;
+use std::marker::Model;
+
+/// A key in the order of its bytes, which takes two comparisons of numbers and not one for each byte.
+#[derive(Clone, Copy)]
+pub(crate) struct OrderedKey {
+    bytes: Key,
+}
+
+impl Model for OrderedKey {
+    ghost use Rattle.std.specs.Prelude.{List, ℕ};
+
+    ghost Value = { List ℕ };
+
+    ghost view = { λ a. a.bytes };
+
+    ghost inverse = { λ bytes. record { bytes = bytes } };
+}
+
+impl OrderedKey {
+    /// A key, in this order.
+    pub(crate) fn new(key: Key) -> Self
+        ensures { result ≡ key }
+    {
+        Self { bytes: key }
+    }
+
+    /// The key itself.
+    pub(crate) fn key(&self) -> &Key
+        ensures { result.now ≡ self.now }
+    {
+        &self.bytes
+    }
+}
+
+// The numbers that the first eight bytes and the last four spell.
+fn spelled(key: &Key) -> (u64, u32)
+    ensures first { result.0 ≡ big_endian 0 (take 8 key.now) }
+    ensures last { result.1 ≡ big_endian 0 (drop 8 key.now) }
+    ensures bytes { (i : ℕ) → slice_index key.now i < 256 }
+{
+    (
+        u64::from_be_bytes([
+            key[0], key[1], key[2], key[3], key[4], key[5], key[6], key[7],
+        ]),
+        u32::from_be_bytes([key[8], key[9], key[10], key[11]]),
+    )
+}
+
+impl PartialEq for OrderedKey {
+    ghost eq = { pointwise nat_eq };
+
+    ghost laws = { partial_equiv_from_equiv nat_list_eq_equiv };
+
+    fn eq(&self, other: &OrderedKey) -> bool {
+        spelled(&self.bytes) == spelled(&other.bytes)
+    }
+}
+
+impl Eq for OrderedKey {
+    ghost laws = { nat_list_eq_equiv };
+}
+
+impl PartialOrd for OrderedKey {
+    ghost partial_cmp = { as_partial_cmp (slice_cmp nat_cmp) };
+
+    ghost laws = { texts_po };
+
+    fn partial_cmp(&self, other: &OrderedKey) -> Option<Ordering> {
+        Some(self.cmp(other))
+    }
+}
+
+impl Ord for OrderedKey {
+    ghost cmp = { slice_cmp nat_cmp };
+
+    ghost total = { nat_list_cmp_total };
+
+    ghost matches_partial_cmp = { λ x y. refl };
+
+    ghost matches_eq = { texts_ties };
+
+    fn cmp(&self, other: &OrderedKey) -> Ordering {
+        spelled(&self.bytes).cmp(&spelled(&other.bytes))
+    }
+}
