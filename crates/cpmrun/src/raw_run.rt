@@ -150,7 +150,13 @@ fn tell_stop<'a, E: Writer>(
     let Ok(limit) = limit_line(alloc, report.cause(), report.limit()) else {
         return Err(Fault::OutOfMemory);
     };
-    tell_lines(err, stop.as_bytes(), report.files(), report.journal(), limit.as_bytes());
+    tell_lines(
+        err,
+        stop.as_bytes(),
+        report.files(),
+        report.journal(),
+        limit.as_bytes(),
+    );
     Ok(())
 }
 
