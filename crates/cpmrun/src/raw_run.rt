@@ -15,7 +15,7 @@ use edit_lines::{Asked, Failed, Writer, cause_text, write_all, write_changed_fil
 use folders::{ChangedFile, FileSystem, write_to_drive};
 use hostfiles::{HostFiles, Journal, Name};
 use machine::{Cause, Meter, Session};
-use replay::{Options, Report, Runner};
+use replay::{Report, Runner};
 use std::alloc::{AllocError, Global};
 
 /// The exit status after a run that stopped by this cause.
@@ -220,16 +220,6 @@ fn run_and_tell<'a, S: FileSystem, O: Writer, E: Writer>(
     tell_run(system, folders, &report, out, err)
 }
 
-/// Options for a run that is not run again: one checkpoint at most, in a run of up to 1,000,000,000 steps.
-fn options() -> Options
-    ensures { result ≡ record { spacing = 1000000000; slots = 1 } }
-{
-    Options {
-        spacing: 1_000_000_000,
-        slots: 1,
-    }
-}
-
 /// Runs a session once: what it prints goes to `out` as it is, then each changed file that is there at the
 /// stop is written into the folder of its drive, where that has one, and then a line on `err` tells why the
 /// run stopped, one more each changed file that is gone, and a last one the limit where that stopped it. It gives the exit status
@@ -257,7 +247,7 @@ pub fn run_once<'a, S: FileSystem, O: Writer, E: Writer>(
         (O.holds out.new) (O.failures out.new) (E.holds err.new) (E.failures err.new))) }
     ensures untold { OnErr result (err.new ≡ err.old) }
 {
-    let Ok(mut runner) = Runner::within(system.alloc(), session, options()) else {
+    let Ok(mut runner) = Runner::for_one_run(system.alloc(), session) else {
         return Err(Fault::OutOfMemory);
     };
     run_and_tell(system, folders, &mut runner, meter, out, err)

@@ -1,6 +1,6 @@
 // The file of a key, found once.
 
-ghost use Rattle.std.specs.Prelude.{◌≡◌, ◌<◌, ◌≤◌, ◌+◌, ◌*◌, ◌&&◌, not, ℕ, length, get_or, is_some, false};
+ghost use Rattle.std.specs.Prelude.{◌≡◌, ◌<◌, ◌≤◌, ◌+◌, ◌*◌, not, ℕ, length, get_or, None, true, false};
 ghost use Rattle.std.specs.Prelude.{option_copied, unwrap_or};
 ghost use Rattle.std.specs.FinMap as finmap;
 ghost use Rattle.directory.specs.Entries.{count_at};
@@ -147,15 +147,10 @@ impl SeenFile<'_> {
         if let Some(record) = self.written(k) {
             return Some(record);
         }
-        if let Some(grown) = self.grown() {
-            if k >= grown.from {
-                return None;
-            }
+        if self.is_hole(k) {
+            return None;
         }
-        match self.beneath {
-            Some(file) => file.get(k),
-            None => None,
-        }
+        self.record_beneath(k)
     }
 
     /// Whether a record stands at a place.
@@ -209,23 +204,35 @@ impl SeenFile<'_> {
         ensures { AsksFor result (record_seen self.now k)
             (look_content (own_of self.now) self.now.key k) looks.old looks.new }
     {
-        if self.is_of_host(k) {
-            looks.mark_record(self.base(), &self.key, k)?;
+        if let Some(record) = self.written(k) {
+            return Ok(Some(*record));
         }
-        Ok(self.record(k).copied())
+        if self.is_hole(k) {
+            return Ok(None);
+        }
+        looks.mark_record(self.base(), &self.key, k)?;
+        Ok(self.record_beneath(k).copied())
     }
 
-    // Whether a place is the host file's: it was not written, and is no hole that a write past the end left.
-    fn is_of_host(&self, k: u32) -> bool
-        ensures { let e = entry_of self.now in
-            result ≡ (not (is_some (finmap.get e.records k)) && is_below k e.grown) }
+    // Whether a place lies where a write past the end left holes, but for records that were written there.
+    fn is_hole(&self, k: u32) -> bool
+        ensures { result ≡ not (is_below k (entry_of self.now).grown) }
     {
-        if self.written(k).is_some() {
-            return false;
-        }
         match self.grown() {
-            Some(grown) => k < grown.from,
-            None => true,
+            Some(grown) => k >= grown.from,
+            None => false,
+        }
+    }
+
+    // The record of the host file at a place.
+    fn record_beneath(&self, k: u32) -> Option<&Record>
+        requires own { finmap.get (entry_of self.now).records k ≡ None }
+        requires beneath { is_below k (entry_of self.now).grown ≡ true }
+        ensures { option_copied result ≡ record_seen self.now k }
+    {
+        match self.beneath {
+            Some(file) => file.get(k),
+            None => None,
         }
     }
 }

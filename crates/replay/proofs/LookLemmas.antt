@@ -62,10 +62,10 @@ module _ (f : Answers) (old new : Noted) (n refused refuses : ℕ) (st : State) 
   left_looked none drained (OfHost a) e = let no : is_looked left.files a ≡ false = drained a in absurd (let both : false ≡ true = sym no ∙ e in cc)
 
   -- they stay
-  stays : new ≡ old → refuses ≡ refused → left ≡ after_step → (n ≡ old.seen → ⊥) → (n + 1 ≤ old.seen → AllNoted old after_step) → Notes f old new n left refused refuses
-  stays same none whole apart noted_all = record {
+  stays : new ≡ old → refuses ≡ refused → NoPlaces left.places → NoAsks left.files → (n ≡ old.seen → ⊥) → (n + 1 ≤ old.seen → AllNoted old after_step) → Notes f old new n left refused refuses
+  stays same none drained answered apart noted_all = record {
     noted = subst (λ (t : Noted). IsFirstLooks f t) (sym same) known;
-    looks = subst (λ (l : Looked). n + 1 ≤ new.seen → AllNoted new l) (sym whole) (subst (λ (t : Noted). n + 1 ≤ t.seen → AllNoted t after_step) (sym same) noted_all);
+    looks = subst (λ (t : Noted). n + 1 ≤ t.seen → AllNoted t left) (sym same) (λ past q asked. noted_all past q (left_looked drained answered q asked));
     grows = let e : new.seen ≡ old.seen = ap (λ (t : Noted). t.seen) same in omega arith;
     within = inl (ap (λ (t : Noted). t.seen) same);
     counted = omega (arith, none);
@@ -119,7 +119,7 @@ module _ (f : Answers) (old new : Noted) (n refused refuses : ℕ) (st : State) 
     all = λ none _. absurd (omega (arith, none, one));
   }
 
-  pub looks_kept : ((n ≡ old.seen → ⊥) → (new ≡ old) × (refuses ≡ refused) × (left ≡ after_step))
+  pub looks_kept : ((n ≡ old.seen → ⊥) → (new ≡ old) × (refuses ≡ refused) × NoPlaces left.places × NoAsks left.files)
       → (n ≡ old.seen → (IsNoted old new (since (length looked.cells) after_step) × (refuses ≡ refused) × NoPlaces left.places × NoAsks left.files) ⊎ (IsLeftBehind old new × (refuses ≡ refused + 1)))
       → Notes f old new n left refused refuses
   looks_kept other here = by_order (cases_lt n old.seen)
@@ -129,7 +129,7 @@ module _ (f : Answers) (old new : Noted) (n refused refuses : ℕ) (st : State) 
       at_seen e (inr behind) = left_behind e behind.0 behind.1
 
       apart : (n ≡ old.seen → ⊥) → (n + 1 ≤ old.seen → AllNoted old after_step) → Notes f old new n left refused refuses
-      apart ne noted_all = let same = other ne in stays same.0 same.1 same.2 ne noted_all
+      apart ne noted_all = let same = other ne in stays same.0 same.1 same.2 same.3 ne noted_all
 
       from_seen : old.seen ≤ n → (old.seen ≡ n) ⊎ (old.seen < n) → Notes f old new n left refused refuses
       from_seen high (inl e) = at_seen (sym e) (here (sym e))

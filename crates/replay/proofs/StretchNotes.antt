@@ -61,13 +61,13 @@ module _ (s : Session) (end n m : ℕ) (old new : Noted) (refused refuses : ℕ)
   asks q = stretch.last more q ∙ ap (λ (qs : List Question). looked_at looked q || is_in q qs) (looks_here (ask s) (m - 1) before_last_step.0 before_last_step.1)
 
   by_last_step : (t : Noted) → IsFirstLooks (ask s) t → (m - 1 ≤ t.seen → AllNoted t looked)
-      → ((m - 1 ≡ t.seen → ⊥) → (new ≡ t) × (refuses ≡ refused) × (left ≡ after_step))
+      → ((m - 1 ≡ t.seen → ⊥) → (new ≡ t) × (refuses ≡ refused) × NoPlaces left.places × NoAsks left.files)
       → (m - 1 ≡ t.seen → (IsNoted t new (since (length looked.cells) after_step) × (refuses ≡ refused) × NoPlaces left.places × NoAsks left.files) ⊎ (IsLeftBehind t new × (refuses ≡ refused + 1)))
       → Notes (ask s) t new (m - 1) left refused refuses
   by_last_step t is_known is_all other here =
       looks_kept (ask s) t new (m - 1) refused refuses before_last_step.0 looked after_step left is_known is_all before_last_step.1 stretch.extends asks same_cells other here
 
-  pub stretch_kept : ((n ≡ old.seen → ⊥) → (new ≡ old) × (refuses ≡ refused) × (left ≡ after_step))
+  pub stretch_kept : ((n ≡ old.seen → ⊥) → (new ≡ old) × (refuses ≡ refused) × NoPlaces left.places × NoAsks left.files)
       → (n ≡ old.seen → (IsNoted (seen_to old (m - 1)) new (since (length looked.cells) after_step) × (refuses ≡ refused) × NoPlaces left.places × NoAsks left.files) ⊎ (IsLeftBehind (seen_to old (m - 1)) new × (refuses ≡ refused + 1)))
       → NotesStretch (ask s) old new n m left refused refuses
   stretch_kept other here = by_order (cases_lt n old.seen)

@@ -21,3 +21,7 @@ abbrev pub RefusedBy : Options → OptionsError → Type 0
 RefusedBy o Spacing = refusal_of o ≡ Some 1
 RefusedBy o Slots = refusal_of o ≡ Some 2
 RefusedBy o OutOfMemory = refusal_of o ≡ None
+
+-- those of a runner for one run: at most one checkpoint, at the greatest spacing
+abbrev pub once : Options
+once = record { spacing = 1000000000; slots = 1 }

@@ -18,6 +18,7 @@ pub struct FirstLooks {
     places: PlaceSteps,
     files: FileSteps,
     seen: u64,
+    is_shut: bool,
 }
 
 impl Model for FirstLooks {
@@ -54,7 +55,15 @@ impl FirstLooks {
             places: PlaceSteps::new(alloc),
             files: FileSteps::new(alloc),
             seen: 0,
+            is_shut: false,
         }
+    }
+
+    /// From now on no look is noted: each is answered as one for which memory is refused. What is noted stays.
+    pub fn shut(&mut self)
+        ensures { self.new ≡ self.old }
+    {
+        self.is_shut = true;
     }
 
     /// Below this step every look is noted.
@@ -148,6 +157,9 @@ impl FirstLooks {
         ensures places { OnOk result (NoPlaces running.new.looked.places) }
         ensures asks { OnOk result (NoAsks running.new.looked.files) }
     {
+        if self.is_shut {
+            return Err(AllocError);
+        }
         self.note_cells(running, from)?;
         self.note_places(running, taken)?;
         self.note_asks(running, asked)

@@ -65,7 +65,7 @@ impl Model for Runner {
 
 impl Runner {
     ghost use Rattle.replay.specs.Lending.{EndsAs};
-    ghost use Rattle.replay.specs.Options.{RefusedBy, refusal_of};
+    ghost use Rattle.replay.specs.Options.{RefusedBy, once, refusal_of};
     ghost use Rattle.replay.specs.Report.{run_of, session_of};
 
     /// A runner of the session with no checkpoint, or the first refusal that fits.
@@ -105,6 +105,20 @@ impl Runner {
                 },
             },
         })
+    }
+
+    /// A runner for a session that is run once. Its runs are not noted, as if memory for that were refused once, which `refusals`
+    /// counts: they take less time and memory, and no checkpoint is kept. `Err` where memory is refused.
+    pub fn for_one_run(alloc: Global, session: Session) -> Result<Runner, AllocError>
+        ensures { IfOk result (λ r. r ≡ with_no_checkpoint session once) }
+    {
+        let options = Options {
+            spacing: 1_000_000_000,
+            slots: 1,
+        };
+        let mut runner = Runner::within(alloc, session, options)?;
+        runner.checkpoints.notes.looks.shut();
+        Ok(runner)
     }
 
     /// The session as it is now.

@@ -2,7 +2,7 @@ use Rattle.std.proofs.Common.{arith, refl, inl, inr, ap, sym, ◌∙◌, ◌≡�
 use Rattle.std.proofs.Math.Nat.{eq-or-lt_of_le}
 use Rattle.std.proofs.lemmas.Bool.Decides.{eqb_tells}
 use Rattle.machine.specs.Cause.{Cause}
-use Rattle.machine.specs.Views.{State, Running}
+use Rattle.machine.specs.Views.{State}
 use Rattle.machine.specs.Machine.{ask}
 use Rattle.machine.specs.Stretch.{LooksAtNothingNew, Stretches}
 use Rattle.replay.specs.declared.keeping.RunNotes.{RunNotes}
@@ -27,7 +27,7 @@ loop-n-preserved c =
     let seen : c.loop-n.n < c.loop-n.notes.looks.seen → reached ≤ c.loop-n.notes.looks.seen = λ low. omega (arith, stretch.within, c.seen.ensures, c.bound_of-bound.ensures.seen (omega (arith, low, c.seen.ensures))) in
     let other = c.keep_looks.ensures.other in
     let notes = stretch_kept c.args.session.now c.bound_of-bound.result c.loop-n.n reached c.loop-n.notes.looks c.keep_looks.new.notes.looks c.loop-n.notes.refusals c.keep_looks.new.notes.refusals _ c.loop-n.running.looked
-    c.run_from.new.running.looked c.keep_looks.new.running.looked stretch more i.noted i.looks seen c.keep_looks.ensures.cells (λ ne. (ap (λ (t : RunNotes). t.looks) (other ne).0, ap (λ (t : RunNotes). t.refusals) (other ne).0, ap (λ (r : Running). r.looked) (other ne).1))
+    c.run_from.new.running.looked c.keep_looks.new.running.looked stretch more i.noted i.looks seen c.keep_looks.ensures.cells (λ ne. (ap (λ (t : RunNotes). t.looks) (other ne).0, ap (λ (t : RunNotes). t.refusals) (other ne).0, (other ne).1, (other ne).2))
     (rw c.look_count-noted.ensures at c.keep_looks.ensures.here) in
     record {
       at = stretch.at ∙ ap (λ (st : State). Some st) (sym c.keep_looks.ensures.state);
