@@ -196,18 +196,15 @@ impl Journal {
         ensures ok { OnOk result (self.new.entries ≡ stored filled n self.old.entries key.now k bytes.now) }
         ensures err { OnErr result (self.new.entries ≡ self.old.entries) }
     {
-        let alloc = self.alloc;
-        let Some(mut entry) = self.entries.replace(key, Entry::nothing(alloc)) else {
-            let mut entry = Entry::untouched(alloc);
-            entry.write(n, k, bytes, filled)?;
-            return self.entries.insert(*key, entry);
-        };
-        if let Err(refused) = entry.write(n, k, bytes, filled) {
-            self.entries.put(key, entry);
-            return Err(refused);
+        if let Some(written) = self
+            .entries
+            .change(key, |entry| entry.write(n, k, bytes, filled))
+        {
+            return written;
         }
-        self.entries.put(key, entry);
-        Ok(())
+        let mut entry = Entry::untouched(self.alloc);
+        entry.write(n, k, bytes, filled)?;
+        self.entries.insert(*key, entry)
     }
 
     /// Puts a file under another key. An `Err` changes nothing.

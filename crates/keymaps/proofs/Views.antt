@@ -73,9 +73,6 @@ module _ {K X : Type 0} {R : K → K → Ordering} (o : IsTotalOrder R) (same : 
   insert_same m k w h = same_map o same _ _ (λ q.
       get-insert o m k w q ∙ kept (eq_by_cmp R q k) _ _ (λ e. sym h ∙ ap (get m) (sym (key_of same q k e))))
 
-  pub insert_back : (m : FinMap R X) (k : K) (v w : X) → get m k ≡ Some w → insert (insert m k v) k w ≡ m
-  insert_back m k v w h = insert_twice m k v w ∙ insert_same m k w h
-
   pub remove_back : (m : FinMap R X) (k : K) (v : X) → get m k ≡ None → remove (insert m k v) k ≡ m
   remove_back m k v h = same_map o same _ _ (λ q.
       get-remove o (insert m k v) k q ∙ ap (cond (eq_by_cmp R q k) None) (get-insert o m k v q)

@@ -2,6 +2,7 @@
 
 ghost use Rattle.std.specs.Prelude.{◌≡◌, ◌<◌, ◌+◌, ℕ, List, true, IfOk, OnOk, OnErr, IfSome, IfNone, IsSome, None, Some, option_copied};
 ghost use Rattle.std.specs.FinMap as finmap;
+ghost use Rattle.std.specs.Fn.{FnOnceReturnsAtMut};
 ghost use Rattle.keymaps.specs.Order.{is_above};
 ghost use Rattle.keymaps.specs.Walks.{EachAbove, EachBetween, IsAbsent, IsInNeither, left, lesser, if_below};
 
@@ -111,6 +112,20 @@ impl<V: Drop> KeyMap<V> {
             return None;
         };
         Some(replace(place, value))
+    }
+
+    /// Changes the value at a key in place, where there is one, and gives what the change answers. Takes no memory but the change's.
+    pub fn change<R, F: FnOnce(&mut V) -> R>(&mut self, key: &Key, change: F) -> Option<R>
+        requires { F.IsAlwaysCallable change }
+        ensures some { IfSome result (λ r. (v : V) × (w : V) × (finmap.get self.old key.now ≡ Some v)
+            × FnOnceReturnsAtMut F.FnOnce change v r w × (self.new ≡ finmap.insert self.old key.now w)) }
+        ensures none { IfNone result (finmap.get self.old key.now ≡ None) }
+        ensures same { IfNone result (self.new ≡ self.old) }
+    {
+        let Some(place) = self.map.get_mut(&OrderedKey::new(*key)) else {
+            return None;
+        };
+        Some(change(place))
     }
 
     /// Takes one of the keys out, where there is one. Takes no memory.
