@@ -58,7 +58,8 @@ impl Settled {
     pub fn marks(&self, at: u16, count: usize) -> &[bool]
         requires { at + count ≤ 65536 }
         ensures length { length result.now ≡ count }
-        ensures marks { (i : ℕ) → i < count → get_or result.now i false ≡ is_settled self.now (at + i) }
+        ensures marks { (i : ℕ) → i < count
+            → get_or result.now i false ≡ is_settled self.now (at + i) }
     {
         let from = usize::from(at);
         &self.marks[from..from + count]

@@ -70,7 +70,8 @@ fn keep_looks(notes: &mut RunNotes, running: &mut Running, noted: usize, n: u64,
     requires room { notes.old.refusals < 2 ^ 63 }
     requires order { (n < reached) × (reached ≤ STEP_LIMIT) }
     ensures other { (n ≡ notes.old.looks.seen → ⊥)
-        → (notes.new ≡ notes.old) × NoPlaces running.new.looked.places × NoAsks running.new.looked.files }
+        → (notes.new ≡ notes.old)
+        × NoPlaces running.new.looked.places × NoAsks running.new.looked.files }
     ensures here { n ≡ notes.old.looks.seen
         → (IsNoted (seen_to notes.old.looks (reached - 1)) notes.new.looks (since noted running.old.looked)
         × (notes.new.refusals ≡ notes.old.refusals)
