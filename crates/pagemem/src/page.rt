@@ -1,4 +1,4 @@
-ghost use Rattle.std.specs.Prelude.{◌≡◌, ◌+◌, ◌<◌, ◌≤◌, ℕ, true, false, None, IfOk, IsTrue, OnOk, OnErr, length, get_or, slice_index};
+ghost use Rattle.std.specs.Prelude.{◌≡◌, ◌+◌, ◌<◌, ◌≤◌, ℕ, true, false, None, IfOk, IsTrue, OnOk, OnErr, cond, length, get_or, slice_index};
 ghost use Rattle.pagemem.specs.Pages.{page_own, slot_own, is_owned, IsLaid};
 ghost use Rattle.i8080.specs.End.{cells_from};
 ghost use Rattle.i8080.specs.Memory.{write, write_all};
@@ -81,13 +81,20 @@ impl Page {
     {
         let mut is_known = true;
         for i in 0..cells.len() {
-            let (is_written, is_marked) = (self.written[from + i], marks[i]);
-            // Of the two bytes one is taken without a branch, so that many cells are copied at a time.
-            cells[i] = self.bytes[from + i] * is_written as u8 + beneath[i] * !is_written as u8;
-            is_known &= is_written | is_marked;
+            let is_written = self.written[from + i];
+            cells[i] = either(is_written, self.bytes[from + i], beneath[i]);
+            is_known &= is_written | marks[i];
         }
         is_known
     }
+}
+
+// One of two bytes. Both are at hand, so that the choice takes no jump and many are made at a time.
+#[inline(always)]
+fn either(is_first: bool, first: u8, second: u8) -> u8
+    ensures { result ≡ cond is_first first second }
+{
+    if is_first { first } else { second }
 }
 
 impl Slot {

@@ -1,5 +1,4 @@
-use Rattle.std.proofs.Common.{◌≡◌, ◌+◌, ◌<◌, ◌*◌, not, ◌||◌, ◌&&◌, ℕ, Bool, true, false, cond, List, Some, None, is_some, unwrap_or, length, get_or, slice_set, get_or-set_same, get_or-set_other, refl, ap, sym, ◌∙◌, inl, inr, arith}
-use mir.Val.{bool_byte}
+use Rattle.std.proofs.Common.{◌≡◌, ◌+◌, ◌<◌, ◌||◌, ◌&&◌, ℕ, Bool, true, false, cond, List, Some, None, is_some, unwrap_or, length, get_or, slice_set, get_or-set_same, get_or-set_other, refl, ap, sym, ◌∙◌, inl, inr, arith}
 use Rattle.std.proofs.lemmas.Bool.Decides.{eqb_tells}
 use Rattle.pagemem.specs.Pages.{page_own, IsLaid}
 use Rattle.pagemem.specs.declared.page.Page.{Page}
@@ -40,16 +39,11 @@ laid_more page from i byte beneath cells marks was is low e known before h j bel
   | inr other ↦ rw (get_or-set_other cells i j byte 0 other.1) (before (first_passed was _ (sym known ∙ h)) j (let apart : j ≡ i → ⊥ = other.1 in omega (arith, apart, below)))
 ]
 
--- one of two bytes
-either : (b : Bool) (byte other : ℕ) → byte * bool_byte b + other * bool_byte (not b) ≡ cond b byte other
-either true byte other = omega arith
-either false byte other = omega arith
-
 pub loop-i-preserved : goal.loop-i-preserved
 loop-i-preserved c =
     let i = c.loop-i.i in
     let page = c.args.self.now in
     laid_more page c.args.from i _ c.args.beneath.now c.loop-i.cells c.args.marks.now c.loop-i.is_known _ (omega (arith, c.loop-i-test.true))
-    (either (get_or page.written (c.args.from + i) false) (get_or page.bytes (c.args.from + i) 0) (get_or c.args.beneath.now i 0))
+    c.either.ensures
     refl
     c.loop-i.invariant
