@@ -387,3 +387,7 @@ module _ {script : List ℕ} {r r' : Regs} {m : Memory} {d : Desk} {v v' : Drive
         beneath = refl;
         lender = refl;
       }
+
+-- what another name of an answer asks
+pub answered_as : (t : FileTree Finding) (host : Host) {c c' : Changes} {result answer : Result Finding AllocError} → result ≡ answer → Asks t host c result c' → Asks t host c answer c'
+answered_as t host {c = c} {c' = c'} e h = subst (λ (x : Result Finding AllocError). Asks t host c x c') e h

@@ -58,8 +58,10 @@ fn file_call<B: Bus>(
     };
     let block = fetch_block(bus, at, drive, dr, function.has_random_place());
     let to = fetch_word(bus, regs.sp);
-    let finding = function.inquire(table.host, table.changes, &block)?;
-    carry_on(finding, regs, bus, table, desk, to)
+    match &function.inquire(table.host, table.changes, &block) {
+        Ok(finding) => carry_on(finding, regs, bus, table, desk, to),
+        Err(AllocError) => Err(AllocError),
+    }
 }
 
 // Function 19, which deletes files.
@@ -105,7 +107,7 @@ fn search_next_call<B: Bus>(
 {
     let to = fetch_word(bus, regs.sp);
     let finding = search_next(table.host, table.changes, desk.search());
-    carry_on(finding, regs, bus, table, desk, to)
+    carry_on(&finding, regs, bus, table, desk, to)
 }
 
 // The drive that the first byte of a control block names.

@@ -24,31 +24,31 @@ use std::alloc::AllocError;
 /// Carries a call on that found something, and goes back to an address. An `Err` leaves registers, cells,
 /// desk and files.
 pub fn carry_on<B: Bus>(
-    finding: Finding,
+    finding: &Finding,
     regs: &mut Regs,
     bus: &mut B,
     table: &mut Table<'_>,
     desk: &mut Desk,
     to: u16,
 ) -> Result<Served, AllocError>
-    requires { IsApart finding }
+    requires { IsApart finding.now }
     ensures { (script : List ℕ) →
-        Fulfils (carried_on finding regs.old desk.old.desk.spot to) script
+        Fulfils (carried_on finding.now regs.old desk.old.desk.spot to) script
         (scene regs.old (B.memory bus.old) desk.old (drives_of table.old)) result
         (scene regs.new (B.memory bus.new) desk.new (drives_of table.new)) }
 {
     match finding {
-        Finding::Value(value) => Ok(give_nothing(regs, bus, desk, value, to)),
-        Finding::Opened(count) => give_count(regs, bus, desk, count, to),
+        Finding::Value(value) => Ok(give_nothing(regs, bus, desk, *value, to)),
+        Finding::Opened(count) => give_count(regs, bus, desk, *count, to),
         Finding::FirstEntry(search) => give_entry(regs, bus, desk, search, to),
         Finding::NoEntry => Ok(give_no_entry(regs, bus, desk, to)),
-        Finding::Found(bytes, next) => give_record(regs, bus, desk, &bytes, next, to),
-        Finding::Write(write) => store(regs, bus, table, desk, &write, to),
-        Finding::Make(key) => make(regs, bus, table, desk, &key, to),
-        Finding::Rename(old, new) => rename(regs, bus, table, desk, (old, new), to),
-        Finding::Length(places) => give_place(regs, bus, desk, places, 0, to),
+        Finding::Found(bytes, next) => give_record(regs, bus, desk, bytes, *next, to),
+        Finding::Write(write) => store(regs, bus, table, desk, write, to),
+        Finding::Make(key) => make(regs, bus, table, desk, key, to),
+        Finding::Rename(old, new) => rename(regs, bus, table, desk, (*old, *new), to),
+        Finding::Length(places) => give_place(regs, bus, desk, *places, 0, to),
         Finding::NoLength => give_place(regs, bus, desk, 0, 0xff, to),
-        Finding::RandomPlace(place) => give_place(regs, bus, desk, place, 0, to),
+        Finding::RandomPlace(place) => give_place(regs, bus, desk, *place, 0, to),
     }
 }
 
@@ -142,16 +142,16 @@ fn give_entry<B: Bus>(
     regs: &mut Regs,
     bus: &mut B,
     desk: &mut Desk,
-    search: Search,
+    search: &Search,
     to: u16,
 ) -> Result<Served, AllocError>
     ensures { (script : List ℕ) (v : Drives) →
-        Fulfils (carried_on (finding.FirstEntry search) regs.old desk.old.desk.spot to) script
+        Fulfils (carried_on (finding.FirstEntry search.now) regs.old desk.old.desk.spot to) script
         (scene regs.old (B.memory bus.old) desk.old v) result
         (scene regs.new (B.memory bus.new) desk.new v) }
 {
     put_cells(bus, desk.buffer(), &directory_record(&search.last))?;
-    desk.set_search(Some(search));
+    desk.set_search(Some(*search));
     give_back(regs, 0, to);
     Ok(Served::Went)
 }

@@ -56,7 +56,6 @@ fn stop_of_call(served: Served) -> Option<Cause>
 }
 
 // What follows where PC is in the system's area: the call at the BDOS's entry, and a stop elsewhere.
-#[cold]
 #[inline(never)]
 pub(crate) fn enter_system(
     running: &mut Running,
