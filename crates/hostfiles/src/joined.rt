@@ -2,7 +2,7 @@
 // more finds the file once, as a `SeenFile`.
 
 ghost use Rattle.std.specs.Prelude.{◌≡◌};
-ghost use Rattle.hostfiles.specs.Files.{has, length_at, records};
+ghost use Rattle.hostfiles.specs.Files.{has, length_at};
 
 use crate::host::HostFiles;
 use crate::journal::Journal;
@@ -14,13 +14,6 @@ pub fn has(host: &HostFiles, journal: &Journal, key: &Key) -> bool
     ensures { result ≡ has host.now journal.now.entries key.now }
 {
     SeenFile::find(host, journal, key).is_there()
-}
-
-/// How many places the file of the key has, if there is one.
-pub fn records(host: &HostFiles, journal: &Journal, key: &Key) -> Option<u32>
-    ensures { result ≡ records host.now journal.now.entries key.now }
-{
-    SeenFile::find(host, journal, key).records()
 }
 
 /// The length of the file of a key.

@@ -2,16 +2,18 @@ use Rattle.std.proofs.Common.{◌≡◌, ◌<◌, ◌≤◌, true, sym, ◌∙�
 use Rattle.hostfiles.specs.Files.{has, length_at}
 use Rattle.hostfiles.specs.Seen.{own_of}
 use Rattle.hostfiles.proofs.ToldLemmas.{told_past, told_within}
-use Rattle.hostfiles.proofs.told.record_of.Goals as goal
+use Rattle.hostfiles.proofs.seen.SeenFile.told_record.Goals as goal
 
 pub returns-then-place-length : goal.returns-then-place-length
 returns-then-place-length c =
-    let there : has c.args.file.now.host.now (own_of c.args.file.now) c.args.file.now.key ≡ true = sym c.is_there.ensures ∙ c.if-not-is_there.false in
-    let past : length_at c.args.file.now.host.now (own_of c.args.file.now) c.args.file.now.key ≤ c.args.place = let l = c.length.ensures in let t = c.if-place-length.true in omega arith in
-    told_past c.args.file.now.host.now (own_of c.args.file.now) c.args.file.now.key c.args.place there past
+    let file = c.args.self.now in
+    let there : has file.host.now (own_of file) file.key ≡ true = sym c.is_there.ensures ∙ c.if-not-is_there.false in
+    let past : length_at file.host.now (own_of file) file.key ≤ c.args.place = let l = c.length.ensures in let t = c.if-place-length.true in omega arith in
+    told_past file.host.now (own_of file) file.key c.args.place there past
 
 pub returns : goal.returns
 returns c =
-    let there : has c.args.file.now.host.now (own_of c.args.file.now) c.args.file.now.key ≡ true = sym c.is_there.ensures ∙ c.if-not-is_there.false in
-    let below : c.args.place < length_at c.args.file.now.host.now (own_of c.args.file.now) c.args.file.now.key = let l = c.length.ensures in let t = c.if-place-length.false in omega arith in
-    told_within c.args.file.now.host.now (own_of c.args.file.now) c.args.file.now.key c.args.place c.content_of.result there below (sym c.content_of.ensures)
+    let file = c.args.self.now in
+    let there : has file.host.now (own_of file) file.key ≡ true = sym c.is_there.ensures ∙ c.if-not-is_there.false in
+    let below : c.args.place < length_at file.host.now (own_of file) file.key = let l = c.length.ensures in let t = c.if-place-length.false in omega arith in
+    told_within file.host.now (own_of file) file.key c.args.place c.content.result.now there below (sym c.content.ensures)
