@@ -161,12 +161,12 @@ pub there : (t : Option (List Record)) (n : ℕ) → Some n ≡ option_map lengt
 there None n h = cc
 there (Some f) n h = refl
 
-pub gone_line : (host : Host) (own : Own) (q key : Key) → q ≡ key → told host own q ≡ None → (codes "gone " ++ printed key) ++ 10 ∷ [] ≡ changed_line key (told host own key)
-gone_line host own q key same none = sym (ap (λ t. line (file_text key t)) (ap (told host own) (sym same) ∙ none))
+pub gone_line : (key : Key) (t told : Option (List Record)) → t ≡ told → t ≡ None → (codes "gone " ++ printed key) ++ 10 ∷ [] ≡ changed_line key told
+gone_line key t told same none = sym (ap (λ t. line (file_text key t)) (sym same ∙ none))
 
-pub file_line : (host : Host) (own : Own) (q key : Key) → q ≡ key → told host own q ≡ Some (unwrap_or (told host own q) [])
-    → (((codes "file " ++ printed key) ++ codes " ") ++ records_text (unwrap_or (told host own q) [])) ++ 10 ∷ [] ≡ changed_line key (told host own key)
-file_line host own q key same some = sym (ap (λ t. line (file_text key t)) (ap (told host own) (sym same) ∙ some))
+pub file_line : (key : Key) (t told : Option (List Record)) → t ≡ told → t ≡ Some (unwrap_or t [])
+    → (((codes "file " ++ printed key) ++ codes " ") ++ records_text (unwrap_or t [])) ++ 10 ∷ [] ≡ changed_line key told
+file_line key t told same some = sym (ap (λ t. line (file_text key t)) (sym same ∙ some))
 
 -- ---- a text of all changed files, of which each has a part
 

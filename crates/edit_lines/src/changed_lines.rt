@@ -3,6 +3,7 @@
 ghost use Rattle.std.specs.Prelude.{◌≡◌, ◌^◌, ◌<◌, ◌++◌, [], length, unwrap_or};
 ghost use Rattle.filenames.specs.Names.{printed};
 ghost use Rattle.hostfiles.specs.Files.{files, told};
+ghost use Rattle.hostfiles.specs.Seen.{own_of};
 ghost use Rattle.edit_lines.specs.ChangedLines.{records_text, changed_line, gone_line, line_of_file, lines_of_files};
 ghost use Rattle.edit_lines.specs.Writing.{Writes};
 
@@ -10,7 +11,7 @@ use crate::ends::{Failed, Writer, write_piece};
 use crate::hex_writer::write_hex;
 use arrayvec::ArrayVec;
 use filenames::Pieces;
-use hostfiles::{HostFiles, Journal, Key, Name, next_changed, told_count, told_record};
+use hostfiles::{HostFiles, Journal, Name, SeenFile, next_changed, told_count};
 
 /// Which changed files are told.
 #[derive(Clone, Copy, Debug, PartialEq, Eq)]
@@ -87,14 +88,14 @@ fn write_changed<W: Writer>(
     ensures { Writes (W.holds writer.old) (W.holds writer.new) (W.failures writer.old) (W.failures writer.new)
         (changed_line name.now (told host.now journal.now.entries name.now)) result }
 {
-    let key = name.key();
-    let Some(count) = told_count(host, journal, &key) else {
+    let file = SeenFile::find(host, journal, &name.key());
+    let Some(count) = file.told_count() else {
         write_head(writer, b"gone ", name)?;
         return write_piece(writer, b"\n");
     };
     write_head(writer, b"file ", name)?;
     write_piece(writer, b" ")?;
-    write_records(writer, host, journal, &key, count)?;
+    write_records(writer, &file, count)?;
     write_piece(writer, b"\n")
 }
 
@@ -127,25 +128,20 @@ fn write_name<W: Writer>(writer: &mut W, name: &Name) -> Result<(), Failed>
 }
 
 // Writes all records of a file as it is told: `-` where it has none.
-fn write_records<W: Writer>(
-    writer: &mut W,
-    host: &HostFiles,
-    journal: &Journal,
-    key: &Key,
-    count: u32,
-) -> Result<(), Failed>
+fn write_records<W: Writer>(writer: &mut W, file: &SeenFile<'_>, count: u32) -> Result<(), Failed>
     requires room { W.failures writer.old < 2 ^ 63 }
-    requires count { count ≡ length (unwrap_or (told host.now journal.now.entries key.now) []) }
+    requires count { count ≡
+        length (unwrap_or (told file.now.host.now (own_of file.now) file.now.key) []) }
     ensures { Writes (W.holds writer.old) (W.holds writer.new) (W.failures writer.old)
         (W.failures writer.new) (records_text
-        (unwrap_or (told host.now journal.now.entries key.now) [])) result }
+        (unwrap_or (told file.now.host.now (own_of file.now) file.now.key) [])) result }
 {
     if count == 0 {
         return write_piece(writer, b"-");
     }
     let mut block = ArrayVec::<u8, 2048>::new();
     for place in 0..count {
-        let Some(record) = told_record(host, journal, key, place) else {
+        let Some(record) = file.told_record(place) else {
             unreachable!();
         };
         if block.remaining_capacity() < record.len() {

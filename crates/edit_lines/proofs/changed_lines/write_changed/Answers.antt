@@ -1,83 +1,108 @@
-use Rattle.std.proofs.Common.{◌++◌, ◌∷◌, [], codes, unwrap_or}
+use Rattle.std.proofs.Common.{◌≡◌, ◌∙◌, ◌++◌, ◌∷◌, [], ap, codes, unwrap_or}
 use Rattle.filenames.specs.Names.{printed}
 use Rattle.hostfiles.specs.Files.{told}
+use Rattle.hostfiles.specs.Seen.{own_of}
 use Rattle.edit_lines.specs.ChangedLines.{records_text, changed_line}
 use Rattle.edit_lines.proofs.WrittenPieces.{all_then, part_then, part_more, writes_part, writes_then, writes_same, gone, there, gone_line, file_line}
 use Rattle.edit_lines.proofs.changed_lines.write_changed.Goals as goal
 
 pub returns-in_err-write_head : goal.returns-in_err-write_head
 returns-in_err-write_head g c =
-    let host = c.args.host.now in
-    let own = c.args.journal.now.entries in
-    let q = c.key-key.result in
     let key = c.args.name.now in
+    let file = c.find-file.result in
+    let t = told file.host.now (own_of file) file.key in
+    let all = told c.args.host.now c.args.journal.now.entries key in
+    let same : t ≡ all = 
+        ap (λ h. told h.now file.journal.now.entries file.key) c.find-file.ensures.host
+        ∙ ap (λ j. told c.args.host.now j.now.entries file.key) c.find-file.ensures.journal
+        ∙ ap (told c.args.host.now c.args.journal.now.entries) (c.find-file.ensures.key ∙ c.key.ensures.key) in
     let head = codes "gone " ++ printed key in
-    let text = gone_line host own q key c.key-key.ensures.key (gone (told host own q) c.in_default.ensures) in
-    writes_same _ _ _ _ (head ++ 10 ∷ []) (changed_line key (told host own key)) c.from_residual.result text
+    let text = gone_line key t all same (gone t c.in_default.ensures) in
+    writes_same _ _ _ _ (head ++ 10 ∷ []) (changed_line key all) c.from_residual.result text
     (writes_part _ _ _ _ (head ++ 10 ∷ []) c.from_residual.result c.from_residual.ensures.0 (part_more _ _ _ _ head (10 ∷ []) c.in_err-write_head.ensures))
 
 pub returns-in_default : goal.returns-in_default
 returns-in_default g c =
-    let host = c.args.host.now in
-    let own = c.args.journal.now.entries in
-    let q = c.key-key.result in
     let key = c.args.name.now in
+    let file = c.find-file.result in
+    let t = told file.host.now (own_of file) file.key in
+    let all = told c.args.host.now c.args.journal.now.entries key in
+    let same : t ≡ all = 
+        ap (λ h. told h.now file.journal.now.entries file.key) c.find-file.ensures.host
+        ∙ ap (λ j. told c.args.host.now j.now.entries file.key) c.find-file.ensures.journal
+        ∙ ap (told c.args.host.now c.args.journal.now.entries) (c.find-file.ensures.key ∙ c.key.ensures.key) in
     let head = codes "gone " ++ printed key in
-    let text = gone_line host own q key c.key-key.ensures.key (gone (told host own q) c.in_default.ensures) in
-    writes_same _ _ _ _ (head ++ 10 ∷ []) (changed_line key (told host own key)) c.write_piece.result text
+    let text = gone_line key t all same (gone t c.in_default.ensures) in
+    writes_same _ _ _ _ (head ++ 10 ∷ []) (changed_line key all) c.write_piece.result text
     (writes_then _ _ _ _ _ _ head (10 ∷ []) c.write_piece.result c.in_ok-write_head.ensures c.write_piece.ensures)
 
 pub returns-in_err-write_head-2 : goal.returns-in_err-write_head-2
 returns-in_err-write_head-2 g c =
-    let host = c.args.host.now in
-    let own = c.args.journal.now.entries in
-    let q = c.key-key.result in
     let key = c.args.name.now in
+    let file = c.find-file.result in
+    let t = told file.host.now (own_of file) file.key in
+    let all = told c.args.host.now c.args.journal.now.entries key in
+    let same : t ≡ all = 
+        ap (λ h. told h.now file.journal.now.entries file.key) c.find-file.ensures.host
+        ∙ ap (λ j. told c.args.host.now j.now.entries file.key) c.find-file.ensures.journal
+        ∙ ap (told c.args.host.now c.args.journal.now.entries) (c.find-file.ensures.key ∙ c.key.ensures.key) in
     let head = codes "file " ++ printed key in
-    let digits = records_text (unwrap_or (told host own q) []) in
-    let text = file_line host own q key c.key-key.ensures.key (there (told host own q) c.in-Some.count c.in-Some.ensures) in
-    writes_same _ _ _ _ (((head ++ codes " ") ++ digits) ++ 10 ∷ []) (changed_line key (told host own key)) c.from_residual-in_err-write_head-2.result text
+    let digits = records_text (unwrap_or t []) in
+    let text = file_line key t all same (there t c.in-Some.count c.in-Some.ensures) in
+    writes_same _ _ _ _ (((head ++ codes " ") ++ digits) ++ 10 ∷ []) (changed_line key all) c.from_residual-in_err-write_head-2.result text
     (writes_part _ _ _ _ (((head ++ codes " ") ++ digits) ++ 10 ∷ []) c.from_residual-in_err-write_head-2.result c.from_residual-in_err-write_head-2.ensures.0
     (part_more _ _ _ _ ((head ++ codes " ") ++ digits) (10 ∷ []) (part_more _ _ _ _ (head ++ codes " ") digits (part_more _ _ _ _ head (codes " ") c.in_err-write_head-2.ensures))))
 
 pub returns-in_err-write_piece : goal.returns-in_err-write_piece
 returns-in_err-write_piece g c =
-    let host = c.args.host.now in
-    let own = c.args.journal.now.entries in
-    let q = c.key-key.result in
     let key = c.args.name.now in
+    let file = c.find-file.result in
+    let t = told file.host.now (own_of file) file.key in
+    let all = told c.args.host.now c.args.journal.now.entries key in
+    let same : t ≡ all = 
+        ap (λ h. told h.now file.journal.now.entries file.key) c.find-file.ensures.host
+        ∙ ap (λ j. told c.args.host.now j.now.entries file.key) c.find-file.ensures.journal
+        ∙ ap (told c.args.host.now c.args.journal.now.entries) (c.find-file.ensures.key ∙ c.key.ensures.key) in
     let head = codes "file " ++ printed key in
-    let digits = records_text (unwrap_or (told host own q) []) in
-    let text = file_line host own q key c.key-key.ensures.key (there (told host own q) c.in-Some.count c.in-Some.ensures) in
-    writes_same _ _ _ _ (((head ++ codes " ") ++ digits) ++ 10 ∷ []) (changed_line key (told host own key)) c.from_residual-in_err-write_piece.result text
+    let digits = records_text (unwrap_or t []) in
+    let text = file_line key t all same (there t c.in-Some.count c.in-Some.ensures) in
+    writes_same _ _ _ _ (((head ++ codes " ") ++ digits) ++ 10 ∷ []) (changed_line key all) c.from_residual-in_err-write_piece.result text
     (writes_part _ _ _ _ (((head ++ codes " ") ++ digits) ++ 10 ∷ []) c.from_residual-in_err-write_piece.result c.from_residual-in_err-write_piece.ensures.0
     (part_more _ _ _ _ ((head ++ codes " ") ++ digits) (10 ∷ []) (part_more _ _ _ _ (head ++ codes " ") digits
     (part_then _ _ _ _ _ _ head (codes " ") c.in_ok-write_head-2.ensures c.in_err-write_piece.ensures))))
 
 pub returns-in_err-write_records : goal.returns-in_err-write_records
 returns-in_err-write_records g c =
-    let host = c.args.host.now in
-    let own = c.args.journal.now.entries in
-    let q = c.key-key.result in
     let key = c.args.name.now in
+    let file = c.find-file.result in
+    let t = told file.host.now (own_of file) file.key in
+    let all = told c.args.host.now c.args.journal.now.entries key in
+    let same : t ≡ all = 
+        ap (λ h. told h.now file.journal.now.entries file.key) c.find-file.ensures.host
+        ∙ ap (λ j. told c.args.host.now j.now.entries file.key) c.find-file.ensures.journal
+        ∙ ap (told c.args.host.now c.args.journal.now.entries) (c.find-file.ensures.key ∙ c.key.ensures.key) in
     let head = codes "file " ++ printed key in
-    let digits = records_text (unwrap_or (told host own q) []) in
-    let text = file_line host own q key c.key-key.ensures.key (there (told host own q) c.in-Some.count c.in-Some.ensures) in
-    writes_same _ _ _ _ (((head ++ codes " ") ++ digits) ++ 10 ∷ []) (changed_line key (told host own key)) c.from_residual-in_err-write_records.result text
+    let digits = records_text (unwrap_or t []) in
+    let text = file_line key t all same (there t c.in-Some.count c.in-Some.ensures) in
+    writes_same _ _ _ _ (((head ++ codes " ") ++ digits) ++ 10 ∷ []) (changed_line key all) c.from_residual-in_err-write_records.result text
     (writes_part _ _ _ _ (((head ++ codes " ") ++ digits) ++ 10 ∷ []) c.from_residual-in_err-write_records.result c.from_residual-in_err-write_records.ensures.0
     (part_more _ _ _ _ ((head ++ codes " ") ++ digits) (10 ∷ [])
     (part_then _ _ _ _ _ _ (head ++ codes " ") digits (all_then _ _ _ _ _ _ head (codes " ") c.in_ok-write_head-2.ensures c.in_ok-write_piece.ensures) c.in_err-write_records.ensures)))
 
 pub returns : goal.returns
 returns g c =
-    let host = c.args.host.now in
-    let own = c.args.journal.now.entries in
-    let q = c.key-key.result in
     let key = c.args.name.now in
+    let file = c.find-file.result in
+    let t = told file.host.now (own_of file) file.key in
+    let all = told c.args.host.now c.args.journal.now.entries key in
+    let same : t ≡ all = 
+        ap (λ h. told h.now file.journal.now.entries file.key) c.find-file.ensures.host
+        ∙ ap (λ j. told c.args.host.now j.now.entries file.key) c.find-file.ensures.journal
+        ∙ ap (told c.args.host.now c.args.journal.now.entries) (c.find-file.ensures.key ∙ c.key.ensures.key) in
     let head = codes "file " ++ printed key in
-    let digits = records_text (unwrap_or (told host own q) []) in
-    let text = file_line host own q key c.key-key.ensures.key (there (told host own q) c.in-Some.count c.in-Some.ensures) in
-    writes_same _ _ _ _ (((head ++ codes " ") ++ digits) ++ 10 ∷ []) (changed_line key (told host own key)) c.write_piece-3.result text
+    let digits = records_text (unwrap_or t []) in
+    let text = file_line key t all same (there t c.in-Some.count c.in-Some.ensures) in
+    writes_same _ _ _ _ (((head ++ codes " ") ++ digits) ++ 10 ∷ []) (changed_line key all) c.write_piece-3.result text
     (writes_then _ _ _ _ _ _ ((head ++ codes " ") ++ digits) (10 ∷ []) c.write_piece-3.result
     (all_then _ _ _ _ _ _ (head ++ codes " ") digits (all_then _ _ _ _ _ _ head (codes " ") c.in_ok-write_head-2.ensures c.in_ok-write_piece.ensures) c.in_ok-write_records.ensures)
     c.write_piece-3.ensures)

@@ -3,13 +3,14 @@ use Rattle.std.specs.List.{concat}
 use Rattle.std.specs.Io.KnownBytes.{Appends}
 use Rattle.hex.specs.Hex.{encode_lower}
 use Rattle.hostfiles.specs.Files.{told}
+use Rattle.hostfiles.specs.Seen.{own_of}
 use Rattle.edit_lines.proofs.changed_lines.write_records.Given as goal
 
 -- of the first records some first bytes were written, and the others stand in the block
 abbrev pub invariant-loop-place : goal.invariant-loop-place
 invariant-loop-place g l = record {
   first : List ℕ;
-  split : first ++ l.block.items ≡ concat (take l.place (unwrap_or (told l.host l.journal.entries l.key) []));
+  split : first ++ l.block.items ≡ concat (take l.place (unwrap_or (told l.file.host.now (own_of l.file) l.file.key) []));
   written : Appends (g.W.Writer.holds l.initial.writer) (g.W.Writer.holds l.writer) (encode_lower first);
   same : g.W.Writer.failures l.writer ≡ g.W.Writer.failures l.initial.writer;
 }
