@@ -75,6 +75,16 @@ impl DriveSet {
         }
     }
 
+    /// Takes every drive out.
+    pub fn clear(&mut self)
+        ensures { self.new ≡ finmap.empty }
+    {
+        if self.count != 0 {
+            self.marks = [false; 256];
+            self.count = 0;
+        }
+    }
+
     /// Takes one of the drives out, where there is one.
     pub fn pop(&mut self) -> Option<u8>
         ensures there { IfSome result (λ drive. finmap.contains_key self.old drive ≡ true) }

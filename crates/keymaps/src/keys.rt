@@ -90,6 +90,14 @@ impl KeySet {
         })
     }
 
+    /// Takes every key out. Takes no memory.
+    pub fn clear(&mut self)
+        ensures { self.new ≡ finmap.empty }
+    {
+        self.first = None;
+        self.rest.clear();
+    }
+
     /// Takes one of the keys out, where there is one. Takes no memory.
     pub fn pop(&mut self) -> Option<Key>
         ensures there { IfSome result (λ key. finmap.contains_key self.old key ≡ true) }

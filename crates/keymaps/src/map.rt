@@ -128,6 +128,15 @@ impl<V: Drop> KeyMap<V> {
         Some(change(place))
     }
 
+    /// Takes every key out. Takes no memory.
+    pub fn clear(&mut self)
+        ensures { self.new ≡ finmap.empty }
+    {
+        if self.map.len() != 0 {
+            self.map.clear();
+        }
+    }
+
     /// Takes one of the keys out, where there is one. Takes no memory.
     pub fn pop(&mut self) -> Option<Key>
         ensures there { IfSome result (λ key. finmap.contains_key self.old key ≡ true) }

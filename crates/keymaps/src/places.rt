@@ -91,6 +91,14 @@ impl PlaceSet {
         })
     }
 
+    /// Takes every place out. Takes no memory.
+    pub fn clear(&mut self)
+        ensures { self.new ≡ finmap.empty }
+    {
+        self.first = None;
+        self.rest.clear();
+    }
+
     /// Takes one of the places out, where there is one. Takes no memory.
     pub fn pop(&mut self) -> Option<(Key, u32)>
         ensures there { IfSome result (λ p. finmap.contains_key self.old p ≡ true) }
@@ -166,6 +174,15 @@ impl Places {
         Ok(Places {
             map: self.map.clone()?,
         })
+    }
+
+    // Takes every place out. Takes no memory.
+    fn clear(&mut self)
+        ensures { self.new ≡ finmap.empty }
+    {
+        if self.map.len() != 0 {
+            self.map.clear();
+        }
     }
 
     // Takes one of the places out, where there is one. Takes no memory.
