@@ -54,6 +54,14 @@ impl Changes {
         self.looks.is_empty()
     }
 
+    /// Forgets every question that was asked. Takes no memory.
+    pub fn forget_looks(&mut self)
+        ensures looks { self.new.looks ≡ no_looks }
+        ensures stays { self.new.journal ≡ self.old.journal }
+    {
+        self.looks.clear();
+    }
+
     /// Gives one of the questions that were asked and forgets it; none where there is none. Takes no memory.
     pub fn take_look(&mut self) -> Option<Ask>
         ensures there { IfSome result (λ q. is_looked self.old.looks q ≡ true) }

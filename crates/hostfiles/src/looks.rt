@@ -138,6 +138,16 @@ impl Looks {
         })
     }
 
+    /// Forgets every question. Takes no memory.
+    pub fn clear(&mut self)
+        ensures { self.new ≡ no_looks }
+    {
+        self.has.clear();
+        self.lengths.clear();
+        self.records.clear();
+        self.directories.clear();
+    }
+
     /// Gives one of the questions and forgets it; none where there is none. Takes no memory.
     pub fn take(&mut self) -> Option<Ask>
         ensures there { IfSome result (λ q. is_looked self.old q ≡ true) }
