@@ -165,6 +165,15 @@ impl Desk {
         *places
     }
 
+    /// Forgets which of the script's places were looked at.
+    pub fn forget_looks(&mut self)
+        ensures desk { self.new.desk ≡ self.old.desk }
+        ensures places { (k : ℕ) → is_within self.new.places k ≡ false }
+    {
+        self.places.from = self.spot.cursor;
+        self.places.to = self.spot.cursor;
+    }
+
     /// Takes one of the script's places that were looked at out of them; `None` where there is none.
     pub fn take_look(&mut self) -> Option<usize>
         ensures desk { self.new.desk ≡ self.old.desk }
