@@ -119,6 +119,19 @@ impl Running {
         self.desk.take_look()
     }
 
+    /// Forgets which script places were looked at, and what the host files were asked. The state and the cells that were looked at
+    /// stay. Takes no memory.
+    #[inline(always)]
+    pub fn forget_questions(&mut self)
+        ensures state { self.new.state ≡ self.old.state }
+        ensures cells { self.new.looked.cells ≡ self.old.looked.cells }
+        ensures places { (j : ℕ) → is_within self.new.looked.places j ≡ false }
+        ensures files { (ask : Ask) → is_looked self.new.looked.files ask ≡ false }
+    {
+        self.desk.forget_looks();
+        self.changes.forget_looks();
+    }
+
     /// Whether no question of the host files was asked.
     #[inline(always)]
     pub fn asks_nothing(&self) -> bool
