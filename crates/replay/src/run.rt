@@ -37,31 +37,6 @@ fn note_new(notes: &mut RunNotes, running: &mut Running, noted: usize) -> Result
     note(notes, running, noted, taken, asked)
 }
 
-// Forgets which places of the script were looked at.
-fn forget_places(running: &mut Running)
-    ensures state { running.new.state ≡ running.old.state }
-    ensures cells { running.new.looked.cells ≡ running.old.looked.cells }
-    ensures places { NoPlaces running.new.looked.places }
-{
-    let mut next = running.take_place();
-    while let Some(_) = next {
-        next = running.take_place();
-    }
-}
-
-// Forgets which questions of the host files were asked.
-fn forget_asks(running: &mut Running)
-    ensures state { running.new.state ≡ running.old.state }
-    ensures cells { running.new.looked.cells ≡ running.old.looked.cells }
-    ensures places { running.new.looked.places ≡ running.old.looked.places }
-    ensures asks { NoAsks running.new.looked.files }
-{
-    let mut next = running.take_ask();
-    while let Some(_) = next {
-        next = running.take_ask();
-    }
-}
-
 // After the steps from n on and below the one that was `reached`, of which only the last looked at anything new: notes its looks,
 // where exactly the steps below n are seen, and else forgets those of the script and of the host files. Where memory for that is
 // refused, the first looks stay behind, and no later step of the run is noted.
@@ -82,8 +57,7 @@ fn keep_looks(notes: &mut RunNotes, running: &mut Running, noted: usize, n: u64,
     ensures cells { running.new.looked.cells ≡ running.old.looked.cells }
 {
     if n != notes.looks.seen() {
-        forget_places(running);
-        forget_asks(running);
+        running.forget_questions();
         return;
     }
     notes.looks.pass_to(reached - 1);
