@@ -141,7 +141,7 @@ fn write_records<W: Writer>(writer: &mut W, file: &SeenFile<'_>, count: u32) -> 
     }
     let mut block = ArrayVec::<u8, 2048>::new();
     for place in 0..count {
-        let Some(record) = file.told_record(place) else {
+        let Some(record) = file.told_record(place).copied() else {
             unreachable!();
         };
         if block.remaining_capacity() < record.len() {

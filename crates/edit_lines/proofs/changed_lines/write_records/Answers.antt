@@ -14,7 +14,7 @@ loop-place-init g c = record { first = []; split = c.new-block.ensures; written 
 
 pub unreachable-requires : goal.unreachable-requires
 unreachable-requires g c =
-    no_record (told c.args.file.now.host.now (own_of c.args.file.now) c.args.file.now.key) c.loop-place.place (let n = c.requires.count in let h = c.loop-place-test.true in omega arith) c.in_default.ensures
+    no_record (told c.args.file.now.host.now (own_of c.args.file.now) c.args.file.now.key) c.loop-place.place (let n = c.requires.count in let h = c.loop-place-test.true in omega arith) (c.in_default.ensures ∙ c.told_record.ensures)
 
 pub returns-in_err-write_hex : goal.returns-in_err-write_hex
 returns-in_err-write_hex g c =
@@ -36,8 +36,8 @@ loop-place-preserved g c =
     let records = unwrap_or t [] in
     let place = c.loop-place.place in
     let first = c.loop-place.invariant.first in
-    let here : slice_get records place ≡ Some c.in-Some.record.now = record_here t place c.in-Some.record.now c.in-Some.ensures in
-    let grown : c.try_extend_from_slice.new.self.items ≡ c.if-remaining_capacity-lt128.block.items ++ c.in-Some.record.now = search rules in
+    let here : slice_get records place ≡ Some c.in-Some.record = record_here t place c.in-Some.record (c.in-Some.ensures ∙ c.told_record.ensures) in
+    let grown : c.try_extend_from_slice.new.self.items ≡ c.if-remaining_capacity-lt128.block.items ++ c.in-Some.record = search rules in
     elim c.if-remaining_capacity-lt128.branch [
       | then-remaining_capacity-lt128+in_ok-write_hex w ↦
           let block = w.as_slice.result.now in
@@ -45,14 +45,14 @@ loop-place-preserved g c =
           let more = all_then _ _ _ _ _ _ (encode_lower first) (encode_lower block) (c.loop-place.invariant.written, c.loop-place.invariant.same) w.in_ok-write_hex.ensures in
           record {
             first = first ++ block;
-            split = rw (grown, w.block-is, w.clear.ensures) (one_record_more records place c.in-Some.record.now (first ++ block) [] here (append-nil (first ++ block) ∙ all));
+            split = rw (grown, w.block-is, w.clear.ensures) (one_record_more records place c.in-Some.record (first ++ block) [] here (append-nil (first ++ block) ∙ all));
             written = rw (w.writer-is, encode-append first block) more.0;
             same = rw w.writer-is more.1;
           }
       | else-remaining_capacity-lt128 w ↦
           record {
             first = first;
-            split = rw (grown, w.block-is) (one_record_more records place c.in-Some.record.now first c.loop-place.block.items here c.loop-place.invariant.split);
+            split = rw (grown, w.block-is) (one_record_more records place c.in-Some.record first c.loop-place.block.items here c.loop-place.invariant.split);
             written = rw w.writer-is c.loop-place.invariant.written;
             same = rw w.writer-is c.loop-place.invariant.same;
           }
