@@ -128,8 +128,8 @@ impl Running {
         ensures places { (j : ℕ) → is_within self.new.looked.places j ≡ false }
         ensures files { (ask : Ask) → is_looked self.new.looked.files ask ≡ false }
     {
-        self.desk.forget_looks();
         self.changes.forget_looks();
+        self.desk.forget_looks();
     }
 
     /// Whether no question of the host files was asked.

@@ -2,4 +2,4 @@ use Rattle.machine.proofs.HostLemmas.{nothing_asked}
 use Rattle.machine.proofs.running.Running.forget_questions.Goals as goal
 
 pub returns-clause-files : goal.returns-clause-files
-returns-clause-files c = λ a. nothing_asked _ a c.forget_looks-2.ensures.looks
+returns-clause-files c = λ a. nothing_asked _ a c.forget_looks.ensures.looks
