@@ -1,17 +1,16 @@
 -- How many keys lie above one.
-use Rattle.std.proofs.Common.{◌≡◌, ◌+◌, ◌<◌, ◌≤◌, arith, Bool, true, false, cond, is_some, List, [], ◌∷◌, ◌++◌, Some, None, Option, refl, sym, ap, subst, ◌∙◌, length}
+use Rattle.std.proofs.Common.{◌≡◌, ◌+◌, ◌<◌, ◌≤◌, arith, Bool, true, false, cond, is_some, List, [], ◌∷◌, ◌++◌, Some, None, Option, refl, sym, ap, ◌∙◌, length}
 use Rattle.std.specs.declared.cmp.Ordering.{Ordering}
 use Rattle.std.specs.declared.cmp.Ordering.TheVariants.{Less, Equal, Greater}
 use Rattle.std.specs.Ordering.{is_lt, nat_cmp, ordering_reverse}
 use Rattle.std.specs.Option.{IfSome}
 use Rattle.std.specs.Borrow.{Bor}
-use Rattle.std.specs.Prelude.{IfNone}
 use Rattle.std.specs.Cmp.Lexicographic.{slice_cmp, nat_list_cmp_total}
 use Rattle.std.specs.List.{filter}
 use Rattle.std.specs.FinMap.{FinMap, find, get, len, len-entries, entries, entries_sorted, get-entries}
 use Rattle.filenames.specs.Names.{Key}
 use Rattle.keymaps.specs.Order.{is_above}
-use Rattle.keymaps.specs.Walks.{EachAbove, EachBetween, IsAbsent, IsInNeither, left, lesser}
+use Rattle.keymaps.specs.Walks.{EachBetween, IsAbsent, left}
 use Rattle.keymaps.proofs.Rising.{here, begins}
 use Rattle.keymaps.proofs.Views.{same_key}
 
@@ -53,42 +52,19 @@ no_more m after k pk = filter_fewer (λ e. is_above (Some k) e.0) (λ e. is_abov
 
 -- ---- of two maps
 
-pub lesser_first : (a b : Option Key) (x y : Key) → a ≡ Some x → b ≡ Some y → is_lt (slice_cmp nat_cmp x y) ≡ true → Some x ≡ lesser a b
-lesser_first a b x y p q l = sym (ap (λ a. lesser a b) p ∙ ap (lesser (Some x)) q ∙ ap (λ t. cond t (Some x) (Some y)) l)
+-- past a key above a bound there are fewer in both together, where there are fewer in the first
+pub fewer_by_first : {X Y : Type 0} (m : FinMap (slice_cmp nat_cmp) X) (n : FinMap (slice_cmp nat_cmp) Y) (after : Option Key) (k : Key) → is_above after k ≡ true
+    → left m (Some k) < left m after → left m (Some k) + left n (Some k) < left m after + left n after
+fewer_by_first m n after k above fewer = let more = no_more n after k above in omega (arith, more, fewer)
 
-pub lesser_second : (a b : Option Key) (x y : Key) → a ≡ Some x → b ≡ Some y → is_lt (slice_cmp nat_cmp x y) ≡ false → Some y ≡ lesser a b
-lesser_second a b x y p q l = sym (ap (λ a. lesser a b) p ∙ ap (lesser (Some x)) q ∙ ap (λ t. cond t (Some x) (Some y)) l)
+-- and where there are fewer in the second
+pub fewer_by_second : {X Y : Type 0} (m : FinMap (slice_cmp nat_cmp) X) (n : FinMap (slice_cmp nat_cmp) Y) (after : Option Key) (k : Key) → is_above after k ≡ true
+    → left n (Some k) < left n after → left m (Some k) + left n (Some k) < left m after + left n after
+fewer_by_second m n after k above fewer = let more = no_more m after k above in omega (arith, more, fewer)
 
--- what is below y is below x, where x is not below y
-below_other : (q x y : Key) → is_lt (slice_cmp nat_cmp x y) ≡ false → slice_cmp nat_cmp q y ≡ Less → slice_cmp nat_cmp q x ≡ Less
-below_other q x y h l = elim (slice_cmp nat_cmp x y) as (λ r. slice_cmp nat_cmp x y ≡ r → is_lt r ≡ false → slice_cmp nat_cmp q x ≡ Less) [
-  | Less ↦ λ r e. cc
-  | Equal ↦ λ r e. subst (λ z. slice_cmp nat_cmp q z ≡ Less) (sym (same_key x y r)) l
-  | Greater ↦ λ r e. nat_list_cmp_total.trans q y x l (nat_list_cmp_total.antisymm y x ∙ ap ordering_reverse r)
-] refl h
-
-pub both_least : {X Y : Type 0} (m : FinMap (slice_cmp nat_cmp) X) (n : FinMap (slice_cmp nat_cmp) Y) (after a b : Option Key)
-    → IfSome a (λ k. EachBetween after k (IsAbsent m)) → IfNone a (EachAbove after (IsAbsent m)) → IfSome b (λ k. EachBetween after k (IsAbsent n)) → IfNone b (EachAbove after (IsAbsent n))
-    → IfSome (lesser a b) (λ k. EachBetween after k (IsInNeither m n))
-both_least m n after None None am an bm bn = tt
-both_least m n after None (Some y) am an bm bn = λ x px l. (an x px, bm x px l)
-both_least m n after (Some x) None am an bm bn = λ z pz l. (am z pz l, bn z pz)
-both_least m n after (Some x) (Some y) am an bm bn =
-    elim (is_lt (slice_cmp nat_cmp x y)) as (λ b. is_lt (slice_cmp nat_cmp x y) ≡ b → IfSome (cond b (Some x) (Some y)) (λ k. EachBetween after k (IsInNeither m n))) [
-      | true ↦ λ e z pz l. (am z pz l, bm z pz (nat_list_cmp_total.trans z x y l (is_less (slice_cmp nat_cmp x y) e)))
-      | false ↦ λ e z pz l. (am z pz (below_other z x y e l), bm z pz l)
-    ] refl
-
-pub both_fewer : {X Y : Type 0} (m : FinMap (slice_cmp nat_cmp) X) (n : FinMap (slice_cmp nat_cmp) Y) (after a b : Option Key)
-    → IfSome a (λ k. is_above after k ≡ true) → IfSome b (λ k. is_above after k ≡ true) → IfSome a (λ k. left m (Some k) < left m after) → IfSome b (λ k. left n (Some k) < left n after)
-    → IfSome (lesser a b) (λ k. left m (Some k) + left n (Some k) < left m after + left n after)
-both_fewer m n after None None pa pb fa fb = tt
-both_fewer m n after None (Some y) pa pb fa fb = let h = no_more m after y pb in omega (arith, h, fb)
-both_fewer m n after (Some x) None pa pb fa fb = let h = no_more n after x pa in omega (arith, h, fa)
-both_fewer m n after (Some x) (Some y) pa pb fa fb =
-    let h = no_more m after y pb in
-    let k = no_more n after x pa in
-    elim (is_lt (slice_cmp nat_cmp x y)) as (λ b. IfSome (cond b (Some x) (Some y)) (λ k. left m (Some k) + left n (Some k) < left m after + left n after)) [ true ↦ omega (arith, k, fa) | false ↦ omega (arith, h, fb) ]
+-- a key that another is above lies below that other
+pub turned : (x y : Key) → slice_cmp nat_cmp x y ≡ Greater → slice_cmp nat_cmp y x ≡ Less
+turned x y greater = nat_list_cmp_total.antisymm y x ∙ ap ordering_reverse greater
 
 -- above no bound lies every key
 pub every : {X : Type 0} (r : Option (Bor Key × X)) → IfSome r (λ e. is_above None e.0.now ≡ true)

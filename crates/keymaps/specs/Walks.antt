@@ -2,7 +2,7 @@
 use Rattle.std.specs.Prelude.{◌≡◌, ℕ, true, Option, Some, None, if◌then◌else◌, length, nat_lt}
 use Rattle.std.specs.declared.cmp.Ordering.{Ordering}
 use Rattle.std.specs.declared.cmp.Ordering.TheVariants.{Less}
-use Rattle.std.specs.Ordering.{nat_cmp, is_lt}
+use Rattle.std.specs.Ordering.{nat_cmp}
 use Rattle.std.specs.List.{filter}
 use Rattle.std.specs.Cmp.Lexicographic.{slice_cmp}
 use Rattle.std.specs.FinMap.{FinMap, get, entries}
@@ -28,12 +28,6 @@ EachBetween after k Fact = (x : Key) → is_above after x ≡ true → slice_cmp
 -- how many keys of a map lie above one
 unfoldable pub left : {X : Type 0} → FinMap (slice_cmp nat_cmp) X → Option Key → ℕ
 left m after = length (filter (λ e. is_above after e.0) (entries m))
-
--- of two keys the lesser, where there are two
-abbrev pub lesser : Option Key → Option Key → Option Key
-lesser None b = b
-lesser (Some x) None = Some x
-lesser (Some x) (Some y) = if is_lt (slice_cmp nat_cmp x y) then Some x else Some y
 
 -- a number that is below a limit
 abbrev pub if_below : ℕ → Option ℕ → Option ℕ

@@ -14,5 +14,5 @@ pub mod places;
 
 pub use drives::DriveSet;
 pub use keys::KeySet;
-pub use map::{KeyMap, next_of_both};
+pub use map::{KeyMap, KeyOfBoth, next_of_both};
 pub use places::PlaceSet;

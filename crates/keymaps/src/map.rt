@@ -4,7 +4,7 @@ ghost use Rattle.std.specs.Prelude.{◌≡◌, ◌<◌, ◌+◌, ℕ, List, true
 ghost use Rattle.std.specs.FinMap as finmap;
 ghost use Rattle.std.specs.Fn.{FnOnceReturnsAtMut};
 ghost use Rattle.keymaps.specs.Order.{is_above};
-ghost use Rattle.keymaps.specs.Walks.{EachAbove, EachBetween, IsAbsent, IsInNeither, left, lesser, if_below};
+ghost use Rattle.keymaps.specs.Walks.{EachAbove, EachBetween, IsAbsent, IsInNeither, left, if_below};
 
 use crate::ordered::OrderedKey;
 use filenames::Key;
@@ -215,33 +215,55 @@ impl KeyMap<u64> {
     }
 }
 
-// Of two keys the lesser, where there are two.
-fn lesser(a: Option<Key>, b: Option<Key>) -> Option<Key>
-    ensures { result ≡ lesser a b }
+/// A key of two maps, and what each of them has at it.
+#[derive(Clone, Copy)]
+pub struct KeyOfBoth<'a, V, W> {
+    /// The key.
+    pub key: Key,
+    /// The value in the first map, if the key is there.
+    pub first: Option<&'a V>,
+    /// The value in the second map, if the key is there.
+    pub second: Option<&'a W>,
+}
+
+// A key with these values.
+fn key_with<'a, V, W>(key: &Key, first: Option<&'a V>, second: Option<&'a W>) -> KeyOfBoth<'a, V, W>
+    ensures key { result.key ≡ key.now }
+    ensures first { result.first ≡ first.entry }
+    ensures second { result.second ≡ second.entry }
 {
-    let Some(x) = a else {
-        return b;
-    };
-    let Some(y) = b else {
-        return a;
-    };
-    match x.cmp(&y) {
-        Ordering::Less => a,
-        _ => b,
+    KeyOfBoth {
+        key: *key,
+        first,
+        second,
     }
 }
 
-/// The least key in either of two maps, above the one given if there is one.
-pub fn next_of_both<V: Drop, W: Drop>(
-    first: &KeyMap<V>,
-    second: &KeyMap<W>,
+/// The least key in either of two maps, above the one given if there is one, and its value in each.
+pub fn next_of_both<'a, V: Drop, W: Drop>(
+    first: &'a KeyMap<V>,
+    second: &'a KeyMap<W>,
     after: Option<Key>,
-) -> Option<Key>
-    ensures above { IfSome result (λ k. is_above after k ≡ true) }
-    ensures least { IfSome result (λ k. EachBetween after k (IsInNeither first.now second.now)) }
-    ensures fewer { IfSome result (λ k.
-        left first.now (Some k) + left second.now (Some k) < left first.now after + left second.now after) }
-    ensures none { IfNone result (EachAbove after (IsInNeither first.now second.now)) }
+) -> Option<KeyOfBoth<'a, V, W>>
+    ensures above { IfSome result (λ e. is_above after e.key ≡ true) }
+    ensures first { IfSome result (λ e. option_copied e.first ≡ finmap.get first.entry.now e.key) }
+    ensures second { IfSome result (λ e. option_copied e.second ≡ finmap.get second.entry.now e.key) }
+    ensures least { IfSome result (λ e.
+        EachBetween after e.key (IsInNeither first.entry.now second.entry.now)) }
+    ensures fewer { IfSome result (λ e. left first.entry.now (Some e.key) + left second.entry.now (Some e.key)
+        < left first.entry.now after + left second.entry.now after) }
+    ensures none { IfNone result (EachAbove after (IsInNeither first.entry.now second.entry.now)) }
 {
-    lesser(first.next_key(after), second.next_key(after))
+    let Some((x, v)) = first.next_key_value(after) else {
+        let (y, w) = second.next_key_value(after)?;
+        return Some(key_with(y, None, Some(w)));
+    };
+    let Some((y, w)) = second.next_key_value(after) else {
+        return Some(key_with(x, Some(v), None));
+    };
+    match x.cmp(y) {
+        Ordering::Less => Some(key_with(x, Some(v), None)),
+        Ordering::Equal => Some(key_with(x, Some(v), Some(w))),
+        Ordering::Greater => Some(key_with(y, None, Some(w))),
+    }
 }
