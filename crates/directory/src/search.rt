@@ -1,11 +1,11 @@
 // A search in the directory.
 
-ghost use Rattle.std.specs.Prelude.{◌≡◌, ◌<◌, ◌≤◌, ℕ, List, Option, true, None, Some, IfSome, IfNone};
+ghost use Rattle.std.specs.Prelude.{◌≡◌, ◌<◌, ◌≤◌, ℕ, List, Option, true, false, None, Some, IfSome, IfNone};
 ghost use Rattle.std.specs.List.{slice_get};
 ghost use Rattle.std.specs.FinMap.{get};
 ghost use Rattle.keymaps.specs.Order.{is_above};
 ghost use Rattle.keymaps.specs.Walks.{EachAbove, EachBetween, IsAbsent};
-ghost use Rattle.directory.specs.Entries.{Shape, Shapes, count_by, first_match, next_entry};
+ghost use Rattle.directory.specs.Entries.{Shape, Shapes, count_by, first_match, is_match, next_entry};
 ghost use Rattle.directory.specs.Parts.{entries_from, chunk_from, entry_by, above};
 
 use crate::entry::{Entry, Position};
@@ -30,6 +30,15 @@ pub trait FileShape {
         ensures none { (e : ℕ) → result ≤ e → e < 512 → count_by (shape self.now) e ≡ None };
 }
 
+/// A key, and its file found.
+#[derive(Clone, Copy)]
+pub struct KeyedFile<F> {
+    /// The key.
+    pub key: Key,
+    /// The file of the key. There may be none.
+    pub file: F,
+}
+
 /// Files by their keys, as a search sees them.
 pub trait Files {
     ghost use Rattle.std.specs.Prelude.{ℕ, List, Option};
@@ -42,11 +51,12 @@ pub trait Files {
 
     ghost left: { Self → Option (List ℕ) → ℕ };
 
-    /// A key above the one given, if there is one, such that no file's key lies between them.
-    fn next_key(&self, after: Option<Key>) -> Option<Key>
-        ensures above { IfSome result (λ k. is_above after k ≡ true) }
-        ensures least { IfSome result (λ k. EachBetween after k (IsAbsent (files self.now))) }
-        ensures fewer { IfSome result (λ k. left self.now (Some k) < left self.now after) }
+    /// A key above the one given, if there is one, such that no file's key lies between them, with its file.
+    fn next_file(&self, after: Option<Key>) -> Option<KeyedFile<Self::File>>
+        ensures above { IfSome result (λ e. is_above after e.key ≡ true) }
+        ensures file { IfSome result (λ e. Self.File.shape e.file ≡ get (files self.now) e.key) }
+        ensures least { IfSome result (λ e. EachBetween after e.key (IsAbsent (files self.now))) }
+        ensures fewer { IfSome result (λ e. left self.now (Some e.key) < left self.now after) }
         ensures none { IfNone result (EachAbove after (IsAbsent (files self.now))) };
 
     /// Finds the file of a key.
@@ -81,36 +91,60 @@ fn first_from<F: FileShape>(file: &F, key: &Key, from: u32) -> Option<Entry>
     None
 }
 
-// The first match among a file's extents from one on. The file is found once, and only where an entry of it
-// may match.
-fn first_extent<T: Files>(files: &T, key: &Key, from: u32, pattern: &Key, ex: u8) -> Option<Entry>
+// Whether an entry of a key may match, of an extent from one on. The file is not asked.
+fn may_match(pattern: &Key, ex: u8, key: &Key, from: u32) -> bool
+    ensures yes { result ≡ true → is_match pattern.now key.now ≡ true }
+    ensures reached { result ≡ true → ex < from → ex ≡ 63 }
+    ensures no { result ≡ false → (s : Option Shape) →
+        first_match pattern.now ex (chunk_from key.now s from) ≡ None }
+{
+    if !is_match(pattern, key) {
+        return false;
+    }
+    // 63 is `?`, which each extent fits.
+    ex == 63 || ex as u32 >= from
+}
+
+// The first match among a file's extents from one on, for a pattern that its key matches.
+fn first_extent<F: FileShape>(file: &F, key: &Key, from: u32, ex: u8) -> Option<Entry>
+    requires { ex < from → ex ≡ 63 }
+    ensures entry { (pattern : List ℕ) → is_match pattern key.now ≡ true →
+        result ≡ first_match pattern ex (chunk_from key.now (F.shape file.now) from) }
+    ensures within { IfSome result (λ e. e.extent < 512) }
+{
+    if ex == 63 {
+        return first_from(file, key, from);
+    }
+    entry_at(file, key, ex as u32)
+}
+
+// The first match among the extents from one on of the file of a key. The file is found once, and only where
+// an entry of it may match.
+fn first_further<T: Files>(files: &T, key: &Key, from: u32, pattern: &Key, ex: u8) -> Option<Entry>
     ensures entry { result ≡ first_match pattern.now ex (entries_from (T.files files.now) key.now from) }
     ensures within { IfSome result (λ e. e.extent < 512) }
 {
-    if !is_match(pattern, key) {
+    if !may_match(pattern, ex, key, from) {
         return None;
     }
-    if ex == 63 {
-        // This is `?`, which each extent fits.
-        return first_from(&files.file(key), key, from);
-    }
-    if (ex as u32) < from {
-        return None;
-    }
-    entry_at(&files.file(key), key, ex as u32)
+    first_extent(&files.file(key), key, from, ex)
 }
 
-// The first match among the files above a key.
+// The first match among the files above a key. Each file is found with its key.
 fn first_above<T: Files>(files: &T, pattern: &Key, ex: u8, key: Option<Key>) -> Option<Entry>
     ensures entry { result ≡ first_match pattern.now ex (above key (T.files files.now)) }
     ensures within { IfSome result (λ e. e.extent < 512) }
 {
     let mut after = key;
-    while let Some(next) = files.next_key(after) {
-        if let Some(found) = first_extent(files, &next, 0, pattern, ex) {
+    while let Some(next) = files.next_file(after) {
+        let key = next.key;
+        after = Some(key);
+        if !is_match(pattern, &key) {
+            continue;
+        }
+        if let Some(found) = first_extent(&next.file, &key, 0, ex) {
             return Some(found);
         }
-        after = Some(next);
     }
     None
 }
@@ -131,7 +165,7 @@ pub fn next_entry<T: Files>(
         return first_above(files, pattern, ex, None);
     };
     let from = last.extent as u32 + 1;
-    if let Some(found) = first_extent(files, &last.key, from, pattern, ex) {
+    if let Some(found) = first_further(files, &last.key, from, pattern, ex) {
         return Some(found);
     }
     first_above(files, pattern, ex, Some(last.key))
