@@ -1,9 +1,6 @@
 -- What the map of all files has at a key, and how it changes.
 use Rattle.std.proofs.Common.{◌≡◌, Bool, true, false, cond, is_some, List, [], ◌∷◌, ◌++◌, ◌||◌, Some, None, Option, refl, ap, sym, ◌∙◌, unwrap_or}
-use Rattle.std.specs.Option.{option_map, IfSome}
-use Rattle.std.specs.Prelude.{IfNone}
-use Rattle.std.specs.declared.cmp.Ordering.TheVariants.{Less}
-use Rattle.keymaps.specs.Order.{is_above}
+use Rattle.std.specs.Option.{option_map}
 use Rattle.std.specs.List.{list_any}
 use Rattle.std.specs.Ordering.{nat_cmp, eq_by_cmp}
 use Rattle.std.specs.Cmp.Lexicographic.{slice_cmp, nat_list_cmp_total}
@@ -105,15 +102,3 @@ files-deleted host own key = same_map nat_list_cmp_total same_key _ _ (λ q.
 -- no file has a key that neither map has
 pub nothing_listed : (host : Host) (own : Own) (x : Key) → (get host x ≡ None) × (get own x ≡ None) → get (shapes host own) x ≡ None
 nothing_listed host own x h = get-shapes host own x ∙ no_shape host own x h.0 h.1
-
-pub least_listed : (host : Host) (own : Own) (after : Option Key) (r : Option Key)
-    → IfSome r (λ k. (x : Key) → is_above after x ≡ true → slice_cmp nat_cmp x k ≡ Less → (get host x ≡ None) × (get own x ≡ None))
-    → IfSome r (λ k. (x : Key) → is_above after x ≡ true → slice_cmp nat_cmp x k ≡ Less → get (shapes host own) x ≡ None)
-least_listed host own after None h = tt
-least_listed host own after (Some k) h = λ x a l. nothing_listed host own x (h x a l)
-
-pub none_listed : (host : Host) (own : Own) (after : Option Key) (r : Option Key)
-    → IfNone r ((x : Key) → is_above after x ≡ true → (get host x ≡ None) × (get own x ≡ None))
-    → IfNone r ((x : Key) → is_above after x ≡ true → get (shapes host own) x ≡ None)
-none_listed host own after None h = λ x a. nothing_listed host own x (h x a)
-none_listed host own after (Some k) h = tt

@@ -7,12 +7,12 @@ ghost use Rattle.keymaps.specs.Order.{is_above};
 ghost use Rattle.directory.specs.Entries.{is_match};
 ghost use Rattle.hostfiles.specs.Above.{AllAbove, AllBetween};
 ghost use Rattle.hostfiles.specs.Files.{has, is_listed, nothing, shapes};
+ghost use Rattle.hostfiles.specs.Seen.{is_seen, own_of};
 
 use crate::host::HostFiles;
-use crate::joined;
 use crate::journal::Journal;
 use crate::seen::SeenFile;
-use directory::{FileShape, Files, is_match};
+use directory::{FileShape, Files, KeyedFile, is_match};
 use filenames::{Key, Name};
 use keymaps::next_of_both;
 use records::EXTENT_RECORDS;
@@ -38,8 +38,11 @@ impl<'a> Files for Listed<'a> {
 
     ghost left = { λ l a. left l.host.now a + left l.journal.now.entries a };
 
-    fn next_key(&self, after: Option<Key>) -> Option<Key> {
-        next_of_both(self.host.files(), &self.journal.entries, after)
+    fn next_file(&self, after: Option<Key>) -> Option<KeyedFile<SeenFile<'a>>> {
+        let next = next_of_both(self.host.files(), &self.journal.entries, after)?;
+        let key = next.key;
+        let file = SeenFile::found(self.host, self.journal, &next);
+        Some(KeyedFile { key, file })
     }
 
     fn file(&self, key: &Key) -> SeenFile<'a> {
@@ -90,8 +93,9 @@ pub fn next_name(host: &HostFiles, journal: &Journal, after: Option<Key>) -> Opt
     ensures none { IfNone result (AllAbove after (λ x. is_listed host.now journal.now.entries x ≡ false)) }
 {
     let mut low = after;
-    while let Some(key) = next_of_both(host.files(), &journal.entries, low) {
-        if let Some(name) = name_of(host, journal, &key) {
+    while let Some(next) = next_of_both(host.files(), &journal.entries, low) {
+        let key = next.key;
+        if let Some(name) = name_of(&SeenFile::found(host, journal, &next)) {
             return Some(name);
         }
         low = Some(key);
@@ -99,14 +103,15 @@ pub fn next_name(host: &HostFiles, journal: &Journal, after: Option<Key>) -> Opt
     None
 }
 
-// The name of a key, where there is a file of it.
-fn name_of(host: &HostFiles, journal: &Journal, key: &Key) -> Option<Name>
-    ensures name { IfSome result (λ name. name ≡ key.now) }
-    ensures some { IfSome result (λ name. is_listed host.now journal.now.entries key.now ≡ true) }
-    ensures none { IfNone result (is_listed host.now journal.now.entries key.now ≡ false) }
+// The name of a file, where it is there and its key is that of a name.
+fn name_of(file: &SeenFile<'_>) -> Option<Name>
+    ensures name { IfSome result (λ name. name ≡ file.now.key) }
+    ensures some { IfSome result (λ name.
+        is_listed file.now.host.now (own_of file.now) file.now.key ≡ true) }
+    ensures none { IfNone result (is_listed file.now.host.now (own_of file.now) file.now.key ≡ false) }
 {
-    let name = Name::from_key(key)?;
-    if !joined::has(host, journal, key) {
+    let name = Name::from_key(&file.key)?;
+    if !file.is_there() {
         return None;
     }
     Some(name)
@@ -131,8 +136,9 @@ pub fn without_matches(
     let mut left = journal.snapshot()?;
     let mut count: u64 = 0;
     let mut after = None;
-    while let Some(key) = next_of_both(host.files(), &journal.entries, after) {
-        if is_deleted(host, journal, pattern, &key) {
+    while let Some(next) = next_of_both(host.files(), &journal.entries, after) {
+        let key = next.key;
+        if is_deleted(&SeenFile::found(host, journal, &next), pattern) {
             left.delete(&key)?;
             count += 1;
         }
@@ -141,12 +147,12 @@ pub fn without_matches(
     Ok((left, count))
 }
 
-// Whether there is a file of the key, and it matches a pattern.
-fn is_deleted(host: &HostFiles, journal: &Journal, pattern: &Key, key: &Key) -> bool
-    ensures { result ≡ (is_match pattern.now key.now && has host.now journal.now.entries key.now) }
+// Whether a file is there, and its key matches a pattern.
+fn is_deleted(file: &SeenFile<'_>, pattern: &Key) -> bool
+    ensures { result ≡ (is_match pattern.now file.now.key && is_seen file.now) }
 {
-    if !is_match(pattern, key) {
+    if !is_match(pattern, &file.key) {
         return false;
     }
-    joined::has(host, journal, key)
+    file.is_there()
 }

@@ -12,6 +12,7 @@ use crate::host::{HostFile, HostFiles};
 use crate::journal::{Base, Entry, Grown, Journal};
 use crate::looks::Looks;
 use filenames::Key;
+use keymaps::KeyOfBoth;
 use records::{EXTENT_RECORDS, Record};
 use std::alloc::AllocError;
 
@@ -49,6 +50,32 @@ impl<'a> SeenFile<'a> {
             key: *key,
             entry,
             beneath: beneath(host, key, base_of(entry)),
+        }
+    }
+
+    /// The file of a key at which the host files and what was done were searched already. Only where the file
+    /// was renamed are the host files searched again.
+    pub fn found(
+        host: &'a HostFiles,
+        journal: &'a Journal,
+        at: &KeyOfBoth<'a, HostFile, Entry>,
+    ) -> SeenFile<'a>
+        requires first { option_copied at.now.first ≡ finmap.get host.now at.now.key }
+        requires second { option_copied at.now.second ≡ finmap.get journal.now.entries at.now.key }
+        ensures host { result.host ≡ host.entry }
+        ensures journal { result.journal ≡ journal.entry }
+        ensures key { result.key ≡ at.now.key }
+    {
+        let beneath = match base_of(at.second) {
+            Base::Same => at.first,
+            other => beneath(host, &at.key, other),
+        };
+        SeenFile {
+            host,
+            journal,
+            key: at.key,
+            entry: at.second,
+            beneath,
         }
     }
 }
