@@ -30,7 +30,7 @@ pub trait FileShape {
         ensures none { (e : ℕ) → result ≤ e → e < 512 → count_by (shape self.now) e ≡ None };
 }
 
-/// A key, and its file found.
+/// A key and its file, found together.
 #[derive(Clone, Copy)]
 pub struct KeyedFile<F> {
     /// The key.
@@ -131,11 +131,11 @@ fn first_further<T: Files>(files: &T, key: &Key, from: u32, pattern: &Key, ex: u
 }
 
 // The first match among the files above a key. Each file is found with its key.
-fn first_above<T: Files>(files: &T, pattern: &Key, ex: u8, key: Option<Key>) -> Option<Entry>
-    ensures entry { result ≡ first_match pattern.now ex (above key (T.files files.now)) }
+fn first_above<T: Files>(files: &T, pattern: &Key, ex: u8, low: Option<Key>) -> Option<Entry>
+    ensures entry { result ≡ first_match pattern.now ex (above low (T.files files.now)) }
     ensures within { IfSome result (λ e. e.extent < 512) }
 {
-    let mut after = key;
+    let mut after = low;
     while let Some(next) = files.next_file(after) {
         let key = next.key;
         after = Some(key);

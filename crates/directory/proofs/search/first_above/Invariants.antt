@@ -5,7 +5,7 @@ use Rattle.directory.proofs.search.first_above.Given as goal
 
 abbrev pub invariant-loop-next : goal.invariant-loop-next
 invariant-loop-next g l =
-    first_where (matches l.pattern l.ex) (above l.after (g.T.Files.files l.files)) ≡ first_where (matches l.pattern l.ex) (above l.fn.key (g.T.Files.files l.files))
+    first_where (matches l.pattern l.ex) (above l.after (g.T.Files.files l.files)) ≡ first_where (matches l.pattern l.ex) (above l.fn.low (g.T.Files.files l.files))
 
 abbrev pub decreases-loop-next : goal.decreases-loop-next
 decreases-loop-next g l = g.T.Files.left l.files l.after
