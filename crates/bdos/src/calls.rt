@@ -20,6 +20,7 @@ use std::alloc::AllocError;
 /// registers, the written cells, the desk and the files as they were; what was looked at may have grown, by
 /// what the whole call looks at. [Interface Guide 1979, system function summary]
 #[tactic(auto, unfolding(crate::specs::Calls::call))]
+#[inline(always)]
 pub fn call<B: Bus>(
     regs: &mut Regs,
     bus: &mut B,
@@ -40,6 +41,7 @@ pub fn call<B: Bus>(
 }
 
 // A call that names a file by a control block.
+#[inline(never)]
 fn file_call<B: Bus>(
     regs: &mut Regs,
     bus: &mut B,
@@ -65,6 +67,7 @@ fn file_call<B: Bus>(
 }
 
 // Function 19, which deletes files.
+#[inline(never)]
 fn delete_call<B: Bus>(
     regs: &mut Regs,
     bus: &mut B,
@@ -95,6 +98,7 @@ fn value_of(is_some_deleted: bool) -> u16
 }
 
 // Function 18, which goes on with a search.
+#[inline(never)]
 fn search_next_call<B: Bus>(
     regs: &mut Regs,
     bus: &mut B,

@@ -58,6 +58,7 @@ impl FileFunction {
     }
 
     /// What the call finds.
+    #[inline(never)]
     pub fn inquire(
         self,
         host: &HostFiles,
