@@ -250,7 +250,8 @@ pub fn next_of_both<'a, V: Drop, W: Drop>(
     ensures second { IfSome result (λ e. option_copied e.second ≡ finmap.get second.entry.now e.key) }
     ensures least { IfSome result (λ e.
         EachBetween after e.key (IsInNeither first.entry.now second.entry.now)) }
-    ensures fewer { IfSome result (λ e. left first.entry.now (Some e.key) + left second.entry.now (Some e.key)
+    ensures fewer { IfSome result (λ e.
+        left first.entry.now (Some e.key) + left second.entry.now (Some e.key)
         < left first.entry.now after + left second.entry.now after) }
     ensures none { IfNone result (EachAbove after (IsInNeither first.entry.now second.entry.now)) }
 {
