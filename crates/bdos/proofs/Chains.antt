@@ -1,5 +1,5 @@
 -- From what the parts of a call leave to what the call leaves.
-use Rattle.std.proofs.Common.{◌≡◌, ℕ, Bool, ◌||◌, List, [], ◌∷◌, ◌++◌, Result, Ok, Err, IfOk, OnOk, OnErr, Option, Some, cond, refl, sym, ap, subst, ◌∙◌}
+use Rattle.std.proofs.Common.{◌≡◌, ℕ, Bool, ◌||◌, List, [], ◌∷◌, ◌++◌, Result, Ok, Err, IfOk, OnOk, OnErr, Some, cond, refl, sym, ap, subst, ◌∙◌}
 use Rattle.std.proofs.lemmas.List.{append-nil}
 use Rattle.std.specs.declared.alloc.AllocError.{AllocError}
 use Rattle.std.specs.Borrow.{GName}
@@ -7,7 +7,6 @@ use Rattle.interaction_trees.specs.Tree.{Return, result_of, asked}
 use Rattle.i8080.specs.declared.registers.Regs.{Regs}
 use Rattle.i8080.specs.Memory.{Memory, Own, Looks, Extends, is_among, bytes, look_all, write_all}
 use Rattle.i8080.specs.Reading.{Reading, Done, Cell, end_of}
-use Rattle.i8080.specs.Performs.{looks_after}
 use Rattle.i8080.specs.Registers.{word}
 use Rattle.i8080.specs.Instruction.{word_at}
 use Rattle.i8080.specs.Reading as reading

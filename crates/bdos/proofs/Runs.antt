@@ -1,5 +1,5 @@
 -- Cells that are read and written one after another.
-use Rattle.std.proofs.Common.{◌≡◌, ℕ, zero, suc, ◌+◌, ◌-◌, ◌<◌, ◌≤◌, List, [], ◌∷◌, ◌++◌, length, take, slice_set, replicate, refl, sym, ap, subst, ◌∙◌, arith, slice_index}
+use Rattle.std.proofs.Common.{◌≡◌, ℕ, suc, ◌+◌, ◌-◌, ◌<◌, ◌≤◌, List, [], ◌∷◌, ◌++◌, length, take, slice_set, replicate, refl, sym, ap, subst, ◌∙◌, arith, slice_index}
 use Rattle.std.proofs.lemmas.List.{take_more_set, take_all, append_assoc, append-nil}
 use Rattle.i8080.specs.Memory.{Memory, Own, Looks, look, look_all, write, write_all, bytes, over}
 use Rattle.i8080.specs.Reading.{end_of, asked}

@@ -1,7 +1,7 @@
 -- The calls of files: the control block is read, the files are asked, and then the call is carried out.
 -- ([Interface Guide 1979, functions 15 to 23, 33 to 36 and 40]; what a drive that is not there does, which bytes of the control
 -- block are written, and in which order: this project's profile.)
-use Rattle.std.specs.Prelude.{ℕ, zero, suc, ◌+◌, ◌-◌, ◌/◌, ◌%◌, ◌==◌, Bool, List, [], ◌∷◌, ◌++◌, Option, Some, None, if◌then◌else◌, replicate}
+use Rattle.std.specs.Prelude.{ℕ, zero, suc, ◌-◌, ◌/◌, ◌%◌, ◌==◌, List, [], ◌∷◌, ◌++◌, Option, Some, None, if◌then◌else◌, replicate}
 use Rattle.interaction_trees.specs.Tree.{Return}
 use Rattle.i8080.specs.declared.registers.Regs.{Regs}
 use Rattle.i8080.specs.Reading.{Reading, Done, Cell}

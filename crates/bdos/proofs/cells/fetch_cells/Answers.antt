@@ -1,4 +1,4 @@
-use Rattle.std.proofs.Common.{rules, arith, ◌∙◌, refl, ap, ◌-◌, length}
+use Rattle.std.proofs.Common.{rules, arith, ◌∙◌, length}
 use Rattle.console_calls.proofs.Scanning.{byte_read, looked_at}
 use Rattle.bdos.proofs.Runs.{taken_on, looked_on, taken_all, looked_all, reads_known}
 use Rattle.bdos.proofs.cells.fetch_cells.Goals as goal
