@@ -168,6 +168,10 @@ pub file_line : (key : Key) (t told : Option (List Record)) → t ≡ told → t
     → (((codes "file " ++ printed key) ++ codes " ") ++ records_text (unwrap_or t [])) ++ 10 ∷ [] ≡ changed_line key told
 file_line key t told same some = sym (ap (λ t. line (file_text key t)) (sym same ∙ some))
 
+-- the same file is told alike
+pub same_told : {host host' : Host} {own own' : Own} {key key' : Key} → host ≡ host' → own ≡ own' → key ≡ key' → told host own key ≡ told host' own' key'
+same_told h o k = cc
+
 -- ---- a text of all changed files, of which each has a part
 
 abbrev pub parts_above : (Key → List ℕ) → Host → Own → Option Key → List ℕ

@@ -8,6 +8,8 @@ use Rattle.keymaps.proofs.Views.{same_key, key_of, get_here, get_apart}
 use Rattle.filenames.specs.Names.{Key}
 use Rattle.folders.specs.Entries.{file_text, needs_slash, path_text, temporary_text}
 use Rattle.folders.specs.FileSystem.{Path, Stored, Becomes, ChangesAt, PutsInPlace, moved, moved_to}
+use Rattle.hostfiles.specs.Hosts.{Host}
+use Rattle.hostfiles.specs.Files.{Own, told}
 use Rattle.std.specs.List.{concat, slice_get}
 use Rattle.std.specs.Option.{option_map, option_and_then}
 use Rattle.std.specs.Io.KnownBytes.{Appends}
@@ -119,3 +121,7 @@ pub paths_differ : (folder : Path) (name : Key) → path_text folder (temporary_
 paths_differ folder name e = no_longer _ (ap length e) (longer (folder ++ cond (needs_slash folder) (47 ∷ []) []) (file_text name) (codes ".") (codes ".new") refl refl) where
   no_longer : {n : ℕ} (m : ℕ) → n ≡ m → n ≡ m + 5 → ⊥
   no_longer m p q = let same : m ≡ m + 5 = sym p ∙ q in absurd (omega (arith, same))
+
+-- the same file is told alike
+pub same_told : {host host' : Host} {own own' : Own} {key key' : Key} → host ≡ host' → own ≡ own' → key ≡ key' → told host own key ≡ told host' own' key'
+same_told h o k = cc

@@ -3,7 +3,7 @@ use Rattle.filenames.specs.Names.{printed}
 use Rattle.hostfiles.specs.Files.{told}
 use Rattle.hostfiles.specs.Seen.{own_of}
 use Rattle.edit_lines.specs.ChangedLines.{records_text, changed_line}
-use Rattle.edit_lines.proofs.WrittenPieces.{all_then, part_then, part_more, writes_part, writes_then, writes_same, gone, there, gone_line, file_line}
+use Rattle.edit_lines.proofs.WrittenPieces.{all_then, part_then, part_more, writes_part, writes_then, writes_same, gone, there, gone_line, file_line, same_told}
 use Rattle.edit_lines.proofs.changed_lines.write_changed.Goals as goal
 
 pub returns-in_err-write_head : goal.returns-in_err-write_head
@@ -12,10 +12,7 @@ returns-in_err-write_head g c =
     let file = c.find-file.result in
     let t = told file.host.now (own_of file) file.key in
     let all = told c.args.host.now c.args.journal.now.entries key in
-    let same : t ≡ all =
-    ap (λ h. told h.now file.journal.now.entries file.key) c.find-file.ensures.host
-    ∙ ap (λ j. told c.args.host.now j.now.entries file.key) c.find-file.ensures.journal
-    ∙ ap (told c.args.host.now c.args.journal.now.entries) (c.find-file.ensures.key ∙ c.key.ensures.key) in
+    let same : t ≡ all = same_told (ap (λ h. h.now) c.find-file.ensures.host) (ap (λ j. j.now.entries) c.find-file.ensures.journal) (c.find-file.ensures.key ∙ c.key.ensures.key) in
     let head = codes "gone " ++ printed key in
     let text = gone_line key t all same (gone t c.in_default.ensures) in
     writes_same _ _ _ _ (head ++ 10 ∷ []) (changed_line key all) c.from_residual.result text
@@ -27,10 +24,7 @@ returns-in_default g c =
     let file = c.find-file.result in
     let t = told file.host.now (own_of file) file.key in
     let all = told c.args.host.now c.args.journal.now.entries key in
-    let same : t ≡ all =
-    ap (λ h. told h.now file.journal.now.entries file.key) c.find-file.ensures.host
-    ∙ ap (λ j. told c.args.host.now j.now.entries file.key) c.find-file.ensures.journal
-    ∙ ap (told c.args.host.now c.args.journal.now.entries) (c.find-file.ensures.key ∙ c.key.ensures.key) in
+    let same : t ≡ all = same_told (ap (λ h. h.now) c.find-file.ensures.host) (ap (λ j. j.now.entries) c.find-file.ensures.journal) (c.find-file.ensures.key ∙ c.key.ensures.key) in
     let head = codes "gone " ++ printed key in
     let text = gone_line key t all same (gone t c.in_default.ensures) in
     writes_same _ _ _ _ (head ++ 10 ∷ []) (changed_line key all) c.write_piece.result text
@@ -42,10 +36,7 @@ returns-in_err-write_head-2 g c =
     let file = c.find-file.result in
     let t = told file.host.now (own_of file) file.key in
     let all = told c.args.host.now c.args.journal.now.entries key in
-    let same : t ≡ all =
-    ap (λ h. told h.now file.journal.now.entries file.key) c.find-file.ensures.host
-    ∙ ap (λ j. told c.args.host.now j.now.entries file.key) c.find-file.ensures.journal
-    ∙ ap (told c.args.host.now c.args.journal.now.entries) (c.find-file.ensures.key ∙ c.key.ensures.key) in
+    let same : t ≡ all = same_told (ap (λ h. h.now) c.find-file.ensures.host) (ap (λ j. j.now.entries) c.find-file.ensures.journal) (c.find-file.ensures.key ∙ c.key.ensures.key) in
     let head = codes "file " ++ printed key in
     let digits = records_text (unwrap_or t []) in
     let text = file_line key t all same (there t c.in-Some.count c.in-Some.ensures) in
@@ -59,10 +50,7 @@ returns-in_err-write_piece g c =
     let file = c.find-file.result in
     let t = told file.host.now (own_of file) file.key in
     let all = told c.args.host.now c.args.journal.now.entries key in
-    let same : t ≡ all =
-    ap (λ h. told h.now file.journal.now.entries file.key) c.find-file.ensures.host
-    ∙ ap (λ j. told c.args.host.now j.now.entries file.key) c.find-file.ensures.journal
-    ∙ ap (told c.args.host.now c.args.journal.now.entries) (c.find-file.ensures.key ∙ c.key.ensures.key) in
+    let same : t ≡ all = same_told (ap (λ h. h.now) c.find-file.ensures.host) (ap (λ j. j.now.entries) c.find-file.ensures.journal) (c.find-file.ensures.key ∙ c.key.ensures.key) in
     let head = codes "file " ++ printed key in
     let digits = records_text (unwrap_or t []) in
     let text = file_line key t all same (there t c.in-Some.count c.in-Some.ensures) in
@@ -77,10 +65,7 @@ returns-in_err-write_records g c =
     let file = c.find-file.result in
     let t = told file.host.now (own_of file) file.key in
     let all = told c.args.host.now c.args.journal.now.entries key in
-    let same : t ≡ all =
-    ap (λ h. told h.now file.journal.now.entries file.key) c.find-file.ensures.host
-    ∙ ap (λ j. told c.args.host.now j.now.entries file.key) c.find-file.ensures.journal
-    ∙ ap (told c.args.host.now c.args.journal.now.entries) (c.find-file.ensures.key ∙ c.key.ensures.key) in
+    let same : t ≡ all = same_told (ap (λ h. h.now) c.find-file.ensures.host) (ap (λ j. j.now.entries) c.find-file.ensures.journal) (c.find-file.ensures.key ∙ c.key.ensures.key) in
     let head = codes "file " ++ printed key in
     let digits = records_text (unwrap_or t []) in
     let text = file_line key t all same (there t c.in-Some.count c.in-Some.ensures) in
@@ -95,10 +80,7 @@ returns g c =
     let file = c.find-file.result in
     let t = told file.host.now (own_of file) file.key in
     let all = told c.args.host.now c.args.journal.now.entries key in
-    let same : t ≡ all =
-    ap (λ h. told h.now file.journal.now.entries file.key) c.find-file.ensures.host
-    ∙ ap (λ j. told c.args.host.now j.now.entries file.key) c.find-file.ensures.journal
-    ∙ ap (told c.args.host.now c.args.journal.now.entries) (c.find-file.ensures.key ∙ c.key.ensures.key) in
+    let same : t ≡ all = same_told (ap (λ h. h.now) c.find-file.ensures.host) (ap (λ j. j.now.entries) c.find-file.ensures.journal) (c.find-file.ensures.key ∙ c.key.ensures.key) in
     let head = codes "file " ++ printed key in
     let digits = records_text (unwrap_or t []) in
     let text = file_line key t all same (there t c.in-Some.count c.in-Some.ensures) in

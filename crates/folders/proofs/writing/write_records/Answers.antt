@@ -3,7 +3,7 @@ use Rattle.std.specs.List.{concat}
 use Rattle.std.specs.Io.KnownBytes.{Appends}
 use Rattle.hostfiles.specs.Files.{told}
 use Rattle.hostfiles.specs.Seen.{own_of}
-use Rattle.folders.proofs.WriteLemmas.{one_more, not_none, all_written, none_written}
+use Rattle.folders.proofs.WriteLemmas.{one_more, not_none, all_written, none_written, same_told}
 use Rattle.folders.proofs.writing.write_records.Goals as goal
 use Rattle.folders.proofs.writing.write_records.Goals.{in-Some-told_record+in_ok-write_all, in_default-told_record}
 
@@ -11,10 +11,7 @@ pub returns-in_default : goal.returns-in_default
 returns-in_default g c =
     let before = g.W.Write.contents c.args.writer.now in
     let file = c.find-file.result in
-    let same : told file.host.now (own_of file) file.key ≡ told c.args.host.now c.args.journal.now.entries c.args.name.now =
-    ap (λ h. told h.now file.journal.now.entries file.key) c.find-file.ensures.host
-    ∙ ap (λ j. told c.args.host.now j.now.entries file.key) c.find-file.ensures.journal
-    ∙ ap (told c.args.host.now c.args.journal.now.entries) (c.find-file.ensures.key ∙ c.key.ensures.key) in
+    let same : told file.host.now (own_of file) file.key ≡ told c.args.host.now c.args.journal.now.entries c.args.name.now = same_told (ap (λ h. h.now) c.find-file.ensures.host) (ap (λ j. j.now.entries) c.find-file.ensures.journal) (c.find-file.ensures.key ∙ c.key.ensures.key) in
     subst (λ t. Appends before before (concat (unwrap_or t []))) same
     (none_written before (told file.host.now (own_of file) file.key) c.in_default.ensures)
 
@@ -37,10 +34,7 @@ returns g c =
     let before = g.W.Write.contents c.args.writer.now in
     let after = g.W.Write.contents c.loop-place.writer in
     let file = c.find-file.result in
-    let same : told file.host.now (own_of file) file.key ≡ told c.args.host.now c.args.journal.now.entries c.args.name.now =
-    ap (λ h. told h.now file.journal.now.entries file.key) c.find-file.ensures.host
-    ∙ ap (λ j. told c.args.host.now j.now.entries file.key) c.find-file.ensures.journal
-    ∙ ap (told c.args.host.now c.args.journal.now.entries) (c.find-file.ensures.key ∙ c.key.ensures.key) in
+    let same : told file.host.now (own_of file) file.key ≡ told c.args.host.now c.args.journal.now.entries c.args.name.now = same_told (ap (λ h. h.now) c.find-file.ensures.host) (ap (λ j. j.now.entries) c.find-file.ensures.journal) (c.find-file.ensures.key ∙ c.key.ensures.key) in
     subst (λ t. Appends before after (concat (unwrap_or t []))) same
     (all_written before after (told file.host.now (own_of file) file.key) c.in-Some.count c.loop-place.place c.in-Some.ensures c.loop-place-test.false
     c.loop-place.invariant)
