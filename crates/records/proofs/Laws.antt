@@ -1,11 +1,8 @@
 -- Records by place, as extents change.
-use Rattle.std.proofs.Common.{◌≡◌, ◌≢◌, ℕ, ◌<◌, ◌/◌, ◌%◌, ◌==◌, true, false, cond, List, [], length, get_or, set, Option, Some, None, refl, sym, ◌∙◌, ap, arith, inl, inr, get_or-set_same, get_or-set_other, eqb}
+use Rattle.std.proofs.Common.{◌≡◌, ◌≢◌, ℕ, zero, suc, ◌<◌, ◌/◌, ◌%◌, ◌==◌, true, false, cond, Bool, List, [], ◌∷◌, ◌++◌, length, slice_get, get_or, set, Option, Some, None, refl, sym, ◌∙◌, ap, arith, inl, inr, get_or-set_same, get_or-set_other, eqb}
 use Rattle.std.proofs.lemmas.Bool.Decides.{eqb_tells}
-use Rattle.std.specs.Cmp.{unsigned_tied}
-use Rattle.std.specs.Map.{lookup}
-use Rattle.std.specs.BTreeMap.{is_at}
-use Rattle.std.specs.Ordering.{nat_cmp}
-use Rattle.records.specs.Extents.{own_of, place_in}
+use Rattle.std.proofs.lemmas.List.{get_or_default, set-get_or}
+use Rattle.records.specs.Extents.{own_of, place_in, marked, PutsRecord}
 use Rattle.records.specs.Records.{Record}
 
 -- what stands at a place after a write
@@ -15,16 +12,104 @@ set_read xs a v d h q = elim (eqb_tells q a) [
   | inr other ↦ rw other.0 (get_or-set_other xs a q v d other.1)
 ]
 
+-- what was read from a list is there
+pub found : {X : Type 0} (xs : List (Option X)) (i : ℕ) (o : Option X) (x : X) → i < length xs → o ≡ get_or xs i o → o ≡ Some x → get_or xs i None ≡ Some x
+found xs i o x h e s = get_or_default xs i None o h ∙ sym e ∙ s
+
+pub missing : {X : Type 0} (xs : List (Option X)) (i : ℕ) (o : Option X) → i < length xs → o ≡ get_or xs i o → o ≡ None → get_or xs i None ≡ None
+missing xs i o h e s = get_or_default xs i None o h ∙ sym e ∙ s
+
+-- what was read from a list and put back
+pub put_back : {X : Type 0} (xs : List (Option X)) (i : ℕ) (o : Option X) → o ≡ get_or xs i o → set xs i o ≡ xs
+put_back xs i o e = ap (set xs i) e ∙ set-get_or xs i o
+
+unmarked : (b : Bool) → None ≡ cond {A = Option Record} b None None
+unmarked true = refl
+unmarked false = refl
+
+-- the record at a place by its mark
+pub marked_at : (marks : List Bool) (records : List Record) (q : ℕ) → get_or (marked marks records) q None ≡ cond (get_or marks q false) (slice_get records q) None
+unfolding marked
+marked_at [] records q = refl
+marked_at (m ∷ ms) [] q = unmarked (get_or (m ∷ ms) q false)
+marked_at (m ∷ ms) (r ∷ rs) zero = refl
+marked_at (m ∷ ms) (r ∷ rs) (suc q) = marked_at ms rs q
+
+-- no mark tells a record where there is none
+pub marked_none : (marks : List Bool) (records : List Record) → records ≡ [] → (q : ℕ) → get_or (marked marks records) q None ≡ None
+marked_none marks records e q = rw e (marked_at marks [] q ∙ sym (unmarked (get_or marks q false)))
+
+-- a record and its mark in place of others
+set_here : (ms : List Bool) (rs : List Record) (at : ℕ) (r : Record) → at < length rs → at < length ms → get_or (marked (set ms at true) (set rs at r)) at None ≡ Some r
+unfolding marked
+set_here [] rs at r h l = absurd (omega arith)
+set_here (m ∷ ms) [] at r h l = absurd (omega arith)
+set_here (m ∷ ms) (x ∷ rs) zero r h l = refl
+set_here (m ∷ ms) (x ∷ rs) (suc at) r h l = set_here ms rs at r (omega arith) (omega arith)
+
+set_there : (ms : List Bool) (rs : List Record) (at : ℕ) (r : Record) (q : ℕ) → q ≢ at → get_or (marked (set ms at true) (set rs at r)) q None ≡ get_or (marked ms rs) q None
+unfolding marked
+set_there [] rs at r q n = refl
+set_there (m ∷ ms) [] zero r q n = refl
+set_there (m ∷ ms) [] (suc at) r q n = refl
+set_there (m ∷ ms) (x ∷ rs) zero r zero n = absurd (n refl)
+set_there (m ∷ ms) (x ∷ rs) zero r (suc q) n = refl
+set_there (m ∷ ms) (x ∷ rs) (suc at) r zero n = refl
+set_there (m ∷ ms) (x ∷ rs) (suc at) r (suc q) n = set_there ms rs at r q (λ e. n (ap suc e))
+
+pub marked_set : (marks : List Bool) (records : List Record) (at : ℕ) (r : Record) → at < length records → at < length marks
+    → PutsRecord (marked marks records) at r (marked (set marks at true) (set records at r))
+marked_set marks records at r h l q = elim (eqb_tells q at) [
+  | inl same ↦ rw same.0 (rw same.1 (set_here marks records at r h l))
+  | inr other ↦ rw other.0 (set_there marks records at r q other.1)
+]
+
+-- a record and its mark behind the others
+push_there : (ms : List Bool) (rs : List Record) (b : Bool) (r : Record) (q : ℕ) → q ≢ length rs → get_or (marked (set ms (length rs) b) (rs ++ r ∷ [])) q None ≡ get_or (marked ms rs) q None
+unfolding marked
+push_there [] rs b r q n = refl
+push_there (m ∷ ms) [] b r zero n = absurd (n refl)
+push_there (m ∷ ms) [] b r (suc q) n = marked_none ms [] refl q
+push_there (m ∷ ms) (x ∷ rs) b r zero n = refl
+push_there (m ∷ ms) (x ∷ rs) b r (suc q) n = push_there ms rs b r q (λ e. n (ap suc e))
+
+push_here : (ms : List Bool) (rs : List Record) (b : Bool) (r : Record) → length rs < length ms → get_or (marked (set ms (length rs) b) (rs ++ r ∷ [])) (length rs) None ≡ cond b (Some r) None
+unfolding marked
+push_here [] rs b r l = absurd (omega arith)
+push_here (m ∷ ms) [] b r l = refl
+push_here (m ∷ ms) (x ∷ rs) b r l = push_here ms rs b r (omega arith)
+
+pub marked_push : (marks : List Bool) (records more : List Record) (r : Record) → more ≡ records ++ r ∷ [] → length records < length marks
+    → PutsRecord (marked marks records) (length records) r (marked (set marks (length records) true) more)
+marked_push marks records more r e l q = elim (eqb_tells q (length records)) [
+  | inl same ↦ rw same.0 (rw e (rw same.1 (push_here marks records true r l)))
+  | inr other ↦ rw other.0 (rw e (push_there marks records true r q other.1))
+]
+
+-- a place more, without a record
+past : (ms : List Bool) (rs : List Record) → get_or (marked ms rs) (length rs) None ≡ None
+unfolding marked
+past [] rs = refl
+past (m ∷ ms) [] = refl
+past (m ∷ ms) (x ∷ rs) = past ms rs
+
+pub marked_more : (marks : List Bool) (records more : List Record) (r : Record) → more ≡ records ++ r ∷ [] → length records < length marks → (q : ℕ)
+    → get_or (marked (set marks (length records) false) more) q None ≡ get_or (marked marks records) q None
+marked_more marks records more r e l q = elim (eqb_tells q (length records)) [
+  | inl same ↦ rw e (rw same.1 (push_here marks records false r l ∙ sym (past marks records)))
+  | inr other ↦ rw e (push_there marks records false r q other.1)
+]
+
 -- the record at a place of an extent that is there, and of one that is not
-pub own_found : (es : List (ℕ × List (Option Record))) (a : ℕ) (x : List (Option Record)) → Some x ≡ lookup (is_at (nat_cmp (a / 128))) es → get_or x (a % 128) None ≡ own_of es a
+pub own_found : (es : List (Option (List (Option Record)))) (a : ℕ) (x : List (Option Record)) → Some x ≡ get_or es (a / 128) None → get_or x (a % 128) None ≡ own_of es a
 unfolding own_of
 own_found es a x e = ap (λ (o : Option (List (Option Record))). place_in o (a % 128)) e
 
-pub own_missing : (es : List (ℕ × List (Option Record))) (a : ℕ) → None ≡ lookup (is_at (nat_cmp (a / 128))) es → None ≡ own_of es a
+pub own_missing : (es : List (Option (List (Option Record)))) (a : ℕ) → None ≡ get_or es (a / 128) None → None ≡ own_of es a
 unfolding own_of
 own_missing es a e = ap (λ (o : Option (List (Option Record))). place_in o (a % 128)) e
 
-pub own_none : (es : List (ℕ × List (Option Record))) → es ≡ [] → (q : ℕ) → own_of es q ≡ None
+pub own_none : (es : List (Option (List (Option Record)))) → es ≡ [] → (q : ℕ) → own_of es q ≡ None
 unfolding own_of
 own_none es e q = rw e refl
 
@@ -47,43 +132,33 @@ apart_at q a h = elim (eqb_tells q a) [
   | inr other ↦ other.0
 ]
 
-like : (k q : ℕ) → k ≡ q → eqb k q ≡ true
-like k q e = elim (eqb_tells k q) [ inl same ↦ same.0 | inr other ↦ absurd (other.1 e) ]
-
-unlike : (k q : ℕ) → k ≢ q → eqb k q ≡ false
-unlike k q e = elim (eqb_tells k q) [ inl same ↦ absurd (e same.1) | inr other ↦ other.0 ]
-
--- how the extents change at one number
-module _ (es fs : List (ℕ × List (Option Record))) (k : ℕ) (w : List (Option Record))
-    (h : (q : ℕ) → lookup (is_at (nat_cmp q)) fs ≡ cond (is_at (nat_cmp k) q) (Some w) (lookup (is_at (nat_cmp q)) es)) where
-  here : (q : ℕ) → k ≡ q → lookup (is_at (nat_cmp q)) fs ≡ Some w
-  here q e = h q ∙ ap (λ b. cond b (Some w) (lookup (is_at (nat_cmp q)) es)) (unsigned_tied k q ∙ like k q e)
-
-  there : (q : ℕ) → k ≢ q → lookup (is_at (nat_cmp q)) fs ≡ lookup (is_at (nat_cmp q)) es
-  there q e = h q ∙ ap (λ b. cond b (Some w) (lookup (is_at (nat_cmp q)) es)) (unsigned_tied k q ∙ unlike k q e)
-
 -- an extent in which a record was written, in place of the one that was there
-pub own_put : (es fs : List (ℕ × List (Option Record))) (a : ℕ) (w : List (Option Record)) (r : Record)
-    → ((q : ℕ) → lookup (is_at (nat_cmp q)) fs ≡ cond (is_at (nat_cmp (a / 128)) q) (Some w) (lookup (is_at (nat_cmp q)) es))
-    → ((i : ℕ) → get_or w i None ≡ cond (i == a % 128) (Some r) (place_in (lookup (is_at (nat_cmp (a / 128))) es) i))
+pub own_put : (es fs : List (Option (List (Option Record)))) (a : ℕ) (w : List (Option Record)) (r : Record)
+    → ((i : ℕ) → get_or fs i None ≡ cond (i == a / 128) (Some w) (get_or es i None))
+    → ((i : ℕ) → get_or w i None ≡ cond (i == a % 128) (Some r) (place_in (get_or es (a / 128) None) i))
     → (q : ℕ) → own_of fs q ≡ cond (eqb q a) (Some r) (own_of es q)
 unfolding own_of
-own_put es fs a w r h e q = elim (eqb_tells (a / 128) (q / 128)) [
-  | inl same ↦ ap (λ (o : Option (List (Option Record))). place_in o (q % 128)) (here es fs (a / 128) w h (q / 128) same.1)
+own_put es fs a w r h e q = elim (eqb_tells (q / 128) (a / 128)) [
+  | inl same ↦ ap (λ (o : Option (List (Option Record))). place_in o (q % 128)) (h (q / 128) ∙ ap (λ b. cond b (Some w) (get_or es (q / 128) None)) same.0)
       ∙ e (q % 128)
-      ∙ ap (λ b. cond b (Some r) (place_in (lookup (is_at (nat_cmp (a / 128))) es) (q % 128))) (same_rest q a same.1)
-      ∙ ap (λ k. cond (eqb q a) (Some r) (place_in (lookup (is_at (nat_cmp k)) es) (q % 128))) same.1
-  | inr other ↦ ap (λ (o : Option (List (Option Record))). place_in o (q % 128)) (there es fs (a / 128) w h (q / 128) other.1)
-      ∙ sym (ap (λ b. cond b (Some r) (place_in (lookup (is_at (nat_cmp (q / 128))) es) (q % 128))) (apart_at q a other.1))
+      ∙ ap (λ b. cond b (Some r) (place_in (get_or es (a / 128) None) (q % 128))) (same_rest q a (sym same.1))
+      ∙ ap (λ k. cond (eqb q a) (Some r) (place_in (get_or es k None) (q % 128))) (sym same.1)
+  | inr other ↦ ap (λ (o : Option (List (Option Record))). place_in o (q % 128)) (h (q / 128) ∙ ap (λ b. cond b (Some w) (get_or es (q / 128) None)) other.0)
+      ∙ sym (ap (λ b. cond b (Some r) (place_in (get_or es (q / 128) None) (q % 128))) (apart_at q a (λ e. other.1 (sym e))))
 ]
 
 -- an extent in place of one with the same records
-pub own_same : (es fs : List (ℕ × List (Option Record))) (k : ℕ) (w : List (Option Record))
-    → ((q : ℕ) → lookup (is_at (nat_cmp q)) fs ≡ cond (is_at (nat_cmp k) q) (Some w) (lookup (is_at (nat_cmp q)) es))
-    → ((i : ℕ) → get_or w i None ≡ place_in (lookup (is_at (nat_cmp k)) es) i)
+pub own_same : (es fs : List (Option (List (Option Record)))) (k : ℕ) (w : List (Option Record))
+    → ((i : ℕ) → get_or fs i None ≡ cond (i == k) (Some w) (get_or es i None))
+    → ((i : ℕ) → get_or w i None ≡ place_in (get_or es k None) i)
     → (q : ℕ) → own_of fs q ≡ own_of es q
 unfolding own_of
-own_same es fs k w h e q = elim (eqb_tells k (q / 128)) [
-  | inl same ↦ ap (λ (o : Option (List (Option Record))). place_in o (q % 128)) (here es fs k w h (q / 128) same.1) ∙ e (q % 128) ∙ ap (λ j. place_in (lookup (is_at (nat_cmp j)) es) (q % 128)) same.1
-  | inr other ↦ ap (λ (o : Option (List (Option Record))). place_in o (q % 128)) (there es fs k w h (q / 128) other.1)
+own_same es fs k w h e q = elim (eqb_tells (q / 128) k) [
+  | inl same ↦ ap (λ (o : Option (List (Option Record))). place_in o (q % 128)) (h (q / 128) ∙ ap (λ b. cond b (Some w) (get_or es (q / 128) None)) same.0) ∙ e (q % 128) ∙ ap (λ j. place_in (get_or es j None) (q % 128)) (sym same.1)
+  | inr other ↦ ap (λ (o : Option (List (Option Record))). place_in o (q % 128)) (h (q / 128) ∙ ap (λ b. cond b (Some w) (get_or es (q / 128) None)) other.0)
 ]
+
+-- the extents stay as they were
+pub own_alike : (es fs : List (Option (List (Option Record)))) → ((i : ℕ) → get_or fs i None ≡ get_or es i None) → (q : ℕ) → own_of fs q ≡ own_of es q
+unfolding own_of
+own_alike es fs h q = ap (λ (o : Option (List (Option Record))). place_in o (q % 128)) (h (q / 128))

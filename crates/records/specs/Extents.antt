@@ -1,11 +1,14 @@
 -- The records that extents hold, by place, and as one map. ([Interface Guide 1979, operating system call conventions]: an extent is 128
 -- records.)
-use Rattle.std.specs.Prelude.{◌≡◌, refl, ℕ, zero, suc, ◌/◌, ◌%◌, ◌==◌, List, Option, Some, None, cond, get_or}
+use Rattle.std.specs.Prelude.{◌≡◌, refl, ℕ, zero, suc, ◌/◌, ◌%◌, ◌==◌, List, [], ◌∷◌, Bool, Option, Some, None, cond, get_or}
 use Rattle.std.specs.FinMap as finmap
-use Rattle.std.specs.Map.{lookup}
-use Rattle.std.specs.BTreeMap.{is_at}
-use Rattle.std.specs.Ordering.{nat_cmp}
 use Rattle.records.specs.Records.{Record, Kept}
+
+-- records by their marks: none where there is no mark
+unfoldable pub marked : List Bool → List Record → List (Option Record)
+marked [] records = []
+marked (mark ∷ marks) [] = []
+marked (mark ∷ marks) (content ∷ records) = cond mark (Some content) None ∷ marked marks records
 
 -- the record at a place of an extent
 abbrev pub place_in : Option (List (Option Record)) → ℕ → Option Record
@@ -21,8 +24,8 @@ abbrev pub SameRecords : List (Option Record) → List (Option Record) → Type 
 SameRecords old new = (q : ℕ) → get_or new q None ≡ get_or old q None
 
 -- the record at each place, by extents of 128
-unfoldable pub own_of : List (ℕ × List (Option Record)) → ℕ → Option Record
-own_of extents place = place_in (lookup (is_at (nat_cmp (place / 128))) extents) (place % 128)
+unfoldable pub own_of : List (Option (List (Option Record))) → ℕ → Option Record
+own_of extents place = place_in (get_or extents (place / 128) None) (place % 128)
 
 -- how many places a file may have; a word of its own, so that nothing counts up to it
 pub place_count : ℕ

@@ -1,9 +1,9 @@
 // Up to 128 places of a file.
 
-ghost use Rattle.std.specs.Prelude.{◌≡◌, ◌<◌, ◌==◌, ℕ, OnOk, OnErr, IfOk, None, Some, cond, get_or, option_copied};
-ghost use Rattle.records.specs.Extents.{PutsRecord, SameRecords};
+ghost use Rattle.std.specs.Prelude.{◌≡◌, ◌<◌, ◌≤◌, ◌==◌, ℕ, OnOk, OnErr, IfOk, None, Some, cond, get_or, slice_get, vec_len, option_copied};
+ghost use Rattle.records.specs.Extents.{PutsRecord, SameRecords, marked};
 
-use crate::written::Record;
+use crate::written::{EXTENT_RECORDS, RECORD_BYTES, Record};
 use std::alloc::{AllocError, Global};
 use std::marker::Model;
 use std::rc::Rc;
@@ -12,7 +12,28 @@ use std::rc::Rc;
 /// copies them.
 #[derive(Drop)]
 pub struct Extent {
-    places: Rc<Vec<Option<Record>>>,
+    places: Rc<Places>,
+}
+
+// Which places of an extent have a record.
+type Marks = [bool; EXTENT_RECORDS as usize];
+
+// Places up to the last one that was written, and which of them have a record. The marks stand apart from the records, so that a place
+// without one is told at no cost of memory.
+#[derive(Drop)]
+struct Places {
+    marks: Marks,
+    records: Vec<Record>,
+}
+
+impl Model for Places {
+    ghost use Rattle.std.specs.Prelude.{List, ℕ};
+    ghost use Rattle.std.specs.declared.option.Option.{Option};
+    ghost use Rattle.records.specs.Extents.{marked};
+
+    ghost Value = { List (Option (List ℕ)) };
+
+    ghost view = { λ a. marked a.marks a.records.items };
 }
 
 impl Model for Extent {
@@ -21,7 +42,7 @@ impl Model for Extent {
 
     ghost Value = { List (Option (List ℕ)) };
 
-    ghost view = { λ a. a.places.value.items };
+    ghost view = { λ a. a.places.value };
 }
 
 impl Clone for Extent {
@@ -37,11 +58,12 @@ impl Clone for Extent {
 impl Extent {
     /// An extent with one record.
     pub fn new(alloc: Global, at: usize, content: &Record) -> Result<Extent, AllocError>
+        requires { at < 128 }
         ensures { IfOk result
             (λ x. (q : ℕ) → get_or x q None ≡ cond (q == at) (Some content.now) None) }
     {
-        let mut places = Vec::new(alloc);
-        put_at(&mut places, at, content)?;
+        let mut places = Places::new(alloc);
+        places.put(at, content)?;
         Ok(Extent {
             places: Rc::new(alloc, places)?,
         })
@@ -49,21 +71,20 @@ impl Extent {
 
     /// The record at a place of the extent.
     pub fn get(&self, at: usize) -> Option<&Record>
+        requires { at < 128 }
         ensures { option_copied result ≡ get_or self.now at None }
     {
-        match self.places.get(at) {
-            Some(place) => place.as_ref(),
-            None => None,
-        }
+        self.places.get(at)
     }
 
     /// The record at a place of the extent, instead of the one before. At `Err` every place has the record that it had.
     pub fn put(&mut self, alloc: Global, at: usize, content: &Record) -> Result<(), AllocError>
+        requires { at < 128 }
         ensures ok { OnOk result (PutsRecord self.old at content.now self.new) }
         ensures err { OnErr result (SameRecords self.old self.new) }
     {
         if let Some(places) = Rc::get_mut(&mut self.places) {
-            return put_at(places, at, content);
+            return places.put(at, content);
         }
         self.put_into_copy(alloc, at, content)
     }
@@ -77,28 +98,91 @@ impl Extent {
         at: usize,
         content: &Record,
     ) -> Result<(), AllocError>
+        requires { at < 128 }
         ensures ok { OnOk result (PutsRecord self.old at content.now self.new) }
         ensures err { OnErr result (SameRecords self.old self.new) }
     {
-        let mut places = Vec::from_slice(alloc, self.places.as_slice())?;
-        put_at(&mut places, at, content)?;
+        let mut places = self.places.copy(alloc)?;
+        places.put(at, content)?;
         self.places = Rc::new(alloc, places)?;
         Ok(())
     }
 }
 
-// Puts a record at a place, with no record at the places that come into being before it. At `Err` every place has the record that it had.
-fn put_at(places: &mut Vec<Option<Record>>, at: usize, content: &Record) -> Result<(), AllocError>
-    ensures ok { OnOk result (PutsRecord places.old.items at content.now places.new.items) }
-    ensures err { OnErr result (SameRecords places.old.items places.new.items) }
+impl Places {
+    // No record.
+    fn new(alloc: Global) -> Places
+        ensures { (q : ℕ) → get_or result q None ≡ None }
+    {
+        Places {
+            marks: [false; EXTENT_RECORDS as usize],
+            records: Vec::new(alloc),
+        }
+    }
+
+    // The same records.
+    fn copy(&self, alloc: Global) -> Result<Places, AllocError>
+        ensures { IfOk result (λ p. p ≡ self.now) }
+    {
+        Ok(Places {
+            marks: self.marks,
+            records: Vec::from_slice(alloc, &self.records)?,
+        })
+    }
+
+    // The record at a place.
+    fn get(&self, at: usize) -> Option<&Record>
+        requires { at < 128 }
+        ensures { option_copied result ≡ get_or self.now at None }
+    {
+        if self.marks[at] {
+            return nth(&self.records, at);
+        }
+        None
+    }
+
+    // Puts a record at a place. At `Err` every place has the record that it had.
+    fn put(&mut self, at: usize, content: &Record) -> Result<(), AllocError>
+        requires { at < 128 }
+        ensures ok { OnOk result (PutsRecord self.old at content.now self.new) }
+        ensures err { OnErr result (SameRecords self.old self.new) }
+    {
+        if at < self.records.len() {
+            self.records[at] = *content;
+            self.marks[at] = true;
+            return Ok(());
+        }
+        append(&mut self.records, &mut self.marks, at, content)
+    }
+}
+
+// Puts a record behind all places, with no record at those that come into being before it. At `Err` every place has the record that it
+// had.
+fn append(
+    records: &mut Vec<Record>,
+    marks: &mut Marks,
+    at: usize,
+    content: &Record,
+) -> Result<(), AllocError>
+    requires place { at < 128 }
+    requires past { vec_len records.old ≤ at }
+    ensures ok { OnOk result (PutsRecord (marked marks.old records.old.items) at content.now
+        (marked marks.new records.new.items)) }
+    ensures err { OnErr result (SameRecords (marked marks.old records.old.items)
+        (marked marks.new records.new.items)) }
 {
-    while places.len() < at {
-        places.push(None)?;
+    while records.len() < at {
+        records.push([0; RECORD_BYTES])?;
+        marks[records.len() - 1] = false;
     }
-    if at < places.len() {
-        places[at] = Some(*content);
-        return Ok(());
-    }
-    places.push(Some(*content))?;
+    records.push(*content)?;
+    marks[at] = true;
     Ok(())
+}
+
+// The record at a place, if there are that many.
+fn nth(records: &[Record], at: usize) -> Option<&Record>
+    ensures { option_copied result ≡ slice_get records.now at }
+{
+    records.get(at)
 }

@@ -1,12 +1,11 @@
 // What a run wrote into a file.
 
-ghost use Rattle.std.specs.Prelude.{◌≡◌, ◌<◌, ◌≤◌, ◌-◌, OnOk, OnErr, IfOk, option_copied};
+ghost use Rattle.std.specs.Prelude.{◌≡◌, ◌<◌, ◌≤◌, ◌-◌, ◌==◌, ℕ, OnOk, OnErr, IfOk, None, Some, cond, get_or, option_copied};
 ghost use Rattle.std.specs.FinMap as finmap;
 ghost use Rattle.records.specs.Records.{zeros_at};
 
 use crate::extent::Extent;
 use std::alloc::{AllocError, Global};
-use std::collections::BTreeMap;
 use std::marker::Model;
 
 /// The bytes of a record [Interface Guide 1979, operating system call conventions].
@@ -24,7 +23,7 @@ pub type Record = [u8; RECORD_BYTES];
 /// The records that were written into a file of up to 65,536 places, by their places.
 #[derive(Drop)]
 pub struct Records {
-    extents: BTreeMap<u32, Extent>,
+    extents: Vec<Option<Extent>>,
     alloc: Global,
 }
 
@@ -39,7 +38,7 @@ impl Model for Records {
 
     ghost coded = { finmap.code coded_ℕ (coded_list coded_ℕ) };
 
-    ghost view = { λ a. kept (own_of a.extents.entries) };
+    ghost view = { λ a. kept (own_of a.extents.items) };
 }
 
 impl Records {
@@ -48,7 +47,7 @@ impl Records {
         ensures { result ≡ finmap.empty }
     {
         Records {
-            extents: BTreeMap::new(alloc),
+            extents: Vec::new(alloc),
             alloc,
         }
     }
@@ -61,7 +60,7 @@ impl Records {
         if place >= PLACES {
             return None;
         }
-        match extents.get(&(place / EXTENT_RECORDS)) {
+        match extent_at(extents, (place / EXTENT_RECORDS) as usize) {
             Some(extent) => extent.get((place % EXTENT_RECORDS) as usize),
             None => None,
         }
@@ -75,12 +74,14 @@ impl Records {
     {
         let alloc = self.alloc;
         let at = (place % EXTENT_RECORDS) as usize;
-        if let Some(extent) = self.extents.get_mut(&(place / EXTENT_RECORDS)) {
-            return extent.put(alloc, at, content);
+        let number = (place / EXTENT_RECORDS) as usize;
+        if number < self.extents.len() {
+            if let Some(extent) = &mut self.extents[number] {
+                return extent.put(alloc, at, content);
+            }
         }
         let extent = Extent::new(alloc, at, content)?;
-        self.extents.insert(place / EXTENT_RECORDS, extent)?;
-        Ok(())
+        set_extent(&mut self.extents, number, extent)
     }
 
     /// These records with zeros at the places from `from` on, below `to`; at `Err` nothing is known of what
@@ -106,6 +107,38 @@ impl Records {
             alloc: self.alloc,
         })
     }
+}
+
+// The extent of a number, if there is one.
+fn extent_at(extents: &[Option<Extent>], number: usize) -> Option<&Extent>
+    ensures { option_copied result ≡ get_or extents.now number None }
+{
+    match extents.get(number) {
+        Some(extent) => extent.as_ref(),
+        None => None,
+    }
+}
+
+// Sets an extent, with none at the places that come into being before it. An `Err` changes no extent.
+fn set_extent(
+    extents: &mut Vec<Option<Extent>>,
+    number: usize,
+    extent: Extent,
+) -> Result<(), AllocError>
+    ensures ok { OnOk result ((i : ℕ) → get_or extents.new.items i None
+        ≡ cond (i == number) (Some extent) (get_or extents.old.items i None)) }
+    ensures err { OnErr result ((i : ℕ) → get_or extents.new.items i None
+        ≡ get_or extents.old.items i None) }
+{
+    while extents.len() < number {
+        extents.push(None)?;
+    }
+    if number < extents.len() {
+        extents[number] = Some(extent);
+        return Ok(());
+    }
+    extents.push(Some(extent))?;
+    Ok(())
 }
 
 impl Clone for Records {

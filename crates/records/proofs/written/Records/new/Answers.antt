@@ -4,4 +4,4 @@ use Rattle.records.proofs.Laws.{own_none}
 use Rattle.records.proofs.written.Records.new.Goals as goal
 
 pub returns : goal.returns
-returns c = kept_none (own_of c.new.result.entries) (own_none c.new.result.entries c.new.ensures.empty)
+returns c = kept_none (own_of c.new.result.items) (own_none c.new.result.items c.new.ensures.items)
