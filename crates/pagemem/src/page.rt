@@ -1,4 +1,4 @@
-ghost use Rattle.std.specs.Prelude.{◌≡◌, ◌+◌, ◌<◌, ◌≤◌, ℕ, true, false, None, IfOk, IsTrue, OnOk, OnErr, cond, length, get_or, slice_index};
+ghost use Rattle.std.specs.Prelude.{◌≡◌, ◌+◌, ◌<◌, ◌≤◌, ℕ, true, false, None, Some, IfOk, IsTrue, OnOk, OnErr, cond, length, get_or, slice_index};
 ghost use Rattle.pagemem.specs.Pages.{page_own, slot_own, is_owned, IsLaid};
 ghost use Rattle.i8080.specs.End.{cells_from};
 ghost use Rattle.i8080.specs.Memory.{write, write_all};
@@ -71,6 +71,41 @@ impl Page {
     /// Copies the bytes of cells of the page from one on: the written ones, and beneath them others. Answers whether each cell was
     /// written or has a mark; `false` says nothing of the copy.
     pub fn copy_over(&self, from: usize, beneath: &[u8], marks: &[bool], cells: &mut [u8]) -> bool
+        requires page { from + length cells.old ≤ 256 }
+        requires beneath { length beneath.now ≡ length cells.old }
+        requires marks { length marks.now ≡ length cells.old }
+        ensures length { length cells.new ≡ length cells.old }
+        ensures laid { result ≡ true → (i : ℕ) → i < length cells.old
+            → IsLaid (page_own self.now (from + i)) (slice_index beneath.now i) (get_or marks.now i false)
+            (slice_index cells.new i) }
+    {
+        if self.copy_written(from, cells) {
+            return true;
+        }
+        self.copy_each(from, beneath, marks, cells)
+    }
+
+    // Copies the bytes of cells of the page from one on, where all of them were written; else the answer is `false`.
+    fn copy_written(&self, from: usize, cells: &mut [u8]) -> bool
+        requires page { from + length cells.old ≤ 256 }
+        ensures length { length cells.new ≡ length cells.old }
+        ensures written { result ≡ true → (i : ℕ) → i < length cells.old
+            → page_own self.now (from + i) ≡ Some (slice_index cells.new i) }
+    {
+        let end = from + cells.len();
+        let mut is_written = true;
+        for i in from..end {
+            // without a branch, so that many marks are read at a time
+            is_written &= self.written[i];
+        }
+        if is_written {
+            cells.copy_from_slice(&self.bytes[from..end]);
+        }
+        is_written
+    }
+
+    // Copies the bytes of cells as `copy_over` does, cell by cell.
+    fn copy_each(&self, from: usize, beneath: &[u8], marks: &[bool], cells: &mut [u8]) -> bool
         requires page { from + length cells.old ≤ 256 }
         requires beneath { length beneath.now ≡ length cells.old }
         requires marks { length marks.now ≡ length cells.old }
