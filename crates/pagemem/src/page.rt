@@ -6,6 +6,9 @@ ghost use Rattle.i8080.specs.Memory.{write, write_all};
 use std::alloc::{AllocError, Global};
 use std::rc::Rc;
 
+// From so many cells on it pays to ask first whether all of them were written, as those of a record mostly are.
+const LONG_RUN: usize = 64;
+
 /// The bytes of 256 cells, and which of them were written.
 #[derive(Clone, Copy)]
 pub struct Page {
@@ -79,7 +82,7 @@ impl Page {
             → IsLaid (page_own self.now (from + i)) (slice_index beneath.now i) (get_or marks.now i false)
             (slice_index cells.new i) }
     {
-        if self.copy_written(from, cells) {
+        if cells.len() >= LONG_RUN && self.copy_written(from, cells) {
             return true;
         }
         self.copy_each(from, beneath, marks, cells)
