@@ -140,20 +140,6 @@ quiet_to s from end n looked new past w same i l h q e = elim (cases_lt i (n - 1
   at_last h = second (looked_at looked q) (is_in q (looks (ask s) (n - 1))) (looked_at new.looked q) (w.last past q) h (alike looked new.looked same q)
 
 -- the same cells and places, and no question of the host files
--- what is known in both cases
-pub either_way : {X : Type 0} (b : Bool) → (b ≡ true → X) → (b ≡ false → X) → X
-either_way true is _ = is refl
-either_way false _ other = other refl
-
--- the same was looked at before, and then no cell more, and nothing else
-pub looks_at_cells_alone : (first was is : Looked) → LooksAlike first was → Extends first is → is.cells ≡ first.cells → is.places ≡ was.places → is.files ≡ was.files → LooksAlike first is
-looks_at_cells_alone first was is same e cells places files = record {
-  cells = cells;
-  places = places ∙ same.places;
-  files = e.files;
-  asks = λ a h. same.asks a (ap (λ f. is_looked f a) (sym files) ∙ h);
-}
-
 pub looks_alike : (was is : Looked) → Extends was is → is.cells ≡ was.cells → is.places ≡ was.places → ((a : Ask) → is_looked is.files a ≡ false) → LooksAlike was is
 looks_alike was is e cells places none = record {
   cells = cells;

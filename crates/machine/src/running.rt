@@ -3,7 +3,6 @@ ghost use Rattle.console_calls.specs.Places.{is_within};
 ghost use Rattle.hostfiles.specs.Looks.{is_looked, asks_nothing, forgot};
 ghost use Rattle.machine.specs.Machine.{start, NothingLooked};
 
-use crate::system_area::SYSTEM_AREA;
 use console_calls::{Desk, Places};
 use hostfiles::{Ask, Changes};
 use i8080::{Flags, Regs};
@@ -94,27 +93,14 @@ impl Running {
         self.desk.places()
     }
 
-    /// Whether so many cells were looked at; and, where not `only_cells`, whether these script places were, and no question of the host
-    /// files was asked.
+    /// Whether so many cells and these script places were looked at, and no question of the host files was asked.
     #[inline(always)]
-    pub(crate) fn looks_at_no_more(&self, cells: usize, places: Places, only_cells: bool) -> bool
+    pub(crate) fn looks_at_no_more(&self, cells: usize, places: Places) -> bool
         ensures cells { result ≡ true → length self.now.looked.cells ≡ cells }
-        ensures places { result ≡ true → only_cells ≡ false → self.now.looked.places ≡ places }
-        ensures files { result ≡ true → only_cells ≡ false
-            → (ask : Ask) → is_looked self.now.looked.files ask ≡ false }
+        ensures places { result ≡ true → self.now.looked.places ≡ places }
+        ensures files { result ≡ true → (ask : Ask) → is_looked self.now.looked.files ask ≡ false }
     {
-        if self.look_count() != cells {
-            return false;
-        }
-        only_cells || (self.places().is_same(places) && self.asks_nothing())
-    }
-
-    /// Whether PC is below the system's area, so that instructions follow, which look at cells alone.
-    #[inline(always)]
-    pub(crate) fn is_in_program(&self) -> bool
-        ensures { result ≡ true → self.now.state.core.regs.pc < 0xfe00 }
-    {
-        self.regs.pc < SYSTEM_AREA
+        self.look_count() == cells && self.places().is_same(places) && self.asks_nothing()
     }
 
     /// Takes a script place that was looked at out of those that were. `None` where there is none. The state and the cells

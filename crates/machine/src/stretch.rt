@@ -73,10 +73,6 @@ fn go_on(
     ensures goes { GoesOn session.now steps running.old result running.new }
     ensures progress { IfOk result.1 (λ stop. IfNone stop (0 < result.0)) }
     ensures within { result.0 ≤ steps }
-    ensures places { running.old.state.core.regs.pc < 0xfe00
-        → running.new.looked.places ≡ running.old.looked.places }
-    ensures files { running.old.state.core.regs.pc < 0xfe00
-        → running.new.looked.files ≡ running.old.looked.files }
 {
     if running.regs.pc < SYSTEM_AREA {
         return instructions(&mut running.regs, &mut running.overlay, session, steps);
@@ -109,14 +105,13 @@ pub fn run_from(
     let places = running.places();
     let mut n = from;
     while n < end {
-        let only_cells = running.is_in_program();
         let (steps, stop) = go_on(running, session, end - n);
         meter.count_on(steps);
         n += steps;
         if let Some(cause) = stop? {
             return Ok((n, Some(cause)));
         }
-        if !running.looks_at_no_more(cells, places, only_cells) {
+        if !running.looks_at_no_more(cells, places) {
             return Ok((n, None));
         }
     }

@@ -3,7 +3,7 @@ use Rattle.console_calls.specs.declared.cause.Cause.{Cause}
 use Rattle.std.proofs.lemmas.Result.{IfOk-from_err}
 use Rattle.machine.specs.Stretch.{Stretches, ended_of}
 use Rattle.machine.proofs.StretchLemmas.{fails_too, same_cells}
-use Rattle.machine.proofs.JoinedStretches.{either_way, ends_alike, joined_as, looks_alike, looks_at_cells_alone, quiet_to}
+use Rattle.machine.proofs.JoinedStretches.{ends_alike, joined_as, looks_alike, quiet_to}
 use Rattle.machine.proofs.stretch.run_from.Goals as goal
 
 pub returns-in_err-cause-clause-runs : goal.returns-in_err-cause-clause-runs
@@ -42,13 +42,8 @@ loop-n-preserved c =
     let stretch = joined_as c.args.session.now c.args.from c.args.end c.loop-n.n c.go_on-steps.result.0 c.args.running.now.looked c.loop-n.running c.go_on-steps.new.running i.low c.loop-n-test.true i.same i.quiet c.go_on-steps.result.1 (Ok None)
     (c.in_ok-cause.was ∙ ap (λ (x : Option Cause). Ok x) c.in_default.is) (c.go_on-steps.ensures.goes c.loop-n.n i.at) c.go_on-steps.ensures.progress in
     let e = c.if-not-looks_at_no_more.ensures in
-    let cells = same_cells c.args.running.now.looked.cells c.go_on-steps.new.running.looked.cells stretch.extends.cells (e.cells refl ∙ c.look_count-cells.ensures) in
-    let same = either_way c.is_in_program-only_cells.result
-    (λ yes. let inside = c.is_in_program-only_cells.ensures yes in
-    looks_at_cells_alone c.args.running.now.looked c.loop-n.running.looked c.go_on-steps.new.running.looked i.same stretch.extends cells
-    (c.go_on-steps.ensures.places inside) (c.go_on-steps.ensures.files inside))
-    (λ no. looks_alike c.args.running.now.looked c.go_on-steps.new.running.looked stretch.extends cells
-    (e.places refl no ∙ c.places-places.ensures) (e.files refl no)) in
+    let same = looks_alike c.args.running.now.looked c.go_on-steps.new.running.looked stretch.extends
+    (same_cells c.args.running.now.looked.cells c.go_on-steps.new.running.looked.cells stretch.extends.cells (e.cells refl ∙ c.look_count-cells.ensures)) (e.places refl ∙ c.places-places.ensures) (e.files refl) in
     let more : 0 < c.go_on-steps.result.0 = rw c.in_default.is at (rw c.in_ok-cause.was at c.go_on-steps.ensures.progress) in
     record {
       at = stretch.at;
