@@ -85,7 +85,13 @@ impl Page {
         if cells.len() >= LONG_RUN && self.copy_written(from, cells) {
             return true;
         }
-        self.copy_each(from, beneath, marks, cells)
+        let mut is_known = true;
+        for i in 0..cells.len() {
+            let is_written = self.written[from + i];
+            cells[i] = either(is_written, self.bytes[from + i], beneath[i]);
+            is_known &= is_written | marks[i];
+        }
+        is_known
     }
 
     // Copies the bytes of cells of the page from one on, where all of them were written; else the answer is `false`.
@@ -105,25 +111,6 @@ impl Page {
             cells.copy_from_slice(&self.bytes[from..end]);
         }
         is_written
-    }
-
-    // Copies the bytes of cells as `copy_over` does, cell by cell.
-    fn copy_each(&self, from: usize, beneath: &[u8], marks: &[bool], cells: &mut [u8]) -> bool
-        requires page { from + length cells.old ≤ 256 }
-        requires beneath { length beneath.now ≡ length cells.old }
-        requires marks { length marks.now ≡ length cells.old }
-        ensures length { length cells.new ≡ length cells.old }
-        ensures laid { result ≡ true → (i : ℕ) → i < length cells.old
-            → IsLaid (page_own self.now (from + i)) (slice_index beneath.now i) (get_or marks.now i false)
-            (slice_index cells.new i) }
-    {
-        let mut is_known = true;
-        for i in 0..cells.len() {
-            let is_written = self.written[from + i];
-            cells[i] = either(is_written, self.bytes[from + i], beneath[i]);
-            is_known &= is_written | marks[i];
-        }
-        is_known
     }
 }
 

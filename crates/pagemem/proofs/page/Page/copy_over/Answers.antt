@@ -2,7 +2,7 @@ use Rattle.std.proofs.Common.{◌≡◌, ◌+◌, ◌<◌, ◌||◌, ◌&&◌, �
 use Rattle.std.proofs.lemmas.Bool.Decides.{eqb_tells}
 use Rattle.pagemem.specs.Pages.{page_own, IsLaid}
 use Rattle.pagemem.specs.declared.page.Page.{Page}
-use Rattle.pagemem.proofs.page.Page.copy_each.Goals as goal
+use Rattle.pagemem.proofs.page.Page.copy_over.Goals as goal
 
 -- the parts of a test that passed
 first_passed : (a b : Bool) → (a && b) ≡ true → a ≡ true
