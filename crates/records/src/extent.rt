@@ -19,7 +19,7 @@ pub struct Extent {
 type Marks = [bool; EXTENT_RECORDS as usize];
 
 // Places up to the last one that was written, and which of them have a record. The marks stand apart from the records, so that a place
-// without one is told at no cost of memory.
+// without one is told and no memory of records is touched.
 #[derive(Drop)]
 struct Places {
     marks: Marks,
