@@ -3,7 +3,7 @@ ghost use Rattle.pagemem.specs.Pages.{IsLaid, IsNotOwned, own_at, ready_at, is_o
 ghost use Rattle.i8080.specs.End.{cells_from};
 ghost use Rattle.i8080.specs.Memory.{write, write_all};
 
-use crate::page::Slot;
+use crate::page::{Slot, all_set};
 use std::alloc::{AllocError, Global};
 
 /// What was written, in 256 pages. A page is made where one of its cells is first made ready to be
@@ -164,12 +164,7 @@ fn copy_marked(beneath: &[u8], marks: &[bool], cells: &mut [u8]) -> bool
         → IsLaid None (slice_index beneath.now i) (get_or marks.now i false) (slice_index cells.new i) }
 {
     cells.copy_from_slice(beneath);
-    let mut is_known = true;
-    for i in 0..marks.len() {
-        // without a branch, so that many marks are read at a time
-        is_known &= marks[i];
-    }
-    is_known
+    all_set(marks)
 }
 
 // Makes all slots shared whose pages are owned.

@@ -102,16 +102,24 @@ impl Page {
             → page_own self.now (from + i) ≡ Some (slice_index cells.new i) }
     {
         let end = from + cells.len();
-        let mut is_written = true;
-        for i in from..end {
-            // without a branch, so that many marks are read at a time
-            is_written &= self.written[i];
+        if !all_set(&self.written[from..end]) {
+            return false;
         }
-        if is_written {
-            cells.copy_from_slice(&self.bytes[from..end]);
-        }
-        is_written
+        cells.copy_from_slice(&self.bytes[from..end]);
+        true
     }
+}
+
+// Whether all of so many marks are set.
+pub(crate) fn all_set(marks: &[bool]) -> bool
+    ensures { result ≡ true → (i : ℕ) → i < length marks.now → get_or marks.now i false ≡ true }
+{
+    let mut is_set = true;
+    for i in 0..marks.len() {
+        // without a branch, so that many marks are read at a time
+        is_set &= marks[i];
+    }
+    is_set
 }
 
 // One of two bytes. Both are at hand, so that the choice takes no jump and many are made at a time.

@@ -1,5 +1,0 @@
-use Rattle.std.proofs.Common.{◌≡◌, ◌<◌, ℕ, true, false, get_or}
-use Rattle.pagemem.proofs.cells.copy_marked.Given as goal
-
-abbrev pub invariant-loop-i : goal.invariant-loop-i
-invariant-loop-i l = l.is_known ≡ true → (j : ℕ) → j < l.i → get_or l.marks j false ≡ true
