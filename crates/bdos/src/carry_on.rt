@@ -23,6 +23,7 @@ use std::alloc::AllocError;
 
 /// Carries a call on that found something, and goes back to an address. An `Err` leaves registers, cells,
 /// desk and files.
+#[inline(always)]
 pub fn carry_on<B: Bus>(
     finding: &Finding,
     regs: &mut Regs,

@@ -8,11 +8,19 @@ pub struct Places {
 }
 
 impl Places {
-    /// Whether they are the same places, told by the same two numbers.
+    /// Whether they begin at the same place.
     #[inline(always)]
-    pub fn is_same(self, other: Places) -> bool
-        ensures { IsTrue result ↔ (self ≡ other) }
+    pub fn begin_as(self, other: Places) -> bool
+        ensures { IsTrue result ↔ (self.from ≡ other.from) }
     {
-        self.from == other.from && self.to == other.to
+        self.from == other.from
+    }
+
+    /// Whether they end at the same place.
+    #[inline(always)]
+    pub fn end_as(self, other: Places) -> bool
+        ensures { IsTrue result ↔ (self.to ≡ other.to) }
+    {
+        self.to == other.to
     }
 }

@@ -98,11 +98,11 @@ fn may_match(pattern: &Key, ex: u8, key: &Key, from: u32) -> bool
     ensures no { result ≡ false → (s : Option Shape) →
         first_match pattern.now ex (chunk_from key.now s from) ≡ None }
 {
-    if !is_match(pattern, key) {
+    // 63 is `?`, which each extent fits.
+    if ex != 63 && (ex as u32) < from {
         return false;
     }
-    // 63 is `?`, which each extent fits.
-    ex == 63 || ex as u32 >= from
+    is_match(pattern, key)
 }
 
 // The first match among a file's extents from one on, for a pattern that its key matches.

@@ -82,6 +82,7 @@ pub fn search_first(host: &HostFiles, changes: &mut Changes, block: &Block) -> F
 /// Function 18: the first entry that matches after the one given last, in the files as they are now. Without
 /// a search it asks nothing. It takes no memory.
 #[tactic(auto, using(crate::proofs::Extending::extends_same))]
+#[inline(always)]
 pub fn search_next(host: &HostFiles, changes: &mut Changes, last: Option<Search>) -> Finding
     ensures asks { Asks (calls.search_next last) host.now changes.old (Ok result) changes.new }
     ensures apart { IsApart result }
@@ -94,6 +95,7 @@ pub fn search_next(host: &HostFiles, changes: &mut Changes, last: Option<Search>
 
 // The first entry that matches, after one if it is given.
 #[tactic(auto, using(crate::proofs::Drives::same_entry))]
+#[inline(always)]
 fn search(
     host: &HostFiles,
     changes: &mut Changes,

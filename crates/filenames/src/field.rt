@@ -34,13 +34,11 @@ pub fn halves(text: &[u8]) -> (&[u8], &[u8])
 pub fn is_allowed(byte: u8) -> bool
     ensures { result ≡ is_allowed byte }
 {
-    byte.is_ascii_uppercase()
-        || byte.is_ascii_digit()
-        || byte == b'$'
-        || byte == b'#'
-        || byte == b'@'
-        || byte == b'-'
-        || byte == b'_'
+    // most bytes of names are letters, and these are told by two comparisons
+    if byte >= b'A' {
+        return byte <= b'Z' || byte == b'_';
+    }
+    byte.is_ascii_digit() || byte == b'$' || byte == b'#' || byte == b'@' || byte == b'-'
 }
 
 /// Whether all bytes of a text may stand in a name, once its letters are raised.

@@ -1,7 +1,7 @@
-ghost use Rattle.std.specs.Prelude.{◌≡◌, ◌<◌, ℕ, Bool, true, IsTrue, OnOk, OnErr, length, slice_index};
+ghost use Rattle.std.specs.Prelude.{◌≡◌, ◌<◌, ℕ, Bool, true, IsTrue, OnOk, OnErr, IfSome, length, slice_index};
 ghost use Rattle.i8080.specs.Memory.{Memory, bytes, look, write, write_all};
 ghost use Rattle.i8080.specs.Reading.{Cell, Done};
-ghost use Rattle.i8080.specs.Registers.{onward};
+ghost use Rattle.i8080.specs.Registers.{onward, word};
 ghost use Rattle.i8080.specs.Instruction.{word_at};
 ghost use Rattle.i8080.specs.End.{cells_from};
 ghost use Rattle.i8080.specs.Performs.{Reads};
@@ -83,6 +83,20 @@ pub trait Bus {
         let _ = (at, cells.len());
         false
     }
+
+    /// The word at an address, its low byte there and its high byte in the next cell, where the memory has both at hand and reading them
+    /// is no look; the cell after 0FFFFH is 0000H. `None` says nothing of the cells: they are to be read one by one.
+    fn known_word(&self, a: u16) -> Option<u16>
+        ensures value { IfSome result (λ w. w
+            ≡ word (bytes (memory self.now) a) (bytes (memory self.now) (onward a 1))) }
+        ensures low { IfSome result (λ _.
+            look (memory self.now).own (memory self.now).looks a ≡ (memory self.now).looks) }
+        ensures high { IfSome result (λ _.
+            look (memory self.now).own (memory self.now).looks (onward a 1) ≡ (memory self.now).looks) }
+    {
+        let _ = a;
+        None
+    }
 }
 
 /// The byte of a cell.
@@ -102,4 +116,23 @@ pub fn fetch_word<B: Bus>(bus: &mut B, a: u16) -> u16
     let low = fetch(bus, a);
     let high = fetch(bus, a.wrapping_add(1));
     word_of(low, high)
+}
+
+/// The word at the address behind an opcode, as `fetch_word` gives it. Mostly it was looked at before, and then it is read at once.
+#[inline(always)]
+pub fn fetch_operand<B: Bus>(bus: &mut B, a: u16) -> u16
+    ensures { Reads (word_at a Done) (B.memory bus.old) result (B.memory bus.new) }
+{
+    match bus.known_word(a) {
+        Some(word) => word,
+        None => fetch_word_apart(bus, a),
+    }
+}
+
+// The same, cell by cell, away from the path of most operands.
+#[inline(never)]
+fn fetch_word_apart<B: Bus>(bus: &mut B, a: u16) -> u16
+    ensures { Reads (word_at a Done) (B.memory bus.old) result (B.memory bus.new) }
+{
+    fetch_word(bus, a)
 }

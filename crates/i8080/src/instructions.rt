@@ -10,7 +10,7 @@ ghost use Rattle.i8080.specs.Executes.{Executes};
 ghost use Rattle.i8080.specs.declared.opcode.Source.TheVariants.{At, Immediate};
 ghost use Rattle.i8080.specs.declared.opcode.Op.TheVariants.{Nop, Mov, MovToMemory, Mvi, Lxi, Lda, Sta, Lhld, Shld, Ldax, Stax, Xchg, Accumulate, Inr, Dcr, Inx, Dcx, Dad, Rotate, Daa, Cma, Stc, Cmc, Jmp, JumpIf, Call, CallIf, Ret, RetIf, Rst, Pchl, Push, Pop, Xthl, Sphl, In, Out};
 
-use crate::bus::{Bus, fetch, fetch_word};
+use crate::bus::{Bus, fetch, fetch_operand, fetch_word};
 use crate::flags::Flags;
 use crate::opcode::{Arithmetic, Base, Condition, Pair, Place, Register, Restart, Rotation, Saved};
 use crate::outcome::Did;
@@ -141,7 +141,7 @@ pub fn mvi<B: Bus>(regs: &mut Regs, bus: &mut B, to: Place) -> Ended
 pub fn lxi<B: Bus>(regs: &mut Regs, bus: &mut B, to: Pair) -> Ended
     ensures { Executes (Lxi to) regs.old (B.memory bus.old) result regs.new (B.memory bus.new) }
 {
-    let value = fetch_word(bus, regs.pc.wrapping_add(1));
+    let value = fetch_operand(bus, regs.pc.wrapping_add(1));
     regs.set_pair(to, value);
     advance(regs, 3)
 }
@@ -150,7 +150,7 @@ pub fn lxi<B: Bus>(regs: &mut Regs, bus: &mut B, to: Pair) -> Ended
 pub fn lda<B: Bus>(regs: &mut Regs, bus: &mut B) -> Ended
     ensures { Executes Lda regs.old (B.memory bus.old) result regs.new (B.memory bus.new) }
 {
-    let from = fetch_word(bus, regs.pc.wrapping_add(1));
+    let from = fetch_operand(bus, regs.pc.wrapping_add(1));
     regs.a = fetch(bus, from);
     advance(regs, 3)
 }
@@ -159,7 +159,7 @@ pub fn lda<B: Bus>(regs: &mut Regs, bus: &mut B) -> Ended
 pub fn sta<B: Bus>(regs: &mut Regs, bus: &mut B) -> Ended
     ensures { Executes Sta regs.old (B.memory bus.old) result regs.new (B.memory bus.new) }
 {
-    let to = fetch_word(bus, regs.pc.wrapping_add(1));
+    let to = fetch_operand(bus, regs.pc.wrapping_add(1));
     store(bus, to, regs.a)?;
     advance(regs, 3)
 }
@@ -168,17 +168,7 @@ pub fn sta<B: Bus>(regs: &mut Regs, bus: &mut B) -> Ended
 pub fn lhld<B: Bus>(regs: &mut Regs, bus: &mut B) -> Ended
     ensures { Executes Lhld regs.old (B.memory bus.old) result regs.new (B.memory bus.new) }
 {
-    let mut copy = *regs;
-    let did = lhld_apart(&mut copy, bus)?;
-    *regs = copy;
-    Ok(did)
-}
-
-#[inline(never)]
-fn lhld_apart<B: Bus>(regs: &mut Regs, bus: &mut B) -> Ended
-    ensures { Executes Lhld regs.old (B.memory bus.old) result regs.new (B.memory bus.new) }
-{
-    let from = fetch_word(bus, regs.pc.wrapping_add(1));
+    let from = fetch_operand(bus, regs.pc.wrapping_add(1));
     let value = fetch_word(bus, from);
     regs.set_pair(Pair::Hl, value);
     advance(regs, 3)
@@ -188,17 +178,7 @@ fn lhld_apart<B: Bus>(regs: &mut Regs, bus: &mut B) -> Ended
 pub fn shld<B: Bus>(regs: &mut Regs, bus: &mut B) -> Ended
     ensures { Executes Shld regs.old (B.memory bus.old) result regs.new (B.memory bus.new) }
 {
-    let mut copy = *regs;
-    let did = shld_apart(&mut copy, bus)?;
-    *regs = copy;
-    Ok(did)
-}
-
-#[inline(never)]
-fn shld_apart<B: Bus>(regs: &mut Regs, bus: &mut B) -> Ended
-    ensures { Executes Shld regs.old (B.memory bus.old) result regs.new (B.memory bus.new) }
-{
-    let to = fetch_word(bus, regs.pc.wrapping_add(1));
+    let to = fetch_operand(bus, regs.pc.wrapping_add(1));
     store_word(bus, to, regs.pair(Pair::Hl))?;
     advance(regs, 3)
 }
@@ -360,7 +340,7 @@ pub fn cmc<B: Bus>(regs: &mut Regs, _bus: &mut B) -> Ended
 pub fn jmp<B: Bus>(regs: &mut Regs, bus: &mut B) -> Ended
     ensures { Executes Jmp regs.old (B.memory bus.old) result regs.new (B.memory bus.new) }
 {
-    regs.pc = fetch_word(bus, regs.pc.wrapping_add(1));
+    regs.pc = fetch_operand(bus, regs.pc.wrapping_add(1));
     Ok(Did::Went)
 }
 
@@ -368,7 +348,7 @@ pub fn jmp<B: Bus>(regs: &mut Regs, bus: &mut B) -> Ended
 pub fn jump_if<B: Bus>(regs: &mut Regs, bus: &mut B, condition: Condition) -> Ended
     ensures { Executes (JumpIf condition) regs.old (B.memory bus.old) result regs.new (B.memory bus.new) }
 {
-    let to = fetch_word(bus, regs.pc.wrapping_add(1));
+    let to = fetch_operand(bus, regs.pc.wrapping_add(1));
     if !condition.is_met(regs.flags) {
         return advance(regs, 3);
     }
@@ -380,7 +360,7 @@ pub fn jump_if<B: Bus>(regs: &mut Regs, bus: &mut B, condition: Condition) -> En
 pub fn call<B: Bus>(regs: &mut Regs, bus: &mut B) -> Ended
     ensures { Executes Call regs.old (B.memory bus.old) result regs.new (B.memory bus.new) }
 {
-    let to = fetch_word(bus, regs.pc.wrapping_add(1));
+    let to = fetch_operand(bus, regs.pc.wrapping_add(1));
     push_word(regs, bus, regs.pc.wrapping_add(3))?;
     regs.pc = to;
     Ok(Did::Went)
@@ -400,7 +380,7 @@ pub fn call_if<B: Bus>(regs: &mut Regs, bus: &mut B, condition: Condition) -> En
 fn call_if_apart<B: Bus>(regs: &mut Regs, bus: &mut B, condition: Condition) -> Ended
     ensures { Executes (CallIf condition) regs.old (B.memory bus.old) result regs.new (B.memory bus.new) }
 {
-    let to = fetch_word(bus, regs.pc.wrapping_add(1));
+    let to = fetch_operand(bus, regs.pc.wrapping_add(1));
     if !condition.is_met(regs.flags) {
         return advance(regs, 3); // not called
     }

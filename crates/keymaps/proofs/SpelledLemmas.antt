@@ -1,9 +1,9 @@
 -- Lists of bytes compare as the numbers that they spell.
-use Rattle.std.proofs.Common.{◌≡◌, ℕ, ◌+◌, ◌*◌, ◌<◌, zero, suc, ◌&&◌, nat_eq, List, [], ◌∷◌, length, take, drop, refl, sym, ap, ◌∙◌, arith, slice_index}
+use Rattle.std.proofs.Common.{◌≡◌, ℕ, ◌+◌, ◌*◌, ◌<◌, suc, nat_eq, List, [], ◌∷◌, length, refl, sym, ap, ◌∙◌, arith, slice_index}
 use Rattle.std.specs.declared.cmp.Ordering.{Ordering}
 use Rattle.std.specs.declared.cmp.Ordering.TheVariants.{Less, Equal, Greater}
 use Rattle.std.specs.Ordering.{nat_cmp, ordering_then, is_eq, MatchOrdering}
-use Rattle.std.specs.Cmp.{ranks, nat_cmp_is, both_tied, unsigned_ties}
+use Rattle.std.specs.Cmp.{ranks, nat_cmp_is, unsigned_ties}
 use Rattle.std.specs.Cmp.Lexicographic.{slice_cmp, pointwise, texts_ties}
 use Rattle.std.specs.Slice.Scan.{big_endian}
 
@@ -46,27 +46,10 @@ after_cmp a b (u ∷ us) (v ∷ vs) same p q =
     after_cmp (a * 256 + u) (b * 256 + v) us vs (omega arith) (λ i. p (suc i)) (λ i. q (suc i))
     ∙ next_then a b u v (slice_cmp nat_cmp us vs) (p 0) (q 0)
 
--- the same, where the first n bytes make one number with those before them, and the others make one of their own
-abbrev parts_after : ℕ → ℕ → ℕ → List ℕ → List ℕ → Ordering
-parts_after n a b us vs = ordering_then (nat_cmp (big_endian a (take n us)) (big_endian b (take n vs))) (nat_cmp (big_endian 0 (drop n us)) (big_endian 0 (drop n vs)))
-
-parts_after_cmp : (n a b : ℕ) (us vs : List ℕ) → length us ≡ length vs → AreBytes us → AreBytes vs
-    → parts_after n a b us vs ≡ ordering_then (nat_cmp a b) (slice_cmp nat_cmp us vs)
-parts_after_cmp zero a b us vs same p q = ap (ordering_then (nat_cmp a b)) (after_cmp 0 0 us vs same p q)
-parts_after_cmp (suc n) a b [] [] same p q = refl
-parts_after_cmp (suc n) a b [] (v ∷ vs) same p q = absurd (omega arith)
-parts_after_cmp (suc n) a b (u ∷ us) [] same p q = absurd (omega arith)
-parts_after_cmp (suc n) a b (u ∷ us) (v ∷ vs) same p q =
-    parts_after_cmp n (a * 256 + u) (b * 256 + v) us vs (omega arith) (λ i. p (suc i)) (λ i. q (suc i))
-    ∙ next_then a b u v (slice_cmp nat_cmp us vs) (p 0) (q 0)
-
 module _ (us vs : List ℕ) (same : length us ≡ length vs) (p : AreBytes us) (q : AreBytes vs) where
-  -- the numbers of the first n bytes decide, and where they are the same those of the others do
-  pub parts_cmp : (n : ℕ) → parts_after n 0 0 us vs ≡ slice_cmp nat_cmp us vs
-  parts_cmp n = parts_after_cmp n 0 0 us vs same p q
+  -- as many bytes compare as the numbers that they spell
+  pub number_cmp : nat_cmp (big_endian 0 us) (big_endian 0 vs) ≡ slice_cmp nat_cmp us vs
+  number_cmp = after_cmp 0 0 us vs same p q
 
-  pub parts_eq : (n : ℕ)
-      → (nat_eq (big_endian 0 (take n us)) (big_endian 0 (take n vs)) && nat_eq (big_endian 0 (drop n us)) (big_endian 0 (drop n vs))) ≡ pointwise nat_eq us vs
-  parts_eq n =
-      both_tied _ _ _ _ (unsigned_ties (big_endian 0 (take n us)) (big_endian 0 (take n vs))) (unsigned_ties (big_endian 0 (drop n us)) (big_endian 0 (drop n vs)))
-      ∙ ap is_eq (parts_cmp n) ∙ sym (texts_ties us vs)
+  pub number_eq : nat_eq (big_endian 0 us) (big_endian 0 vs) ≡ pointwise nat_eq us vs
+  number_eq = unsigned_ties (big_endian 0 us) (big_endian 0 vs) ∙ ap is_eq number_cmp ∙ sym (texts_ties us vs)

@@ -1,6 +1,6 @@
 // A key as the maps keep it: two of them compare as the numbers that their bytes spell.
 
-ghost use Rattle.std.specs.Prelude.{◌≡◌, ◌<◌, ℕ, refl, nat_eq, slice_index, take, drop};
+ghost use Rattle.std.specs.Prelude.{◌≡◌, ◌<◌, ℕ, refl, nat_eq, slice_index};
 ghost use Rattle.std.specs.Ordering.{nat_cmp, as_partial_cmp};
 ghost use Rattle.std.specs.Slice.Scan.{big_endian};
 ghost use Rattle.std.specs.Cmp.{partial_equiv_from_equiv};
@@ -10,7 +10,7 @@ use filenames::Key;
 use std::cmp::Ordering;
 use std::marker::Model;
 
-/// A key in the order of its bytes, which takes two comparisons of numbers and not one for each byte.
+/// A key in the order of its bytes, which takes one comparison of numbers and not one for each byte.
 #[derive(Clone, Copy)]
 pub(crate) struct OrderedKey {
     bytes: Key,
@@ -42,18 +42,16 @@ impl OrderedKey {
     }
 }
 
-// The numbers that the first eight bytes and the last four spell.
-fn spelled(key: &Key) -> (u64, u32)
-    ensures first { result.0 ≡ big_endian 0 (take 8 key.now) }
-    ensures last { result.1 ≡ big_endian 0 (drop 8 key.now) }
+// The number that the bytes spell.
+fn spelled(key: &Key) -> u128
+    ensures number { result ≡ big_endian 0 key.now }
     ensures bytes { (i : ℕ) → slice_index key.now i < 256 }
 {
-    (
-        u64::from_be_bytes([
-            key[0], key[1], key[2], key[3], key[4], key[5], key[6], key[7],
-        ]),
-        u32::from_be_bytes([key[8], key[9], key[10], key[11]]),
-    )
+    let first = u64::from_be_bytes([
+        key[0], key[1], key[2], key[3], key[4], key[5], key[6], key[7],
+    ]);
+    let last = u32::from_be_bytes([key[8], key[9], key[10], key[11]]);
+    u128::from(first) * 4_294_967_296 + u128::from(last)
 }
 
 impl PartialEq for OrderedKey {

@@ -100,7 +100,11 @@ impl Running {
         ensures places { result ≡ true → self.now.looked.places ≡ places }
         ensures files { result ≡ true → (ask : Ask) → is_looked self.now.looked.files ask ≡ false }
     {
-        self.look_count() == cells && self.places().is_same(places) && self.asks_nothing()
+        // where the places begin is asked last, and apart: two numbers that are read as one wait until both were written
+        self.look_count() == cells
+            && self.places().end_as(places)
+            && self.asks_nothing()
+            && self.places().begin_as(places)
     }
 
     /// Takes a script place that was looked at out of those that were. `None` where there is none. The state and the cells

@@ -46,7 +46,7 @@ fn instructions_over(
 }
 
 // The same, over a session's image. The registers and the overlay are lent apart, so that the loop may keep registers at hand.
-#[inline(never)]
+#[inline(always)]
 fn instructions(
     regs: &mut Regs,
     overlay: &mut Overlay,
@@ -87,7 +87,9 @@ fn go_on(
 /// Carries out steps from the step `from` on: at least one, and on up to the step `end`, to a step that looks at something new,
 /// or to a stop. Answers the step that was reached, and the cause of a stop. A stop and `Err` leave the state that was reached, but
 /// for what was looked at; and at an `Err` what is looked at afterwards was looked at before, or is among what the step looks at
-/// that failed.
+/// that failed. It is a function of its own, with the loop of instructions in it, so that going from a call to instructions and back
+/// hands nothing over in memory.
+#[inline(never)]
 pub fn run_from(
     running: &mut Running,
     session: &Session,

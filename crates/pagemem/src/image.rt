@@ -1,5 +1,8 @@
 ghost use Rattle.std.specs.Prelude.{◌≡◌, ◌<◌, ◌≤◌, ◌+◌, ◌%◌, ℕ, IfSome, length, slice_index};
+ghost use Rattle.i8080.specs.Registers.{onward, word};
 ghost use Rattle.pagemem.specs.Image.{image_at};
+
+use i8080::word_of;
 
 /// A page behind the program.
 static ZEROS: [u8; 256] = [0; 256];
@@ -38,6 +41,26 @@ impl<'a> Image<'a> {
         } else {
             0
         }
+    }
+
+    /// The word at an address, its low byte there, where both bytes stand in the program or in page zero.
+    #[inline(always)]
+    pub fn word(self, a: u16) -> Option<u16>
+        ensures { IfSome result (λ w. w
+            ≡ word (cells_of self.entry a) (cells_of self.entry (onward a 1))) }
+    {
+        // as in `at`, this is past every program where the address lies below 0100H
+        let low = a.wrapping_sub(256) as usize;
+        let high = low + 1;
+        if high < self.program.len() {
+            return Some(word_of(self.program[low], self.program[high]));
+        }
+        let low = a as usize;
+        let high = low + 1;
+        if high < 256 {
+            return Some(word_of(self.page_zero[low], self.page_zero[high]));
+        }
+        None
     }
 
     /// The bytes of so many cells of one page, from an address on, where they stand in one piece: in page zero, in the program, or

@@ -2,7 +2,7 @@ ghost use Rattle.std.specs.Prelude.{◌≡◌, true, false, ◌<◌, ◌≤◌, 
 ghost use Rattle.std.specs.Prelude.{IfNone, IfSome, None, Some, length, slice_index};
 ghost use Rattle.i8080.specs.End.{cells_from};
 ghost use Rattle.i8080.specs.Memory.{bytes, look, write, write_all, is_among, over};
-ghost use Rattle.i8080.specs.Registers.{onward};
+ghost use Rattle.i8080.specs.Registers.{onward, word};
 ghost use Rattle.pagemem.specs.Cells.{own_in, is_ready_in};
 ghost use Rattle.pagemem.specs.Settled.{is_settled, Rests};
 
@@ -144,6 +144,22 @@ impl Overlay {
                 image.at(a)
             }
         }
+    }
+
+    /// The word at an address, its low byte there, where both of its cells are settled and their bytes stand side by side in the image.
+    /// That is no look.
+    #[inline(always)]
+    pub fn known_word(&self, image: Image<'_>, a: u16) -> Option<u16>
+        ensures value { IfSome result (λ w. w ≡ word (over (own_of self.now) (cells_of image.entry) a)
+            (over (own_of self.now) (cells_of image.entry) (onward a 1))) }
+        ensures low { IfSome result (λ _. look (own_of self.now) (looks_of self.now) a ≡ looks_of self.now) }
+        ensures high { IfSome result (λ _.
+            look (own_of self.now) (looks_of self.now) (onward a 1) ≡ looks_of self.now) }
+    {
+        if self.settled.contains(a) && self.settled.contains(a.wrapping_add(1)) {
+            return image.word(a);
+        }
+        None
     }
 
     // A look at a cell that was not written, away from the path of most reads.

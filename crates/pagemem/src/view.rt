@@ -73,4 +73,9 @@ impl Bus for View<'_> {
     fn known_cells(&self, at: u16, cells: &mut [u8]) -> bool {
         self.overlay.known_cells(self.image, at, cells)
     }
+
+    #[inline(always)]
+    fn known_word(&self, a: u16) -> Option<u16> {
+        self.overlay.known_word(self.image, a)
+    }
 }

@@ -1,10 +1,10 @@
 use Rattle.std.proofs.Common.{sym, ◌∙◌}
-use Rattle.keymaps.proofs.SpelledLemmas.{parts_eq}
+use Rattle.keymaps.proofs.SpelledLemmas.{number_eq}
 use Rattle.keymaps.proofs.ordered.OrderedKeyPartialEq.eq.Goals as goal
 
 pub returns : goal.returns
 returns c =
     let a = c.spelled.ensures in
     let b = c.spelled-2.ensures in
-    rw (c.eq.ensures, a.first, a.last, b.first, b.last, sym c.self.view_is, sym c.other.view_is)
-    (parts_eq c.self.inside.bytes c.other.inside.bytes (c.self.told ∙ sym c.other.told) a.bytes b.bytes 8)
+    rw (a.number, b.number, sym c.self.view_is, sym c.other.view_is)
+    (number_eq c.self.inside.bytes c.other.inside.bytes (c.self.told ∙ sym c.other.told) a.bytes b.bytes)
