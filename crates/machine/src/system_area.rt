@@ -56,7 +56,7 @@ fn stop_of_call(served: Served) -> Option<Cause>
 }
 
 // What follows where PC is in the system's area: the call at the BDOS's entry, and a stop elsewhere.
-#[inline(never)]
+#[inline(always)]
 pub(crate) fn enter_system(
     running: &mut Running,
     session: &Session,
