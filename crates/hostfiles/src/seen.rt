@@ -38,6 +38,7 @@ pub struct SeenFile<'a> {
 impl<'a> SeenFile<'a> {
     /// Finds the file of a key: one search of what was done, and one of the host files where the file may
     /// stand on one.
+    #[inline(always)]
     pub fn find(host: &'a HostFiles, journal: &'a Journal, key: &Key) -> SeenFile<'a>
         ensures host { result.host ≡ host.entry }
         ensures journal { result.journal ≡ journal.entry }
