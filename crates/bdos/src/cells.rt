@@ -10,15 +10,26 @@ ghost use Rattle.bdos.specs.FileCalls.{bytes_at, place_cells};
 use i8080::{Bus, fetch};
 use std::alloc::AllocError;
 
-/// Reads cells, from an address on; the cell after 0FFFFH is 0000H.
+/// Reads cells, from an address on; the cell after 0FFFFH is 0000H. It is part of each call that reads some, so that their count is
+/// known there.
+#[inline(always)]
 pub fn fetch_cells<B: Bus>(bus: &mut B, at: u16, cells: &mut [u8])
     requires { length cells.old ≤ 128 }
     ensures reads { Reads (bytes_at (length cells.old) at) (B.memory bus.old) cells.new (B.memory bus.new) }
     ensures length { length cells.new ≡ length cells.old }
 {
-    if bus.known_cells(at, cells) {
-        return;
+    if !bus.known_cells(at, cells) {
+        fetch_each(bus, at, cells);
     }
+}
+
+// The same, one by one: reading some of them is a look, or they are not at hand.
+#[inline(never)]
+fn fetch_each<B: Bus>(bus: &mut B, at: u16, cells: &mut [u8])
+    requires { length cells.old ≤ 128 }
+    ensures reads { Reads (bytes_at (length cells.old) at) (B.memory bus.old) cells.new (B.memory bus.new) }
+    ensures length { length cells.new ≡ length cells.old }
+{
     let mut address = at;
     for i in 0..cells.len() {
         cells[i] = fetch(bus, address);

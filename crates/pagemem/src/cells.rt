@@ -87,6 +87,7 @@ impl Cells {
 
     /// Copies the bytes of cells of one page from an address on: the written ones, and beneath them others. Answers whether each
     /// cell was written or has a mark; `false` says nothing of the copy.
+    #[inline(always)]
     pub fn copy_over(&self, at: u16, beneath: &[u8], marks: &[bool], cells: &mut [u8]) -> bool
         requires page { at % 256 + length cells.old ≤ 256 }
         requires beneath { length beneath.now ≡ length cells.old }
@@ -156,6 +157,7 @@ fn make_shared(slots: &mut [Slot], at: usize, alloc: Global) -> Result<(), Alloc
 }
 
 // The same where none was written.
+#[inline(always)]
 fn copy_marked(beneath: &[u8], marks: &[bool], cells: &mut [u8]) -> bool
     requires beneath { length beneath.now ≡ length cells.old }
     requires marks { length marks.now ≡ length cells.old }

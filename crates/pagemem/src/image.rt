@@ -65,6 +65,7 @@ impl<'a> Image<'a> {
 
     /// The bytes of so many cells of one page, from an address on, where they stand in one piece: in page zero, in the program, or
     /// behind it.
+    #[inline(always)]
     pub fn cells(self, at: u16, count: usize) -> Option<&'a [u8]>
         requires { at % 256 + count ≤ 256 }
         ensures length { IfSome result (λ b. length b.now ≡ count) }

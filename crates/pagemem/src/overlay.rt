@@ -237,7 +237,24 @@ impl Overlay {
 
     /// Copies the bytes of cells from an address on, over an image, where each was written or looked at before; the cell after 0FFFFH
     /// is 0000H. That is no look. `false` says nothing of the copy.
+    #[inline(always)]
     pub fn known_cells(&self, image: Image<'_>, at: u16, cells: &mut [u8]) -> bool
+        ensures length { length cells.new ≡ length cells.old }
+        ensures value { result ≡ true → (i : ℕ) → i < length cells.old
+            → slice_index cells.new i ≡ over (own_of self.now) (cells_of image.entry) (onward at i) }
+        ensures unlooked { result ≡ true → (i : ℕ) → i < length cells.old
+            → look (own_of self.now) (looks_of self.now) (onward at i) ≡ looks_of self.now }
+    {
+        if cells.len() <= 256 - usize::from(at % 256) {
+            // mostly so, and then their count is that of the caller, who knows it
+            return self.known_in_page(image, at, cells);
+        }
+        self.known_in_pages(image, at, cells)
+    }
+
+    // The same, a page after another.
+    #[inline(never)]
+    fn known_in_pages(&self, image: Image<'_>, at: u16, cells: &mut [u8]) -> bool
         ensures length { length cells.new ≡ length cells.old }
         ensures value { result ≡ true → (i : ℕ) → i < length cells.old
             → slice_index cells.new i ≡ over (own_of self.now) (cells_of image.entry) (onward at i) }
@@ -258,6 +275,7 @@ impl Overlay {
     }
 
     // The same within a page.
+    #[inline(always)]
     fn known_in_page(&self, image: Image<'_>, at: u16, cells: &mut [u8]) -> bool
         requires { at % 256 + length cells.old ≤ 256 }
         ensures length { length cells.new ≡ length cells.old }

@@ -73,6 +73,7 @@ impl Page {
 
     /// Copies the bytes of cells of the page from one on: the written ones, and beneath them others. Answers whether each cell was
     /// written or has a mark; `false` says nothing of the copy.
+    #[inline(always)]
     pub fn copy_over(&self, from: usize, beneath: &[u8], marks: &[bool], cells: &mut [u8]) -> bool
         requires page { from + length cells.old ≤ 256 }
         requires beneath { length beneath.now ≡ length cells.old }
@@ -95,6 +96,7 @@ impl Page {
     }
 
     // Copies the bytes of cells of the page from one on, where all of them were written; else the answer is `false`.
+    #[inline(always)]
     fn copy_written(&self, from: usize, cells: &mut [u8]) -> bool
         requires page { from + length cells.old ≤ 256 }
         ensures length { length cells.new ≡ length cells.old }
@@ -111,6 +113,7 @@ impl Page {
 }
 
 // Whether all of so many marks are set.
+#[inline(always)]
 pub(crate) fn all_set(marks: &[bool]) -> bool
     ensures { result ≡ true → (i : ℕ) → i < length marks.now → get_or marks.now i false ≡ true }
 {

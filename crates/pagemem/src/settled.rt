@@ -55,6 +55,7 @@ impl Settled {
     }
 
     /// The marks of so many cells, from an address on.
+    #[inline(always)]
     pub fn marks(&self, at: u16, count: usize) -> &[bool]
         requires { at + count ≤ 65536 }
         ensures length { length result.now ≡ count }

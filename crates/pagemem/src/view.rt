@@ -70,6 +70,7 @@ impl Bus for View<'_> {
         self.overlay.write_cells(at, values)
     }
 
+    #[inline(always)]
     fn known_cells(&self, at: u16, cells: &mut [u8]) -> bool {
         self.overlay.known_cells(self.image, at, cells)
     }

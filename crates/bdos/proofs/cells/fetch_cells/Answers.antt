@@ -1,34 +1,8 @@
-use Rattle.std.proofs.Common.{rules, arith, ◌∙◌, length}
-use Rattle.console_calls.proofs.Scanning.{byte_read, looked_at}
-use Rattle.bdos.proofs.Runs.{taken_on, looked_on, taken_all, looked_all, reads_known}
+use Rattle.std.proofs.Common.{arith, length}
+use Rattle.bdos.proofs.Runs.{reads_known}
 use Rattle.bdos.proofs.cells.fetch_cells.Goals as goal
 
-pub loop-i-preserved : goal.loop-i-preserved
-loop-i-preserved g c =
-    let i = c.loop-i.invariant in
-    let value = byte_read (g.B.Bus.memory c.args.bus.now) _ _ _ _ c.fetch.ensures i.own i.beneath in
-    let looked = looked_at (g.B.Bus.memory c.args.bus.now) _ _ _ _ c.fetch.ensures i.own i.beneath in
-    record {
-      count = search rules;
-      taken = taken_on _ (length c.args.cells.now) c.loop-i.i _ _ c.loop-i.cells (omega arith) (omega arith) value ∙ i.taken;
-      looks = looked_on _ _ _ _ (length c.args.cells.now) c.loop-i.i _ (omega arith) looked ∙ i.looks;
-      own = search rules;
-      beneath = search rules;
-      lender = search rules;
-    }
-
-pub returns-clause-reads : goal.returns-clause-reads
-returns-clause-reads g c =
-    let i = c.loop-i.invariant in
-    record {
-      value = taken_all _ (length c.args.cells.now) c.loop-i.i _ c.loop-i.cells (omega arith) (omega arith) ∙ i.taken;
-      looks = looked_all _ _ _ (length c.args.cells.now) c.loop-i.i _ (omega arith) ∙ i.looks;
-      own = i.own;
-      beneath = i.beneath;
-      lender = i.lender;
-    }
-
-pub returns-then-known_cells-clause-reads : goal.returns-then-known_cells-clause-reads
-returns-then-known_cells-clause-reads g c =
+pub returns-else-not-known_cells-clause-reads : goal.returns-else-not-known_cells-clause-reads
+returns-else-not-known_cells-clause-reads g c =
     let e = c.known_cells.ensures in
-    reads_known (g.B.Bus.memory c.args.bus.now) c.args.at (length c.args.cells.now) c.known_cells.new.cells (omega arith) e.length (e.value c.if-known_cells.true) (e.unlooked c.if-known_cells.true)
+    reads_known (g.B.Bus.memory c.args.bus.now) c.args.at (length c.args.cells.now) c.known_cells.new.cells (omega arith) e.length (e.value c.if-not-known_cells.false) (e.unlooked c.if-not-known_cells.false)

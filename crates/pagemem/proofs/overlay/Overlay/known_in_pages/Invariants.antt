@@ -3,7 +3,7 @@ use Rattle.i8080.specs.Memory.{look, over}
 use Rattle.i8080.specs.Registers.{onward}
 use Rattle.pagemem.specs.ImageView.{cells_of}
 use Rattle.pagemem.specs.Overlay.{own_of, looks_of}
-use Rattle.pagemem.proofs.overlay.Overlay.known_cells.Given as goal
+use Rattle.pagemem.proofs.overlay.Overlay.known_in_pages.Given as goal
 
 abbrev pub invariant-loop-copied : goal.invariant-loop-copied
 invariant-loop-copied l = record {

@@ -2,7 +2,7 @@ use Rattle.std.proofs.Common.{◌≡◌, ◌++◌, ◌-◌, length, take}
 use Rattle.i8080.specs.Memory.{bytes, look_all}
 use Rattle.i8080.specs.Reading.{end_of, asked}
 use Rattle.bdos.specs.FileCalls.{bytes_at}
-use Rattle.bdos.proofs.cells.fetch_cells.Given as goal
+use Rattle.bdos.proofs.cells.fetch_each.Given as goal
 
 abbrev pub invariant-loop-i : goal.invariant-loop-i
 invariant-loop-i g l = let first = g.B.Bus.memory l.fn.bus in let now = g.B.Bus.memory l.bus in let n = length l.fn.cells in record {
