@@ -152,7 +152,8 @@ impl Overlay {
     pub fn known_word(&self, image: Image<'_>, a: u16) -> Option<u16>
         ensures value { IfSome result (λ w. w ≡ word (over (own_of self.now) (cells_of image.entry) a)
             (over (own_of self.now) (cells_of image.entry) (onward a 1))) }
-        ensures low { IfSome result (λ _. look (own_of self.now) (looks_of self.now) a ≡ looks_of self.now) }
+        ensures low { IfSome result (λ _.
+            look (own_of self.now) (looks_of self.now) a ≡ looks_of self.now) }
         ensures high { IfSome result (λ _.
             look (own_of self.now) (looks_of self.now) (onward a 1) ≡ looks_of self.now) }
     {
