@@ -2,3 +2,4 @@ pub mod Questions
 pub mod FileCalls
 pub mod Fulfils
 pub mod Calls
+pub mod Growth

@@ -1,8 +1,10 @@
-ghost use Rattle.std.specs.Prelude.{◌≡◌, ◌≤◌, List, ℕ, Ok, length, if◌then◌else◌};
+ghost use Rattle.std.specs.Prelude.{◌≡◌, ◌≤◌, List, ℕ, true, is_some, Ok, OnErr, length, if◌then◌else◌};
 ghost use Rattle.file_calls.specs.Answers.{drives_of};
+ghost use Rattle.i8080.specs.Memory.{bytes};
 ghost use Rattle.i8080.specs.Performs.{Reads};
 ghost use Rattle.bdos.specs.FileCalls.{file_call, delete_call, search_next_call, drive_named, block_read};
-ghost use Rattle.bdos.specs.Calls.{call};
+ghost use Rattle.bdos.specs.Calls.{call, system_function};
+ghost use Rattle.bdos.specs.Growth.{may_grow, names_drive};
 ghost use Rattle.bdos.specs.Fulfils.{Serves};
 ghost use Rattle.bdos.specs.Fulfils.{Fulfils, scene};
 
@@ -16,9 +18,9 @@ use filenames::{Drive, Fcb};
 use i8080::{Bus, Regs, fetch, fetch_word, word_of};
 use std::alloc::AllocError;
 
-/// Carries out the call whose number is in C. A call that stops, and an `Err` (a want of memory), leave the
-/// registers, the written cells, the desk and the files as they were; what was looked at may have grown, by
-/// what the whole call looks at. [Interface Guide 1979, system function summary]
+/// Executes the call whose number is in C. If it stops or fails, the registers, the written cells, the desk and
+/// the files stay as they were, and only the set of looks may have grown, by no more than the whole call looks at.
+/// `Err` means out of memory, which a call that asks no file, writes nothing and sends nothing never is. [Interface Guide 1979, system function summary]
 #[tactic(auto, unfolding(crate::specs::Calls::call))]
 #[inline(always)]
 pub fn call<B: Bus>(
@@ -28,9 +30,11 @@ pub fn call<B: Bus>(
     desk: &mut Desk,
     script: &[u8],
 ) -> Result<Served, AllocError>
-    ensures { (n : ℕ) → length script.now ≤ n → Serves n script.now
+    ensures serves { (n : ℕ) → length script.now ≤ n → Serves n script.now
         (scene regs.old (B.memory bus.old) desk.old (drives_of table.old)) result
         (scene regs.new (B.memory bus.new) desk.new (drives_of table.new)) }
+    ensures grows { OnErr result (may_grow (system_function regs.old.c) regs.old desk.old.desk.spot
+        (bytes (B.memory bus.old)) script.now ≡ true) }
 {
     match SystemFunction::decode(regs.c) {
         SystemFunction::OfFile(function) => file_call(regs, bus, table, desk, function),
@@ -49,9 +53,11 @@ fn file_call<B: Bus>(
     desk: &mut Desk,
     function: FileFunction,
 ) -> Result<Served, AllocError>
-    ensures { (script : List ℕ) → Fulfils (file_call function regs.old desk.old.desk.spot) script
+    ensures fulfils { (script : List ℕ) → Fulfils (file_call function regs.old desk.old.desk.spot) script
         (scene regs.old (B.memory bus.old) desk.old (drives_of table.old)) result
         (scene regs.new (B.memory bus.new) desk.new (drives_of table.new)) }
+    ensures grows { OnErr result
+        (names_drive regs.old desk.old.desk.spot (bytes (B.memory bus.old)) ≡ true) }
 {
     let at = word_of(regs.e, regs.d);
     let dr = fetch(bus, at);
@@ -62,7 +68,7 @@ fn file_call<B: Bus>(
     let to = fetch_word(bus, regs.sp);
     match &function.inquire(table.host, table.changes, &block) {
         Ok(finding) => carry_on(finding, regs, bus, table, desk, to),
-        Err(AllocError) => Err(AllocError),
+        Err(error) => Err(*error),
     }
 }
 
@@ -74,9 +80,11 @@ fn delete_call<B: Bus>(
     table: &mut Table<'_>,
     desk: &Desk,
 ) -> Result<Served, AllocError>
-    ensures { (script : List ℕ) → Fulfils (delete_call regs.old desk.now.desk.spot) script
+    ensures fulfils { (script : List ℕ) → Fulfils (delete_call regs.old desk.now.desk.spot) script
         (scene regs.old (B.memory bus.old) desk.now (drives_of table.old)) result
         (scene regs.new (B.memory bus.new) desk.now (drives_of table.new)) }
+    ensures grows { OnErr result
+        (names_drive regs.old desk.now.desk.spot (bytes (B.memory bus.old)) ≡ true) }
 {
     let at = word_of(regs.e, regs.d);
     let dr = fetch(bus, at);
@@ -105,9 +113,10 @@ fn search_next_call<B: Bus>(
     table: &mut Table<'_>,
     desk: &mut Desk,
 ) -> Result<Served, AllocError>
-    ensures { (script : List ℕ) → Fulfils (search_next_call regs.old desk.old.desk.spot) script
+    ensures fulfils { (script : List ℕ) → Fulfils (search_next_call regs.old desk.old.desk.spot) script
         (scene regs.old (B.memory bus.old) desk.old (drives_of table.old)) result
         (scene regs.new (B.memory bus.new) desk.new (drives_of table.new)) }
+    ensures grows { OnErr result (is_some desk.old.desk.spot.search ≡ true) }
 {
     let to = fetch_word(bus, regs.sp);
     let finding = search_next(table.host, table.changes, desk.search());

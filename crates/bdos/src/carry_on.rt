@@ -1,6 +1,6 @@
 // What a call does with what it found.
 
-ghost use Rattle.std.specs.Prelude.{◌≡◌, ◌≢◌, ◌≤◌, ◌/◌, ◌%◌, List, [], ◌∷◌, ℕ, Ok, OnOk, OnErr, length};
+ghost use Rattle.std.specs.Prelude.{◌≡◌, ◌≢◌, ◌≤◌, ◌/◌, ◌%◌, List, [], ◌∷◌, ℕ, true, Ok, OnOk, OnErr, length};
 ghost use Rattle.console_calls.specs.Places.{Watched};
 ghost use Rattle.file_calls.specs.Answers.{Drives, drives_of};
 ghost use Rattle.file_calls.specs.Apart.{IsApart};
@@ -12,6 +12,7 @@ ghost use Rattle.i8080.specs.Registers.{word};
 ghost use Rattle.bdos.specs.FileCalls.{carried_on, back, directory_record, random_cells};
 ghost use Rattle.bdos.specs.FileCalls.{random_bytes, opened_bytes, made_bytes};
 ghost use Rattle.bdos.specs.Fulfils.{Fulfils, scene};
+ghost use Rattle.bdos.specs.Growth.{is_done};
 
 use crate::cells::{fetch_cells, put_cells, put_record, ready_place, write_place};
 use console_calls::{Desk, Served, give_back};
@@ -21,8 +22,8 @@ use file_calls::{Finding, Write};
 use i8080::{Bus, Regs, word_of};
 use std::alloc::AllocError;
 
-/// Carries a call on that found something, and goes back to an address. An `Err` leaves registers, cells,
-/// desk and files.
+/// Finishes a call that found something, and goes back to an address. `Err` means out of memory: registers, cells,
+/// desk and files stay, and what was found is more than a value.
 #[inline(always)]
 pub fn carry_on<B: Bus>(
     finding: &Finding,
@@ -33,10 +34,11 @@ pub fn carry_on<B: Bus>(
     to: u16,
 ) -> Result<Served, AllocError>
     requires { IsApart finding.now }
-    ensures { (script : List ℕ) →
+    ensures fulfils { (script : List ℕ) →
         Fulfils (carried_on finding.now regs.old desk.old.desk.spot to) script
         (scene regs.old (B.memory bus.old) desk.old (drives_of table.old)) result
         (scene regs.new (B.memory bus.new) desk.new (drives_of table.new)) }
+    ensures grows { OnErr result (is_done finding.now ≡ true) }
 {
     match finding {
         Finding::Value(value) => Ok(give_nothing(regs, bus, desk, *value, to)),

@@ -10,4 +10,5 @@ mod cells;
 mod function;
 
 pub use calls::call;
+pub use console_calls::{Cause, Desk, Served, Spot};
 pub use function::SystemFunction;

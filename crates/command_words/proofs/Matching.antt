@@ -1,6 +1,6 @@
 -- What is read of the matches of a parse.
-use Rattle.std.proofs.Common.{◌≡◌, ◌∙◌, ℕ, List, [], ◌∷◌, map, unwrap_or, Option, Some, None, sym, ap, subst, refl, true}
-use Rattle.std.specs.Prelude.{Result, Ok, Err, option_map}
+use Rattle.std.proofs.Common.{◌≡◌, ◌∙◌, ◌≤◌, ◌<◌, ◌^◌, ℕ, List, [], ◌∷◌, map, unwrap_or, Option, Some, None, sym, ap, subst, refl, true}
+use Rattle.std.specs.Prelude.{IfNone, Result, Ok, Err, option_map}
 use Rattle.std.specs.Borrow.{Bor}
 use Rattle.std.specs.Str.Parse.{ParsesUnsigned}
 use Rattle.clap.specs.Words.{App, FailsBy, HasKind, ReadsOne, Row, Text, fault_of, first_of, first_value, is_simple, matches_of, one_text, rows_of}
@@ -43,6 +43,22 @@ number_said f id G n none value parses = elim (one_text f id) as (λ o. one_text
   | None ↦ λ e. let bad : Some n ≡ None = none e in cc
   | Some t ↦ λ e. let read = parses t (Ok n) (value t e) in (t, sym (one_text-rows f id) ∙ e, (read.0.0, read.1))
 ] refl
+
+-- where the row says a number of 64 bits, that is the number that was read
+pub number_read : {E : Type 0} (f : Found) (id : Text) (G : List ℕ → Result ℕ E → Type 0) (r : Option ℕ) → ((t : List ℕ) → one_text f id ≡ Some t → ReadsOne G t r)
+    → ((t : List ℕ) (x : Result ℕ E) → G t x → ParsesUnsigned 64 10 t x) → (n : ℕ) → SaysNumber (rows_of f) id n → n < 2 ^ 64 → r ≡ Some n
+number_read {E = E} f id G r value parses n says fits = by_read r (value says.0 (one_text-rows f id ∙ says.1)) where
+  by_read : (r : Option ℕ) → ReadsOne G says.0 r → r ≡ Some n
+  by_read (Some v) h = let read = parses says.0 (Ok v) h in ap Some (read.1 ∙ sym says.2.1)
+  by_read None h = let unread = parses says.0 (Err h.0) h.1 in absurd (unread (says.2.0, subst (λ m. m < 2 ^ 64) says.2.1 fits))
+
+-- a number that was read and is not in a range is none of the range
+pub out_of_range : (n v least most : ℕ) → Some v ≡ Some n → least ≤ n → n ≤ most → (least ≤ v → v ≤ most → ⊥) → ⊥
+out_of_range n v least most e low high out = let same : v ≡ n = cc in out (subst (λ m. least ≤ m) (sym same) low) (subst (λ m. m ≤ most) (sym same) high)
+
+pub at_none : {T P : Type 0} (r : Option T) → P → IfNone r P
+at_none None p = p
+at_none (Some x) p = tt
 
 -- the text of an argument, or none
 pub text_or_none : (r : Option (Bor Text)) (d t : Bor Text) (o : Option Text) → t ≡ unwrap_or r d → d.now ≡ [] → option_map (λ s. s.now) r ≡ o → t.now ≡ unwrap_or o []

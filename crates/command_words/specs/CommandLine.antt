@@ -1,6 +1,6 @@
 -- The command line of `cpmrun` as a command of clap, and what is read of its matches. (Over clap's own definitions; the words:
 -- this project's own.)
-use Rattle.std.specs.Prelude.{◌≡◌, ℕ, List, [], ◌∷◌, Option, Some, map, option_map, unwrap_or, codes, true}
+use Rattle.std.specs.Prelude.{◌≡◌, ◌≤◌, ◌⊎◌, ℕ, List, [], ◌∷◌, Option, Some, None, map, option_map, unwrap_or, codes, true}
 use Rattle.std.specs.Borrow.{Bor}
 use Rattle.std.specs.Str.Parse.{IsNumeral, digits_value, without_leading_plus}
 use Rattle.clap.specs.Words.{App, Kinds, Row, Rule, Text, fault_of, first_of, matches_of, new_app, new_rule, one_of, with_rule}
@@ -72,6 +72,16 @@ IsDecimal text n = IsNumeral 10 (without_leading_plus text) × (n ≡ digits_val
 -- the text of the first value of an argument is a number
 abbrev pub SaysNumber : List Row → Text → ℕ → Type 0
 SaysNumber rows id n = (text : Text) × (one_of id rows ≡ Some text) × IsDecimal text n
+
+-- the text of the first value of an argument is no number from one to another
+abbrev pub HasNoNumberWithin : List Row → Text → ℕ → ℕ → Type 0
+HasNoNumberWithin rows id least most = (n : ℕ) → SaysNumber rows id n → least ≤ n → n ≤ most → ⊥
+
+-- the matches have no program, or a number that is not in its range
+abbrev pub LacksWords : List Row → Type 0
+LacksWords rows =
+    (first_of (codes "PROGRAM") rows ≡ None) ⊎ HasNoNumberWithin rows (codes "limit") 0 4000000000
+    ⊎ HasNoNumberWithin rows (codes "spacing") 1 1000000000 ⊎ HasNoNumberWithin rows (codes "slots") 1 4096
 
 -- the first value of each argument, if it has one
 abbrev pub texts_of : List Row → List Text → List (Option Text)

@@ -16,7 +16,7 @@ Example:
       runs hello.com with the tail note.txt over the files in the folder disk, and writes the
       files that it changed into the folder changed
 
-A TAIL that begins with '-' stands last, after '--'.
+Quote a TAIL of several words: 'a.txt b.txt'. One that begins with '-' comes last, after '--'.
 
 Exit status:
   0   the program came to the warm start, the edits were replayed, or help was asked for
@@ -155,7 +155,9 @@ fn limit_option<'a>(alloc: Global) -> Arg<'a>
 {
     number_argument(alloc, "limit", "1000000")
         .value_parser(value_parser!(u64).range(0..=4_000_000_000))
-        .help("The steps after which a run stops, 0 to 4,000,000,000")
+        .help(
+            "The steps after which a run stops, 0 to 4,000,000,000; raise it if a run ends with `stop Limit`",
+        )
 }
 
 /// The steps from one checkpoint to the next.

@@ -1,6 +1,6 @@
-ghost use Rattle.std.specs.Prelude.{◌≤◌, IfOk, IfSome, map, string_bytes};
+ghost use Rattle.std.specs.Prelude.{◌≤◌, IfOk, IfSome, IfNone, map, string_bytes};
 ghost use Rattle.clap.specs.Words.{FailsBy, found_of, rows_of};
-ghost use Rattle.command_words.specs.CommandLine.{Says, SaysNumber, faults_at, matches_at};
+ghost use Rattle.command_words.specs.CommandLine.{HasNoNumberWithin, LacksWords, Says, SaysNumber, faults_at, matches_at};
 
 use crate::options::command;
 use clap::{ArgMatches, Error};
@@ -29,11 +29,12 @@ pub struct Words<'a> {
     pub slots: usize,
 }
 
-/// The number of an option, where it is there and in its range.
+/// Returns the number of an option, if it is there and in its range.
 fn number(matches: &ArgMatches<'_>, id: &str, least: u64, most: u64) -> Option<u64>
     ensures said { IfSome result (SaysNumber (rows_of (found_of matches.now)) id.now) }
     ensures low { IfSome result (λ n. least ≤ n) }
     ensures high { IfSome result (λ n. n ≤ most) }
+    ensures none { IfNone result (HasNoNumberWithin (rows_of (found_of matches.now)) id.now least most) }
 {
     match matches.get_one::<u64>(id) {
         Some(n) if least <= n && n <= most => Some(n),
@@ -41,12 +42,13 @@ fn number(matches: &ArgMatches<'_>, id: &str, least: u64, most: u64) -> Option<u
     }
 }
 
-/// The words of the matches, where each that has to be there is, and each number is in its range.
+/// Returns the words of the matches, if each that has to be there is, and each number is in its range.
 fn words_of<'a>(matches: &ArgMatches<'a>) -> Option<Words<'a>>
     ensures says { IfSome result (Says (rows_of (found_of matches.now))) }
     ensures limit { IfSome result (λ w. w.limit ≤ 4000000000) }
     ensures spacing { IfSome result (λ w. (1 ≤ w.spacing) × (w.spacing ≤ 1000000000)) }
     ensures slots { IfSome result (λ w. (1 ≤ w.slots) × (w.slots ≤ 4096)) }
+    ensures none { IfNone result (LacksWords (rows_of (found_of matches.now))) }
 {
     Some(Words {
         program: matches.get_str("PROGRAM")?,

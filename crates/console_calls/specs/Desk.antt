@@ -1,7 +1,7 @@
 -- What the BDOS keeps beside memory and files: how far the console script was taken, what the console shows, where records go,
 -- the current drive, and where a search of the directory goes on. ([Interface Guide 1979, functions 1, 2, 9, 14, 17 and 26];
 -- the cursor, the text, the rules of the column, and what is kept of a search: this project's profile.)
-use Rattle.std.specs.Prelude.{ℕ, ◌+◌, ◌-◌, ◌%◌, ◌==◌, ◌||◌, nat_le, nat_lt, if◌then◌else◌, List, [], ◌∷◌, ◌++◌, replicate, None}
+use Rattle.std.specs.Prelude.{ℕ, ◌+◌, ◌-◌, ◌%◌, ◌==◌, ◌||◌, Bool, nat_le, nat_lt, if◌then◌else◌, List, [], ◌∷◌, ◌++◌, replicate, None}
 use Rattle.filenames.specs.declared.drive.Drive.TheVariants.{A}
 use Rattle.console_calls.specs.declared.desk.Spot.{Spot}
 
@@ -45,11 +45,13 @@ tabbed column = let blanks = 8 - column % 8 in record { bytes = replicate blanks
 abbrev pub printed : ℕ → ℕ → Shown
 printed column byte = if byte == 0x09 then tabbed column else sent column byte
 
--- what function 1 prints of the byte that it takes [Interface Guide 1979, function 1]
+-- whether function 1 prints the byte that it takes [Interface Guide 1979, function 1]
+abbrev pub is_echoed : ℕ → Bool
+is_echoed byte = nat_le 0x20 byte || byte == 0x08 || byte == 0x09 || byte == 0x0a || byte == 0x0d
+
+-- what function 1 prints of the byte that it takes
 abbrev pub echoed : ℕ → ℕ → Shown
-echoed column byte =
-    if nat_le 0x20 byte || byte == 0x08 || byte == 0x09 || byte == 0x0a || byte == 0x0d then printed column byte
-    else record { bytes = []; column = column }
+echoed column byte = if is_echoed byte then printed column byte else record { bytes = []; column = column }
 
 -- one after the other
 abbrev pub followed : Shown → Shown → Shown

@@ -9,4 +9,5 @@ pub mod Printing
 pub mod Functions
 pub mod Calls
 pub mod Serves
+pub mod Growth
 pub use Rattle.filenames.specs.declared.drive.Drive

@@ -1,8 +1,13 @@
-ghost use Rattle.std.specs.Prelude.{◌≡◌, ◌≤◌, ◌<◌, ℕ, List, length, slice_get, is_some, IsSome, IsTrue, OnOk, if◌then◌else◌, Ok};
+ghost use Rattle.std.specs.Prelude.{◌≡◌, ◌≤◌, ◌<◌, ◌==◌, ℕ, List, length, not, true, false, slice_get, is_some, IsSome, IsTrue};
+ghost use Rattle.std.specs.Prelude.{OnOk, OnErr, if◌then◌else◌, Ok};
+ghost use Rattle.std.specs.Option.{option_map_or};
 ghost use Rattle.i8080.specs.Memory.{write_all};
 ghost use Rattle.i8080.specs.Registers.{onward};
 ghost use Rattle.console_calls.specs.Calls as calls;
 ghost use Rattle.console_calls.specs.Calls.{at_caller, line_cells};
+ghost use Rattle.console_calls.specs.Desk.{is_echoed};
+ghost use Rattle.console_calls.specs.Functions.{function_of};
+ghost use Rattle.console_calls.specs.Growth.{may_grow};
 ghost use Rattle.console_calls.specs.Serves.{CarriesOut};
 ghost use Rattle.console_calls.specs.Printing.{Prints, Scans};
 
@@ -21,9 +26,9 @@ const IO_BYTE: u16 = 0x0003;
 /// CP/M 2.2.
 const VERSION: u16 = 0x0022;
 
-/// Carries out the call whose number is in C. A call that stops, and an `Err` (a want of memory), leave the
-/// registers, the written cells and the desk as they were; a call that stops has looked at cells and script
-/// places. [Interface Guide 1979, system function summary]
+/// Executes the call whose number is in C. If it stops or fails, the registers, the written cells and the desk
+/// stay as they were, and only cells and script offsets may have been looked at. `Err` means out of memory, which a
+/// call that writes and sends nothing never is. [Interface Guide 1979, system function summary]
 #[tactic(auto, unfolding(crate::specs::Calls::call))]
 pub fn call<B: Bus>(
     regs: &mut Regs,
@@ -31,8 +36,10 @@ pub fn call<B: Bus>(
     desk: &mut Desk,
     script: &[u8],
 ) -> Result<Served, AllocError>
-    ensures { (n : ℕ) → length script.now ≤ n → CarriesOut (calls.call n) script.now
+    ensures carries { (n : ℕ) → length script.now ≤ n → CarriesOut (calls.call n) script.now
         (regs.old, B.memory bus.old, desk.old) result (regs.new, B.memory bus.new, desk.new) }
+    ensures grows { OnErr result
+        (may_grow (function_of regs.old.c) regs.old desk.old.desk.spot script.now ≡ true) }
 {
     let Some(function) = Function::decode(regs.c) else {
         return Ok(Served::Stop(Cause::Unsupported(regs.c)));
@@ -64,8 +71,10 @@ fn console_input<B: Bus>(
     desk: &mut Desk,
     script: &[u8],
 ) -> Result<Served, AllocError>
-    ensures { CarriesOut calls.console_input script.now
+    ensures carries { CarriesOut calls.console_input script.now
         (regs.old, B.memory bus.old, desk.old) result (regs.new, B.memory bus.new, desk.new) }
+    ensures grows { OnErr result
+        (option_map_or is_echoed (slice_get script.now desk.old.desk.spot.cursor) false ≡ true) }
 {
     let Some(byte) = byte_at(script, desk.cursor()) else {
         desk.look(1);
@@ -85,8 +94,9 @@ fn direct_console<B: Bus>(
     desk: &mut Desk,
     script: &[u8],
 ) -> Result<Served, AllocError>
-    ensures { CarriesOut calls.direct_console script.now
+    ensures carries { CarriesOut calls.direct_console script.now
         (regs.old, B.memory bus.old, desk.old) result (regs.new, B.memory bus.new, desk.new) }
+    ensures grows { OnErr result (not (regs.old.e == 0xff) ≡ true) }
 {
     if regs.e == 0xff {
         return Ok(direct_input(regs, bus, desk, script));

@@ -1,6 +1,6 @@
-ghost use Rattle.std.specs.Prelude.{◌≡◌, ◌≤◌, ◌<◌, ◌+◌, ℕ, true, false, length, IfOk, OnOk, OnErr, IfSome, IfNone};
+ghost use Rattle.std.specs.Prelude.{◌≡◌, ◌≤◌, ◌<◌, ◌+◌, ℕ, true, false, length, Ok, IfOk, OnOk, OnErr, IfSome, IfNone};
 ghost use Rattle.console_calls.specs.Desk as desk;
-ghost use Rattle.console_calls.specs.Desk.{first_desk, printed, tabbed, sent, echoed};
+ghost use Rattle.console_calls.specs.Desk.{first_desk, printed, tabbed, sent, echoed, is_echoed};
 ghost use Rattle.console_calls.specs.DeskAfter.{Shows, sent_all, at_spot, desk_taking, desk_appending, desk_back};
 ghost use Rattle.console_calls.specs.Places.{IsSpotOf, LeavesOut, LooksAhead, is_within};
 
@@ -19,6 +19,15 @@ pub struct Spot {
     buffer: u16,
     drive: Drive,
     search: Option<Search>,
+}
+
+impl Spot {
+    /// Returns a copy of the spot. It takes no memory, so it is never an `Err`.
+    pub fn snapshot(&self) -> Result<Spot, AllocError>
+        ensures { result ≡ Ok self.now }
+    {
+        Ok(*self)
+    }
 }
 
 /// How far the console script was taken, what the console shows, and where records go; and the script places
@@ -146,11 +155,11 @@ impl Desk {
         Ok(Desk { spot, text, places })
     }
 
-    /// Whether the script's place was looked at.
-    pub fn looked(&self, place: usize) -> bool
-        ensures { result ≡ is_within self.now.places place }
+    /// Returns whether the script byte at an offset was looked at, or that there is none.
+    pub fn looked(&self, at: u64) -> bool
+        ensures { result ≡ is_within self.now.places at }
     {
-        self.places.from <= place && place < self.places.to
+        self.places.from as u64 <= at && at < self.places.to as u64
     }
 
     /// The script's places that were looked at.
@@ -174,8 +183,8 @@ impl Desk {
         self.places.to = self.spot.cursor;
     }
 
-    /// Takes one of the script's places that were looked at out of them; `None` where there is none.
-    pub fn take_look(&mut self) -> Option<usize>
+    /// Removes and returns one of the script offsets that were looked at; `None` if there is none.
+    pub fn take_look(&mut self) -> Option<u64>
         ensures desk { self.new.desk ≡ self.old.desk }
         ensures one { IfSome result (λ k. is_within self.old.places k ≡ true) }
         ensures taken { IfSome result (λ k. LeavesOut self.old.places k self.new.places) }
@@ -185,13 +194,13 @@ impl Desk {
         let Places { from, to } = self.places;
         if from < self.spot.cursor {
             self.places.from = from + 1;
-            return Some(from);
+            return Some(from as u64);
         }
         if from == to {
             return None;
         }
         self.places.to = to - 1;
-        Some(to - 1)
+        Some((to - 1) as u64)
     }
 
     /// Where records go.
@@ -350,6 +359,7 @@ impl Desk {
         ensures ok { OnOk result (Shows self.old.desk self.new.desk (λ column. echoed column byte)) }
         ensures places { self.new.places ≡ self.old.places }
         ensures err { OnErr result (self.new ≡ self.old) }
+        ensures grows { OnErr result (is_echoed byte ≡ true) }
     {
         if matches!(byte, 0x20..|0x08| 0x09 | 0x0a | 0x0d) {
             return self.print(byte);

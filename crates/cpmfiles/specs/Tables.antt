@@ -1,14 +1,15 @@
 -- The calls of a table. ([Interface Guide 1979, functions 17, 19, 22 and 23]; what each asks of the host files, and which keys
 -- it refuses: this project's profile.)
-use Rattle.std.specs.Prelude.{◌≡◌, ℕ, List, Option, Bool, ◌&&◌, not, Some, length, filter, slice_index, if◌then◌else◌}
+use Rattle.std.specs.Prelude.{◌≡◌, ℕ, List, Option, Bool, ◌&&◌, not, Some, None, length, filter, slice_index, if◌then◌else◌}
 use Rattle.std.specs.Option.{option_map}
 use Rattle.std.specs.Ordering.{nat_cmp, eq_by_cmp}
 use Rattle.std.specs.Cmp.Lexicographic.{slice_cmp}
 use Rattle.std.specs.FinMap.{get, entries}
 use Rattle.filenames.specs.Names.{is_sayable}
-use Rattle.directory.specs.Entries.{Shapes, is_match, next_entry, entry_bytes, position_in}
+use Rattle.directory.specs.Entries.{Shapes, is_match, next_entry, entry_bytes, position_in, count_at}
 use Rattle.hostfiles.specs.Hosts.{Key, Host}
-use Rattle.hostfiles.specs.Files.{Own, has, nothing, shapes}
+use Rattle.hostfiles.specs.File.{shape_of}
+use Rattle.hostfiles.specs.Files.{Own, has, nothing, shapes, file_of, entry_at}
 use Rattle.hostfiles.specs.Looks.{look_has, look_directory}
 use Rattle.hostfiles.specs.declared.looks.Looks.{Looks}
 use Rattle.cpmfiles.specs.Renaming.{has_wildcard, is_rename}
@@ -17,6 +18,11 @@ use Rattle.cpmfiles.specs.Renaming.{has_wildcard, is_rename}
 abbrev pub next_bytes : Key → ℕ → Option (List ℕ) → Shapes → Option (List ℕ)
 next_bytes pattern ex after m =
     option_map entry_bytes (next_entry pattern ex (option_map (position_in (slice_index pattern 0)) after) m)
+
+-- the count of an extent of a file, if it is there: the greatest place in the extent that holds a record, plus one, counted within the
+-- extent; 0 if no place of the extent holds one
+abbrev pub extent_count : Host → Own → Key → ℕ → Option ℕ
+extent_count host own key e = if has host own key then Some (count_at (shape_of (file_of host key (entry_at own key))) e) else None
 
 abbrev pub can_make : Host → Own → Key → Bool
 can_make host own key = is_sayable key && not (has host own key)

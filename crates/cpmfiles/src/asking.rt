@@ -1,13 +1,15 @@
 // What a program asks of the files, of which a run did something. The questions are marked, and an `Err` has
 // marked no other.
 
-ghost use Rattle.std.specs.Prelude.{◌≡◌, Ok, slice_index};
+ghost use Rattle.std.specs.Prelude.{◌≡◌, true, Ok, OnErr, slice_index};
 ghost use Rattle.std.specs.Option.{option_map};
 ghost use Rattle.directory.specs.Entries.{position_in};
 ghost use Rattle.hostfiles.specs.Files.{has, records, place, shapes};
 ghost use Rattle.hostfiles.specs.Looks.{look_has, look_records, look_read, look_directory};
 ghost use Rattle.hostfiles.specs.Asking.{Inquires};
-ghost use Rattle.cpmfiles.specs.Tables.{can_make, can_rename, look_made, look_renamed, next_bytes};
+ghost use Rattle.filenames.specs.Names.{is_sayable};
+ghost use Rattle.cpmfiles.specs.Renaming.{is_rename};
+ghost use Rattle.cpmfiles.specs.Tables.{can_make, can_rename, extent_count, look_made, look_renamed, next_bytes};
 
 use crate::table::has_wildcard;
 use directory::{Position, next_entry};
@@ -44,6 +46,24 @@ pub fn records(
     Ok(Some(file.ask_length(&mut changes.looks)?))
 }
 
+/// Returns how many records an extent of the file of the key counts, if there is one: the greatest place in the
+/// extent that holds a record, plus one, counted within the extent (1 to 128), or 0 if no place does.
+#[tactic(auto, using(crate::proofs::LookLaws::asked_in_turn))]
+pub fn extent(
+    host: &HostFiles,
+    changes: &mut Changes,
+    key: &Key,
+    extent: u32,
+) -> Result<Option<u8>, AllocError>
+    ensures { Inquires result (λ own. extent_count host.now own key.now extent)
+        (λ own. look_records host.now own key.now) changes.old changes.new }
+{
+    if records(host, changes, key)?.is_none() {
+        return Ok(None);
+    }
+    Ok(Some(SeenFile::find(host, &changes.journal, key).count(extent)))
+}
+
 /// The record at a place of the file of the key; none where there is no file, or none that long, or a hole at
 /// the place.
 #[tactic(auto, using(crate::proofs::LookLaws::asked_in_turn))]
@@ -66,11 +86,13 @@ pub fn read(
     file.ask_record(&mut changes.looks, k)
 }
 
-/// Whether a file of the key may be made: the key can be said, and no file has it.
+/// Whether a file of the key may be made: the key is valid, and no file has it. A key that is not valid asks
+/// nothing, so it is never an `Err`.
 #[tactic(auto, using(crate::proofs::LookLaws::extends_same))]
 pub fn can_make(host: &HostFiles, changes: &mut Changes, key: &Key) -> Result<bool, AllocError>
-    ensures { Inquires result (λ own. can_make host.now own key.now)
+    ensures inquires { Inquires result (λ own. can_make host.now own key.now)
         (λ own. look_made own key.now) changes.old changes.new }
+    ensures grows { OnErr result (is_sayable key.now ≡ true) }
 {
     if !is_sayable(key) {
         return Ok(false);
@@ -87,8 +109,9 @@ pub fn can_rename(
     old: &Key,
     new: &Key,
 ) -> Result<bool, AllocError>
-    ensures { Inquires result (λ own. can_rename host.now own old.now new.now)
+    ensures inquires { Inquires result (λ own. can_rename host.now own old.now new.now)
         (λ own. look_renamed own old.now new.now) changes.old changes.new }
+    ensures grows { OnErr result (is_rename old.now new.now ≡ true) }
 {
     if has_wildcard(old) {
         return Ok(false);

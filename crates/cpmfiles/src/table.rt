@@ -1,11 +1,12 @@
 // Host files joined with what a run did to them.
 
 ghost use Rattle.std.specs.Prelude.{◌≡◌, ◌<◌, true, false, OnOk, OnErr, IfOk, Some, Ok, slice_index};
-ghost use Rattle.hostfiles.specs.Files.{has, records, length_at, place, shapes, made, renamed, wrote};
+ghost use Rattle.hostfiles.specs.Files.{has, records, length_at, place, shapes, made, renamed, stored, wrote, wrote_filled};
 ghost use Rattle.hostfiles.specs.Looks.{look_has, look_records, look_read, look_directory, Extends};
 ghost use Rattle.hostfiles.specs.Asking.{AsksFor, Inquires};
-ghost use Rattle.cpmfiles.specs.Tables.{can_make, can_rename, look_made, look_renamed};
-ghost use Rattle.cpmfiles.specs.Renaming.{has_wildcard};
+ghost use Rattle.cpmfiles.specs.Tables.{can_make, can_rename, extent_count, look_made, look_renamed};
+ghost use Rattle.filenames.specs.Names.{is_sayable};
+ghost use Rattle.cpmfiles.specs.Renaming.{has_wildcard, is_rename};
 ghost use Rattle.cpmfiles.specs.Tables.{count_deleted, look_deleted, NamedAreGone, next_bytes};
 ghost use Rattle.cpmfiles.specs.Leaving.{own_in, looks_in, StandsOver, DoesIf};
 
@@ -84,6 +85,17 @@ impl Table<'_> {
         Ok(true)
     }
 
+    /// Returns how many records an extent of the file of the key counts, if there is one: the greatest place in the
+    /// extent that holds a record, plus one, counted within the extent (1 to 128), or 0 if no place does.
+    #[tactic(auto, using(crate::proofs::LookLaws::asked_in_turn))]
+    pub fn extent(&mut self, key: &Key, e: u32) -> Result<Option<u8>, AllocError>
+        ensures inquires { Inquires result (λ own. extent_count self.old.host.now own key.now e)
+            (λ own. look_records self.old.host.now own key.now) self.old.changes.now self.new.changes.now }
+        ensures over { StandsOver self.old self.new }
+    {
+        asking::extent(self.host, self.changes, key, e)
+    }
+
     /// Writes a record, if there is a file: a write past the end leaves holes between.
     pub fn write(&mut self, key: &Key, k: u32, bytes: &Record) -> Result<bool, AllocError>
         requires { k < 65536 }
@@ -96,10 +108,40 @@ impl Table<'_> {
             (own_in self.old) (own_in self.new) }
         ensures over { StandsOver self.old self.new }
     {
+        self.store(key, k, bytes, false)
+    }
+
+    /// Writes a record, if there is a file: a write past the end writes zeros between.
+    pub fn write_filled(&mut self, key: &Key, k: u32, bytes: &Record) -> Result<bool, AllocError>
+        requires { k < 65536 }
+        ensures asks { AsksFor result (has self.old.host.now (own_in self.old) key.now)
+            (look_records self.old.host.now (own_in self.old) key.now)
+            (looks_in self.old) (looks_in self.new) }
+        ensures does { DoesIf result
+            (wrote_filled (length_at self.old.host.now (own_in self.old) key.now)
+            (own_in self.old) key.now k bytes.now)
+            (own_in self.old) (own_in self.new) }
+        ensures over { StandsOver self.old self.new }
+    {
+        self.store(key, k, bytes, true)
+    }
+
+    // Writes a record, if there is a file.
+    fn store(&mut self, key: &Key, k: u32, bytes: &Record, filled: bool) -> Result<bool, AllocError>
+        requires { k < 65536 }
+        ensures asks { AsksFor result (has self.old.host.now (own_in self.old) key.now)
+            (look_records self.old.host.now (own_in self.old) key.now)
+            (looks_in self.old) (looks_in self.new) }
+        ensures does { DoesIf result
+            (stored filled (length_at self.old.host.now (own_in self.old) key.now)
+            (own_in self.old) key.now k bytes.now)
+            (own_in self.old) (own_in self.new) }
+        ensures over { StandsOver self.old self.new }
+    {
         let Some(n) = self.records(key)? else {
             return Ok(false);
         };
-        self.changes.journal.write(key, n, k, bytes, false)?;
+        self.changes.journal.write(key, n, k, bytes, filled)?;
         Ok(true)
     }
 
@@ -128,6 +170,7 @@ impl Table<'_> {
         ensures asks { AsksFor result (can_make self.old.host.now (own_in self.old) key.now)
             (look_made (own_in self.old) key.now) (looks_in self.old) (looks_in self.new) }
         ensures does { DoesIf result (made (own_in self.old) key.now) (own_in self.old) (own_in self.new) }
+        ensures grows { OnErr result (is_sayable key.now ≡ true) }
         ensures over { StandsOver self.old self.new }
     {
         if !asking::can_make(self.host, self.changes, key)? {
@@ -197,6 +240,7 @@ impl Table<'_> {
             (look_renamed (own_in self.old) old.now new.now) (looks_in self.old) (looks_in self.new) }
         ensures does { DoesIf result
             (renamed (own_in self.old) old.now new.now) (own_in self.old) (own_in self.new) }
+        ensures grows { OnErr result (is_rename old.now new.now ≡ true) }
         ensures over { StandsOver self.old self.new }
     {
         if !asking::can_rename(self.host, self.changes, old, new)? {

@@ -3,23 +3,28 @@ use Rattle.std.proofs.Common.{◌≡◌, ℕ, List, refl, inr, Some, None, Resul
 use Rattle.std.specs.Borrow.{Bor}
 use Rattle.command_words.specs.declared.words.Words.{Words}
 use Rattle.machine.specs.Given.{Session}
+use Rattle.replay.specs.RunnerView.{with_no_checkpoint}
+use Rattle.folders.specs.Failures.{AddsFailures}
 use Rattle.folders.specs.FileSystem.{text_at}
 use Rattle.cpmrun.specs.declared.fault.Fault.{Fault}
 use Rattle.cpmrun.specs.Requests.{AreWords}
 use Rattle.cpmrun.specs.RawRun.{BreaksRun, RunsOnce}
 use Rattle.cpmrun.specs.World.{World}
-use Rattle.cpmrun.specs.Ends.{BreaksReplay, Ends, FaultOf, IsSessionOf, WritesReplay}
+use Rattle.cpmrun.specs.Complaints.{file_failures}
+use Rattle.cpmrun.specs.Ends.{BreaksReplay, FaultOf, IsSessionOf}
+use Rattle.cpmrun.specs.MeteredEnds.{MeteredEnds, WritesReplayBy, options_of}
 
-module _ (words : List (List ℕ)) (w : Words) (are : AreWords words w) (s : Session) (before after : World) (of : IsSessionOf before w s) where
+module _ (words : List (List ℕ)) (w : Words) (are : AreWords words w) (s : Session) (before after : World) (steps : ℕ) (of : IsSessionOf before w s) where
   -- it was run once
-  pub ran_once : {F : Type 0} (r : Result ℕ F) → w.edits ≡ None → IfOk r (λ status. RunsOnce w.out s status before after) → IfOk r (λ status. Ends words status before after)
-  ran_once (Ok status) e h = inr (w, are, (s, of, rw e h))
-  ran_once (Err f) e h = tt
+  pub ran_once : (r : Result ℕ Fault) → w.edits ≡ None → AddsFailures file_failures r before.failures after.failures
+      → IfOk r (λ status. RunsOnce w.out s status before after) → IfOk r (λ status. MeteredEnds words status before after steps)
+  ran_once (Ok status) e same h = (same, inr (w, are, (s, of, rw e h)))
+  ran_once (Err f) e same h = tt
 
   -- its edit lines were replayed
-  pub replayed : (path : Bor (List ℕ)) → w.edits ≡ Some path → after.err ≡ before.err → after.files ≡ before.files
-      → WritesReplay (text_at before.files path.now) s before.out after.out → Ends words 0 before after
-  replayed path e err files h = inr (w, are, (s, of, rw e (refl, err, files, h)))
+  pub replayed : (path : Bor (List ℕ)) → w.edits ≡ Some path → after.err ≡ before.err → after.files ≡ before.files → after.failures ≡ before.failures
+      → WritesReplayBy (text_at before.files path.now) (with_no_checkpoint s (options_of w)) before.out after.out steps → MeteredEnds words 0 before after steps
+  replayed path e err files same h = (same, inr (w, are, (s, of, rw e (refl, err, files, h))))
 
   -- its run was broken off
   pub run_broken : {T : Type 0} (r : Result T Fault) → w.edits ≡ None → IfErr r (BreaksRun w.out s before after) → IfErr r (FaultOf words before after)

@@ -3,3 +3,4 @@ pub mod Refusing
 pub mod Choosing
 pub mod Writing
 pub mod Walking
+mod Unmetered

@@ -1,5 +1,6 @@
 -- A session that is made or refused, as the words say.
-use Rattle.std.proofs.Common.{ℕ, List, Result, Ok, Err, IfErr}
+use Rattle.std.proofs.Common.{◌≡◌, ◌∙◌, ℕ, List, Some, None, Result, Ok, Err, IfErr, inr, refl, sym, ap}
+use Rattle.command_words.specs.CommandLine.{text_of}
 use Rattle.command_words.specs.declared.words.Words.{Words}
 use Rattle.hostfiles.specs.Hosts.{Host}
 use Rattle.machine.specs.Given.{Session}
@@ -9,7 +10,7 @@ use Rattle.folders.specs.Folders.{AreFromFolders}
 use Rattle.std.specs.Prelude.{Option}
 use Rattle.cpmrun.specs.declared.fault.Fault.{Fault}
 use Rattle.cpmrun.specs.declared.fault.Fault.TheVariants.{Use, NotText, CannotRead, CannotWrite, Folders, Refused, Malformed, TooLong, OutOfMemory}
-use Rattle.cpmrun.specs.Loading.{IsProgramOf, IsScriptOf, MadeOrRefused, Unloaded}
+use Rattle.cpmrun.specs.Loading.{IsProgramOf, IsScriptOf, MadeOrRefused, Unloaded, Unread, UnreadIfAny}
 
 -- a refusal is one of the words
 pub refused_of_words : (stored : Option Stored) (names : Path → List Path) (w : Words) (program : List ℕ) (files : Host) (script : List ℕ) (r : Result Session Fault)
@@ -25,4 +26,22 @@ refused_of_words stored names w program files script (Err (Refused n)) p a b h =
     record { program = program; files = files; script = script; of_program = p; from_folders = a; of_script = b; refused = h }
 refused_of_words stored names w program files script (Err (Malformed k)) p a b h = absurd h
 refused_of_words stored names w program files script (Err (TooLong k)) p a b h = absurd h
-refused_of_words stored names w program files script (Err OutOfMemory) p a b h = tt
+refused_of_words stored names w program files script (Err OutOfMemory) p a b h = absurd h
+
+-- a script that is not read gives no session
+pub script_unread : (stored : Option Stored) (names : Path → List Path) (w : Words) (f : Fault) → UnreadIfAny (text_of w.console) f → Unloaded stored names w f
+script_unread stored names w f h = by_path (text_of w.console) refl h where
+  by_fault : (path : Path) → text_of w.console ≡ Some path → (f : Fault) → Unread path f → Unloaded stored names w f
+  by_fault path e (Use text) h = absurd h
+  by_fault path e NotText h = absurd h
+  by_fault path e (CannotRead p) h = inr (e ∙ ap Some (sym h))
+  by_fault path e CannotWrite h = absurd h
+  by_fault path e (Folders x) h = absurd h
+  by_fault path e (Refused n) h = absurd h
+  by_fault path e (Malformed k) h = absurd h
+  by_fault path e (TooLong k) h = absurd h
+  by_fault path e OutOfMemory h = tt
+
+  by_path : (o : Option Path) → text_of w.console ≡ o → UnreadIfAny o f → Unloaded stored names w f
+  by_path None e h = absurd h
+  by_path (Some path) e h = by_fault path e f h

@@ -1,5 +1,7 @@
 -- What a replay wrote, and what it read.
-use Rattle.std.proofs.Common.{◌≡◌, ℕ, List, ◌++◌, append-nil, refl, sym, ap, subst, ◌∙◌, ◌⊎◌, inl, inr, Option, Some, None, Result, Ok, Err, IfOk, IfSome, OnOk}
+use Rattle.std.proofs.Common.{◌≡◌, ◌<◌, ◌+◌, arith, ℕ, List, ◌++◌, append-nil, refl, sym, ap, subst, ◌∙◌, ◌⊎◌, inl, inr, Option, Some, None, Result, Ok, Err, IfOk, IfSome, OnOk}
+use Rattle.std.proofs.Math.Nat.{min-eq_left}
+use Rattle.std.specs.Prelude.{min}
 use Rattle.std.specs.Io.KnownBytes.{Appends, Consumes, IsAtEnd}
 use Rattle.machine.specs.Given.{Session}
 use Rattle.edit_lines.specs.declared.ending.Ending.{Ending}
@@ -9,7 +11,8 @@ use Rattle.edit_lines.specs.Replay.{Finished, Replays}
 use Rattle.edit_lines.specs.Effects.{Effects}
 use Rattle.replay.specs.RunnerView.{RunnerView}
 use Rattle.folders.specs.FileSystem.{Path, Stored, Opens, text_at}
-use Rattle.cpmrun.specs.Ends.{BreaksOffWith, WritesReplay}
+use Rattle.cpmrun.specs.Ends.{BreaksOffWith}
+use Rattle.cpmrun.specs.MeteredEnds.{WritesReplayBy}
 
 -- a reader that is read to its end gave all of its bytes
 all_read : (a d : Option (List ℕ)) (bytes : List ℕ) → Consumes a d bytes → IsAtEnd d → IfSome a (λ all. all ≡ bytes)
@@ -17,35 +20,36 @@ all_read None d bytes c e = tt
 all_read (Some all) None bytes c e = absurd c
 all_read (Some all) (Some rest) bytes c e = c ∙ ap (λ r. bytes ++ r) e ∙ append-nil bytes
 
--- a replay that ended wrote its text, told by the session that the runner was given
-pub writes_replay : (given : Session) (first now : RunnerView) (begun meter : ℕ) (a d held holds : Option (List ℕ)) (r : Result Ending ReplayFault)
-    → first.session ≡ given
+-- a replay that ended wrote its text, by the runner that it was given
+pub writes_replay : (given first now : RunnerView) (begun steps : ℕ) (a d held holds : Option (List ℕ)) (r : Result Ending ReplayFault)
+    → first ≡ given → begun ≡ 0
     → IfOk r (λ e. (bytes : List ℕ) × (text : List ℕ) × Consumes a d bytes × IsAtEnd d × Appends held holds text
     × Replays first.session (lines_of bytes) text now.session (Finished e.lines)
-    × Effects first begun (lines_of bytes) now meter)
-    → OnOk r (WritesReplay a given held holds)
-writes_replay given first now begun meter a d held holds (Ok e) same h = record {
-  last = now.session;
+    × Effects first begun (lines_of bytes) now steps)
+    → OnOk r (WritesReplayBy a given held holds steps)
+writes_replay given first now begun steps a d held holds (Ok e) same none h = record {
+  last = now;
   bytes = h.0;
   text = h.1;
   count = e.lines;
   whole = all_read a d h.0 h.2 h.3;
   written = h.4;
-  replayed = subst (λ (s : Session). Replays s (lines_of h.0) h.1 now.session (Finished e.lines)) same h.5;
+  replayed = subst (λ (v : RunnerView). Replays v.session (lines_of h.0) h.1 now.session (Finished e.lines)) same h.5;
+  effects = subst (λ m. Effects given m (lines_of h.0) now steps) none (subst (λ (v : RunnerView). Effects v begun (lines_of h.0) now steps) same h.6);
 }
-writes_replay given first now begun meter a d held holds (Err f) same h = tt
+writes_replay given first now begun steps a d held holds (Err f) same none h = tt
 
 -- the bytes of a reader are those of the file that it was opened for, where that is told
 pub of_file : (files : Option Stored) (path : Path) (left : Option (List ℕ)) → Opens files path left → (text_at files path ≡ left) ⊎ (text_at files path ≡ None)
 of_file None path left o = inr refl
 of_file (Some stored) path left o = inl (sym o.0)
 
-pub writes_file : (files : Option Stored) (path : Path) (left : Option (List ℕ)) (s : Session) (held holds : Option (List ℕ)) → Opens files path left → WritesReplay left s held holds
-    → WritesReplay (text_at files path) s held holds
-writes_file files path left s held holds o w = elim (of_file files path left o) [
-  | inl e ↦ subst (λ source. WritesReplay source s held holds) (sym e) w
-  | inr e ↦ subst (λ source. WritesReplay source s held holds) (sym e)
-      (record { last = w.last; bytes = w.bytes; text = w.text; count = w.count; whole = tt; written = w.written; replayed = w.replayed })
+pub writes_file : (files : Option Stored) (path : Path) (left : Option (List ℕ)) (first : RunnerView) (held holds : Option (List ℕ)) (steps : ℕ) → Opens files path left
+    → WritesReplayBy left first held holds steps → WritesReplayBy (text_at files path) first held holds steps
+writes_file files path left first held holds steps o w = elim (of_file files path left o) [
+  | inl e ↦ subst (λ source. WritesReplayBy source first held holds steps) (sym e) w
+  | inr e ↦ subst (λ source. WritesReplayBy source first held holds steps) (sym e)
+      (record { last = w.last; bytes = w.bytes; text = w.text; count = w.count; whole = tt; written = w.written; replayed = w.replayed; effects = w.effects })
 ]
 
 pub breaks_file : (files : Option Stored) (path : Path) (left : Option (List ℕ)) (f : ReplayFault) (s : Session) (held holds : Option (List ℕ)) → Opens files path left
@@ -54,3 +58,7 @@ breaks_file files path left f s held holds o b = elim (of_file files path left o
   | inl e ↦ subst (λ source. BreaksOffWith f source s held holds) (sym e) b
   | inr e ↦ subst (λ source. BreaksOffWith f source s held holds) (sym e) (record { left = b.left; last = b.last; bytes = b.bytes; read = tt; leaves = b.leaves })
 ]
+
+-- a reader that had not failed failed, and that was counted
+pub one_failed : (begun ended before middle after : ℕ) → begun ≡ 0 → begun < ended → middle ≡ before → after ≡ middle + min 1 ended → after ≡ before + 1
+one_failed begun ended before middle after none more same counted = counted ∙ ap (λ m. middle + m) (min-eq_left (omega (arith, none, more))) ∙ ap (λ m. m + 1) same

@@ -1,7 +1,7 @@
 -- What the program says of its faults: their statuses and their messages. (This project's own.)
 use Rattle.std.specs.Prelude.{◌≡◌, ℕ, List, [], ◌⊎◌, ◌++◌, codes, Option, string_bytes}
 use Rattle.std.specs.Fmt.{decimal}
-use Rattle.folders.specs.Faults.{text_of}
+use Rattle.folders.specs.Faults.{fault_failures, text_of}
 use Rattle.folders.specs.declared.fault.Failure.{Failure}
 use Rattle.folders.specs.declared.fault.Failure.TheVariants as failure
 use Rattle.cpmrun.specs.declared.fault.Fault.{Fault}
@@ -13,6 +13,18 @@ use Rattle.edit_lines.specs.Writing.{WritesOrFails}
 abbrev pub fault_of : Failure → Fault
 fault_of (failure.AtFault f) = Folders f
 fault_of failure.OutOfMemory = OutOfMemory
+
+-- the failures of the file system that a fault reports: one if a file or a folder could not be read or written
+abbrev pub file_failures : Fault → ℕ
+file_failures (Use text) = 0
+file_failures NotText = 0
+file_failures (CannotRead path) = 1
+file_failures CannotWrite = 0
+file_failures (Folders f) = fault_failures f
+file_failures (Refused n) = 0
+file_failures (Malformed k) = 0
+file_failures (TooLong k) = 0
+file_failures OutOfMemory = 0
 
 -- the exit status of a fault
 abbrev pub status_of : Fault → ℕ

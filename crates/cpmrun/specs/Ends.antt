@@ -1,5 +1,5 @@
 -- The ways in which the program ends. (This project's profile.)
-use Rattle.std.specs.Prelude.{◌≡◌, ℕ, ◌<◌, ◌⊎◌, List, Option, IfSome, MatchOption}
+use Rattle.std.specs.Prelude.{◌≡◌, ℕ, ◌+◌, ◌<◌, ◌⊎◌, List, Option, IfSome, MatchOption}
 use Rattle.std.specs.Io.KnownBytes.{Appends, Consumes}
 use Rattle.command_words.specs.Outcome.{ComesTo}
 use Rattle.command_words.specs.declared.outcome.Outcome.TheVariants.{Information}
@@ -14,13 +14,12 @@ use Rattle.cpmrun.specs.Loading.{IsOf, Unloaded}
 use Rattle.cpmrun.specs.World.{World}
 use Rattle.folders.specs.FileSystem.{text_at}
 use Rattle.edit_lines.specs.Pieces.{lines_of}
-use Rattle.cpmrun.specs.Complaints.{Complains}
+use Rattle.cpmrun.specs.Complaints.{Complains, file_failures}
 use Rattle.edit_lines.specs.Faults.{Faults}
 use Rattle.cpmrun.specs.RawRun.{BreaksRun, RunsOnce}
 use Rattle.edit_lines.specs.Replay.{Finished, Replays}
 
--- where a reader told its bytes they are these, and the text was written that their lines give, replayed to their end from this
--- session
+-- if a reader reports its bytes they are these, and the text was written that their lines give, replayed to their end from this session
 pub record WritesReplay (source : Option (List ℕ)) (first : Session) (held holds : Option (List ℕ)) : Type 0 where
   pub last : Session
   pub bytes : List ℕ
@@ -64,17 +63,22 @@ abbrev pub IsSessionOf : World → Words → Session → Type 0
 IsSessionOf before w s = IsOf before.files before.names w s
 
 -- what a session that words say comes to without a fault: it is run once, or the lines of the file of edit lines are replayed to their
--- end
-abbrev pub Completes : Words → Session → ℕ → World → World → Type 0
-Completes w s status before after = MatchOption w.edits
+-- end, which is said of the path of that file
+abbrev pub Completes : (List ℕ → Type 0) → Words → Session → ℕ → World → World → Type 0
+Completes IsReplayed w s status before after = MatchOption w.edits
     (RunsOnce w.out s status before after)
-    (λ path. (status ≡ 0) × (after.err ≡ before.err) × (after.files ≡ before.files) × WritesReplay (text_at before.files path.now) s before.out after.out)
+    (λ path. (status ≡ 0) × (after.err ≡ before.err) × (after.files ≡ before.files) × IsReplayed path.now)
 
--- how the program ends without a fault: it wrote help or the version, or what the words ask for was done
-abbrev pub Ends : List (List ℕ) → ℕ → World → World → Type 0
-Ends words status before after =
+-- how the program ends without a fault, by what is said of a replay: it wrote help or the version, or what the words ask for was done;
+-- and no call of the file system failed
+abbrev pub EndsBy : (Words → Session → List ℕ → Type 0) → List (List ℕ) → ℕ → World → World → Type 0
+EndsBy IsReplayed words status before after = (after.failures ≡ before.failures) × (
     (ComesTo words Information × (status ≡ 0) × (after.err ≡ before.err) × (after.files ≡ before.files) × Informs before.out after.out)
-    ⊎ ((w : Words) × AreWords words w × ((s : Session) × IsSessionOf before w s × Completes w s status before after))
+    ⊎ ((w : Words) × AreWords words w × ((s : Session) × IsSessionOf before w s × Completes (IsReplayed w s) w s status before after)))
+
+-- the same, where a replay writes the text that the lines give
+abbrev pub Ends : List (List ℕ) → ℕ → World → World → Type 0
+Ends words status before after = EndsBy (λ w s path. WritesReplay (text_at before.files path) s before.out after.out) words status before after
 
 -- what a fault leaves that broke off what is done with a session that words say
 abbrev pub BreaksOff : Words → Session → World → World → Fault → Type 0
@@ -96,8 +100,10 @@ FaultOf words before after fault =
     ⊎ ((w : Words) × AreWords words w × ((Unloaded before.files before.names w fault × LeavesAll before after)
     ⊎ ((s : Session) × IsSessionOf before w s × BreaksOff w s before after fault)))
 
--- a fault came, and it was told with its status, or want of memory where there was none to name its value
+-- a fault came, and it was reported with its status, or "out of memory" if there was none to name its value; a call of the file
+-- system failed exactly if the fault says so
 pub record EndsByFault (words : List (List ℕ)) (status : ℕ) (before after : World) : Type 0 where
   pub fault : Fault
   pub comes : FaultOf words before after fault
+  pub failed : after.failures ≡ before.failures + file_failures fault
   pub telling : Complains fault status before.err after.err before.err_failures after.err_failures

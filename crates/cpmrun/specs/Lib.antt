@@ -4,3 +4,4 @@ pub mod Requests
 pub mod Loading
 pub mod RawRun
 pub mod Ends
+pub mod MeteredEnds

@@ -42,7 +42,7 @@ pub record IsRefusal (stored : Option Stored) (names : Path → List Path) (w : 
   pub of_script : IsScriptOf stored w script
   pub refused : made_of program w.tail.now files script w.limit ≡ Err n
 
--- the session that is wanted, or its refusal, or want of memory
+-- the session that is wanted, or its refusal
 abbrev pub MadeOrRefused : Result Session ℕ → Result Session Fault → Type 0
 MadeOrRefused wanted (Ok s) = wanted ≡ Ok s
 MadeOrRefused wanted (Err (Use text)) = ⊥
@@ -53,7 +53,7 @@ MadeOrRefused wanted (Err (Folders f)) = ⊥
 MadeOrRefused wanted (Err (Refused n)) = wanted ≡ Err n
 MadeOrRefused wanted (Err (Malformed k)) = ⊥
 MadeOrRefused wanted (Err (TooLong k)) = ⊥
-MadeOrRefused wanted (Err OutOfMemory) = Unit {0}
+MadeOrRefused wanted (Err OutOfMemory) = ⊥
 
 -- why the file of this path can't be read
 abbrev pub Unread : List ℕ → Fault → Type 0

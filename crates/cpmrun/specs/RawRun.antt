@@ -1,6 +1,5 @@
 -- One run of a session: what it writes, its status, and what it leaves where it is broken off. (This project's profile.)
 use Rattle.std.specs.Prelude.{◌≡◌, ℕ, ◌<◌, ◌⊎◌, [], ◌∷◌, ◌++◌, List, Option, codes, filter, slice_index, take, unwrap_or}
-use Rattle.std.specs.Fmt.{decimal}
 use Rattle.std.specs.FinMap.{contains_key}
 use Rattle.std.specs.List.{concat}
 use Rattle.std.specs.Borrow.{Bor}
@@ -39,25 +38,13 @@ stop_status (BadDrive number) = 10
 abbrev pub stop_line : Cause → List ℕ
 stop_line cause = line (codes "stop " ++ cause_text cause)
 
--- the line that tells how many steps the limit was that stopped a run; nothing after another stop
-abbrev pub limit_line : Cause → ℕ → List ℕ
-limit_line WarmBoot limit = []
-limit_line Limit limit = codes "cpmrun: the limit was " ++ decimal limit ++ line (codes " steps; --limit N sets another")
-limit_line Halt limit = []
-limit_line (Undefined byte) limit = []
-limit_line (SystemArea address) limit = []
-limit_line ConsoleExhausted limit = []
-limit_line NoDollar limit = []
-limit_line (Unsupported number) limit = []
-limit_line (BadDrive number) limit = []
-
 -- what the run of a session prints
 abbrev pub printed : Session → List ℕ
 printed s = (plain_run s).machine.core.desk.text
 
--- what the run of a session tells: its stop, the changed files that are gone, and the limit where that stopped it
+-- what the run of a session reports: its stop, and the changed files that are gone
 abbrev pub telling : Session → List ℕ
-telling s = stop_line (plain_run s).cause ++ gone_lines s.files (plain_run s).machine.files ++ limit_line (plain_run s).cause s.limit
+telling s = stop_line (plain_run s).cause ++ gone_lines s.files (plain_run s).machine.files
 
 -- the folder of a file's drive, if it has one
 abbrev pub home : List (Option (Bor (List ℕ))) → Key → Option Path

@@ -1,10 +1,11 @@
 // The session that the files of the command line give.
 
-ghost use Rattle.std.specs.Prelude.{◌≡◌, ◌+◌, IfOk, IfErr, IfSome, take};
-ghost use Rattle.std.specs.IoError.{error_kind};
+ghost use Rattle.std.specs.Prelude.{◌≡◌, ◌+◌, ◌<◌, ◌^◌, IfOk, IfErr};
 ghost use Rattle.command_words.specs.CommandLine.{text_of};
+ghost use Rattle.folders.specs.Failures.{AddsFailures, io_failures};
 ghost use Rattle.folders.specs.FileSystem.{Opens, Reads};
 ghost use Rattle.machine.specs.Session.{made_of};
+ghost use Rattle.cpmrun.specs.Complaints.{file_failures};
 ghost use Rattle.cpmrun.specs.Loading.{IsOf, IsScriptAt, MadeOrRefused, Unloaded, Unread, UnreadIfAny};
 
 use crate::fault::Fault;
@@ -14,7 +15,7 @@ use hostfiles::HostFiles;
 use machine::{PROGRAM_LIMIT, SCRIPT_LIMIT, Session};
 use std::alloc::Global;
 use std::io;
-use std::io::{ErrorKind, Read};
+use std::io::ErrorKind;
 
 /// The most bytes of a program that are read: one more than a session takes, so that a longer one
 /// is refused by the session and not read on.
@@ -23,11 +24,10 @@ const PROGRAM_READ: u64 = PROGRAM_LIMIT as u64 + 1;
 /// The most bytes of a script that are read: one more than a session takes.
 const SCRIPT_READ: u64 = SCRIPT_LIMIT as u64 + 1;
 
-/// What a failure to open or read this file is.
+/// Returns the fault that an error of opening or reading this file is.
 fn unread<'a>(error: io::Error, path: &'a str) -> Fault<'a>
     ensures fault { Unread path.now result }
-    ensures memory { result ≡ Fault.OutOfMemory → error_kind error ≡ ErrorKind.OutOfMemory }
-    ensures other { error_kind error ≡ ErrorKind.OutOfMemory → result ≡ Fault.OutOfMemory }
+    ensures failures { file_failures result ≡ io_failures error }
 {
     if error.kind() == ErrorKind::OutOfMemory {
         Fault::OutOfMemory
@@ -36,10 +36,15 @@ fn unread<'a>(error: io::Error, path: &'a str) -> Fault<'a>
     }
 }
 
-/// Opens a file to read it.
-pub fn open<'a, S: FileSystem>(system: &S, path: &'a str) -> Result<S::Input, Fault<'a>>
-    ensures opens { IfOk result (λ input. Opens (S.files system.now) path.now (S.Input.remaining input)) }
+/// Opens a file to read it piece by piece.
+pub fn open<'a, S: FileSystem>(system: &mut S, path: &'a str) -> Result<S::Input, Fault<'a>>
+    requires { S.failures system.old < 2 ^ 63 }
+    ensures opens { IfOk result (λ input. Opens (S.files system.old) path.now (S.Input.left input)) }
+    ensures unfailed { IfOk result (λ input. S.Input.failures input ≡ 0) }
     ensures fault { IfErr result (Unread path.now) }
+    ensures files { S.files system.new ≡ S.files system.old }
+    ensures names { S.names system.new ≡ S.names system.old }
+    ensures failures { AddsFailures file_failures result (S.failures system.old) (S.failures system.new) }
 {
     match system.open(path) {
         Ok(file) => Ok(file),
@@ -47,81 +52,81 @@ pub fn open<'a, S: FileSystem>(system: &S, path: &'a str) -> Result<S::Input, Fa
     }
 }
 
-/// The bytes of a program, as many as are read.
-fn read_program<T: Read + Drop>(alloc: Global, source: T) -> io::Result<Vec<u8>>
-    ensures { IfOk result (λ program. IfSome (T.remaining source)
-        (λ bytes. program.items ≡ take (PROGRAM_LIMIT + 1) bytes)) }
-{
-    let mut program = Vec::new(alloc);
-    source.take(PROGRAM_READ).read_to_end(&mut program)?;
-    Ok(program)
-}
-
-/// The bytes of a script, as many as are read.
-fn read_script<T: Read + Drop>(alloc: Global, source: T) -> io::Result<Vec<u8>>
-    ensures { IfOk result (λ script. IfSome (T.remaining source)
-        (λ bytes. script.items ≡ take (SCRIPT_LIMIT + 1) bytes)) }
-{
-    let mut script = Vec::new(alloc);
-    source.take(SCRIPT_READ).read_to_end(&mut script)?;
-    Ok(script)
-}
-
-/// The program of this path.
-fn program_at<'a, S: FileSystem>(system: &S, path: &'a str) -> Result<Vec<u8>, Fault<'a>>
+/// Reads the program of this path.
+fn program_at<'a, S: FileSystem>(system: &mut S, path: &'a str) -> Result<Vec<u8>, Fault<'a>>
+    requires { S.failures system.old < 2 ^ 63 }
     ensures program { IfOk result
-        (λ program. Reads (S.files system.now) path.now (PROGRAM_LIMIT + 1) program.items) }
+        (λ program. Reads (S.files system.old) path.now (PROGRAM_LIMIT + 1) program.items) }
     ensures fault { IfErr result (Unread path.now) }
+    ensures files { S.files system.new ≡ S.files system.old }
+    ensures names { S.names system.new ≡ S.names system.old }
+    ensures failures { AddsFailures file_failures result (S.failures system.old) (S.failures system.new) }
 {
-    match read_program(system.alloc(), open(system, path)?) {
+    match system.read(path, PROGRAM_READ) {
         Ok(program) => Ok(program),
         Err(error) => Err(unread(error, path)),
     }
 }
 
-/// The script of this path, which is empty where there is none.
-fn script_at<'a, S: FileSystem>(system: &S, path: Option<&'a str>) -> Result<Vec<u8>, Fault<'a>>
+/// Reads the script of this path; without a path it is empty.
+fn script_at<'a, S: FileSystem>(system: &mut S, path: Option<&'a str>) -> Result<Vec<u8>, Fault<'a>>
+    requires { S.failures system.old < 2 ^ 63 }
     ensures script { IfOk result
-        (λ script. IsScriptAt (S.files system.now) (text_of path.entry) script.items) }
+        (λ script. IsScriptAt (S.files system.old) (text_of path.entry) script.items) }
     ensures fault { IfErr result (UnreadIfAny (text_of path.entry)) }
+    ensures files { S.files system.new ≡ S.files system.old }
+    ensures names { S.names system.new ≡ S.names system.old }
+    ensures failures { AddsFailures file_failures result (S.failures system.old) (S.failures system.new) }
 {
     let Some(path) = path else {
         return Ok(Vec::new(system.alloc()));
     };
-    match read_script(system.alloc(), open(system, path)?) {
+    match system.read(path, SCRIPT_READ) {
         Ok(script) => Ok(script),
         Err(error) => Err(unread(error, path)),
     }
 }
 
-/// The session of these, with the tail and the limit that the words say.
+/// Returns a copy of the command tail.
+fn tail_of<'a>(alloc: Global, words: &Words<'a>) -> Result<Vec<u8>, Fault<'a>>
+    ensures tail { IfOk result (λ tail. tail.items ≡ words.now.tail.now) }
+    ensures memory { IfErr result (λ fault. fault ≡ Fault.OutOfMemory) }
+{
+    match words.tail.as_bytes().to_vec(alloc) {
+        Ok(tail) => Ok(tail),
+        Err(_) => Err(Fault::OutOfMemory),
+    }
+}
+
+/// Returns the session of these, or its refusal. Takes no memory.
 fn session_of<'a>(
-    alloc: Global,
-    words: &Words<'a>,
     program: Vec<u8>,
+    tail: Vec<u8>,
     files: HostFiles,
     script: Vec<u8>,
+    limit: u64,
 ) -> Result<Session, Fault<'a>>
-    ensures { MadeOrRefused (made_of program.items words.now.tail.now files script.items words.now.limit)
-        result }
+    ensures { MadeOrRefused (made_of program.items tail.items files script.items limit) result }
 {
-    let Ok(tail) = words.tail.as_bytes().to_vec(alloc) else {
-        return Err(Fault::OutOfMemory);
-    };
-    match Session::new(program, tail, files, script, words.limit) {
+    match Session::new(program, tail, files, script, limit) {
         Ok(session) => Ok(session),
         Err(error) => Err(Fault::Refused(error.number())),
     }
 }
 
-/// The session that the words say: the program, the folders of the drives A to D and the script are
+/// Returns the session that the words say: the program, the folders of the drives A to D and the script are
 /// read in this order, and then the session is made. A fault ends this.
-pub fn load<'a, S: FileSystem>(system: &S, words: &Words<'a>) -> Result<Session, Fault<'a>>
-    ensures session { IfOk result (IsOf (S.files system.now) (S.names system.now) words.now) }
-    ensures fault { IfErr result (Unloaded (S.files system.now) (S.names system.now) words.now) }
+pub fn load<'a, S: FileSystem>(system: &mut S, words: &Words<'a>) -> Result<Session, Fault<'a>>
+    requires { S.failures system.old < 2 ^ 63 }
+    ensures session { IfOk result (IsOf (S.files system.old) (S.names system.old) words.now) }
+    ensures fault { IfErr result (Unloaded (S.files system.old) (S.names system.old) words.now) }
+    ensures files { S.files system.new ≡ S.files system.old }
+    ensures names { S.names system.new ≡ S.names system.old }
+    ensures failures { AddsFailures file_failures result (S.failures system.old) (S.failures system.new) }
 {
+    let tail = tail_of(system.alloc(), words)?;
     let program = program_at(system, words.program)?;
     let files = read_folders(system, &words.files)?;
     let script = script_at(system, words.console)?;
-    session_of(system.alloc(), words, program, files, script)
+    session_of(program, tail, files, script, words.limit)
 }

@@ -1,13 +1,15 @@
 // One run of a session, without edits.
 
 ghost use Rattle.std.specs.Prelude.{◌≡◌, ◌^◌, ◌<◌, ◌≤◌, ◌++◌, IfOk, IfErr, OnOk, OnErr, string_bytes};
+ghost use Rattle.folders.specs.Failures.{AddsFailures};
 ghost use Rattle.folders.specs.Folders.{LeavesIn, WritesInto};
 ghost use Rattle.folders.specs.Written.{bytes_of};
 ghost use Rattle.hostfiles.specs.Files.{files};
 ghost use Rattle.replay.specs.Report.{run_of, session_of};
 ghost use Rattle.edit_lines.specs.ChangedLines.{gone_lines};
 ghost use Rattle.edit_lines.specs.Writing.{Writes, WritesOrFails};
-ghost use Rattle.cpmrun.specs.RawRun.{BreaksRun, IsOfFolder, RunsOnce, Unwritten, WritesAll, home, limit_line, stop_line, stop_status};
+ghost use Rattle.cpmrun.specs.Complaints.{file_failures};
+ghost use Rattle.cpmrun.specs.RawRun.{BreaksRun, IsOfFolder, RunsOnce, Unwritten, WritesAll, home, stop_line, stop_status};
 ghost use Rattle.cpmrun.specs.World.{world};
 
 use crate::fault::Fault;
@@ -43,16 +45,6 @@ fn stop_line(alloc: Global, cause: Cause) -> Result<String, AllocError>
     format!(in alloc; "stop {cause}\n")
 }
 
-/// The line that tells how many steps the limit was that stopped a run; no text after another stop.
-fn limit_line(alloc: Global, cause: Cause, limit: u64) -> Result<String, AllocError>
-    ensures { IfOk result (λ s. string_bytes s ≡ limit_line cause limit) }
-{
-    if let Cause::Limit = cause {
-        return format!(in alloc; "cpmrun: the limit was {limit} steps; --limit N sets another\n");
-    }
-    Ok(String::new(alloc))
-}
-
 /// Writes a file as the run left it into the folder of its drive, where that has one.
 fn write_file<'a, S: FileSystem>(
     system: &mut S,
@@ -61,12 +53,14 @@ fn write_file<'a, S: FileSystem>(
     journal: &Journal,
     name: &Name,
 ) -> Result<(), Fault<'a>>
+    requires { S.failures system.old < 2 ^ 63 }
     ensures written { OnOk result
         (WritesInto (home folders.now name.now) (S.files system.old) (S.files system.new) name.now
         (bytes_of host.now journal.now.entries name.now)) }
     ensures err { OnErr result
         (LeavesIn (home folders.now name.now) (S.files system.old) (S.files system.new) name.now) }
     ensures fault { IfErr result (IsOfFolder folders.now name.now) }
+    ensures failures { AddsFailures file_failures result (S.failures system.old) (S.failures system.new) }
 {
     let contents = ChangedFile {
         host,
@@ -84,12 +78,14 @@ fn write_changed<'a, S: FileSystem>(
     folders: &[Option<&'a str>; 4],
     report: &Report<'_>,
 ) -> Result<(), Fault<'a>>
+    requires { S.failures system.old < 2 ^ 63 }
     ensures written { OnOk result
         (WritesAll folders.now (session_of report.now).files (run_of report.now).machine.files
         (S.files system.old) (S.files system.new)) }
     ensures fault { IfErr result
         (Unwritten folders.now (session_of report.now).files (run_of report.now).machine.files
         (S.files system.old) (S.files system.new)) }
+    ensures failures { AddsFailures file_failures result (S.failures system.old) (S.failures system.new) }
 {
     let mut after: Option<Name> = None;
     while let Some(name) = report.next_changed(after.as_ref()) {
@@ -101,35 +97,32 @@ fn write_changed<'a, S: FileSystem>(
     Ok(())
 }
 
-/// Writes a line, then the lines of the changed files that are gone, and then a last text. Where the writer fails, some first part
-/// of this is written.
+/// Writes a line, and then the lines of the changed files that are gone. If the writer fails, some first part of this is written.
 fn write_lines<E: Writer>(
     err: &mut E,
     line: &[u8],
     host: &HostFiles,
     journal: &Journal,
-    last: &[u8],
 ) -> Result<(), Failed>
     requires { E.failures err.old < 2 ^ 63 }
     ensures { Writes (E.holds err.old) (E.holds err.new) (E.failures err.old) (E.failures err.new)
-        (line.now ++ gone_lines host.now (files host.now journal.now.entries) ++ last.now) result }
+        (line.now ++ gone_lines host.now (files host.now journal.now.entries)) result }
 {
     write_piece(err, line)?;
-    write_changed_files(err, Asked::GoneAlone, host, journal)?;
-    write_piece(err, last)
+    write_changed_files(err, Asked::GoneAlone, host, journal)
 }
 
-/// Tells a line, then the changed files that are gone, and then a last text. A failure of the writer ends this, and is passed over.
-fn tell_lines<E: Writer>(err: &mut E, line: &[u8], host: &HostFiles, journal: &Journal, last: &[u8])
+/// Writes a line, and then the lines of the changed files that are gone. A failure of the writer ends this, and is ignored.
+fn tell_lines<E: Writer>(err: &mut E, line: &[u8], host: &HostFiles, journal: &Journal)
     requires { E.failures err.old < 2 ^ 63 }
     ensures { WritesOrFails (E.holds err.old) (E.holds err.new) (E.failures err.old) (E.failures err.new)
-        (line.now ++ gone_lines host.now (files host.now journal.now.entries) ++ last.now) }
+        (line.now ++ gone_lines host.now (files host.now journal.now.entries)) }
 {
-    let _ = write_lines(err, line, host, journal, last);
+    let _ = write_lines(err, line, host, journal);
 }
 
-/// Tells on standard error why the run stopped, which of the changed files are gone, and how many steps the limit was where that
-/// stopped it. A failure of the writer is passed over; where memory is refused, nothing is written.
+/// Reports on standard error why the run stopped, and which of the changed files are gone. A failure of the writer is ignored; if
+/// an allocation fails, nothing is written.
 fn tell_stop<'a, E: Writer>(
     alloc: Global,
     report: &Report<'_>,
@@ -139,24 +132,14 @@ fn tell_stop<'a, E: Writer>(
     ensures told { OnOk result
         (WritesOrFails (E.holds err.old) (E.holds err.new) (E.failures err.old) (E.failures err.new)
         (stop_line (run_of report.now).cause
-        ++ gone_lines (session_of report.now).files (run_of report.now).machine.files
-        ++ limit_line (run_of report.now).cause (session_of report.now).limit)) }
+        ++ gone_lines (session_of report.now).files (run_of report.now).machine.files)) }
     ensures memory { IfErr result (λ f. f ≡ Fault.OutOfMemory) }
     ensures untold { OnErr result (err.new ≡ err.old) }
 {
     let Ok(stop) = stop_line(alloc, report.cause()) else {
         return Err(Fault::OutOfMemory);
     };
-    let Ok(limit) = limit_line(alloc, report.cause(), report.limit()) else {
-        return Err(Fault::OutOfMemory);
-    };
-    tell_lines(
-        err,
-        stop.as_bytes(),
-        report.files(),
-        report.journal(),
-        limit.as_bytes(),
-    );
+    tell_lines(err, stop.as_bytes(), report.files(), report.journal());
     Ok(())
 }
 
@@ -168,19 +151,21 @@ fn tell_run<'a, S: FileSystem, O: Writer, E: Writer>(
     out: &mut O,
     err: &mut E,
 ) -> Result<u8, Fault<'a>>
+    requires system { S.failures system.old < 2 ^ 63 }
     requires out { O.failures out.old < 2 ^ 63 }
     requires err { E.failures err.old < 2 ^ 63 }
     ensures done { IfOk result (λ status. RunsOnce folders.now (session_of report.now) status
-        (world (S.files system.old) (S.names system.old)
+        (world (S.files system.old) (S.names system.old) (S.failures system.old)
         (O.holds out.old) (O.failures out.old) (E.holds err.old) (E.failures err.old))
-        (world (S.files system.new) (S.names system.new)
+        (world (S.files system.new) (S.names system.new) (S.failures system.new)
         (O.holds out.new) (O.failures out.new) (E.holds err.new) (E.failures err.new))) }
     ensures fault { IfErr result (BreaksRun folders.now (session_of report.now)
-        (world (S.files system.old) (S.names system.old)
+        (world (S.files system.old) (S.names system.old) (S.failures system.old)
         (O.holds out.old) (O.failures out.old) (E.holds err.old) (E.failures err.old))
-        (world (S.files system.new) (S.names system.new)
+        (world (S.files system.new) (S.names system.new) (S.failures system.new)
         (O.holds out.new) (O.failures out.new) (E.holds err.new) (E.failures err.new))) }
     ensures untold { OnErr result (err.new ≡ err.old) }
+    ensures failures { AddsFailures file_failures result (S.failures system.old) (S.failures system.new) }
 {
     let Ok(()) = write_all(out, report.text()) else {
         return Err(Fault::CannotWrite);
@@ -200,19 +185,21 @@ fn run_and_tell<'a, S: FileSystem, O: Writer, E: Writer>(
     err: &mut E,
 ) -> Result<u8, Fault<'a>>
     requires meter { meter.old ≤ 2 ^ 63 }
+    requires system { S.failures system.old < 2 ^ 63 }
     requires out { O.failures out.old < 2 ^ 63 }
     requires err { E.failures err.old < 2 ^ 63 }
     ensures done { IfOk result (λ status. RunsOnce folders.now runner.old.session status
-        (world (S.files system.old) (S.names system.old)
+        (world (S.files system.old) (S.names system.old) (S.failures system.old)
         (O.holds out.old) (O.failures out.old) (E.holds err.old) (E.failures err.old))
-        (world (S.files system.new) (S.names system.new)
+        (world (S.files system.new) (S.names system.new) (S.failures system.new)
         (O.holds out.new) (O.failures out.new) (E.holds err.new) (E.failures err.new))) }
     ensures fault { IfErr result (BreaksRun folders.now runner.old.session
-        (world (S.files system.old) (S.names system.old)
+        (world (S.files system.old) (S.names system.old) (S.failures system.old)
         (O.holds out.old) (O.failures out.old) (E.holds err.old) (E.failures err.old))
-        (world (S.files system.new) (S.names system.new)
+        (world (S.files system.new) (S.names system.new) (S.failures system.new)
         (O.holds out.new) (O.failures out.new) (E.holds err.new) (E.failures err.new))) }
     ensures untold { OnErr result (err.new ≡ err.old) }
+    ensures failures { AddsFailures file_failures result (S.failures system.old) (S.failures system.new) }
 {
     let Ok(report) = runner.rerun(meter) else {
         return Err(Fault::OutOfMemory);
@@ -221,9 +208,8 @@ fn run_and_tell<'a, S: FileSystem, O: Writer, E: Writer>(
 }
 
 /// Runs a session once: what it prints goes to `out` as it is, then each changed file that is there at the
-/// stop is written into the folder of its drive, where that has one, and then a line on `err` tells why the
-/// run stopped, one more each changed file that is gone, and a last one the limit where that stopped it. It gives the exit status
-/// for the stop. A fault leaves `err` as it was.
+/// stop is written into the folder of its drive, if that has one, and then a line on `err` reports why the
+/// run stopped, and one more each changed file that is gone. Returns the exit status for the stop. A fault leaves `err` unchanged.
 pub fn run_once<'a, S: FileSystem, O: Writer, E: Writer>(
     system: &mut S,
     folders: &[Option<&'a str>; 4],
@@ -233,19 +219,21 @@ pub fn run_once<'a, S: FileSystem, O: Writer, E: Writer>(
     err: &mut E,
 ) -> Result<u8, Fault<'a>>
     requires meter { meter.old ≤ 2 ^ 63 }
+    requires system { S.failures system.old < 2 ^ 63 }
     requires out { O.failures out.old < 2 ^ 63 }
     requires err { E.failures err.old < 2 ^ 63 }
     ensures done { IfOk result (λ status. RunsOnce folders.now session status
-        (world (S.files system.old) (S.names system.old)
+        (world (S.files system.old) (S.names system.old) (S.failures system.old)
         (O.holds out.old) (O.failures out.old) (E.holds err.old) (E.failures err.old))
-        (world (S.files system.new) (S.names system.new)
+        (world (S.files system.new) (S.names system.new) (S.failures system.new)
         (O.holds out.new) (O.failures out.new) (E.holds err.new) (E.failures err.new))) }
     ensures fault { IfErr result (BreaksRun folders.now session
-        (world (S.files system.old) (S.names system.old)
+        (world (S.files system.old) (S.names system.old) (S.failures system.old)
         (O.holds out.old) (O.failures out.old) (E.holds err.old) (E.failures err.old))
-        (world (S.files system.new) (S.names system.new)
+        (world (S.files system.new) (S.names system.new) (S.failures system.new)
         (O.holds out.new) (O.failures out.new) (E.holds err.new) (E.failures err.new))) }
     ensures untold { OnErr result (err.new ≡ err.old) }
+    ensures failures { AddsFailures file_failures result (S.failures system.old) (S.failures system.new) }
 {
     let Ok(mut runner) = Runner::for_one_run(system.alloc(), session) else {
         return Err(Fault::OutOfMemory);

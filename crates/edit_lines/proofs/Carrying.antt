@@ -1,5 +1,5 @@
 -- Lines that are carried out one after the other.
-use Rattle.std.proofs.Common.{◌*◌, ◌≡◌, ℕ, ◌+◌, ◌-◌, ◌≤◌, List, [], ◌∷◌, ◌++◌, length, take, drop, refl, sym, ap, subst, ◌∙◌, arith, append_assoc, length-append, take-append-drop, Option, Some, Err}
+use Rattle.std.proofs.Common.{◌*◌, ◌≡◌, ℕ, ◌+◌, ◌-◌, ◌≤◌, List, [], ◌∷◌, ◌++◌, length, take, drop, refl, sym, ap, ◌∙◌, arith, append_assoc, length-append, take-append-drop, Option, Some, Err}
 use Rattle.std.proofs.lemmas.List.{append-nil}
 use Rattle.std.proofs.lemmas.List.Folds.{concat-append}
 use Rattle.std.proofs.Math.Seq.{take-append_seam}
@@ -11,7 +11,6 @@ use Rattle.edit_lines.specs.declared.line.Command.{Command}
 use Rattle.edit_lines.specs.declared.ending.ReplayFault.{ReplayFault}
 use Rattle.edit_lines.specs.declared.ending.ReplayFault.TheVariants.{Malformed, LineTooLong, Read, Write, OutOfMemory}
 use Rattle.edit_lines.specs.EditLine.{EditLine}
-use Rattle.edit_lines.specs.LineParts.{MayWantMemory}
 use Rattle.edit_lines.specs.Pieces.{lines_of, past_lines}
 use Rattle.edit_lines.specs.Replay.{Carries, Replays, MalformedAt, none, more, reply, session_after}
 use Rattle.edit_lines.specs.Faults.{BreaksOff, Faults}
@@ -106,8 +105,3 @@ module _ (left : Option (List ℕ)) (first s t : Session) (held h₀ h₁ : Opti
       }
   Faults-from U n OutOfMemory number short others cut cuts near near' h = rw (h.2, h.3) (stays_there (line ∷ others) cut
       (λ rest e. let more = cuts rest e in (line ∷ more.0, more.1)) near)
-
--- want of memory is of a line that may want it
-pub wants : (U : Type 0) (n : ℕ) (line given : List ℕ) (s t : Session) (a b : Option (List ℕ)) (f : ReplayFault)
-    → given ≡ line → CarriesOut {U = U} n given s t a b (Err f) → f ≡ OutOfMemory → MayWantMemory line
-wants U n line given s t a b f same h e = subst MayWantMemory same (subst (λ x. CarriesOut {U = U} n given s t a b (Err x)) e h).1

@@ -1,6 +1,7 @@
 -- What one more line, one more byte and the end of the input do to a runner and a meter.
-use Rattle.std.proofs.Common.{◌≡◌, ℕ, ◌+◌, ◌-◌, ◌<◌, List, [], ◌∷◌, ◌++◌, length, refl, sym, ap, subst, ◌∙◌, arith, append_assoc, length-append, inl, inr, Result, Ok, Err, OnOk, IfErr}
+use Rattle.std.proofs.Common.{◌≡◌, ℕ, ◌+◌, ◌-◌, ◌<◌, ◌≤◌, List, [], ◌∷◌, ◌++◌, length, refl, sym, ap, subst, ◌∙◌, arith, append_assoc, length-append, inl, inr, Result, Ok, Err, OnOk, IfErr}
 use Rattle.std.proofs.lemmas.List.{append-nil}
+use Rattle.std.proofs.lemmas.List.Elements.{All-append, All-cons, All-nil}
 use Rattle.replay.specs.Plain.{PlainRun, plain_run}
 use Rattle.replay.specs.RunnerView.{RunnerView, SameOptions, Reran, LeavesNoneOut, CountsAnew, rerun_start}
 use Rattle.edit_lines.specs.declared.line.Command.{Command}
@@ -52,23 +53,32 @@ line_did U n line c old meter new metered (Err (LineTooLong k)) is h = absurd h
 line_did U n line c old meter new metered (Err Read) is h = absurd h
 
 -- nothing was read, and nothing done
-pub no_effects : (r : RunnerView) (m : ℕ) → EffectsSoFar r m [] r m [] 0
-no_effects r m = record { done = []; cut = refl; effects = none; counted = refl }
+pub no_effects : (r : RunnerView) (m room : ℕ) → EffectsSoFar r m [] r m [] 0 room
+no_effects r m room = record { done = []; cut = refl; effects = none; counted = refl; fits = All-nil _ }
 
-module _ (first : RunnerView) (begun : ℕ) (bytes : List ℕ) (now : RunnerView) (meter : ℕ) (line : List ℕ) (count : ℕ)
-    (r : EffectsSoFar first begun bytes now meter line count) where
-  -- the line goes on
-  pub effects_grow : (bs : List ℕ) → pieces 10 bs ≡ bs ∷ [] → EffectsSoFar first begun (bytes ++ bs) now meter (line ++ bs) count
-  effects_grow bs part = record { done = r.done; cut = cut_beside bytes r.done line r.cut bs part; effects = r.effects; counted = r.counted }
+module _ (first : RunnerView) (begun : ℕ) (bytes : List ℕ) (now : RunnerView) (meter : ℕ) (line : List ℕ) (count room : ℕ)
+    (r : EffectsSoFar first begun bytes now meter line count room) where
+  -- the line goes on, in a buffer that may have grown
+  pub effects_grow : (bs : List ℕ) → pieces 10 bs ≡ bs ∷ [] → (grown : List ℕ) (same larger : ℕ) → grown ≡ line ++ bs → same ≡ count → room ≤ larger
+      → EffectsSoFar first begun (bytes ++ bs) now meter grown same larger
+  effects_grow bs part grown same larger is counted grew = record {
+    done = r.done;
+    cut = rw is (cut_beside bytes r.done line r.cut bs part);
+    effects = r.effects;
+    counted = counted ∙ r.counted;
+    fits = λ k d below. let fit = r.fits k d below in omega (arith, fit, grew);
+  }
 
   -- the line ends, and its command has its effect
-  pub effects_done : (t : RunnerView) (n : ℕ) (c : Command) → EditLine line c → Effect c now meter t n
-      → EffectsSoFar first begun (bytes ++ 10 ∷ []) t n [] (count + 1)
-  effects_done t n c is e = record {
+  pub effects_done : (t : RunnerView) (n : ℕ) (c : Command) → EditLine line c → Effect c now meter t n → length line ≤ room
+      → (next : List ℕ) (kept : ℕ) → next ≡ [] → kept ≡ room → EffectsSoFar first begun (bytes ++ 10 ∷ []) t n next (count + 1) kept
+  effects_done t n c is e fit next kept empty same = record {
     done = r.done ++ line ∷ [];
-    cut = cut_here bytes r.done line r.cut;
+    cut = rw empty (cut_here bytes r.done line r.cut);
     effects = Effects-snoc line c r.effects is e;
     counted = omega (arith, r.counted, length-append r.done (line ∷ []));
+    fits = rw same (All-append (λ (l : List ℕ). length l ≤ room) r.done (line ∷ []) r.fits
+        (All-cons (λ (l : List ℕ). length l ≤ room) line [] fit (All-nil (λ (l : List ℕ). length l ≤ room))));
   }
 
   -- the first lines of a text that goes on so
@@ -121,7 +131,7 @@ module _ (first : RunnerView) (begun : ℕ) (bytes : List ℕ) (now : RunnerView
       (ap lines_of (append_assoc bytes bs rest) ∙ lines_of-append bytes (bs ++ rest) r.done line r.cut)
 
   -- the next part of the line is not taken
-  pub effects_part : (bs rest : List ℕ) (f : ReplayFault) → IsPartFault count (length line) (length bs) f
+  pub effects_part : (bs rest : List ℕ) (f : ReplayFault) → IsPartFault count (length line) (length bs) room f
       → EffectsAtFault first begun ((bytes ++ bs) ++ rest) now meter f
   effects_part bs rest (LineTooLong k) h =
       let e : k - 1 ≡ count = omega (arith, h.0) in rw e (effects_stay bs rest)
@@ -131,11 +141,11 @@ module _ (first : RunnerView) (begun : ℕ) (bytes : List ℕ) (now : RunnerView
   effects_part bs rest Write h = absurd h
 
   -- what taking the next part of the line does
-  pub part_effects : (U : Type 0) (bs : List ℕ) → pieces 10 bs ≡ bs ∷ [] → (grown : List ℕ) (same : ℕ) (o : Result U ReplayFault)
-      → same ≡ count → OnOk o (grown ≡ line ++ bs) → IfErr o (IsPartFault count (length line) (length bs))
-      → EffectsAfter first begun (bytes ++ bs) [] now meter grown same o
-  part_effects U bs part grown same (Ok u) counted ok fault = rw (ok, counted) (effects_grow bs part)
-  part_effects U bs part grown same (Err f) counted ok fault = effects_part bs [] f fault
+  pub part_effects : (U : Type 0) (bs : List ℕ) → pieces 10 bs ≡ bs ∷ [] → (grown : List ℕ) (same larger : ℕ) (o : Result U ReplayFault)
+      → same ≡ count → room ≤ larger → OnOk o (grown ≡ line ++ bs) → IfErr o (IsPartFault count (length line) (length bs) room)
+      → EffectsAfter first begun (bytes ++ bs) [] now meter grown same larger o
+  part_effects U bs part grown same larger (Ok u) counted grew ok fault = effects_grow bs part grown same larger ok counted grew
+  part_effects U bs part grown same larger (Err f) counted grew ok fault = effects_part bs [] f fault
 
   -- the input ends after a whole line
   pub effects_whole : line ≡ [] → Effects first begun (lines_of bytes) now meter

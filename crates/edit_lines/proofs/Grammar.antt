@@ -1,14 +1,17 @@
 -- Lines of three words that mean nothing, and that a line has one command at most.
 use Rattle.std.specs.Prelude.{codes, Option, Some, None, IfNone, Result, Ok, Err, IfOk, OnErr, length, ◌%◌, ◌<◌}
 use Rattle.std.proofs.Common.{◌≡◌, ℕ, List, [], ◌∷◌, inl, inr, subst, sym, arith, ◌∙◌, refl, ap, get_or, ◌≢◌}
-use Rattle.hex.specs.Hex.{decode_sized}
+use Rattle.std.proofs.lemmas.Bool.{cases_eq}
+use Rattle.std.specs.List.{AllPass}
+use Rattle.hex.specs.Hex.{decode_sized, is_hex_digit}
+use Rattle.hex.specs.declared.error.FromHexError.TheVariants.{OddLength, OutOfMemory}
 use Rattle.hex.specs.declared.error.FromHexError.{FromHexError}
-use Rattle.hex.proofs.HexLemmas.{decode_of-ok, decode_sized-twice}
+use Rattle.hex.proofs.HexLemmas.{decode_of-digits, decode_of-ok, decode_sized-twice}
 use Rattle.replay.specs.declared.edit.Edit.TheVariants.{Insert, Replace, Remove, Poke, SetFile, RemoveFile, SetLimit}
 use Rattle.edit_lines.specs.declared.line.Command.{Command}
 use Rattle.edit_lines.specs.declared.line.Command.TheVariants.{Edit, Run, DropOldest}
 use Rattle.edit_lines.specs.EditLine.{EditLine, IsAddress, IsHexText, IsNumber, IsName}
-use Rattle.edit_lines.specs.LineParts.{IsPaired, IsPlaced, IsPlaceOf, NamesBytesAt}
+use Rattle.edit_lines.specs.LineParts.{IsPaired, IsPlaced}
 use Rattle.filenames.specs.Names.{Key}
 use Rattle.edit_lines.specs.FileLines.{IsFile}
 use Rattle.edit_lines.specs.Pieces.{words_of}
@@ -86,6 +89,27 @@ if_none (Some v) P Q f h = h
 pub if_ok_none : {X E : Type 0} (r : Result (Option X) E) (P Q : Type 0) → (P → Q) → IfOk r (λ x. IfNone x P) → IfOk r (λ x. IfNone x Q)
 if_ok_none (Ok x) P Q f h = if_none x P Q f h
 if_ok_none (Err e) P Q f h = h
+
+pub on_err : {X E P : Type 0} (r : Result X E) → P → OnErr r P
+on_err (Ok x) p = tt
+on_err (Err e) p = p
+
+-- digits that are not of an odd count are the text of some bytes
+pub digits_of_bytes : {X : Type 0} (w : List ℕ) (r : Result X FromHexError) (e : FromHexError) → r ≡ Err e → e ≡ OutOfMemory
+    → (length w % 2 ≡ 1 → r ≡ Err OddLength) → 0 < length w → AllPass is_hex_digit w → (bytes : List ℕ) × IsHexText w bytes × (0 < length bytes)
+digits_of_bytes w r e is memory odd some digits =
+    let even : length w % 2 ≡ 0 = elim (cases_eq (length w % 2) 1) [
+      | inl one ↦ let other = odd one in absurd (cc)
+      | inr not_one ↦ omega arith
+    ] in
+    let found = decode_of-digits w even digits in
+    let size = (decode_of-ok w found.0 found.1).2 in
+    (found.0, inr (some, found.1), omega (arith, some, size))
+
+-- bytes that are not all digits are no text of bytes
+pub no_digits : (w : List ℕ) → (w ≡ codes "-" → ⊥) → (AllPass is_hex_digit w → ⊥) → (bytes : List ℕ) → IsHexText w bytes → ⊥
+no_digits w dash none bytes (inl p) = dash p.0
+no_digits w dash none bytes (inr p) = none (decode_of-ok w bytes p.1).1
 
 -- words that mean nothing
 pub no_address : (a h : List ℕ) → ((at : ℕ) → IsAddress a at → ⊥) → (c : Command) → IsPlaced (codes "poke") a h c → ⊥
@@ -219,10 +243,6 @@ no_number verb word g l d (Edit (RemoveFile n)) p = g p.0
 no_number verb word g l d (Edit (SetLimit n)) p = l p.0 n p.1
 no_number verb word g l d Run p = p
 no_number verb word g l d (DropOldest n) p = d p.0 n p.1
-
-pub names_bytes : (verb a h : List ℕ) → IsPlaceOf verb a → (0 < length h) × (length h % 2 ≡ 0) → {X E : Type 0} → (r : Result X E) → OnErr r (NamesBytesAt verb a h)
-names_bytes verb a h place even (Ok x) = tt
-names_bytes verb a h place even (Err x) = (place, even.0, even.1)
 
 one_address : (w : List ℕ) (a b : ℕ) → IsAddress w a → IsAddress w b → a ≡ b
 one_address w a b p q =

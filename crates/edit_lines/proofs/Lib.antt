@@ -3,6 +3,7 @@ pub mod Cutting
 pub mod Carrying
 pub mod Stepping
 pub mod EffectLemmas
+pub mod Stopping
 pub mod Answering
 pub mod Grammar
 pub mod Once

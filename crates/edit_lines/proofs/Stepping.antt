@@ -55,7 +55,7 @@ ends_long n (b ∷ q) (p ∷ qs) h = (refl, h)
 
 module _ (first : Session) (held : Option (List ℕ)) (bytes : List ℕ) (now : Session) (holds : Option (List ℕ)) (line : List ℕ) (count : ℕ)
     (r : StandsAt first held bytes now holds line count) (few : count ≤ LINES_LIMIT) (short : length line ≤ LINE_LIMIT) where
-  enough : length r.done ≤ LINES_LIMIT
+  pub enough : length r.done ≤ LINES_LIMIT
   enough = omega (arith, r.counted)
 
   -- the line goes on
@@ -73,7 +73,7 @@ module _ (first : Session) (held : Option (List ℕ)) (bytes : List ℕ) (now : 
   ends_here : pieces 10 (bytes ++ 10 ∷ []) ≡ (r.done ++ line ∷ []) ++ [] ∷ []
   ends_here = cut_here bytes r.done line r.cut
 
-  lines_here : (rest : List ℕ) → (others : List (List ℕ)) × (lines_of ((bytes ++ 10 ∷ []) ++ rest) ≡ r.done ++ line ∷ others)
+  pub lines_here : (rest : List ℕ) → (others : List (List ℕ)) × (lines_of ((bytes ++ 10 ∷ []) ++ rest) ≡ r.done ++ line ∷ others)
   lines_here rest = let others = without_empty_last (first_piece 10 rest ∷ other_pieces 10 rest) in (
     others,
     lines_of-append (bytes ++ 10 ∷ []) rest (r.done ++ line ∷ []) [] ends_here ∙ append_assoc r.done (line ∷ []) others,
@@ -109,7 +109,7 @@ module _ (first : Session) (held : Option (List ℕ)) (bytes : List ℕ) (now : 
       (subst (λ x. CarriesOut {U = U} (count + 1) x now t holds h₁ (Err f)) same h)
 
   -- what stands past the lines that were carried out
-  past_here : (bs rest : List ℕ) → length bs + length rest ≤ 65536 → length (past_lines (length r.done) ((bytes ++ bs) ++ rest)) ≤ 2 * LINE_LIMIT
+  pub past_here : (bs rest : List ℕ) → length bs + length rest ≤ 65536 → length (past_lines (length r.done) ((bytes ++ bs) ++ rest)) ≤ 2 * LINE_LIMIT
   past_here bs rest few_more =
       let past : past_lines (length r.done) ((bytes ++ bs) ++ rest) ≡ line ++ (bs ++ rest) =
       ap (past_lines (length r.done)) (append_assoc bytes bs rest) ∙ past_lines-pieces bytes (bs ++ rest) r.done line r.cut in
@@ -158,20 +158,20 @@ module _ (first : Session) (held : Option (List ℕ)) (bytes : List ℕ) (now : 
       (past_here bs rest few_more)
 
   -- the next part of the line is not taken
-  pub part_fails : (left : Option (List ℕ)) (bs rest : List ℕ) → pieces 10 bs ≡ bs ∷ [] → length bs + length rest ≤ 65536 → (f : ReplayFault)
-      → IsPartFault count (length line) (length bs) f → Faults left first held ((bytes ++ bs) ++ rest) now holds f
-  part_fails left bs rest part few_more (LineTooLong k) h = rw h.0 (line_too_long left bs rest part h.1 few_more)
-  part_fails left bs rest part few_more OutOfMemory h = line_stays left bs rest few_more
-  part_fails left bs rest part few_more (Malformed k) h = absurd h
-  part_fails left bs rest part few_more Read h = absurd h
-  part_fails left bs rest part few_more Write h = absurd h
+  pub part_fails : (left : Option (List ℕ)) (bs rest : List ℕ) → pieces 10 bs ≡ bs ∷ [] → length bs + length rest ≤ 65536 → (room : ℕ) (f : ReplayFault)
+      → IsPartFault count (length line) (length bs) room f → Faults left first held ((bytes ++ bs) ++ rest) now holds f
+  part_fails left bs rest part few_more room (LineTooLong k) h = rw h.0 (line_too_long left bs rest part h.1 few_more)
+  part_fails left bs rest part few_more room OutOfMemory h = line_stays left bs rest few_more
+  part_fails left bs rest part few_more room (Malformed k) h = absurd h
+  part_fails left bs rest part few_more room Read h = absurd h
+  part_fails left bs rest part few_more room Write h = absurd h
 
   -- what taking the next part of the line answers
-  pub part_goes : (U : Type 0) (bs : List ℕ) → pieces 10 bs ≡ bs ∷ [] → length bs ≤ 65536 → (grown : List ℕ) (same : ℕ) (r : Result U ReplayFault)
-      → same ≡ count → OnOk r (grown ≡ line ++ bs) → IfErr r (IsPartFault count (length line) (length bs))
+  pub part_goes : (U : Type 0) (bs : List ℕ) → pieces 10 bs ≡ bs ∷ [] → length bs ≤ 65536 → (grown : List ℕ) (same room : ℕ) (r : Result U ReplayFault)
+      → same ≡ count → OnOk r (grown ≡ line ++ bs) → IfErr r (IsPartFault count (length line) (length bs) room)
       → Goes first held (bytes ++ bs) [] now holds grown same r
-  part_goes U bs part few_bytes grown same (Ok u) counted ok fault = rw (ok, counted) (line_grows bs part)
-  part_goes U bs part few_bytes grown same (Err f) counted ok fault = λ left few_more. part_fails left bs [] part (omega (arith, few_bytes)) f fault
+  part_goes U bs part few_bytes grown same room (Ok u) counted ok fault = rw (ok, counted) (line_grows bs part)
+  part_goes U bs part few_bytes grown same room (Err f) counted ok fault = λ left few_more. part_fails left bs [] part (omega (arith, few_bytes)) room f fault
 
   -- the input ends after a whole line
   pub ends_whole : line ≡ [] → Replays first (lines_of bytes) (concat r.replies) now (Finished count)
@@ -187,7 +187,7 @@ module _ (first : Session) (held : Option (List ℕ)) (bytes : List ℕ) (now : 
   }
 
   -- the input ends in a line
-  lines_there : 0 < length line → lines_of bytes ≡ r.done ++ line ∷ []
+  pub lines_there : 0 < length line → lines_of bytes ≡ r.done ++ line ∷ []
   lines_there some = lines_of-pieces bytes r.done line r.cut ∙ ap (λ ls. r.done ++ ls) (one_line line some)
 
   -- whose command was carried out

@@ -1,5 +1,6 @@
 -- What the lines of an edit text do, one after the other, to a runner with its checkpoints and to the meter of its runs. (This project's own.)
-use Rattle.std.specs.Prelude.{◌≡◌, ℕ, ◌+◌, ◌-◌, ◌⊎◌, List, [], ◌∷◌, ◌++◌, length, Result, Ok, Err}
+use Rattle.std.specs.Prelude.{◌≡◌, ℕ, ◌+◌, ◌-◌, ◌≤◌, ◌⊎◌, List, [], ◌∷◌, ◌++◌, length, Result, Ok, Err}
+use Rattle.std.specs.List.{All}
 use Rattle.machine.specs.Given.{Session}
 use Rattle.machine.specs.Machine.{ask}
 use Rattle.replay.specs.Plain.{plain_run}
@@ -75,12 +76,20 @@ LineDid n line old meter new metered (Err (Malformed k)) = (k ≡ n) × IsUnchan
 LineDid n line old meter new metered (Err (LineTooLong k)) = ⊥
 LineDid n line old meter new metered (Err Read) = ⊥
 
--- the bytes are whole lines, which had their effects, and the beginning of one more
-pub record EffectsSoFar (first : RunnerView) (begun : ℕ) (bytes : List ℕ) (now : RunnerView) (meter : ℕ) (line : List ℕ) (count : ℕ) : Type 0 where
+-- the lines of the bytes that have their 0AH had their effects
+pub record EffectsOfEnded (first : RunnerView) (begun : ℕ) (bytes : List ℕ) (now : RunnerView) (meter : ℕ) : Type 0 where
+  pub ended : List (List ℕ)
+  pub rest : List ℕ
+  pub cut : pieces 10 bytes ≡ ended ++ rest ∷ []
+  pub effects : Effects first begun ended now meter
+
+-- the bytes are whole lines, so many, which had their effects, and the beginning of one more, whose buffer has room for each of these
+pub record EffectsSoFar (first : RunnerView) (begun : ℕ) (bytes : List ℕ) (now : RunnerView) (meter : ℕ) (line : List ℕ) (count room : ℕ) : Type 0 where
   pub done : List (List ℕ)
   pub cut : pieces 10 bytes ≡ done ++ line ∷ []
   pub effects : Effects first begun done now meter
   pub counted : count ≡ length done
+  pub fits : All (λ l. length l ≤ room) done
 
 -- the first lines of the bytes, so many, had their effects
 pub record FirstEffects (first : RunnerView) (begun : ℕ) (bytes : List ℕ) (count : ℕ) (now : RunnerView) (meter : ℕ) : Type 0 where
@@ -106,16 +115,15 @@ pub record EffectsCutShort (first : RunnerView) (begun : ℕ) (bytes : List ℕ)
 abbrev pub EffectsAtFault : RunnerView → ℕ → List ℕ → RunnerView → ℕ → ReplayFault → Type 0
 EffectsAtFault first begun bytes now meter (Malformed k) = FirstEffects first begun bytes (k - 1) now meter
 EffectsAtFault first begun bytes now meter (LineTooLong k) = FirstEffects first begun bytes (k - 1) now meter
-EffectsAtFault first begun bytes now meter Read =
-    (line : List ℕ) × (count : ℕ) × EffectsSoFar first begun bytes now meter line count
+EffectsAtFault first begun bytes now meter Read = EffectsOfEnded first begun bytes now meter
 EffectsAtFault first begun bytes now meter Write = (count : ℕ) × FirstEffects first begun bytes count now meter
 EffectsAtFault first begun bytes now meter OutOfMemory =
     ((count : ℕ) × FirstEffects first begun bytes count now meter) ⊎ EffectsCutShort first begun bytes now meter
 
 -- what a step over some bytes did, where the rest was read too
-abbrev pub EffectsAfter : {U : Type 0} → RunnerView → ℕ → List ℕ → List ℕ → RunnerView → ℕ → List ℕ → ℕ → Result U ReplayFault → Type 0
-EffectsAfter first begun bytes rest now meter line count (Ok _) = EffectsSoFar first begun bytes now meter line count
-EffectsAfter first begun bytes rest now meter line count (Err f) = EffectsAtFault first begun (bytes ++ rest) now meter f
+abbrev pub EffectsAfter : {U : Type 0} → RunnerView → ℕ → List ℕ → List ℕ → RunnerView → ℕ → List ℕ → ℕ → ℕ → Result U ReplayFault → Type 0
+EffectsAfter first begun bytes rest now meter line count room (Ok _) = EffectsSoFar first begun bytes now meter line count room
+EffectsAfter first begun bytes rest now meter line count room (Err f) = EffectsAtFault first begun (bytes ++ rest) now meter f
 
 -- what was done at the end of the input
 abbrev pub EffectsAtEnd : RunnerView → ℕ → List ℕ → RunnerView → ℕ → Result Ending ReplayFault → Type 0

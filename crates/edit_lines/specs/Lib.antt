@@ -7,6 +7,7 @@ pub mod Replay
 pub mod Faults
 pub mod Progress
 pub mod Effects
+pub mod MemoryFaults
 pub mod FileLines
 pub mod Writing
 pub mod ChangedLines

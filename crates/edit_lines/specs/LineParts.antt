@@ -1,14 +1,14 @@
 -- What the words of a line mean, by their count, and which lines may want memory. (This project's own.)
-use Rattle.std.specs.Prelude.{◌≡◌, ℕ, ◌%◌, ◌<◌, ◌⊎◌, List, [], ◌∷◌, length, codes}
-use Rattle.filenames.specs.Names.{Key}
+use Rattle.std.specs.Prelude.{◌≡◌, ℕ, ◌<◌, ◌⊎◌, List, [], ◌∷◌, length, codes, Ok}
 use Rattle.replay.specs.declared.edit.Edit.TheVariants.{Insert, Replace, Remove, Poke, SetFile, RemoveFile, SetLimit}
+use Rattle.machine.specs.Given.{Session}
+use Rattle.replay.specs.Edits.{edited}
 use Rattle.replay.specs.EditAnswers.{TakesMemory}
 use Rattle.edit_lines.specs.declared.line.Command.{Command}
 use Rattle.edit_lines.specs.declared.line.Command.TheVariants.{Edit, Run, DropOldest}
 use Rattle.edit_lines.specs.declared.line.Words.{Words}
 use Rattle.edit_lines.specs.declared.line.Words.TheVariants.{One, Two, Three, More}
 use Rattle.edit_lines.specs.EditLine.{EditLine, IsAddress, IsHexText, IsName, IsNumber}
-use Rattle.edit_lines.specs.Pieces.{words_of}
 
 -- what two words mean, the second of them a number or a name
 abbrev pub IsPaired : List ℕ → List ℕ → Command → Type 0
@@ -41,24 +41,24 @@ AreSplit words (Two a b) = words ≡ a.now ∷ b.now ∷ []
 AreSplit words (Three a b c) = words ≡ a.now ∷ b.now ∷ c.now ∷ []
 AreSplit words More = 3 < length words
 
--- a place where bytes are put: a number, for a poke an address, or for a file its name
-abbrev pub IsPlaceOf : List ℕ → List ℕ → Type 0
-IsPlaceOf verb a = ((verb ≡ codes "insert") × ((at : ℕ) × IsNumber a at)) ⊎ ((verb ≡ codes "replace") × ((at : ℕ) × IsNumber a at)) ⊎ ((verb ≡ codes "poke") × ((at : ℕ) × IsAddress a at)) ⊎ ((verb ≡ codes "file") × ((key : Key) × IsName a key))
+-- the commands that name bytes, for which a buffer is made
+abbrev pub NamesBytes : Command → Type 0
+NamesBytes (Edit (Insert at bytes)) = 0 < length bytes
+NamesBytes (Edit (Replace at bytes)) = 0 < length bytes
+NamesBytes (Edit (Remove at count)) = ⊥
+NamesBytes (Edit (Poke at bytes)) = 0 < length bytes
+NamesBytes (Edit (SetFile key bytes)) = 0 < length bytes
+NamesBytes (Edit (RemoveFile key)) = ⊥
+NamesBytes (Edit (SetLimit n)) = ⊥
+NamesBytes Run = ⊥
+NamesBytes (DropOldest n) = ⊥
 
--- three words that name bytes: the bytes have an even count of characters
-abbrev pub NamesBytesAt : List ℕ → List ℕ → List ℕ → Type 0
-NamesBytesAt verb a h = IsPlaceOf verb a × (0 < length h) × (length h % 2 ≡ 0)
+-- the commands that may want memory in a session: a run, and an insertion or a file that is set and that the session does not refuse
+abbrev pub WantsMemory : Session → Command → Type 0
+WantsMemory s (Edit e) = TakesMemory e × ((t : Session) × (edited s e ≡ Ok t))
+WantsMemory s Run = Unit {0}
+WantsMemory s (DropOldest n) = ⊥
 
--- the lines that name bytes
-abbrev pub NamesBytes : List ℕ → Type 0
-NamesBytes line = (verb : List ℕ) × (a : List ℕ) × (h : List ℕ) × (words_of line ≡ verb ∷ a ∷ h ∷ []) × NamesBytesAt verb a h
-
--- the commands that may want memory: a run, and an edit that may
-abbrev pub WantsMemory : Command → Type 0
-WantsMemory (Edit e) = TakesMemory e
-WantsMemory Run = Unit {0}
-WantsMemory (DropOldest n) = ⊥
-
--- the lines that may want memory, for the bytes that they name or for what they ask for
-abbrev pub MayWantMemory : List ℕ → Type 0
-MayWantMemory line = NamesBytes line ⊎ ((c : Command) × EditLine line c × WantsMemory c)
+-- the lines that may want memory in a session: edit lines, for the bytes that they name or for what they ask for
+abbrev pub MayWantMemory : Session → List ℕ → Type 0
+MayWantMemory s line = (c : Command) × EditLine line c × (NamesBytes c ⊎ WantsMemory s c)

@@ -27,7 +27,7 @@ pub record StandsAt (first : Session) (held : Option (List ℕ)) (bytes : List �
 abbrev pub Does : {U : Type 0} → Command → Session → Session → Option (List ℕ) → Option (List ℕ) → Result U ReplayFault → Type 0
 Does c s t held holds (Ok _) = (t ≡ session_after s c) × Appends held holds (reply s c)
 Does c s t held holds (Err Write) = (t ≡ session_after s c) × ((m : ℕ) × Appends held holds (take m (reply s c)))
-Does c s t held holds (Err OutOfMemory) = WantsMemory c × (t ≡ s) × (holds ≡ held)
+Does c s t held holds (Err OutOfMemory) = WantsMemory s c × (t ≡ s) × (holds ≡ held)
 Does c s t held holds (Err (Malformed k)) = ⊥
 Does c s t held holds (Err (LineTooLong k)) = ⊥
 Does c s t held holds (Err Read) = ⊥
@@ -38,19 +38,19 @@ CarriesOut n line s t held holds (Ok u) =
     (c : Command) × EditLine line c × (n ≤ LINES_LIMIT) × (t ≡ session_after s c) × Appends held holds (reply s c)
 CarriesOut n line s t held holds (Err Write) =
     (c : Command) × EditLine line c × (n ≤ LINES_LIMIT) × (t ≡ session_after s c) × ((m : ℕ) × Appends held holds (take m (reply s c)))
-CarriesOut n line s t held holds (Err OutOfMemory) = (n ≤ LINES_LIMIT) × MayWantMemory line × (t ≡ s) × (holds ≡ held)
+CarriesOut n line s t held holds (Err OutOfMemory) = (n ≤ LINES_LIMIT) × MayWantMemory s line × (t ≡ s) × (holds ≡ held)
 CarriesOut n line s t held holds (Err (Malformed k)) = (k ≡ n) × IsMalformed n line × (t ≡ s) × (holds ≡ held)
 CarriesOut n line s t held holds (Err (LineTooLong k)) = ⊥
 CarriesOut n line s t held holds (Err Read) = ⊥
 
--- why the next part of a line is not taken, by how many lines were carried out, and how many bytes the line has and the part: the
--- line would be too long, or memory for it was refused
-abbrev pub IsPartFault : ℕ → ℕ → ℕ → ReplayFault → Type 0
-IsPartFault count taken more (LineTooLong k) = (k ≡ count + 1) × (LINE_LIMIT < taken + more)
-IsPartFault count taken more OutOfMemory = (0 < more) × (taken + more ≤ LINE_LIMIT)
-IsPartFault count taken more (Malformed k) = ⊥
-IsPartFault count taken more Read = ⊥
-IsPartFault count taken more Write = ⊥
+-- why the next part of a line is not taken, by how many lines were carried out, how many bytes the line has and the part, and for how
+-- many the buffer has room: the line would be too long, or it is not, and the buffer is too small for it
+abbrev pub IsPartFault : ℕ → ℕ → ℕ → ℕ → ReplayFault → Type 0
+IsPartFault count taken more room (LineTooLong k) = (k ≡ count + 1) × (LINE_LIMIT < taken + more)
+IsPartFault count taken more room OutOfMemory = (room < taken + more) × (taken + more ≤ LINE_LIMIT)
+IsPartFault count taken more room (Malformed k) = ⊥
+IsPartFault count taken more room Read = ⊥
+IsPartFault count taken more room Write = ⊥
 
 -- what a step over some bytes answers, where the rest was read too
 abbrev pub Goes : {U : Type 0} → Session → Option (List ℕ) → List ℕ → List ℕ → Session → Option (List ℕ) → List ℕ → ℕ → Result U ReplayFault → Type 0

@@ -30,7 +30,8 @@ fn write_reply<W: Writer>(writer: &mut W, text: &[u8]) -> Result<(), ReplayFault
     }
 }
 
-/// Carries out an edit and writes its reply. Exactly the checkpoints that it does not touch are left, and all where it is refused.
+/// Carries out an edit and writes its reply. Exactly the checkpoints that it does not touch are left, and all if it is refused.
+/// Memory may run out only for an insertion or a file that is not refused.
 fn carry_out_edit<W: Writer>(
     runner: &mut Runner,
     edit: Edit,

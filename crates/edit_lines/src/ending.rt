@@ -26,8 +26,8 @@ pub enum ReplayFault {
     /// The writer failed. Some first lines were carried out, and a beginning of their replies written.
     #[error("the replies could not be written")]
     Write,
-    /// Memory was wanted and refused. Some first lines were carried out, and a beginning of their
-    /// replies written.
+    /// An allocation failed at a line that may need one. The lines before it were carried out, and
+    /// exactly their replies written.
     #[error("out of memory")]
     OutOfMemory,
 }

@@ -1,8 +1,8 @@
 // The lines of an edit text that change the host files.
 
-ghost use Rattle.std.specs.Prelude.{◌≡◌, ◌%◌, ◌<◌, ℕ, List, length, IfOk, IfSome, IfNone, OnErr};
+ghost use Rattle.std.specs.Prelude.{◌<◌, ℕ, List, length, IfOk, IfSome, IfNone, OnErr};
 ghost use Rattle.edit_lines.specs.EditLine.{IsName};
-ghost use Rattle.edit_lines.specs.FileLines.{IsFile, NamesFile};
+ghost use Rattle.edit_lines.specs.FileLines.{IsFile};
 
 use crate::line::hex_bytes;
 use hostfiles::Name;
@@ -25,7 +25,11 @@ pub fn name(word: &[u8]) -> Option<Name>
     }
 }
 
-/// The file of the two words behind `file`: its name, and its bytes. An error is want of memory for the bytes.
+/// Reads the file of the two words after `file`: its name, and its bytes.
+///
+/// # Errors
+///
+/// An allocation failed for the bytes, of which there are some.
 pub fn file(
     alloc: Global,
     name_word: &[u8],
@@ -34,7 +38,8 @@ pub fn file(
     ensures found { IfOk result (λ r. IfSome r (λ f. IsFile name_word.now hex_word.now f.0 f.1)) }
     ensures none { IfOk result
         (λ r. IfNone r ((key bytes : List ℕ) → IsFile name_word.now hex_word.now key bytes → ⊥)) }
-    ensures memory { OnErr result (NamesFile name_word.now hex_word.now) }
+    ensures memory { OnErr result ((key bytes : List ℕ)
+        × IsFile name_word.now hex_word.now key bytes × (0 < length bytes)) }
 {
     let Some(name) = name(name_word) else {
         return Ok(None);

@@ -1,6 +1,8 @@
-ghost use Rattle.std.specs.Prelude.{◌≡◌, ℕ, ◌%◌, ◌<◌, ◌∷◌, [], List, length, IfOk, OnErr, IfSome, IfNone, MatchOption, codes};
+ghost use Rattle.std.specs.Prelude.{◌≡◌, ℕ, ◌<◌, ◌∷◌, [], List, length, IfOk, OnErr, IfSome, IfNone, MatchBool, MatchOption, codes};
+ghost use Rattle.std.specs.List.{AllPass};
+ghost use Rattle.hex.specs.Hex.{is_hex_digit};
 ghost use Rattle.edit_lines.specs.EditLine.{EditLine, IsAddress, IsHexText, IsNumber};
-ghost use Rattle.edit_lines.specs.LineParts.{AreSplit, IsPaired, IsPlaced, NamesBytes, NamesBytesAt};
+ghost use Rattle.edit_lines.specs.LineParts.{AreSplit, IsPaired, IsPlaced, NamesBytes};
 ghost use Rattle.edit_lines.specs.Pieces.{first_piece, other_pieces, pieces, words_of};
 ghost use Rattle.edit_lines.specs.declared.line.Command.{Command};
 
@@ -86,11 +88,31 @@ fn number(word: &[u8]) -> Option<u64>
     Some(n)
 }
 
-/// The bytes of `-`, or of two hexadecimal digits for each.
+/// Whether a byte is a hexadecimal digit, in either case.
+fn is_digit(byte: u8) -> bool
+    ensures { result ≡ is_hex_digit byte }
+{
+    b'A' <= byte && byte <= b'F' || b'a' <= byte && byte <= b'f' || b'0' <= byte && byte <= b'9'
+}
+
+/// Whether all bytes of a word are hexadecimal digits.
+fn are_digits(word: &[u8]) -> bool
+    ensures { MatchBool result (AllPass is_hex_digit word.now) (AllPass is_hex_digit word.now → ⊥) }
+{
+    for i in 0..word.len() {
+        if !is_digit(word[i]) {
+            return false;
+        }
+    }
+    true
+}
+
+/// The bytes of `-`, or of two hexadecimal digits for each. An allocation fails only for the bytes of a word that has some.
 pub(crate) fn hex_bytes(alloc: Global, word: &[u8]) -> Result<Option<Vec<u8>>, AllocError>
     ensures found { IfOk result (λ r. IfSome r (λ v. IsHexText word.now v.items)) }
     ensures none { IfOk result (λ r. IfNone r ((bytes : List ℕ) → IsHexText word.now bytes → ⊥)) }
-    ensures memory { OnErr result ((0 < length word.now) × (length word.now % 2 ≡ 0)) }
+    ensures memory { OnErr result
+        ((bytes : List ℕ) × IsHexText word.now bytes × (0 < length bytes)) }
 {
     if word == b"-".as_slice() {
         return Ok(Some(Vec::new(alloc)));
@@ -100,7 +122,12 @@ pub(crate) fn hex_bytes(alloc: Global, word: &[u8]) -> Result<Option<Vec<u8>>, A
     }
     match hex::decode(alloc, word) {
         Ok(bytes) => Ok(Some(bytes)),
-        Err(FromHexError::OutOfMemory) => Err(AllocError),
+        Err(FromHexError::OutOfMemory) => {
+            if are_digits(word) {
+                return Err(AllocError);
+            }
+            Ok(None)
+        }
         Err(_) => Ok(None),
     }
 }
@@ -141,7 +168,8 @@ fn poke(alloc: Global, at: &[u8], bytes: &[u8]) -> Result<Option<Command>, Alloc
     ensures found { IfOk result (λ r. IfSome r (IsPlaced (codes "poke") at.now bytes.now)) }
     ensures none { IfOk result
         (λ r. IfNone r ((c : Command) → IsPlaced (codes "poke") at.now bytes.now c → ⊥)) }
-    ensures memory { OnErr result (NamesBytesAt (codes "poke") at.now bytes.now) }
+    ensures memory { OnErr result
+        ((c : Command) × IsPlaced (codes "poke") at.now bytes.now c × NamesBytes c) }
 {
     let Some(at) = address(at) else {
         return Ok(None);
@@ -157,7 +185,8 @@ fn insert(alloc: Global, at: &[u8], bytes: &[u8]) -> Result<Option<Command>, All
     ensures found { IfOk result (λ r. IfSome r (IsPlaced (codes "insert") at.now bytes.now)) }
     ensures none { IfOk result
         (λ r. IfNone r ((c : Command) → IsPlaced (codes "insert") at.now bytes.now c → ⊥)) }
-    ensures memory { OnErr result (NamesBytesAt (codes "insert") at.now bytes.now) }
+    ensures memory { OnErr result
+        ((c : Command) × IsPlaced (codes "insert") at.now bytes.now c × NamesBytes c) }
 {
     let Some(at) = number(at) else {
         return Ok(None);
@@ -173,7 +202,8 @@ fn replace(alloc: Global, at: &[u8], bytes: &[u8]) -> Result<Option<Command>, Al
     ensures found { IfOk result (λ r. IfSome r (IsPlaced (codes "replace") at.now bytes.now)) }
     ensures none { IfOk result
         (λ r. IfNone r ((c : Command) → IsPlaced (codes "replace") at.now bytes.now c → ⊥)) }
-    ensures memory { OnErr result (NamesBytesAt (codes "replace") at.now bytes.now) }
+    ensures memory { OnErr result
+        ((c : Command) × IsPlaced (codes "replace") at.now bytes.now c × NamesBytes c) }
 {
     let Some(at) = number(at) else {
         return Ok(None);
@@ -199,7 +229,8 @@ fn set_file(alloc: Global, name: &[u8], bytes: &[u8]) -> Result<Option<Command>,
     ensures found { IfOk result (λ r. IfSome r (IsPlaced (codes "file") name.now bytes.now)) }
     ensures none { IfOk result
         (λ r. IfNone r ((c : Command) → IsPlaced (codes "file") name.now bytes.now c → ⊥)) }
-    ensures memory { OnErr result (NamesBytesAt (codes "file") name.now bytes.now) }
+    ensures memory { OnErr result
+        ((c : Command) × IsPlaced (codes "file") name.now bytes.now c × NamesBytes c) }
 {
     match file(alloc, name, bytes)? {
         Some((name, bytes)) => Ok(Some(Command::Edit(Edit::SetFile(name, bytes)))),
@@ -212,7 +243,7 @@ fn placed(alloc: Global, verb: &[u8], at: &[u8], last: &[u8]) -> Result<Option<C
     ensures found { IfOk result (λ r. IfSome r (IsPlaced verb.now at.now last.now)) }
     ensures none { IfOk result
         (λ r. IfNone r ((c : Command) → IsPlaced verb.now at.now last.now c → ⊥)) }
-    ensures memory { OnErr result (NamesBytesAt verb.now at.now last.now) }
+    ensures memory { OnErr result ((c : Command) × IsPlaced verb.now at.now last.now c × NamesBytes c) }
 {
     if verb == b"insert".as_slice() {
         return insert(alloc, at, last);
@@ -232,12 +263,15 @@ fn placed(alloc: Global, verb: &[u8], at: &[u8], last: &[u8]) -> Result<Option<C
     Ok(None)
 }
 
-/// The command of a line without its 0AH, or none where it has none. An error is want of memory for
-/// the bytes that the line names, and of a line that names some.
+/// Parses a line without its 0AH: its command, or `None` if it has none.
+///
+/// # Errors
+///
+/// An allocation failed for the bytes of a command that names some. A line that has no command never fails.
 pub fn parse_line(alloc: Global, line: &[u8]) -> Result<Option<Command>, AllocError>
     ensures found { IfOk result (λ r. IfSome r (EditLine line.now)) }
     ensures none { IfOk result (λ r. IfNone r ((c : Command) → EditLine line.now c → ⊥)) }
-    ensures memory { OnErr result (NamesBytes line.now) }
+    ensures memory { OnErr result ((c : Command) × EditLine line.now c × NamesBytes c) }
 {
     match split(line) {
         Words::One(verb) if verb == b"run".as_slice() => Ok(Some(Command::Run)),

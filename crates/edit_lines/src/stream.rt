@@ -1,13 +1,13 @@
-ghost use Rattle.std.specs.Prelude.{◌≡◌, ℕ, ◌+◌, ◌*◌, ◌^◌, ◌<◌, ◌≤◌, List, Option, ◌∷◌, ◌++◌, [], length, IfOk, OnOk, IfErr, OnErr, vec_len};
+ghost use Rattle.std.specs.Prelude.{◌≡◌, ℕ, ◌+◌, ◌*◌, ◌^◌, ◌<◌, ◌≤◌, List, Option, ◌∷◌, ◌++◌, [], length, IfOk, OnOk, IfErr, OnErr, vec_capacity, vec_len};
 ghost use Rattle.std.specs.Io.KnownBytes.{Appends, Consumes, IsAtEnd};
 ghost use Rattle.machine.specs.Given.{Session};
 ghost use Rattle.replay.specs.RunnerView.{RunnerView, SameOptions};
 ghost use Rattle.edit_lines.specs.declared.limits.TheConstants.{LINE_LIMIT, LINES_LIMIT};
-ghost use Rattle.edit_lines.specs.LineParts.{MayWantMemory};
 ghost use Rattle.edit_lines.specs.Effects.{Effects, EffectsAfter, EffectsAtEnd, EffectsAtFault, EffectsSoFar};
 ghost use Rattle.edit_lines.specs.Pieces.{lines_of};
 ghost use Rattle.edit_lines.specs.Replay.{End, Finished, Replays};
 ghost use Rattle.edit_lines.specs.Faults.{Faults};
+ghost use Rattle.edit_lines.specs.MemoryFaults.{FailsForMemory, StopsForMemory};
 ghost use Rattle.edit_lines.specs.Progress.{Finishes, Goes, IsPartFault, StandsAt};
 
 use crate::carry_out::carry_out;
@@ -28,13 +28,18 @@ struct Place {
     ghost few: { lines ≤ LINES_LIMIT },
 }
 
-/// Takes the next part of a line, which has no 0AH. Where it is not taken, the line is as it was.
+/// Appends the next part of a line, which has no 0AH.
+///
+/// # Errors
+///
+/// The line would be too long, or its buffer has no room for the part and cannot grow. The line is unchanged.
 fn take_part(place: &mut Place, part: &[u8]) -> Result<(), ReplayFault>
     ensures lines { place.new.lines ≡ place.old.lines }
     ensures taken { OnOk result (place.new.line.items ≡ place.old.line.items ++ part.now) }
     ensures stays { OnErr result (place.new.line.items ≡ place.old.line.items) }
-    ensures fault { IfErr result
-        (IsPartFault place.old.lines (length place.old.line.items) (length part.now)) }
+    ensures room { vec_capacity place.old.line ≤ vec_capacity place.new.line }
+    ensures fault { IfErr result (IsPartFault place.old.lines (length place.old.line.items)
+        (length part.now) (vec_capacity place.old.line)) }
 {
     if part.len() > LINE_LIMIT - place.line.len() {
         return Err(ReplayFault::LineTooLong(place.lines + 1));
@@ -43,7 +48,7 @@ fn take_part(place: &mut Place, part: &[u8]) -> Result<(), ReplayFault>
     Ok(())
 }
 
-/// Carries out the line, whose 0AH was read, and begins the next one.
+/// Carries out the line, whose 0AH was read, and begins the next one. Memory may run out only for a line that may want it.
 fn end_line<W: Writer>(
     alloc: Global,
     place: &mut Place,
@@ -60,15 +65,18 @@ fn end_line<W: Writer>(
         (W.holds writer.new) place.new.line.items place.new.lines result }
     ensures effects { (first : RunnerView) (begun : ℕ) (bytes rest : List ℕ)
         → EffectsSoFar first begun bytes runner.old meter.old place.old.line.items place.old.lines
-        → EffectsAfter first begun
-        (bytes ++ 10 ∷ []) rest runner.new meter.new place.new.line.items place.new.lines result }
+        (vec_capacity place.old.line)
+        → EffectsAfter first begun (bytes ++ 10 ∷ []) rest runner.new meter.new
+        place.new.line.items place.new.lines (vec_capacity place.new.line) result }
     ensures options { SameOptions runner.old runner.new }
     ensures fine { OnOk result (W.failures writer.new ≡ W.failures writer.old) }
     ensures failed { result ≡ Err ReplayFault.Write → W.failures writer.old < W.failures writer.new }
     ensures reads { result ≡ Err ReplayFault.Read → ⊥ }
     ensures meter { OnOk result (meter.new ≤ STEP_LIMIT * place.new.lines) }
     ensures on { OnOk result ((place.new.lines ≡ place.old.lines + 1) × (place.new.line.items ≡ [])) }
-    ensures memory { result ≡ Err ReplayFault.OutOfMemory → MayWantMemory place.old.line.items }
+    ensures memory { result ≡ Err ReplayFault.OutOfMemory
+        → FailsForMemory (place.old.lines + 1) place.old.line.items runner.old meter.old
+        runner.new meter.new (W.holds writer.old) (W.holds writer.new) }
 {
     carry_out(
         alloc,
@@ -102,8 +110,16 @@ fn take_piece<W: Writer>(
         (W.holds writer.new) place.new.line.items place.new.lines result }
     ensures effects { (first : RunnerView) (begun : ℕ) (bytes : List ℕ)
         → EffectsSoFar first begun bytes runner.old meter.old place.old.line.items place.old.lines
-        → EffectsAfter first begun
-        (bytes ++ piece.now) [] runner.new meter.new place.new.line.items place.new.lines result }
+        (vec_capacity place.old.line)
+        → EffectsAfter first begun (bytes ++ piece.now) [] runner.new meter.new
+        place.new.line.items place.new.lines (vec_capacity place.new.line) result }
+    ensures memory { (first : RunnerView) (begun : ℕ) (held : Option (List ℕ)) (bytes : List ℕ)
+        → StandsAt first.session held bytes runner.old.session
+        (W.holds writer.old) place.old.line.items place.old.lines
+        → EffectsSoFar first begun bytes runner.old meter.old place.old.line.items place.old.lines
+        (vec_capacity place.old.line)
+        → result ≡ Err ReplayFault.OutOfMemory → StopsForMemory first begun held
+        (bytes ++ piece.now) runner.new meter.new (W.holds writer.new) }
     ensures options { SameOptions runner.old runner.new }
     ensures fine { OnOk result (W.failures writer.new ≡ W.failures writer.old) }
     ensures failed { result ≡ Err ReplayFault.Write → W.failures writer.old < W.failures writer.new }
@@ -136,9 +152,12 @@ fn finish<W: Writer>(
         → Finishes first held bytes runner.new.session (W.holds writer.new) result }
     ensures effects { (first : RunnerView) (begun : ℕ) (bytes : List ℕ)
         → EffectsSoFar first begun bytes runner.old meter.old place.line.items place.lines
+        (vec_capacity place.line)
         → EffectsAtEnd first begun bytes runner.new meter.new result }
     ensures options { SameOptions runner.old runner.new }
-    ensures memory { result ≡ Err ReplayFault.OutOfMemory → MayWantMemory place.line.items }
+    ensures memory { result ≡ Err ReplayFault.OutOfMemory
+        → FailsForMemory (place.lines + 1) place.line.items runner.old meter.old
+        runner.new meter.new (W.holds writer.old) (W.holds writer.new) }
     ensures failed { result ≡ Err ReplayFault.Write → W.failures writer.old < W.failures writer.new }
     ensures reads { result ≡ Err ReplayFault.Read → ⊥ }
 {
@@ -163,6 +182,12 @@ fn finish<W: Writer>(
 /// has given at most 131,072 bytes past them. Each line has its effect on the runner's checkpoints and on
 /// the meter, one after the other, and nothing else is done to them: an edit leaves exactly the checkpoints
 /// that it does not touch, and a run adds no steps but those from the kept one where it begins. The options stay.
+///
+/// # Errors
+///
+/// [`ReplayFault`] says what each leaves. `OutOfMemory` comes only at a line that is longer than each line before it, as
+/// its buffer has to grow, or that may want memory: a run, an edit line that names bytes, or an insertion or a file that
+/// the session does not refuse. Exactly the lines before it were carried out, and their replies written.
 ///
 /// # Example
 ///
@@ -193,6 +218,10 @@ pub fn replay<R: Reader, W: Writer>(
         × Faults (R.left reader.new) runner.old.session (W.holds writer.old) bytes runner.new.session
         (W.holds writer.new) f
         × EffectsAtFault runner.old meter.old bytes runner.new meter.new f) }
+    ensures memory { result ≡ Err ReplayFault.OutOfMemory → (bytes : List ℕ)
+        × Consumes (R.left reader.old) (R.left reader.new) bytes
+        × StopsForMemory runner.old meter.old (W.holds writer.old) bytes
+        runner.new meter.new (W.holds writer.new) }
     ensures options { SameOptions runner.old runner.new }
     ensures read { result ≡ Err ReplayFault.Read → R.failures reader.old < R.failures reader.new }
     ensures write { result ≡ Err ReplayFault.Write → W.failures writer.old < W.failures writer.new }

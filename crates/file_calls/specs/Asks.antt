@@ -1,7 +1,8 @@
 -- What a function leaves that asks the files, and changes none. (This project's own.)
 use Rattle.std.specs.declared.result.Result.{Result}
 use Rattle.std.specs.declared.alloc.AllocError.{AllocError}
-use Rattle.interaction_trees.specs.Tree.{result_of, asked}
+use Rattle.std.specs.Prelude.{Bool, true, false}
+use Rattle.interaction_trees.specs.Tree.{Return, Query, result_of, asked}
 use Rattle.hostfiles.specs.Hosts.{Host}
 use Rattle.hostfiles.specs.Asking.{Inquires}
 use Rattle.hostfiles.specs.declared.changes.Changes.{Changes}
@@ -12,3 +13,8 @@ use Rattle.file_calls.specs.Answers.{file_answers, look_for_all}
 abbrev pub Asks : {E : Type 0} → FileTree E → Host → Changes → Result E AllocError → Changes → Type 0
 Asks t host old result new =
     Inquires result (λ own. result_of (file_answers host own) t) (λ own. look_for_all own (asked (file_answers host own) t)) old new
+
+-- whether a tree asks anything at all; what asks nothing takes no memory
+abbrev pub is_asking : {E : Type 0} → FileTree E → Bool
+is_asking (Return e) = false
+is_asking (Query q k) = true

@@ -1,7 +1,7 @@
-ghost use Rattle.std.specs.Prelude.{◌≡◌, IfOk, if◌then◌else◌};
+ghost use Rattle.std.specs.Prelude.{◌≡◌, true, IfOk, OnErr, if◌then◌else◌};
 ghost use Rattle.file_calls.specs.FileCalls.{found, block_length};
 ghost use Rattle.file_calls.specs.Apart.{IsApart};
-ghost use Rattle.file_calls.specs.Asks.{Asks};
+ghost use Rattle.file_calls.specs.Asks.{Asks, is_asking};
 
 use crate::block::Block;
 use crate::finding::Finding;
@@ -57,7 +57,7 @@ impl FileFunction {
         }
     }
 
-    /// What the call finds.
+    /// Returns what the call finds. A call that asks nothing is never an `Err`, which means out of memory.
     #[inline(never)]
     pub fn inquire(
         self,
@@ -67,6 +67,7 @@ impl FileFunction {
     ) -> Result<Finding, AllocError>
         ensures asks { Asks (found self block.now) host.now changes.old result changes.new }
         ensures apart { IfOk result IsApart }
+        ensures grows { OnErr result (is_asking (found self block.now) ≡ true) }
     {
         match self {
             FileFunction::Open => open_file(host, changes, block),

@@ -1,6 +1,6 @@
 // What each file call asks and finds.
 
-ghost use Rattle.std.specs.Prelude.{◌≡◌, slice_index, length, IfOk, Ok};
+ghost use Rattle.std.specs.Prelude.{◌≡◌, slice_index, length, true, IfOk, OnErr, Ok};
 ghost use Rattle.std.specs.Option.{option_map};
 ghost use Rattle.directory.specs.Entries.{position_in, count_at};
 ghost use Rattle.hostfiles.specs.Looks.{look_length};
@@ -10,7 +10,7 @@ ghost use Rattle.file_calls.specs.FileCalls as calls;
 ghost use Rattle.file_calls.specs.FileCalls.{missing, searching};
 ghost use Rattle.file_calls.specs.Apart.{IsApart};
 ghost use Rattle.file_calls.specs.Answers.{shape_found};
-ghost use Rattle.file_calls.specs.Asks.{Asks};
+ghost use Rattle.file_calls.specs.Asks.{Asks, is_asking};
 
 use crate::block::Block;
 use crate::finding::{Finding, Write};
@@ -179,6 +179,7 @@ pub fn make_file(
 ) -> Result<Finding, AllocError>
     ensures asks { Asks (calls.make_file block.now) host.now changes.old result changes.new }
     ensures apart { IfOk result IsApart }
+    ensures grows { OnErr result (is_asking (calls.make_file block.now) ≡ true) }
 {
     let key = block.key();
     if !asking::can_make(host, changes, &key)? {
@@ -196,6 +197,7 @@ pub fn rename_file(
 ) -> Result<Finding, AllocError>
     ensures asks { Asks (calls.rename_file block.now) host.now changes.old result changes.new }
     ensures apart { IfOk result IsApart }
+    ensures grows { OnErr result (is_asking (calls.rename_file block.now) ≡ true) }
 {
     let (old, new) = (block.key(), block.new_key());
     if !asking::can_rename(host, changes, &old, &new)? {

@@ -2,3 +2,4 @@ pub mod DriveLemmas
 pub mod FieldLemmas
 pub mod NameLemmas
 pub mod SaidLemmas
+pub mod SayableLemmas

@@ -82,6 +82,11 @@ is_sayable key = nat_lt (slice_index key 0) 4 && is_allowed (slice_index key 1) 
 abbrev pub drive_text : ℕ → List ℕ
 drive_text drive = if drive == 0 then [] else (65 + drive) ∷ 58 ∷ []
 
+-- the dot before a type, and a type behind its dot
+abbrev pub dot_text : List ℕ → List ℕ
+dot_text [] = []
+dot_text (b ∷ bs) = 46 ∷ []
+
 abbrev pub type_text : List ℕ → List ℕ
 type_text [] = []
 type_text (b ∷ bs) = 46 ∷ b ∷ bs
@@ -93,3 +98,7 @@ printed key = drive_text (slice_index key 0) ++ before_first is_blank (name_fiel
 -- a key that can be said, and has its twelve bytes, is that of its printed text
 abbrev pub SaidAsPrinted : Type 0
 SaidAsPrinted = (key : Key) → length key ≡ 12 → is_sayable key ≡ true → name_of (printed key) ≡ Ok key
+
+-- the key of a text that is a name has twelve bytes and is sayable
+abbrev pub NamesAreSayable : Type 0
+NamesAreSayable = (text : List ℕ) (key : Key) → name_of text ≡ Ok key → (length key ≡ 12) × (is_sayable key ≡ true)

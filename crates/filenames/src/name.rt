@@ -3,7 +3,9 @@
 ghost use Rattle.std.specs.Prelude.{◌≡◌, ◌<◌, ◌≤◌, ◌++◌, ◌↔◌, length, slice_index, slice_set, true, IsSome, IfSome};
 ghost use Rattle.std.specs.Option.{option_map};
 ghost use Rattle.filenames.specs.Drives.{drive_number};
-ghost use Rattle.filenames.specs.Names.{name_of, plain_name, named, key_of, drive_of, drive_text, is_sayable, printed, type_text, SaidAsPrinted};
+ghost use Rattle.std.specs.List.{before_first};
+ghost use Rattle.filenames.specs.Names.{name_of, plain_name, named, key_of, drive_of, drive_text, is_sayable, printed, type_text, dot_text};
+ghost use Rattle.filenames.specs.Names.{is_blank, name_field, type_field, SaidAsPrinted, NamesAreSayable};
 
 use crate::drive::Drive;
 use crate::field::{all_allowed, field_text, fill, halves, is_allowed, is_field};
@@ -166,9 +168,13 @@ impl Name {
         Name { key }
     }
 
-    /// The pieces of the name as it is printed.
+    /// Returns the pieces of the name as it is printed.
     pub fn pieces(&self) -> Pieces<'_>
-        ensures { result.drive.now ++ result.name.now ++ result.dot.now ++ result.kind.now
+        ensures drive { result.drive.now ≡ drive_text (slice_index self.now 0) }
+        ensures name { result.name.now ≡ before_first is_blank (name_field self.now) }
+        ensures kind { result.kind.now ≡ before_first is_blank (type_field self.now) }
+        ensures dot { result.dot.now ≡ dot_text result.kind.now }
+        ensures printed { result.drive.now ++ result.name.now ++ result.dot.now ++ result.kind.now
             ≡ printed self.now }
     {
         let kind = field_text(&self.key[9..12]);
@@ -241,7 +247,8 @@ fn drive_text(drive: Drive) -> &'static str
 
 // What is printed between a name and its type.
 fn dot_before(kind: &str) -> &'static str
-    ensures { result.now ++ kind.now ≡ type_text kind.now }
+    ensures dot { result.now ≡ dot_text kind.now }
+    ensures printed { result.now ++ kind.now ≡ type_text kind.now }
 {
     if kind.is_empty() { "" } else { "." }
 }
@@ -272,7 +279,9 @@ fn key_of(drive: Drive, name: &[u8], kind: &[u8]) -> Key
     key
 }
 
-/// Carries the law that a key of twelve bytes that can be said is that of its printed text.
+/// Two laws: a valid key is the key of its printed text, and the key of every text that is a name is valid. So the
+/// valid keys are exactly the keys of names.
 pub fn names_say_their_keys()
-    ensures { SaidAsPrinted }
+    ensures printed { SaidAsPrinted }
+    ensures valid { NamesAreSayable }
 {}

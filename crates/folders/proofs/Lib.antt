@@ -1,4 +1,5 @@
 pub mod EntryLemmas
+pub mod FaultLemmas
 pub mod ListingLemmas
 pub mod ReadLemmas
 pub mod WriteLemmas

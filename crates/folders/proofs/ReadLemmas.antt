@@ -108,7 +108,7 @@ all_read {Z = Z} files folder listed host h k = by_there (get listed k) refl whe
   by_there None e = tt
   by_there (Some file) e = subst (λ o. IsReadAs files folder o (get host k)) e (h k (ap is_some e))
 
-named_of : {Z : Type 0} (stored : Stored) (folder name : Path) (o : Option (String Z)) (records : Option (List Record)) → option_map string_bytes o ≡ Some name
+pub named_of : {Z : Type 0} (stored : Stored) (folder name : Path) (o : Option (String Z)) (records : Option (List Record)) → option_map string_bytes o ≡ Some name
     → IsReadAs (Some stored) folder o records → IsRead stored (path_text folder name) records
 named_of stored folder name None records e h = cc
 named_of stored folder name (Some file) records e h = let same : string_bytes file ≡ name = cc in subst (λ n. IsRead stored (path_text folder n) records) same h
@@ -164,7 +164,7 @@ none_read files names folders host e = record {
   none_told (Some stored) = λ d folder less. absurd (omega (arith, less))
 
 -- the files of a drive are those of its folder still where its files stay
-still_of : (stored : Stored) (names : List Path) (drive : ℕ) (folder : Path) (before now : Host) → ((k : Key) → slice_index k 0 ≡ drive → get now k ≡ get before k)
+pub still_of : (stored : Stored) (names : List Path) (drive : ℕ) (folder : Path) (before now : Host) → ((k : Key) → slice_index k 0 ≡ drive → get now k ≡ get before k)
     → AreOf stored names drive folder before → AreOf stored names drive folder now
 still_of stored names drive folder before now same a = record {
   read = λ key name h is. subst (IsRead stored (path_text folder name)) (sym (same key (drive_in drive name key is.gives))) (a.read key name h is);

@@ -19,6 +19,17 @@ abbrev pub FailsBy : (Fault → Type 0) → Failure → Type 0
 FailsBy Such (AtFault fault) = Such fault
 FailsBy Such OutOfMemory = Unit {0}
 
+-- the failures of a file system that a fault reports: one if something could not be read or written
+abbrev pub fault_failures : Fault → ℕ
+fault_failures (CannotRead path) = 1
+fault_failures (CannotWrite path) = 1
+fault_failures (TwoFiles name) = 0
+fault_failures (Refused name n) = 0
+
+abbrev pub reported_failures : Failure → ℕ
+reported_failures (AtFault fault) = fault_failures fault
+reported_failures OutOfMemory = 0
+
 -- the file or folder of this path could not be read
 abbrev pub Unread : List ℕ → Fault → Type 0
 Unread path (CannotRead p) = string_bytes p ≡ path

@@ -1,16 +1,16 @@
 -- Host files that are read from folders, and why they are not; why a changed file is not written. (This project's profile.)
-use Rattle.std.specs.Prelude.{◌≡◌, ◌+◌, ℕ, ◌⊎◌, List, Option, Some, None, Result, Ok, Err, IfSome, ⊤, true, is_some, slice_index, get_or, option_map, String, string_bytes, take}
+use Rattle.std.specs.Prelude.{◌≡◌, ◌<◌, ◌+◌, ℕ, ◌⊎◌, List, Option, Some, None, Result, Ok, Err, IfSome, ⊤, true, is_some, slice_index, get_or, option_map, String, string_bytes, take}
 use Rattle.std.specs.List.{Contains}
 use Rattle.std.specs.Borrow.{Bor}
-use Rattle.std.specs.Ordering.{nat_cmp}
+use Rattle.std.specs.Ordering.{nat_cmp, is_lt}
 use Rattle.std.specs.Cmp.Lexicographic.{slice_cmp}
 use Rattle.std.specs.FinMap.{FinMap, get, contains_key}
 use Rattle.filenames.specs.Names.{Key}
-use Rattle.hostfiles.specs.Hosts.{Host, Record, records_in}
+use Rattle.hostfiles.specs.Hosts.{Host, Record, records_in, refusal_of}
 use Rattle.hostfiles.specs.declared.host.TheConstants.{FILE_LIMIT}
 use Rattle.folders.specs.Entries.{file_text, path_text, temporary_text}
-use Rattle.folders.specs.Faults.{FailsBy, Unwritten}
-use Rattle.folders.specs.FileSystem.{Path, Stored, ChangesAt, PutsInPlace}
+use Rattle.folders.specs.Faults.{FailsBy, Unread, Unwritten}
+use Rattle.folders.specs.FileSystem.{Path, Stored, ChangesAt, PutsInPlace, Reads}
 use Rattle.folders.specs.Listings.{AreTwo, IsHostFile}
 use Rattle.folders.specs.declared.fault.Fault.{Fault}
 use Rattle.folders.specs.declared.fault.Fault.TheVariants.{CannotRead, CannotWrite, TwoFiles, Refused}
@@ -23,10 +23,6 @@ RefusesAs None name (Ok x) = Unit {0}
 RefusesAs None name (Err f) = f ≡ OutOfMemory
 RefusesAs (Some n) name (Ok x) = ⊥
 RefusesAs (Some n) name (Err f) = f ≡ AtFault (Refused name n)
-
--- a host file is too long, or there are too many
-abbrev pub IsRefusal : ℕ → Type 0
-IsRefusal n = (n ≡ 1) ⊎ (n ≡ 2)
 
 -- the host files of such keys stay as they were
 abbrev pub StaysWhere : (Key → Type 0) → Host → Host → Type 0
@@ -48,20 +44,52 @@ IsReadAs (Some stored) folder (Some file) records = IsRead stored (path_text fol
 abbrev pub AreRead : {Z : Type 0} → Option Stored → Path → FinMap (slice_cmp nat_cmp) (String Z) → Host → Type 0
 AreRead files folder listed host = (key : Key) → IsReadAs files folder (get listed key) (get host key)
 
--- why a file of a folder is not read and set under a name
-abbrev pub FailsFile : List ℕ → List ℕ → Key → Fault → Type 0
-FailsFile folder file name (CannotRead p) = string_bytes p ≡ path_text folder file
-FailsFile folder file name (CannotWrite p) = ⊥
-FailsFile folder file name (TwoFiles other) = ⊥
-FailsFile folder file name (Refused other n) = (other ≡ name) × IsRefusal n
+-- the bytes of the file of a path are refused by this number, if they are to be set under a name among these host files
+abbrev pub RefusesFile : Option Stored → Path → Host → Key → ℕ → Type 0
+RefusesFile files path host name n = (bytes : List ℕ) × Reads files path (FILE_LIMIT + 1) bytes × (refusal_of host name bytes ≡ Some n)
 
--- why the folder of a drive, with these names in it where the files are known, is not read: the folder or a file in it can't be, or a
--- name of the drive is that of two of its files or is refused
-abbrev pub FailsFolder : Option Stored → List Path → ℕ → List ℕ → Fault → Type 0
-FailsFolder files names drive folder (CannotRead p) = (string_bytes p ≡ folder) ⊎ ((file : List ℕ) × (string_bytes p ≡ path_text folder file))
-FailsFolder files names drive folder (CannotWrite p) = ⊥
-FailsFolder files names drive folder (TwoFiles name) = (slice_index name 0 ≡ drive) × IfSome files (λ stored. AreTwo stored drive folder names name)
-FailsFolder files names drive folder (Refused name n) = (slice_index name 0 ≡ drive) × IsRefusal n
+-- why the file of a path is not read and set under a name among these host files
+abbrev pub FailsFile : Option Stored → Path → Host → Key → Fault → Type 0
+FailsFile files path host name (CannotRead p) = string_bytes p ≡ path
+FailsFile files path host name (CannotWrite p) = ⊥
+FailsFile files path host name (TwoFiles other) = ⊥
+FailsFile files path host name (Refused other n) = (other ≡ name) × RefusesFile files path host name n
+
+-- of the files of a listing those of lesser keys were read among these host files, and the next one is not
+pub record FailsListed {Z : Type 0} (files : Option Stored) (folder : Path) (listed : FinMap (slice_cmp nat_cmp) (String Z)) (host : Host) (fault : Fault) : Type 0 where
+  pub key : Key
+  pub file : String Z
+  pub there : get listed key ≡ Some file
+  pub before : (k : Key) → is_lt (slice_cmp nat_cmp k key) ≡ true → IsReadAs files folder (get listed k) (get host k)
+  pub fails : FailsFile files (path_text folder (string_bytes file)) host key fault
+
+-- in the folder of a drive this is the name of the host file of a key, and those of lesser keys were read
+pub record IsNextFile (stored : Stored) (names : List Path) (drive : ℕ) (folder : Path) (host : Host) (key : Key) (name : Path) : Type 0 where
+  pub listed : Contains names name
+  pub is : IsHostFile stored drive folder key name
+  pub before : (k : Key) (other : Path) → is_lt (slice_cmp nat_cmp k key) ≡ true → Contains names other → IsHostFile stored drive folder k other
+      → IsRead stored (path_text folder other) (get host k)
+
+-- why the host file of a key, the next in the folder of a drive, is not read
+pub record FailsNext (files : Option Stored) (names : List Path) (drive : ℕ) (folder : Path) (host : Host) (fault : Fault) : Type 0 where
+  pub key : Key
+  pub name : Path
+  pub on_drive : slice_index key 0 ≡ drive
+  pub next : IfSome files (λ stored. IsNextFile stored names drive folder host key name)
+  pub fails : FailsFile files (path_text folder name) host key fault
+
+-- two of the names in the folder of a drive are those of one host file
+abbrev pub FailsTwice : Option Stored → List Path → ℕ → Path → Fault → Type 0
+FailsTwice files names drive folder (CannotRead p) = ⊥
+FailsTwice files names drive folder (CannotWrite p) = ⊥
+FailsTwice files names drive folder (TwoFiles name) = (slice_index name 0 ≡ drive) × IfSome files (λ stored. AreTwo stored drive folder names name)
+FailsTwice files names drive folder (Refused name n) = ⊥
+
+-- why the folder of a drive, with these names in it if the files are known, is not read among these host files: it can't be listed, two
+-- of its files have one name, or one of them is not read
+abbrev pub FailsFolder : Option Stored → List Path → ℕ → Path → Host → Fault → Type 0
+FailsFolder files names drive folder host fault =
+    Unread folder fault ⊎ FailsTwice files names drive folder fault ⊎ FailsNext files names drive folder host fault
 
 -- the host files of a drive are those of its folder, which has these names: each of them with its records, and no other
 pub record AreOf (stored : Stored) (names : List Path) (drive : ℕ) (folder : Path) (host : Host) : Type 0 where
@@ -77,10 +105,14 @@ pub record AreFromFolders (files : Option Stored) (names : Path → List Path) (
   pub only : (key : Key) → contains_key host key ≡ true → is_some (folder_of folders (slice_index key 0)) ≡ true
   pub all : IfSome files (λ stored. (drive : ℕ) (folder : Path) → folder_of folders drive ≡ Some folder → AreOf stored (names folder) drive folder host)
 
--- why the folders of the drives are not read: that of one of them is not
-abbrev pub FailsFolders : Option Stored → (Path → List Path) → List (Option (Bor (List ℕ))) → Failure → Type 0
-FailsFolders files names folders failure =
-    (drive : ℕ) × (folder : List ℕ) × (folder_of folders drive ≡ Some folder) × FailsBy (FailsFolder files (names folder) drive folder) failure
+-- why the folders of the drives are not read: that of one of them is not, and those of the drives before it were
+pub record FailsFolders (files : Option Stored) (names : Path → List Path) (folders : List (Option (Bor (List ℕ)))) (failure : Failure) : Type 0 where
+  pub drive : ℕ
+  pub folder : Path
+  pub here : folder_of folders drive ≡ Some folder
+  pub host : Host
+  pub before : IfSome files (λ stored. (d : ℕ) (f : Path) → d < drive → folder_of folders d ≡ Some f → AreOf stored (names f) d f host)
+  pub fails : FailsBy (FailsFolder files (names folder) drive folder host) failure
 
 -- why a file is not written into the folder of its drive
 abbrev pub FailsToWrite : List (Option (Bor (List ℕ))) → Key → Failure → Type 0

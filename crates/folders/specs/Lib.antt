@@ -1,3 +1,4 @@
+pub mod Failures
 pub mod FileSystem
 pub mod Entries
 pub mod Faults

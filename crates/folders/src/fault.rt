@@ -1,9 +1,8 @@
-ghost use Rattle.std.specs.Prelude.{◌≡◌, ◌↔◌, ◌⊎◌, OnOk, string_bytes};
-ghost use Rattle.std.specs.IoError.{error_kind};
-ghost use Rattle.folders.specs.Faults.{FailsBy, Unread, Unwritten};
+ghost use Rattle.std.specs.Prelude.{◌≡◌, string_bytes};
+ghost use Rattle.folders.specs.Failures.{io_failures};
+ghost use Rattle.folders.specs.Faults.{FailsBy, Unread, Unwritten, reported_failures};
 
 use filenames::Name;
-use std::alloc::Global;
 use std::io::ErrorKind;
 use std::{fmt, io};
 
@@ -46,24 +45,21 @@ impl fmt::Display for Fault {
     }
 }
 
-/// What a failure to read the file or folder of this path is.
-pub fn unread(alloc: Global, error: io::Error, path: &str) -> Failure
-    ensures fault { FailsBy (Unread path.now) result }
-    ensures memory { error_kind error ≡ ErrorKind.OutOfMemory → result ≡ Failure.OutOfMemory }
+/// Returns the failure that an error of reading the file or folder of this path is.
+pub fn unread(error: io::Error, path: String) -> Failure
+    ensures fault { FailsBy (Unread (string_bytes path)) result }
+    ensures failures { reported_failures result ≡ io_failures error }
 {
     if error.kind() == ErrorKind::OutOfMemory {
         return Failure::OutOfMemory;
     }
-    match String::from_str(alloc, path) {
-        Ok(path) => Failure::AtFault(Fault::CannotRead(path)),
-        Err(_) => Failure::OutOfMemory,
-    }
+    Failure::AtFault(Fault::CannotRead(path))
 }
 
-/// What a failure to write the file of this path is.
+/// Returns the failure that an error of writing the file of this path is.
 pub fn unwritten(error: io::Error, path: String) -> Failure
     ensures fault { FailsBy (Unwritten (string_bytes path)) result }
-    ensures memory { error_kind error ≡ ErrorKind.OutOfMemory ↔ (result ≡ Failure.OutOfMemory) }
+    ensures failures { reported_failures result ≡ io_failures error }
 {
     if error.kind() == ErrorKind::OutOfMemory {
         return Failure::OutOfMemory;

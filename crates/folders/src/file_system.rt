@@ -1,13 +1,14 @@
 // The files of a machine, by their paths.
 
-ghost use Rattle.std.specs.Prelude.{◌≡◌, ℕ, List, [], Option, Some, None, IfOk, OnOk, OnErr, IfSome, map, string_bytes};
+ghost use Rattle.std.specs.Prelude.{◌≡◌, ◌≤◌, ◌<◌, ◌+◌, ◌^◌, ℕ, List, [], Option, Some, None, IfOk, OnOk, OnErr, IfSome, length, map, min, string_bytes};
 ghost use Rattle.std.specs.FinMap.{contains_key, insert};
-ghost use Rattle.std.specs.Io.KnownBytes.{Appends};
-ghost use Rattle.folders.specs.FileSystem.{Path, Stored, Opens, Becomes, ChangesAt, moved};
+ghost use Rattle.std.specs.Io.KnownBytes.{Appends, ReadConsumes};
+ghost use Rattle.folders.specs.Failures.{AddsFailures, io_failures};
+ghost use Rattle.folders.specs.FileSystem.{Path, Stored, Opens, Reads, Becomes, ChangesAt, moved};
 
 use std::alloc::Global;
 use std::fs::{OpenOptions, read_dir};
-use std::io::{BufWriter, Read, Write};
+use std::io::{BufWriter, ErrorKind, Read, Write};
 use std::rt::Files;
 use std::{fs, io};
 
@@ -21,49 +22,104 @@ pub trait Contents {
         ensures { OnOk result (Appends (W.contents writer.old) (W.contents writer.new) (bytes self.now)) };
 }
 
-/// Files by their paths. A contract sees the bytes of each regular file, where the file system gives
-/// them; that of an operating system gives none. Paths that differ are different files.
+/// An open file that is read. A contract sees the bytes that are left, if the file reports them, and a count of
+/// failures.
+pub trait InputFile {
+    /// The bytes that are left, if the file reports them.
+    ghost left: { Self → Option (List ℕ) };
+
+    /// How often it failed.
+    ghost failures: { Self → ℕ };
+
+    /// Moves the next bytes, at most as many as the piece has places, to the front of the piece, and returns their
+    /// count. No byte for a piece that is not empty is the end. An error moves no byte and adds one failure.
+    fn read(&mut self, piece: &mut [u8]) -> io::Result<usize>
+        requires { failures self.old < 2 ^ 63 }
+        ensures count { IfOk result (λ n. n ≤ length piece.new) }
+        ensures bytes { ReadConsumes (left self.old) (left self.new) result piece.new }
+        ensures failures { AddsFailures (λ _. 1) result (failures self.old) (failures self.new) };
+}
+
+/// Files by their paths. A contract sees the bytes of each regular file, if the file system gives them (that of an
+/// operating system gives none), and a count of failures: an error adds one, unless an allocation failed. Paths that
+/// differ are different files.
 pub trait FileSystem {
     /// An open file that is read.
-    type Input: Read + Drop;
+    type Input: InputFile + Drop;
 
-    /// The bytes of each regular file, where they are known.
+    /// The bytes of each regular file, if they are known.
     ghost files: { Self → Option Stored };
 
-    /// The names of what stands in a folder, in the order in which it is listed, where the files are known.
+    /// The names in a folder, in the order in which it is listed, if the files are known.
     ghost names: { Self → Path → List Path };
+
+    /// How often it failed.
+    ghost failures: { Self → ℕ };
 
     /// The allocator of what it makes, and of what is made of its files.
     fn alloc(&self) -> Global;
 
-    /// Opens a file to read it.
-    fn open(&self, path: &str) -> io::Result<Self::Input>
-        ensures { IfOk result (λ input. Opens (files self.now) path.now (Self.Input.remaining input)) };
+    /// Opens a file to read it piece by piece.
+    fn open(&mut self, path: &str) -> io::Result<Self::Input>
+        requires { failures self.old < 2 ^ 63 }
+        ensures opens { IfOk result (λ input. Opens (files self.old) path.now (Self.Input.left input)) }
+        ensures unfailed { IfOk result (λ input. Self.Input.failures input ≡ 0) }
+        ensures files { files self.new ≡ files self.old }
+        ensures names { names self.new ≡ names self.old }
+        ensures failures { AddsFailures io_failures result (failures self.old) (failures self.new) };
 
-    /// The names of what stands in a folder.
-    fn list(&self, folder: &str) -> io::Result<Vec<String>>
-        ensures { IfOk result (λ listed. IfSome (files self.now) (λ _.
-            map string_bytes listed.items ≡ names self.now folder.now)) };
+    /// Adds one failure if a read of this open file failed.
+    fn count_failed_reads(&mut self, input: &Self::Input)
+        requires { failures self.old < 2 ^ 63 }
+        ensures files { files self.new ≡ files self.old }
+        ensures names { names self.new ≡ names self.old }
+        ensures failures { failures self.new ≡ failures self.old + min 1 (Self.Input.failures input.now) };
 
-    /// Whether a regular file stands at a path, and no link to one.
-    fn is_file(&self, path: &str) -> io::Result<bool>
-        ensures { IfOk result
-            (λ is. IfSome (files self.now) (λ stored. is ≡ contains_key stored path.now)) };
+    /// Reads a file: all of its bytes, or its first `most` if it has more.
+    fn read(&mut self, path: &str, most: u64) -> io::Result<Vec<u8>>
+        requires { failures self.old < 2 ^ 63 }
+        ensures reads { IfOk result (λ bytes. Reads (files self.old) path.now most bytes.items) }
+        ensures files { files self.new ≡ files self.old }
+        ensures names { names self.new ≡ names self.old }
+        ensures failures { AddsFailures io_failures result (failures self.old) (failures self.new) };
 
-    /// Writes a new file, where nothing stands at the path. An error may leave a part of it there.
+    /// Returns the names in a folder.
+    fn list(&mut self, folder: &str) -> io::Result<Vec<String>>
+        requires { failures self.old < 2 ^ 63 }
+        ensures lists { IfOk result (λ listed. IfSome (files self.old) (λ _.
+            map string_bytes listed.items ≡ names self.old folder.now)) }
+        ensures files { files self.new ≡ files self.old }
+        ensures names { names self.new ≡ names self.old }
+        ensures failures { AddsFailures io_failures result (failures self.old) (failures self.new) };
+
+    /// Whether there is a regular file at a path, and no link to one.
+    fn is_file(&mut self, path: &str) -> io::Result<bool>
+        requires { failures self.old < 2 ^ 63 }
+        ensures is { IfOk result
+            (λ is. IfSome (files self.old) (λ stored. is ≡ contains_key stored path.now)) }
+        ensures files { files self.new ≡ files self.old }
+        ensures names { names self.new ≡ names self.old }
+        ensures failures { AddsFailures io_failures result (failures self.old) (failures self.new) };
+
+    /// Writes a new file, if nothing is at the path. An error may leave a part of it there.
     fn write_new<C: Contents>(&mut self, path: &str, contents: &C) -> io::Result<()>
+        requires { failures self.old < 2 ^ 63 }
         ensures written { OnOk result (Becomes (files self.old) (files self.new)
             (λ stored. insert stored path.now (C.bytes contents.now))) }
-        ensures others { ChangesAt path.now (files self.old) (files self.new) };
+        ensures others { ChangesAt path.now (files self.old) (files self.new) }
+        ensures failures { AddsFailures io_failures result (failures self.old) (failures self.new) };
 
-    /// Puts the file of one path at another, in place of what stands there.
+    /// Moves the file of one path to another, in place of what is there.
     fn rename(&mut self, from: &str, to: &str) -> io::Result<()>
+        requires { failures self.old < 2 ^ 63 }
         ensures moved { OnOk result (Becomes (files self.old) (files self.new) (moved from.now to.now)) }
-        ensures err { OnErr result (files self.new ≡ files self.old) };
+        ensures err { OnErr result (files self.new ≡ files self.old) }
+        ensures failures { AddsFailures io_failures result (failures self.old) (failures self.new) };
 
-    /// Removes a file.
-    fn remove(&mut self, path: &str) -> io::Result<()>
-        ensures others { ChangesAt path.now (files self.old) (files self.new) };
+    /// Removes a file if there is one and it can be removed. If not, that is no failure.
+    fn remove(&mut self, path: &str)
+        ensures others { ChangesAt path.now (files self.old) (files self.new) }
+        ensures failures { failures self.new ≡ failures self.old };
 }
 
 // Writes contents to a writer, through a buffer, and gives the writer back.
@@ -82,60 +138,146 @@ fn write_whole<W: Write + Drop, C: Contents>(
     }
 }
 
-/// The files of the operating system, of which a contract knows nothing.
+// The bytes of a file, or its first `most` if it has more.
+fn read_first<T: Read + Drop>(alloc: Global, source: T, most: u64) -> io::Result<Vec<u8>> {
+    let mut bytes = Vec::new(alloc);
+    source.take(most).read_to_end(&mut bytes)?;
+    Ok(bytes)
+}
+
+/// An open file of the operating system, with a count of its failures.
+#[derive(Drop)]
+pub struct SystemFile<T> {
+    inner: T,
+    failures: u64,
+}
+
+impl<T: Read> InputFile for SystemFile<T> {
+    ghost left = { λ file. T.remaining file.inner };
+
+    ghost failures = { λ file. file.failures };
+
+    fn read(&mut self, piece: &mut [u8]) -> io::Result<usize> {
+        match self.inner.read(piece) {
+            Ok(count) => Ok(count),
+            Err(error) => {
+                self.failures += 1;
+                Err(error)
+            }
+        }
+    }
+}
+
+/// The files of the operating system, of which a contract knows nothing but how often they failed.
 #[derive(Drop)]
 pub struct SystemFiles<'a, R> {
     rt: &'a R,
+    failures: u64,
 }
 
 impl<'a, R> SystemFiles<'a, R> {
-    /// Those that a runtime reaches.
-    pub fn new(rt: &'a R) -> SystemFiles<'a, R> {
-        SystemFiles { rt }
+    /// Those that a runtime reaches, with no failure yet.
+    pub fn new(rt: &'a R) -> SystemFiles<'a, R>
+        ensures { result.failures ≡ 0 }
+    {
+        SystemFiles { rt, failures: 0 }
+    }
+
+    // Counts the failure of a call, if it failed.
+    fn count<T>(&mut self, answer: io::Result<T>) -> io::Result<T>
+        requires { self.old.failures < 2 ^ 63 }
+        ensures same { result ≡ answer }
+        ensures failures { AddsFailures io_failures result self.old.failures self.new.failures }
+    {
+        if let Err(error) = &answer
+            && error.kind() != ErrorKind::OutOfMemory
+        {
+            self.failures += 1;
+        }
+        answer
+    }
+}
+
+impl<R: Files + AllocGlobal + Clone + Drop> SystemFiles<'_, R> {
+    fn names_in(&self, folder: &str) -> io::Result<Vec<String>> {
+        let mut names = Vec::new(self.rt.alloc());
+        for entry in read_dir(self.rt, folder)? {
+            names.push(String::from_str(self.rt.alloc(), entry?.file_name())?)?;
+        }
+        Ok(names)
+    }
+
+    fn is_regular(&self, path: &str) -> io::Result<bool> {
+        Ok(fs::symlink_metadata(self.rt, path)?.is_file())
+    }
+
+    fn read_from(&self, path: &str, most: u64) -> io::Result<Vec<u8>> {
+        read_first(self.rt.alloc(), fs::open(self.rt, path)?, most)
+    }
+
+    fn write_at<C: Contents>(&self, path: &str, contents: &C) -> io::Result<()> {
+        let file = OpenOptions::new()
+            .write(true)
+            .create_new(true)
+            .open(self.rt, path)?;
+        write_whole(self.rt.alloc(), file, contents)?;
+        Ok(())
     }
 }
 
 impl<R: Files + AllocGlobal + Clone + Drop> FileSystem for SystemFiles<'_, R> {
-    type Input = R::File;
+    type Input = SystemFile<R::File>;
 
     ghost files = { λ _. None };
 
     ghost names = { λ _ _. [] };
 
+    ghost failures = { λ system. system.failures };
+
     fn alloc(&self) -> Global {
         self.rt.alloc()
     }
 
-    fn open(&self, path: &str) -> io::Result<R::File> {
-        fs::open(self.rt, path)
-    }
-
-    fn list(&self, folder: &str) -> io::Result<Vec<String>> {
-        let mut names = Vec::new(self.alloc());
-        for entry in read_dir(self.rt, folder)? {
-            names.push(String::from_str(self.alloc(), entry?.file_name())?)?;
+    fn open(&mut self, path: &str) -> io::Result<SystemFile<R::File>> {
+        let opened = fs::open(self.rt, path);
+        match self.count(opened) {
+            Ok(inner) => Ok(SystemFile { inner, failures: 0 }),
+            Err(error) => Err(error),
         }
-        Ok(names)
     }
 
-    fn is_file(&self, path: &str) -> io::Result<bool> {
-        Ok(fs::symlink_metadata(self.rt, path)?.is_file())
+    fn count_failed_reads(&mut self, input: &SystemFile<R::File>) {
+        if input.failures > 0 {
+            self.failures += 1;
+        }
+    }
+
+    fn read(&mut self, path: &str, most: u64) -> io::Result<Vec<u8>> {
+        let bytes = self.read_from(path, most);
+        self.count(bytes)
+    }
+
+    fn list(&mut self, folder: &str) -> io::Result<Vec<String>> {
+        let names = self.names_in(folder);
+        self.count(names)
+    }
+
+    fn is_file(&mut self, path: &str) -> io::Result<bool> {
+        let is = self.is_regular(path);
+        self.count(is)
     }
 
     fn write_new<C: Contents>(&mut self, path: &str, contents: &C) -> io::Result<()> {
-        let file = OpenOptions::new()
-            .write(true)
-            .create_new(true)
-            .open(self.rt, path)?;
-        write_whole(self.alloc(), file, contents)?;
-        Ok(())
+        let written = self.write_at(path, contents);
+        self.count(written)
     }
 
     fn rename(&mut self, from: &str, to: &str) -> io::Result<()> {
-        fs::rename(self.rt, from, to)
+        let renamed = fs::rename(self.rt, from, to);
+        self.count(renamed)
     }
 
-    fn remove(&mut self, path: &str) -> io::Result<()> {
-        fs::remove_file(self.rt, path)
+    fn remove(&mut self, path: &str) {
+        let _ = fs::remove_file(self.rt, path);
     }
 }

@@ -17,7 +17,7 @@ mod writing;
 
 pub use entry::{file_name, name_in_folder, path_in, temporary_name};
 pub use fault::{Failure, Fault};
-pub use file_system::{Contents, FileSystem, SystemFiles};
+pub use file_system::{Contents, FileSystem, InputFile, SystemFile, SystemFiles};
 pub use listing::Listing;
 pub use reading::{read_folder, read_folders};
 pub use writing::{ChangedFile, write_file, write_records, write_to_drive};

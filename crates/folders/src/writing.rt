@@ -1,9 +1,10 @@
 // A changed file is written into a folder.
 
-ghost use Rattle.std.specs.Prelude.{◌≡◌, ◌≢◌, Some, OnOk, OnErr, IfOk, IfErr, slice_index, string_bytes};
+ghost use Rattle.std.specs.Prelude.{◌≡◌, ◌≢◌, ◌<◌, ◌^◌, Some, OnOk, OnErr, IfOk, IfErr, slice_index, string_bytes};
 ghost use Rattle.std.specs.Io.KnownBytes.{Appends};
 ghost use Rattle.folders.specs.Entries.{file_text, path_text, temporary_text};
-ghost use Rattle.folders.specs.Faults.{FailsBy, Unwritten};
+ghost use Rattle.folders.specs.Failures.{AddsFailures, io_failures};
+ghost use Rattle.folders.specs.Faults.{FailsBy, Unwritten, reported_failures};
 ghost use Rattle.folders.specs.FileSystem.{ChangesAt, PutsInPlace};
 ghost use Rattle.folders.specs.Folders.{FailsToWrite, LeavesIn, WritesInto, folder_of};
 ghost use Rattle.folders.specs.Written.{bytes_of};
@@ -67,31 +68,35 @@ fn write_and_rename<S: FileSystem, C: Contents>(
     temporary: &str,
     path: &str,
 ) -> io::Result<()>
-    requires { temporary.now ≢ path.now }
+    requires failures { S.failures system.old < 2 ^ 63 }
+    requires apart { temporary.now ≢ path.now }
     ensures written { OnOk result (PutsInPlace (S.files system.old) (S.files system.new)
         path.now temporary.now (C.bytes contents.now)) }
     ensures err { OnErr result (ChangesAt temporary.now (S.files system.old) (S.files system.new)) }
+    ensures failures { AddsFailures io_failures result (S.failures system.old) (S.failures system.new) }
 {
-    let _ = system.remove(temporary);
+    system.remove(temporary);
     system.write_new(temporary, contents)?;
     system.rename(temporary, path)
 }
 
 /// Writes a file into a folder, by its name without the letter and `:`, in place of a file of this name. It
 /// is written under another name in that folder, which no host file has, and then renamed: so a file that
-/// can't be written whole is not there, and one that stood there before still is. A fault is of the file's
-/// path, or want of memory.
+/// can't be written whole is not there, and one that was there before still is. A fault is that of the file's
+/// path, or out of memory.
 pub fn write_file<S: FileSystem, C: Contents>(
     system: &mut S,
     folder: &str,
     name: &Name,
     contents: &C,
 ) -> Result<(), Failure>
+    requires { S.failures system.old < 2 ^ 63 }
     ensures written { OnOk result (WritesInto (Some folder.now) (S.files system.old) (S.files system.new)
         name.now (C.bytes contents.now)) }
     ensures err { OnErr result (LeavesIn (Some folder.now) (S.files system.old) (S.files system.new)
         name.now) }
     ensures fault { IfErr result (FailsBy (Unwritten (path_text folder.now (file_text name.now)))) }
+    ensures failures { AddsFailures reported_failures result (S.failures system.old) (S.failures system.new) }
 {
     let Ok((path, temporary)) = paths(system.alloc(), folder, name) else {
         return Err(Failure::OutOfMemory);
@@ -99,7 +104,7 @@ pub fn write_file<S: FileSystem, C: Contents>(
     match write_and_rename(system, contents, temporary.as_str(), path.as_str()) {
         Ok(()) => Ok(()),
         Err(error) => {
-            let _ = system.remove(temporary.as_str());
+            system.remove(temporary.as_str());
             Err(unwritten(error, path))
         }
     }
@@ -119,7 +124,7 @@ fn paths(alloc: Global, folder: &str, name: &Name) -> Result<(String, String), A
     ))
 }
 
-/// Writes a file into the folder of its drive, A to D, as `write_file` does, where that drive has a folder;
+/// Writes a file into the folder of its drive, A to D, as `write_file` does, if that drive has a folder;
 /// else it is not written.
 pub fn write_to_drive<S: FileSystem, C: Contents>(
     system: &mut S,
@@ -127,11 +132,13 @@ pub fn write_to_drive<S: FileSystem, C: Contents>(
     name: &Name,
     contents: &C,
 ) -> Result<(), Failure>
+    requires { S.failures system.old < 2 ^ 63 }
     ensures written { OnOk result (WritesInto (folder_of folders.now (slice_index name.now 0))
         (S.files system.old) (S.files system.new) name.now (C.bytes contents.now)) }
     ensures err { OnErr result (LeavesIn (folder_of folders.now (slice_index name.now 0))
         (S.files system.old) (S.files system.new) name.now) }
     ensures fault { IfErr result (FailsToWrite folders.now name.now) }
+    ensures failures { AddsFailures reported_failures result (S.failures system.old) (S.failures system.new) }
 {
     match folders[name.drive().number() as usize] {
         Some(folder) => write_file(system, folder, name, contents),

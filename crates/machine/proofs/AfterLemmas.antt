@@ -4,22 +4,22 @@ use Rattle.interaction_trees.specs.Outcome.{Outcome, Step, Stop}
 use Rattle.interaction_trees.specs.Dependence.{state_of}
 use Rattle.interaction_trees.specs.Dependence as dependence
 use Rattle.console_calls.specs.declared.cause.Cause.{Cause}
-use Rattle.machine.specs.Views.{State}
+use Rattle.machine.specs.StateView.{PartialState}
 use Rattle.machine.specs.Step.{next}
 use Rattle.machine.specs.Machine.{Answers, part, made, start, outcome, after}
 
-abbrev pub then_step : Answers → Option State → Option State
-then_step = dependence.then_step part (λ (st : State). st.own) (λ (st : State). next st.core) made start
+abbrev pub then_step : Answers → Option PartialState → Option PartialState
+then_step = dependence.then_step part (λ (st : PartialState). st.own) (λ (st : PartialState). next st.core) made start
 
 -- a state was reached by a step from one before
-pub step_before : (f : Answers) (o : Option State) (st : State) → then_step f o ≡ Some st → (b : State) × (o ≡ Some b) × (outcome f b ≡ Step st)
+pub step_before : (f : Answers) (o : Option PartialState) (st : PartialState) → then_step f o ≡ Some st → (b : PartialState) × (o ≡ Some b) × (outcome f b ≡ Step st)
 step_before f None st e = absurd (cc)
 step_before f (Some b) st e = (b, refl, stepped (outcome f b) st e) where
-  stepped : (o : Outcome State Cause) (st : State) → state_of o ≡ Some st → o ≡ Step st
+  stepped : (o : Outcome PartialState Cause) (st : PartialState) → state_of o ≡ Some st → o ≡ Step st
   stepped (Step x) st e = let same : x ≡ st = cc in ap Step same
   stepped (Stop x) st e = absurd (cc)
 
 -- one step more
-pub after_step : (f : Answers) (n : ℕ) (st st' : State) → after f n ≡ Some st → outcome f st ≡ Step st' → after f (n + 1) ≡ Some st'
+pub after_step : (f : Answers) (n : ℕ) (st st' : PartialState) → after f n ≡ Some st → outcome f st ≡ Step st' → after f (n + 1) ≡ Some st'
 unfolding dependence.after
 after_step f n st st' at went = rw add-one (ap (then_step f) at ∙ ap state_of went)

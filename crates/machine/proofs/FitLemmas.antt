@@ -44,7 +44,7 @@ use Rattle.file_calls.specs.Passing as passing
 use Rattle.file_calls.proofs.Answering.{answers_are}
 use Rattle.file_calls.proofs.Soundness.{starts_sound, stays_sound}
 use Rattle.machine.specs.Given.{Session, Core}
-use Rattle.machine.specs.Views.{State}
+use Rattle.machine.specs.StateView.{PartialState}
 use Rattle.machine.specs.Step.{Reached, Went, Stopped, reached, reached_with, reached_by_call, script_limit, next, desk_with}
 use Rattle.machine.specs.Machine.{ask, laid, stored_all, made, start, after, IsReached}
 use Rattle.machine.proofs.AfterLemmas.{step_before}
@@ -237,31 +237,31 @@ module _ (host : Host) (own : Own) where
 -- ---- a run
 
 -- the state's answers, with those about files as the files tell them
-abbrev told : Session → State → SystemAnswers
+abbrev told : Session → PartialState → SystemAnswers
 told s st (OfState q) = laid st.own (ask s) (OfState q)
 told s st (OfFiles q) = file_answers s.files st.own.files q
 
-told_alike : (s : Session) (st : State) → IsSound s.files st.own.files → (q : SystemQuestion) → laid st.own (ask s) q ≡ told s st q
+told_alike : (s : Session) (st : PartialState) → IsSound s.files st.own.files → (q : SystemQuestion) → laid st.own (ask s) q ≡ told s st q
 told_alike s st sound (OfState q) = refl
 told_alike s st sound (OfFiles q) = result_of-asking_host (ask s) (passing.part st.own.files q) ∙ answers_are s.files st.own.files sound q
 
-pub reached_fits : (s : Session) (st : State) → IsSound s.files st.own.files → FitsReached s.files st.own.files (result_of (laid st.own (ask s)) (next st.core))
+pub reached_fits : (s : Session) (st : PartialState) → IsSound s.files st.own.files → FitsReached s.files st.own.files (result_of (laid st.own (ask s)) (next st.core))
 reached_fits s st sound = subst (FitsReached s.files st.own.files) (sym (same_everywhere (laid st.own (ask s)) (told s st) (next st.core) (told_alike s st sound))) (next_fits s.files st.own.files (told s st) (λ q. refl) st.core)
 
-step_sound : (s : Session) (st onward : State) (e : Reached) → IsSound s.files st.own.files → FitsReached s.files st.own.files e → made st e ≡ Step onward → IsSound s.files onward.own.files
+step_sound : (s : Session) (st onward : PartialState) (e : Reached) → IsSound s.files st.own.files → FitsReached s.files st.own.files e → made st e ≡ Step onward → IsSound s.files onward.own.files
 step_sound s st onward (Went r spot bytes wrote change) sound fits e =
     let same : record { core = record { regs = r; desk = desk_with st.core.desk spot bytes }; own = record { cells = stored_all st.own.cells wrote.cells; files = own_with change st.own.files } } ≡ onward = cc in
-    subst (λ (x : State). IsSound s.files x.own.files) same (stays_sound s.files st.own.files change (fitting s.files st.own.files change fits) sound)
+    subst (λ (x : PartialState). IsSound s.files x.own.files) same (stays_sound s.files st.own.files change (fitting s.files st.own.files change fits) sound)
 step_sound s st onward (Stopped cause) sound fits e = absurd (cc)
 
 -- what was done to the files is sound at each state of a run
-pub sound_after : (s : Session) (n : ℕ) (st : State) → after (ask s) n ≡ Some st → IsSound s.files st.own.files
+pub sound_after : (s : Session) (n : ℕ) (st : PartialState) → after (ask s) n ≡ Some st → IsSound s.files st.own.files
 unfolding dependence.after dependence.outcome
-sound_after s zero st e = let same : start ≡ st = cc in subst (λ (x : State). IsSound s.files x.own.files) same (starts_sound s.files)
+sound_after s zero st e = let same : start ≡ st = cc in subst (λ (x : PartialState). IsSound s.files x.own.files) same (starts_sound s.files)
 sound_after s (suc n) st e =
     let (b, before, went) = step_before (ask s) (after (ask s) n) st e in
     let sound = sound_after s n b before in
     step_sound s b st (result_of (laid b.own (ask s)) (next b.core)) sound (reached_fits s b sound) went
 
-pub sound_reached : (s : Session) (st : State) → IsReached (ask s) st → IsSound s.files st.own.files
+pub sound_reached : (s : Session) (st : PartialState) → IsReached (ask s) st → IsSound s.files st.own.files
 sound_reached s st r = sound_after s r.0 st r.1

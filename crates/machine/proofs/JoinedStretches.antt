@@ -1,6 +1,7 @@
 -- A stretch that goes on where steps before it looked at nothing new.
 use Rattle.std.proofs.Common.{inl, inr, ◌≡◌, ℕ, ◌<◌, ◌≤◌, ◌+◌, ◌-◌, ◌||◌, Bool, true, false, Option, Some, None, Ok, Err, refl, sym, ◌∙◌, ap, subst, arith, List, IfOk, IfNone}
 use Rattle.std.proofs.lemmas.Bool.{cases_lt, or_cases}
+use Rattle.std.proofs.Math.Bool.{or-false}
 use Rattle.std.specs.declared.result.Result.{Result}
 use Rattle.std.specs.declared.alloc.AllocError.{AllocError}
 use Rattle.i8080.specs.Memory as memory
@@ -13,7 +14,7 @@ use Rattle.hostfiles.specs.declared.looks.Ask.{Ask}
 use Rattle.hostfiles.proofs.LookLemmas.{extends_trans}
 use Rattle.i8080.proofs.WriteLookLemmas.{extends_itself}
 use Rattle.machine.specs.Given.{Session}
-use Rattle.machine.specs.Views.{Looked, Running}
+use Rattle.machine.specs.StateView.{Looked, StateView}
 use Rattle.machine.specs.Machine.{Question, Cell, Script, OfHost, ask, after, looks, looked_at, is_in, LooksAlso, Extends}
 use Rattle.machine.specs.Stretch.{LooksAtNothingNew, Stretches}
 
@@ -34,7 +35,7 @@ alike was is l (Cell a) = ap (is_among a) l.cells
 alike was is l (Script k) = ap (λ p. is_within p k) l.places
 alike was is l (OfHost a) = both (is_looked was.files a) (is_looked is.files a) (l.files.kept a) (l.asks a)
 
-module _ (s : Session) (from end n k : ℕ) (looked : Looked) (old new : Running) (low : from ≤ n) (high : n < end)
+module _ (s : Session) (from end n k : ℕ) (looked : Looked) (old new : StateView) (low : from ≤ n) (high : n < end)
     (same : LooksAlike looked old.looked) (quiet : LooksAtNothingNew (ask s) looked from n) where
   -- steps that look at nothing new, and then more of them
   quiet_on : (upto : ℕ) → LooksAtNothingNew (ask s) old.looked n upto → LooksAtNothingNew (ask s) looked from upto
@@ -66,6 +67,7 @@ module _ (s : Session) (from end n k : ℕ) (looked : Looked) (old new : Running
     before_stop = tt;
     before_failure = tt;
     last = λ past. also_on (n + k - 1) (w.last (omega (arith, more)));
+    none = λ back. absurd (omega (arith, back, low, more));
     at_stop = tt;
     extends = extends_on w.extends;
     bounded = tt;
@@ -79,6 +81,7 @@ module _ (s : Session) (from end n k : ℕ) (looked : Looked) (old new : Running
     before_stop = quiet_on (n + k) w.before_stop;
     before_failure = tt;
     last = tt;
+    none = tt;
     at_stop = also_on (n + k) w.at_stop;
     extends = extends_on w.extends;
     bounded = tt;
@@ -92,6 +95,7 @@ module _ (s : Session) (from end n k : ℕ) (looked : Looked) (old new : Running
     before_stop = tt;
     before_failure = quiet_on (n + k) w.before_failure;
     last = tt;
+    none = tt;
     at_stop = tt;
     extends = extends_on w.extends;
     bounded = λ q h. ap (λ b. b || is_in q (looks (ask s) (n + k))) (sym (alike looked old.looked same q)) ∙ w.bounded q h;
@@ -102,7 +106,7 @@ module _ (s : Session) (from end n k : ℕ) (looked : Looked) (old new : Running
   joined_as result answer is w more = subst (λ (x : Result (Option Cause) AllocError). Stretches s from end looked (n + k) x new) is (joined result w more)
 
 -- steps that all looked at nothing new
-pub ends_alike : (s : Session) (from end n : ℕ) (looked : Looked) (running : Running) → from ≤ n → n ≤ end → LooksAlike looked running.looked → after (ask s) n ≡ Some running.state → LooksAtNothingNew (ask s) looked from n
+pub ends_alike : (s : Session) (from end n : ℕ) (looked : Looked) (running : StateView) → from ≤ n → n ≤ end → LooksAlike looked running.looked → after (ask s) n ≡ Some running.state → LooksAtNothingNew (ask s) looked from n
     → Stretches s from end looked n (Ok None) running
 ends_alike s from end n looked running low high same at quiet = record {
   within = (low, high);
@@ -113,6 +117,7 @@ ends_alike s from end n looked running low high same at quiet = record {
   before_stop = tt;
   before_failure = tt;
   last = λ past q. alike looked running.looked same q ∙ absorbs (looked_at looked q) (is_in q (looks (ask s) (n - 1))) (quiet (n - 1) (omega (arith, past)) (omega (arith, past)) q);
+  none = λ _ q. alike looked running.looked same q ∙ sym (or-false (looked_at looked q));
   at_stop = tt;
   extends = record {
     cells = subst (λ (c : List ℕ). memory.Extends looked.cells c) (sym same.cells) (extends_itself looked.cells);
@@ -127,7 +132,7 @@ ends_alike s from end n looked running low high same at quiet = record {
   absorbs false false h = refl
 
 -- where the last step looked at nothing new either, none did
-pub quiet_to : (s : Session) (from end n : ℕ) (looked : Looked) (new : Running) → from < n → Stretches s from end looked n (Ok None) new → LooksAlike looked new.looked → LooksAtNothingNew (ask s) looked from n
+pub quiet_to : (s : Session) (from end n : ℕ) (looked : Looked) (new : StateView) → from < n → Stretches s from end looked n (Ok None) new → LooksAlike looked new.looked → LooksAtNothingNew (ask s) looked from n
 quiet_to s from end n looked new past w same i l h q e = elim (cases_lt i (n - 1)) [
   | inl below ↦ w.before_last i l below q e
   | inr top ↦ at_last (subst (λ (j : ℕ). is_in q (looks (ask s) j) ≡ true) (let here : i ≡ n - 1 = omega (arith, top, h, past) in here) e)

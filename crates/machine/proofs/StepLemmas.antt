@@ -60,7 +60,7 @@ use Rattle.file_calls.specs.Passing.{IsSound}
 use Rattle.file_calls.specs.Passing as passing
 use Rattle.file_calls.proofs.Answering.{answers_are}
 use Rattle.machine.specs.Given.{Session}
-use Rattle.machine.specs.Views.{Own, Looked, Running}
+use Rattle.machine.specs.StateView.{Own, Looked, StateView}
 use Rattle.machine.specs.declared.session.TheConstants.{SCRIPT_LIMIT}
 use Rattle.machine.specs.Session.{image_of}
 use Rattle.machine.specs.Step.{Reached, Went, Stopped, reached, reached_by_call, script_limit, script_limit-is, next, desk_with}
@@ -435,7 +435,7 @@ unfolding next
 next_system r d w b h = rw (ne_eqb r.pc 0xff03 w, ne_eqb r.pc 0xfe06 b, le-leb 0xfe00 r.pc h) refl
 
 -- a failure, whatever it carries
-pub fails_as : {s : Session} {old new : Running} (e : AllocError) (result : Result (Option Cause) AllocError) → IsErr result → TakesStep s old (Err e) new → TakesStep s old result new
+pub fails_as : {s : Session} {old new : StateView} (e : AllocError) (result : Result (Option Cause) AllocError) → IsErr result → TakesStep s old (Err e) new → TakesStep s old result new
 fails_as e (Ok x) h w = absurd (cc)
 fails_as e (Err e') h w = record { outcome = tt; stays = tt; failed = w.failed; looked = tt; extends = w.extends; bounded = w.bounded }
 

@@ -16,7 +16,7 @@ use Rattle.file_calls.specs.Passing.{IsSound}
 use Rattle.pagemem.specs.declared.overlay.Overlay.{Overlay}
 use Rattle.pagemem.specs.Overlay.{own_of, looks_of}
 use Rattle.machine.specs.Given.{Session}
-use Rattle.machine.specs.Views.{State, Looked, Running}
+use Rattle.machine.specs.StateView.{PartialState, Looked, StateView}
 use Rattle.std.specs.Borrow.{GName}
 use Rattle.std.specs.declared.result.Result.{Result}
 use Rattle.i8080.specs.declared.outcome.Did.{Did}
@@ -34,9 +34,9 @@ use Rattle.machine.specs.Stretch.{LooksAtNothingNew, Stretches, ended_of, RunsTo
 use Rattle.machine.proofs.AfterLemmas.{then_step, step_before, after_step}
 
 -- the looks at the state that was reached
-looks_here : (f : Answers) (n : ℕ) (st : State) → after f n ≡ Some st → looks f n ≡ looks_at f st
+looks_here : (f : Answers) (n : ℕ) (st : PartialState) → after f n ≡ Some st → looks f n ≡ looks_at f st
 unfolding dependence.looks
-looks_here f n st at = ap (dependence.looks_of part (λ (st : State). st.own) (λ (st : State). next st.core) made start f) at
+looks_here f n st at = ap (dependence.looks_of part (λ (st : PartialState). st.own) (λ (st : PartialState). next st.core) made start f) at
 
 or_second : (a b c : Bool) → c ≡ (a || b) → b ≡ true → c ≡ true
 or_second true b c e h = e
@@ -49,7 +49,7 @@ nothing_new_more f looked from n quiet here i low high q h = elim (eqb_tells i n
   | inr other ↦ quiet i low (let apart : i ≢ n = other.1 in omega arith) q h
 ]
 
-module _ (s : Session) (from end n : ℕ) (old new : Running) (looked : Looked) (low : from ≤ n) (same : old.looked ≡ looked)
+module _ (s : Session) (from end n : ℕ) (old new : StateView) (looked : Looked) (low : from ≤ n) (same : old.looked ≡ looked)
     (at : after (ask s) n ≡ Some old.state) (quiet : LooksAtNothingNew (ask s) looked from n) where
   before : LooksAtNothingNew (ask s) looked from (n - 1)
   before i l h q = quiet i l (omega arith) q
@@ -72,6 +72,7 @@ module _ (s : Session) (from end n : ℕ) (old new : Running) (looked : Looked) 
     before_stop = tt;
     before_failure = tt;
     last = λ past q. looked_after w q ∙ ap (λ (k : ℕ). looked_at looked q || is_in q (looks (ask s) k)) (omega arith);
+    none = λ back. absurd (omega (arith, back, low));
     at_stop = tt;
     extends = subst (λ (l : Looked). Extends l new.looked) same w.extends;
     bounded = tt;
@@ -81,13 +82,14 @@ module _ (s : Session) (from end n : ℕ) (old new : Running) (looked : Looked) 
   pub ends_by_stop : (cause : Cause) → n < end → TakesStep s old (Ok (Some cause)) new → Stretches s from end looked n (Ok (Some cause)) new
   ends_by_stop cause high w = record {
     within = (low, omega arith);
-    at = at ∙ ap (λ (st : State). Some st) (sym w.stays);
+    at = at ∙ ap (λ (st : PartialState). Some st) (sym w.stays);
     stopped = (high, ap (outcome (ask s)) w.stays ∙ w.outcome);
     failed = tt;
     before_last = before;
     before_stop = quiet;
     before_failure = tt;
     last = tt;
+    none = tt;
     at_stop = looked_after w;
     extends = subst (λ (l : Looked). Extends l new.looked) same w.extends;
     bounded = tt;
@@ -97,13 +99,14 @@ module _ (s : Session) (from end n : ℕ) (old new : Running) (looked : Looked) 
   pub ends_by_failure : (e : AllocError) → n < end → TakesStep s old (Err e) new → Stretches s from end looked n (Err e) new
   ends_by_failure e high w = record {
     within = (low, omega arith);
-    at = at ∙ ap (λ (st : State). Some st) (sym w.failed);
+    at = at ∙ ap (λ (st : PartialState). Some st) (sym w.failed);
     stopped = tt;
     failed = high;
     before_last = before;
     before_stop = tt;
     before_failure = quiet;
     last = tt;
+    none = tt;
     at_stop = tt;
     extends = subst (λ (l : Looked). Extends l new.looked) same w.extends;
     bounded = λ q h.
@@ -130,6 +133,7 @@ module _ (s : Session) (from end n : ℕ) (old new : Running) (looked : Looked) 
     before_stop = tt;
     before_failure = tt;
     last = λ past q. ap (λ (l : Looked). looked_at l q) same ∙ looked_before q (is_in q (looks (ask s) (n - 1))) (quiet (n - 1) (omega arith) (omega arith) q);
+    none = λ _ q. ap (λ (l : Looked). looked_at l q) same ∙ sym (or-false (looked_at looked q));
     at_stop = tt;
     extends = subst (λ (l : Looked). Extends l old.looked) same (record { cells = extends_itself old.looked.cells; places = λ k h. h; files = extends_same old.looked.files old.looked.files refl });
     bounded = tt;
@@ -137,14 +141,14 @@ module _ (s : Session) (from end n : ℕ) (old new : Running) (looked : Looked) 
 
 -- ---- a stretch of at most one step is a step
 
-one_state : (f : Answers) (n : ℕ) (st st' : State) → after f n ≡ Some st → after f n ≡ Some st' → st' ≡ st
+one_state : (f : Answers) (n : ℕ) (st st' : PartialState) → after f n ≡ Some st → after f n ≡ Some st' → st' ≡ st
 one_state f n st st' e e' = let same : Some st' ≡ Some st = sym e' ∙ e in cc
 
-then_after : (f : Answers) (k : ℕ) (st : State) → after f (k + 1) ≡ Some st → then_step f (after f k) ≡ Some st
+then_after : (f : Answers) (k : ℕ) (st : PartialState) → after f (k + 1) ≡ Some st → then_step f (after f k) ≡ Some st
 unfolding dependence.after
 then_after f k st e = ap (then_step f) refl ∙ (let same : after f (k + 1) ≡ then_step f (after f k) = rw add-one refl in sym same ∙ e)
 
-module _ (s : Session) (n : ℕ) (old new : Running) (at : after (ask s) n ≡ Some old.state) where
+module _ (s : Session) (n : ℕ) (old new : StateView) (at : after (ask s) n ≡ Some old.state) where
   went_one : (m : ℕ) → n < m → Stretches s n (n + 1) old.looked m (Ok None) new → TakesStep s old (Ok None) new
   went_one m more w =
       let to : m ≡ n + 1 = omega (arith, w.within) in
@@ -202,7 +206,7 @@ pub fails_too : (answer : Result (ℕ × Option Cause) AllocError) (e : AllocErr
 fails_too (Ok x) e h = absurd (cc)
 fails_too (Err e') e h = refl
 
-pub runs_to : (s : Session) (from end k metered metered' : ℕ) (old new : Running) (result : Result (Option Cause) AllocError) (answer : Result (ℕ × Option Cause) AllocError)
+pub runs_to : (s : Session) (from end k metered metered' : ℕ) (old new : StateView) (result : Result (Option Cause) AllocError) (answer : Result (ℕ × Option Cause) AllocError)
     → result ≡ ended_of answer → IfOk answer (λ r. r.0 ≡ from + k) → from < end → Stretches s from (from + (end - from)) old.looked (from + k) result new → metered' ≡ metered + k
     → RunsTo s from end (old, metered) answer (new, metered')
 runs_to s from end k metered metered' old new result answer same at order w e =

@@ -7,7 +7,7 @@ use Rattle.interaction_trees.specs.Tree.{result_of}
 use Rattle.interaction_trees.specs.Outcome.{Step}
 use Rattle.interaction_trees.specs.Dependence as dependence
 use Rattle.file_calls.specs.Deletes.{own_with}
-use Rattle.machine.specs.Views.{State}
+use Rattle.machine.specs.StateView.{PartialState}
 use Rattle.machine.specs.Step.{Reached, Went, Stopped, desk_with, next}
 use Rattle.machine.specs.Machine.{Answers, laid, stored_all, made, outcome, after}
 use Rattle.machine.proofs.AfterLemmas.{step_before}
@@ -23,39 +23,39 @@ longer_further xs ys zs h k = (h.0 ++ k.0, k.1 ∙ ap (λ (l : List ℕ). l ++ k
 
 -- ---- a step
 
-made_grows : (st st' : State) (e : Reached) → made st e ≡ Step st' → Longer st.core.desk.text st'.core.desk.text
+made_grows : (st st' : PartialState) (e : Reached) → made st e ≡ Step st' → Longer st.core.desk.text st'.core.desk.text
 made_grows st st' (Went r spot bytes wrote change) e =
     let same : record { core = record { regs = r; desk = desk_with st.core.desk spot bytes }; own = record { cells = stored_all st.own.cells wrote.cells; files = own_with change st.own.files } } ≡ st' = cc in
-    subst (λ (x : State). Longer st.core.desk.text x.core.desk.text) same (bytes, refl)
+    subst (λ (x : PartialState). Longer st.core.desk.text x.core.desk.text) same (bytes, refl)
 made_grows st st' (Stopped cause) e = absurd (cc)
 
-step_grows : (f : Answers) (st st' : State) → outcome f st ≡ Step st' → Longer st.core.desk.text st'.core.desk.text
+step_grows : (f : Answers) (st st' : PartialState) → outcome f st ≡ Step st' → Longer st.core.desk.text st'.core.desk.text
 unfolding dependence.outcome
 step_grows f st st' e = made_grows st st' (result_of (laid st.own f) (next st.core)) e
 
 -- ---- a run
 
-some_is : {a b : State} → Some a ≡ Some b → a ≡ b
+some_is : {a b : PartialState} → Some a ≡ Some b → a ≡ b
 some_is e = cc
 
-text_grows : (f : Answers) (n k : ℕ) (a b : State) → after f n ≡ Some a → after f (k + n) ≡ Some b → Longer a.core.desk.text b.core.desk.text
+text_grows : (f : Answers) (n k : ℕ) (a b : PartialState) → after f n ≡ Some a → after f (k + n) ≡ Some b → Longer a.core.desk.text b.core.desk.text
 unfolding dependence.after
 text_grows f n zero a b first last =
     let same : a ≡ b = some_is (sym first ∙ rw zero-add at last) in
-    subst (λ (x : State). Longer a.core.desk.text x.core.desk.text) same (longer_itself a.core.desk.text)
+    subst (λ (x : PartialState). Longer a.core.desk.text x.core.desk.text) same (longer_itself a.core.desk.text)
 text_grows f n (suc k) a b first last =
     let (before, at, went) = step_before f (after f (k + n)) b (rw suc-add at last) in
     longer_further _ _ _ (text_grows f n k a before first at) (step_grows f before b went)
 
 -- the text of an earlier state is a beginning of a later one's
-pub text_begins : (f : Answers) (n m : ℕ) (a b : State) → n ≤ m → after f n ≡ Some a → after f m ≡ Some b → take (length a.core.desk.text) b.core.desk.text ≡ a.core.desk.text
+pub text_begins : (f : Answers) (n m : ℕ) (a b : PartialState) → n ≤ m → after f n ≡ Some a → after f m ≡ Some b → take (length a.core.desk.text) b.core.desk.text ≡ a.core.desk.text
 text_begins f n m a b h first last =
     let count : (m - n) + n ≡ m = omega arith in
     let all = text_grows f n (m - n) a b first (rw count last) in
     ap (take (length a.core.desk.text)) all.1 ∙ take-append_seam a.core.desk.text all.0
 
 -- and is no longer
-pub text_length : (f : Answers) (n m : ℕ) (a b : State) → n ≤ m → after f n ≡ Some a → after f m ≡ Some b → length a.core.desk.text ≤ length b.core.desk.text
+pub text_length : (f : Answers) (n m : ℕ) (a b : PartialState) → n ≤ m → after f n ≡ Some a → after f m ≡ Some b → length a.core.desk.text ≤ length b.core.desk.text
 text_length f n m a b h first last =
     let count : (m - n) + n ≡ m = omega arith in
     let all = text_grows f n (m - n) a b first (rw count last) in

@@ -18,7 +18,7 @@ use Rattle.file_calls.specs.Changes.{FileChange, Unchanged, Made, Deleted, Renam
 use Rattle.file_calls.specs.Deletes.{own_with}
 use Rattle.file_calls.specs.Deletes.{without}
 use Rattle.machine.specs.Given.{Session}
-use Rattle.machine.specs.Views.{State}
+use Rattle.machine.specs.StateView.{PartialState}
 use Rattle.machine.specs.Step.{Reached, Went, Stopped, next, desk_with}
 use Rattle.machine.specs.Machine.{ask, laid, stored_all, made, start, after}
 use Rattle.machine.proofs.AfterLemmas.{step_before}
@@ -102,15 +102,15 @@ module _ (host : Host) where
 
 -- ---- a run
 
-step_tidy : (s : Session) (st onward : State) (e : Reached) → IsTidy s.files st.own.files → FitsReached s.files st.own.files e → made st e ≡ Step onward → IsTidy s.files onward.own.files
+step_tidy : (s : Session) (st onward : PartialState) (e : Reached) → IsTidy s.files st.own.files → FitsReached s.files st.own.files e → made st e ≡ Step onward → IsTidy s.files onward.own.files
 step_tidy s st onward (Went r spot bytes wrote change) tidy fits e =
     let same : record { core = record { regs = r; desk = desk_with st.core.desk spot bytes }; own = record { cells = stored_all st.own.cells wrote.cells; files = own_with change st.own.files } } ≡ onward = cc in
-    subst (λ (x : State). IsTidy s.files x.own.files) same (stays_tidy s.files st.own.files change fits tidy)
+    subst (λ (x : PartialState). IsTidy s.files x.own.files) same (stays_tidy s.files st.own.files change fits tidy)
 step_tidy s st onward (Stopped cause) tidy fits e = absurd (cc)
 
-pub tidy_after : (s : Session) (n : ℕ) (st : State) → after (ask s) n ≡ Some st → IsTidy s.files st.own.files
+pub tidy_after : (s : Session) (n : ℕ) (st : PartialState) → after (ask s) n ≡ Some st → IsTidy s.files st.own.files
 unfolding dependence.after dependence.outcome
-tidy_after s zero st e = let same : start ≡ st = cc in subst (λ (x : State). IsTidy s.files x.own.files) same (starts_tidy s.files)
+tidy_after s zero st e = let same : start ≡ st = cc in subst (λ (x : PartialState). IsTidy s.files x.own.files) same (starts_tidy s.files)
 tidy_after s (suc n) st e =
     let (b, before, went) = step_before (ask s) (after (ask s) n) st e in
     step_tidy s b st (result_of (laid b.own (ask s)) (next b.core)) (tidy_after s n b before) (reached_fits s b (sound_after s n b before)) went

@@ -21,7 +21,7 @@ use Rattle.file_calls.proofs.Answering.{answers_are}
 use Rattle.file_calls.specs.Deletes.{own_with}
 use Rattle.bdos.specs.Questions.{SystemQuestion, OfState, OfFiles}
 use Rattle.machine.specs.Given.{Session}
-use Rattle.machine.specs.Views.{Cells, State}
+use Rattle.machine.specs.StateView.{Cells, PartialState}
 use Rattle.machine.specs.Session.{image_of, IsSession}
 use Rattle.machine.specs.Step.{Reached, Went, Stopped, desk_with, next}
 use Rattle.machine.specs.Machine.{Answers, ask, part, laid, cell_at, stored, stored_all, made, start, outcome, after}
@@ -82,7 +82,7 @@ same_tell s m own limits inside sound tidy (OfState (Input k)) = refl
 same_tell s m own limits inside sound tidy (OfFiles q) = answer_is s.files own tidy q ∙ sym (result_of-asking_host (ask s) (passing.part own q) ∙ answers_are s.files own sound q)
 
 -- a cell of a state is the one of its memory
-pub cell_is : (s : Session) (st : State) (a : ℕ) → a < 65536 → slice_index (laid_over s st).memory a ≡ cell_at s st a
+pub cell_is : (s : Session) (st : PartialState) (a : ℕ) → a < 65536 → slice_index (laid_over s st).memory a ≡ cell_at s st a
 cell_is s st a below = get_memory (cell_of s st.own.cells) a below ∙ sym (answered (ask s) (finmap.get st.own.cells a) a)
 
 get_set : (m : List ℕ) (a v q : ℕ) → q < length m → get_or (slice_set m a v) q 0 ≡ cond (eqb q a) v (get_or m q 0)
@@ -112,7 +112,7 @@ inside_all (w ∷ ws) m h = inside_all ws (stored m w.0 w.1) (λ q over. stored_
 
 -- ---- a step, and a run
 
-made_whole : (s : Session) (st : State) (e : Reached) → IsTidy s.files st.own.files → FitsReached s.files st.own.files e → whole_made (laid_over s st) e ≡ whole_of s (made st e)
+made_whole : (s : Session) (st : PartialState) (e : Reached) → IsTidy s.files st.own.files → FitsReached s.files st.own.files e → whole_made (laid_over s st) e ≡ whole_of s (made st e)
 made_whole s st (Went r spot bytes wrote change) tidy fits =
     λ i. Step (record {
       core = record { regs = r; desk = desk_with st.core.desk spot bytes };
@@ -121,34 +121,34 @@ made_whole s st (Went r spot bytes wrote change) tidy fits =
     })
 made_whole s st (Stopped cause) tidy fits = refl
 
-same_outcome : (s : Session) (st : State) → IsSession s → Inside st.own.cells → IsSound s.files st.own.files → IsTidy s.files st.own.files → whole_outcome s (laid_over s st) ≡ whole_of s (outcome (ask s) st)
+same_outcome : (s : Session) (st : PartialState) → IsSession s → Inside st.own.cells → IsSound s.files st.own.files → IsTidy s.files st.own.files → whole_outcome s (laid_over s st) ≡ whole_of s (outcome (ask s) st)
 unfolding whole_outcome dependence.outcome
 same_outcome s st limits inside sound tidy =
     ap (whole_made (laid_over s st)) (same_everywhere (tells (memory_of (cell_of s st.own.cells)) s.script (files.files s.files st.own.files)) (laid st.own (ask s)) (next st.core) (same_tell s st.own.cells st.own.files limits inside sound tidy))
     ∙ made_whole s st (result_of (laid st.own (ask s)) (next st.core)) tidy (reached_fits s st sound)
 
-step_inside : (st next : State) (e : Reached) → Inside st.own.cells → made st e ≡ Step next → Inside next.own.cells
+step_inside : (st next : PartialState) (e : Reached) → Inside st.own.cells → made st e ≡ Step next → Inside next.own.cells
 step_inside st next (Went r spot bytes wrote change) h e =
     let same : record { core = record { regs = r; desk = desk_with st.core.desk spot bytes }; own = record { cells = stored_all st.own.cells wrote.cells; files = own_with change st.own.files } } ≡ next = cc in
-    subst (λ (x : State). Inside x.own.cells) same (inside_all wrote.cells st.own.cells h)
+    subst (λ (x : PartialState). Inside x.own.cells) same (inside_all wrote.cells st.own.cells h)
 step_inside st next (Stopped cause) h e = absurd (cc)
 
 -- what was written lies below the last cell
-after_inside : (f : Answers) (n : ℕ) (st : State) → after f n ≡ Some st → Inside st.own.cells
+after_inside : (f : Answers) (n : ℕ) (st : PartialState) → after f n ≡ Some st → Inside st.own.cells
 unfolding dependence.after dependence.outcome
 after_inside f zero st e = let same : start ≡ st = cc in rw (← same) (λ q h. finmap.get-empty nat_cmp q)
 after_inside f (suc n) st e =
     let (b, before, went) = step_before f (after f n) st e in
     step_inside b st (result_of (laid b.own f) (next b.core)) (after_inside f n b before) went
 
-went_on : (s : Session) (w : Outcome Whole Cause) (o : Outcome State Cause) → w ≡ whole_of s o
+went_on : (s : Session) (w : Outcome Whole Cause) (o : Outcome PartialState Cause) → w ≡ whole_of s o
     → elim w as (λ _. Option Whole) [ Step next ↦ Some next | Stop cause ↦ None ] ≡ option_map (laid_over s) (state_of o)
 went_on s w (Step st) e = rw e refl
 went_on s w (Stop cause) e = rw e refl
 
-one_more : (s : Session) → IsSession s → (o : Option State) → ((st : State) → o ≡ Some st → Inside st.own.cells) → ((st : State) → o ≡ Some st → IsSound s.files st.own.files)
-    → ((st : State) → o ≡ Some st → IsTidy s.files st.own.files)
-    → whole_then s (option_map (laid_over s) o) ≡ option_map (laid_over s) (dependence.then_step part (λ (st : State). st.own) (λ (st : State). next st.core) made start (ask s) o)
+one_more : (s : Session) → IsSession s → (o : Option PartialState) → ((st : PartialState) → o ≡ Some st → Inside st.own.cells) → ((st : PartialState) → o ≡ Some st → IsSound s.files st.own.files)
+    → ((st : PartialState) → o ≡ Some st → IsTidy s.files st.own.files)
+    → whole_then s (option_map (laid_over s) o) ≡ option_map (laid_over s) (dependence.then_step part (λ (st : PartialState). st.own) (λ (st : PartialState). next st.core) made start (ask s) o)
 one_more s limits None inside sound tidy = refl
 one_more s limits (Some st) inside sound tidy = went_on s _ (outcome (ask s) st) (same_outcome s st limits (inside st refl) (sound st refl) (tidy st refl))
 

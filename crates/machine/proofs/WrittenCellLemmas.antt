@@ -10,7 +10,7 @@ use Rattle.i8080.specs.Memory.{write, write_all}
 use Rattle.pagemem.specs.Pages as pages
 use Rattle.pagemem.specs.declared.page.Slot.{Slot}
 use Rattle.pagemem.specs.declared.page.Slot.TheVariants.{Empty}
-use Rattle.machine.specs.Views.{Cells}
+use Rattle.machine.specs.StateView.{Cells}
 use Rattle.machine.specs.Machine.{stored, stored_all}
 use Rattle.machine.specs.CellCount.{cell_count, cell_count-is}
 use Rattle.machine.specs.WrittenCells.{written_cells, written_below, with_entry}

@@ -6,7 +6,7 @@ use Rattle.interaction_trees.specs.Outcome.{Outcome, Step, Stop}
 use Rattle.console_calls.specs.declared.cause.Cause.{Cause}
 use Rattle.hostfiles.specs.Files as files
 use Rattle.machine.specs.Given.{Session}
-use Rattle.machine.specs.Views.{State}
+use Rattle.machine.specs.StateView.{PartialState}
 use Rattle.machine.specs.Session.{image_of, IsSession}
 use Rattle.machine.specs.Step.{first_core}
 use Rattle.machine.specs.Machine.{ask, outcome, after}
@@ -23,21 +23,19 @@ whole_after s zero = Some (record { core = first_core; memory = loaded s; files 
 whole_after s (suc n) = whole_then s (whole_after s n)
 
 -- what a state wrote and did to the files, laid over its session
-abbrev pub laid_over : Session → State → Whole
+abbrev pub laid_over : Session → PartialState → Whole
 laid_over s st = record {
   core = st.core;
   memory = memory_of (λ a. unwrap_or (finmap.get st.own.cells a) (image_of s a));
   files = files.files s.files st.own.files;
 }
 
-abbrev pub whole_of : Session → Outcome State Cause → Outcome Whole Cause
+abbrev pub whole_of : Session → Outcome PartialState Cause → Outcome Whole Cause
 whole_of s (Step st) = Step (laid_over s st)
 whole_of s (Stop cause) = Stop cause
 
 -- The whole machine goes the same way: after each number of steps it has the same core, its memory is what was written laid
--- over the session, and its files are what was done laid over the host files; and what follows is the same. With
--- PrefixDependence: two sessions that agree on what the steps below n look at have memories after n steps that are the same
--- writes, each laid over its own session, and so with the files.
+-- over the session, and its files are what was done laid over the host files; and what follows is the same.
 pub record WholeIsLaid : Type 0 where
   pub states : (s : Session) → IsSession s → (n : ℕ) → whole_after s n ≡ option_map (laid_over s) (after (ask s) n)
-  pub outcomes : (s : Session) → IsSession s → (n : ℕ) (st : State) → after (ask s) n ≡ Some st → whole_outcome s (laid_over s st) ≡ whole_of s (outcome (ask s) st)
+  pub outcomes : (s : Session) → IsSession s → (n : ℕ) (st : PartialState) → after (ask s) n ≡ Some st → whole_outcome s (laid_over s st) ≡ whole_of s (outcome (ask s) st)

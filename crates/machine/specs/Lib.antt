@@ -1,6 +1,6 @@
 pub mod Given
 pub mod CellCount
-pub mod Views
+pub mod StateView
 pub mod Session
 pub mod SessionError
 pub mod Step

@@ -18,7 +18,7 @@ use Rattle.bdos.specs.Questions.{SystemQuestion, OfState, OfFiles, SystemAnswer,
 use Rattle.file_calls.specs.Passing.{HostAnswer, HostTree, host_answers}
 use Rattle.file_calls.specs.Passing as passing
 use Rattle.machine.specs.Given.{Session}
-use Rattle.machine.specs.Views.{Cells, Own, State, Looked}
+use Rattle.machine.specs.StateView.{Cells, Own, PartialState, Looked}
 use Rattle.machine.specs.Session.{image_of}
 use Rattle.machine.specs.Step.{Reached, Went, Stopped, first_core, desk_with, next}
 
@@ -76,7 +76,7 @@ abbrev pub laid : Own → Answers → SystemAnswers
 laid = dependence.laid part
 
 -- the byte of a cell in a state of a session: what was written there, else the session's
-abbrev pub cell_at : Session → State → ℕ → ℕ
+abbrev pub cell_at : Session → PartialState → ℕ → ℕ
 cell_at s st a = laid st.own (ask s) (OfState (Byte a))
 
 -- a byte written at a cell; there are 65,536 cells [8080 manual 1975, chapter 4, memory]
@@ -87,7 +87,7 @@ abbrev pub stored_all : Cells → List (ℕ × ℕ) → Cells
 stored_all m [] = m
 stored_all m (w ∷ rest) = stored_all (stored m w.0 w.1) rest
 
-abbrev pub made : State → Reached → Outcome State Cause
+abbrev pub made : PartialState → Reached → Outcome PartialState Cause
 made st (Went r spot bytes written change) =
     Step (record {
       core = record { regs = r; desk = desk_with st.core.desk spot bytes };
@@ -98,33 +98,28 @@ made st (Stopped cause) = Stop cause
 -- ---- a run
 
 -- the loaded state: nothing is written yet
-abbrev pub start : State
+abbrev pub start : PartialState
 start = record { core = first_core; own = record { cells = map.empty; files = map.empty } }
 
 -- what follows a state, without regard to the limit
-abbrev pub outcome : Answers → State → Outcome State Cause
-outcome = dependence.outcome part (λ (st : State). st.own) (λ (st : State). next st.core) made start
+abbrev pub outcome : Answers → PartialState → Outcome PartialState Cause
+outcome = dependence.outcome part (λ (st : PartialState). st.own) (λ (st : PartialState). next st.core) made start
 
 -- the questions that reach the session there, where a stop follows too
-abbrev pub looks_at : Answers → State → List Question
-looks_at = dependence.looks_at part (λ (st : State). st.own) (λ (st : State). next st.core) made start
+abbrev pub looks_at : Answers → PartialState → List Question
+looks_at = dependence.looks_at part (λ (st : PartialState). st.own) (λ (st : PartialState). next st.core) made start
 
 -- the state after n steps; none where a stop comes before
-abbrev pub after : Answers → ℕ → Option State
-after = dependence.after part (λ (st : State). st.own) (λ (st : State). next st.core) made start
+abbrev pub after : Answers → ℕ → Option PartialState
+after = dependence.after part (λ (st : PartialState). st.own) (λ (st : PartialState). next st.core) made start
 
 -- the questions that reach the session at the state after n steps
 abbrev pub looks : Answers → ℕ → List Question
-looks = dependence.looks part (λ (st : State). st.own) (λ (st : State). next st.core) made start
+looks = dependence.looks part (λ (st : PartialState). st.own) (λ (st : PartialState). next st.core) made start
 
 -- some number of steps leads there
-abbrev pub IsReached : Answers → State → Type 0
+abbrev pub IsReached : Answers → PartialState → Type 0
 IsReached f st = (n : ℕ) × (after f n ≡ Some st)
-
--- Two sessions that answer alike what the steps below n look at have the same state after n steps, which wrote the same,
--- and look at the same.
-abbrev pub PrefixDependence : Type 0
-PrefixDependence = dependence.PrefixDependence part (λ (st : State). st.own) (λ (st : State). next st.core) made start
 
 -- ---- looks
 

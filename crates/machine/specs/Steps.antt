@@ -12,7 +12,7 @@ use Rattle.std.specs.Borrow.{GName}
 use Rattle.hostfiles.specs.declared.changes.Changes.{Changes}
 use Rattle.file_calls.specs.Answers.{Drives}
 use Rattle.machine.specs.Given.{Session}
-use Rattle.machine.specs.Views.{State, Looked, Running}
+use Rattle.machine.specs.StateView.{PartialState, Looked, StateView}
 use Rattle.machine.specs.Session.{image_of}
 use Rattle.machine.specs.Machine.{ask, outcome, looks_at, LooksAlso, Extends, IsBounded}
 use Rattle.machine.specs.WrittenCells.{Devices, state_with}
@@ -26,7 +26,7 @@ abbrev pub seen : Session → Overlay → Memory
 seen s o = record { own = own_of o; beneath = image_of s; looks = looks_of o; lender = None }
 
 -- the outcome that an answer tells: none is a step to the state that is left, and some is a stop
-abbrev pub told : Option Cause → State → Outcome State Cause
+abbrev pub told : Option Cause → PartialState → Outcome PartialState Cause
 told None st = Step st
 told (Some cause) st = Stop cause
 
@@ -35,11 +35,11 @@ abbrev pub looked_in : Overlay → Devices → Looked
 looked_in o d = record { cells = looks_of o; places = d.places; files = d.asks }
 
 -- a state with what was looked at, by registers, devices and an overlay
-abbrev pub running_with : Regs → Devices → Overlay → Running
+abbrev pub running_with : Regs → Devices → Overlay → StateView
 running_with r d o = record { state = state_with r d (own_of o); looked = looked_in o d }
 
 -- what is left by one step: what follows the state, and what was looked at. A stop and a failure leave the state
-pub record TakesStep (s : Session) (old : Running) (result : Result (Option Cause) AllocError) (new : Running) : Type 0 where
+pub record TakesStep (s : Session) (old : StateView) (result : Result (Option Cause) AllocError) (new : StateView) : Type 0 where
   pub outcome : IfOk result (λ stop. outcome (ask s) old.state ≡ told stop new.state)
   pub stays : IfOk result (λ stop. IfSome stop (λ cause. new.state ≡ old.state))
   pub failed : OnErr result (new.state ≡ old.state)

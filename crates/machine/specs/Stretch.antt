@@ -1,5 +1,5 @@
 -- Steps one after another of which none but the last looks at anything new. (This project's own.)
-use Rattle.std.specs.Prelude.{◌≡◌, ℕ, ◌+◌, ◌<◌, ◌≤◌, ◌-◌, true, Option, Some, Ok, Err, IfOk, IfNone, IfSome, OnErr}
+use Rattle.std.specs.Prelude.{◌≡◌, ℕ, ◌+◌, ◌<◌, ◌≤◌, ◌-◌, true, [], Option, Some, Ok, Err, IfOk, IfNone, IfSome, OnErr}
 use Rattle.std.specs.declared.result.Result.{Result}
 use Rattle.std.specs.declared.alloc.AllocError.{AllocError}
 use Rattle.interaction_trees.specs.Outcome.{Stop}
@@ -9,7 +9,7 @@ use Rattle.pagemem.specs.declared.view.View.{View}
 use Rattle.pagemem.specs.ViewParts.{overlay_in, image_in}
 use Rattle.console_calls.specs.declared.cause.Cause.{Cause}
 use Rattle.machine.specs.Given.{Session}
-use Rattle.machine.specs.Views.{Looked, Running}
+use Rattle.machine.specs.StateView.{Looked, StateView}
 use Rattle.machine.specs.Session.{image_of}
 use Rattle.machine.specs.WrittenCells.{Devices}
 use Rattle.machine.specs.Steps.{running_with}
@@ -20,9 +20,10 @@ abbrev pub LooksAtNothingNew : Answers → Looked → ℕ → ℕ → Type 0
 LooksAtNothingNew f looked from upto = (i : ℕ) → from ≤ i → i < upto → (q : Question) → is_in q (looks f i) ≡ true → looked_at looked q ≡ true
 
 -- steps from the one on led to the state after n steps. All but the last look at nothing new; a stop and a failure come after
--- steps that all look at nothing new. At a stop, what the stop looks at was looked at too, and at a failure nothing more was
--- looked at than before and by the step that failed
-pub record Stretches (s : Session) (from end : ℕ) (looked : Looked) (n : ℕ) (result : Result (Option Cause) AllocError) (new : Running) : Type 0 where
+-- steps that all look at nothing new. What was looked at is exactly what was before and what the last step looks at, or the step
+-- that stops; nothing was looked at where there was no step. At a failure it is what was before, and nothing more than the step that
+-- failed looks at
+pub record Stretches (s : Session) (from end : ℕ) (looked : Looked) (n : ℕ) (result : Result (Option Cause) AllocError) (new : StateView) : Type 0 where
   pub within : (from ≤ n) × (n ≤ end)
   pub at : after (ask s) n ≡ Some new.state
   pub stopped : IfOk result (λ stop. IfSome stop (λ cause. (n < end) × (outcome (ask s) new.state ≡ Stop cause)))
@@ -31,12 +32,13 @@ pub record Stretches (s : Session) (from end : ℕ) (looked : Looked) (n : ℕ) 
   pub before_stop : IfOk result (λ stop. IfSome stop (λ _. LooksAtNothingNew (ask s) looked from n))
   pub before_failure : OnErr result (LooksAtNothingNew (ask s) looked from n)
   pub last : IfOk result (λ stop. IfNone stop (from < n → LooksAlso looked (looks (ask s) (n - 1)) new.looked))
+  pub none : IfOk result (λ stop. IfNone stop (n ≡ from → LooksAlso looked [] new.looked))
   pub at_stop : IfOk result (λ stop. IfSome stop (λ _. LooksAlso looked (looks (ask s) n) new.looked))
   pub extends : Extends looked new.looked
   pub bounded : OnErr result (IsBounded looked (looks (ask s) n) new.looked)
 
 -- at most so many steps led from one state to another, whichever step the former was; and how many they were, and how they ended
-abbrev pub GoesOn : Session → ℕ → Running → ℕ × Result (Option Cause) AllocError → Running → Type 0
+abbrev pub GoesOn : Session → ℕ → StateView → ℕ × Result (Option Cause) AllocError → StateView → Type 0
 GoesOn s steps old reached new =
     (from : ℕ) → after (ask s) from ≡ Some old.state → Stretches s from (from + steps) old.looked (from + reached.0) reached.1 new
 
@@ -55,6 +57,6 @@ ended_of (Ok r) = Ok r.1
 ended_of (Err e) = Err e
 
 -- a state that was reached from the step `from` on, with the meter: each step counted one
-abbrev pub RunsTo : Session → ℕ → ℕ → Running × ℕ → Result (ℕ × Option Cause) AllocError → Running × ℕ → Type 0
+abbrev pub RunsTo : Session → ℕ → ℕ → StateView × ℕ → Result (ℕ × Option Cause) AllocError → StateView × ℕ → Type 0
 RunsTo s from end old result new =
     (n : ℕ) × Stretches s from end old.0.looked n (ended_of result) new.0 × (new.1 + from ≡ old.1 + n) × IfOk result (λ r. r.0 ≡ n)

@@ -9,7 +9,7 @@ use Rattle.hostfiles.specs.Files as files
 use Rattle.hostfiles.specs.declared.looks.Looks.{Looks}
 use Rattle.hostfiles.specs.declared.changes.Changes.{Changes}
 use Rattle.machine.specs.CellCount.{cell_count}
-use Rattle.machine.specs.Views.{Cells, State}
+use Rattle.machine.specs.StateView.{Cells, PartialState}
 
 abbrev pub with_entry : Cells → ℕ → Option ℕ → Cells
 with_entry m a None = m
@@ -36,5 +36,5 @@ abbrev pub devices_of : Watched → Changes → Devices
 devices_of d c = record { desk = d.desk; places = d.places; files = c.journal.entries; asks = c.looks }
 
 -- the state with these registers and these devices, which wrote this
-abbrev pub state_with : Regs → Devices → (ℕ → Option ℕ) → State
+abbrev pub state_with : Regs → Devices → (ℕ → Option ℕ) → PartialState
 state_with r d own = record { core = record { regs = r; desk = d.desk }; own = record { cells = written_cells own; files = d.files } }

@@ -4,8 +4,8 @@ ghost use Rattle.machine.specs.Machine.{NothingLooked};
 ghost use Rattle.machine.specs.Kept.{whole, kept_of};
 ghost use Rattle.machine.specs.WrittenCells.{written_cells};
 
-use crate::running::Running;
 use crate::session::Session;
+use crate::state::State;
 use console_calls::{Desk, Spot};
 use hostfiles::{Changes, Journal, Looks};
 use i8080::Regs;
@@ -29,7 +29,7 @@ impl Model for Kept {
     ghost use Rattle.std.specs.Coded.{codes};
     ghost use Rattle.pagemem.specs.Cells.{own_in};
     ghost use Rattle.console_calls.specs.Places.{IsSpotOf};
-    ghost use Rattle.machine.specs.Views.{cells_code, changes_code};
+    ghost use Rattle.machine.specs.StateView.{cells_code, changes_code};
     ghost use Rattle.machine.specs.WrittenCells.{written_cells};
     ghost use Rattle.machine.specs.Kept.{Kept};
 
@@ -47,7 +47,7 @@ impl Model for Kept {
     ghost invariant = { λ k. IsSpotOf k.spot k.text_length };
 }
 
-impl Running {
+impl State {
     /// What is kept of the state. Its pages are shared with it from now on; nothing that contracts see of it changes.
     /// `Err` where memory is refused.
     pub fn keep(&mut self) -> Result<Kept, AllocError>
@@ -70,7 +70,7 @@ impl Running {
         ensures kept { result.0 ≡ kept_of self.state }
         ensures text { result.1.items ≡ self.state.core.desk.text }
     {
-        let Running {
+        let State {
             regs,
             overlay,
             desk,
@@ -130,7 +130,7 @@ impl Kept {
     }
 
     /// The state again, over what was written, what was done to the files, and the text. It takes no memory.
-    pub fn resume(&self, overlay: Overlay, changes: Changes, text: Vec<u8>) -> Running
+    pub fn resume(&self, overlay: Overlay, changes: Changes, text: Vec<u8>) -> State
         requires own { written_cells (own_of overlay) ≡ self.now.own.cells }
         requires looks { looks_of overlay ≡ [] }
         requires files { changes.journal.entries ≡ self.now.own.files }
@@ -139,7 +139,7 @@ impl Kept {
         ensures state { result.state ≡ whole self.now text.items }
         ensures looked { NothingLooked result.looked }
     {
-        Running {
+        State {
             regs: self.regs,
             overlay,
             desk: Desk::over(self.spot, text),

@@ -1,7 +1,7 @@
 //! A session of one program, the state of its run, and its steps: one by one, or a stretch of them.
 //!
 //! - `session`, `bytes`: a session, its limits and its edits; bytes as a value
-//! - `running`: what runs: the registers, the overlay, the desk, and what was done to the files
+//! - `state`: a state of a run: the registers, the overlay, the desk, and what was done to the files
 //! - `system_area`: what follows in the system's area: the calls, and the stops there
 //! - `stretch`, `laws`: `run_from`: a stretch of steps; `step`, which is one of at most one step; the law that the
 //!   plain machine goes the same way
@@ -12,8 +12,8 @@ mod bytes;
 mod kept;
 mod laws;
 mod meter;
-mod running;
 mod session;
+mod state;
 mod stretch;
 mod system_area;
 
@@ -26,6 +26,6 @@ pub use kept::Kept;
 pub use laws::whole_is_laid;
 pub use meter::Meter;
 pub use pagemem::BlankMarks;
-pub use running::Running;
 pub use session::{PROGRAM_LIMIT, SCRIPT_LIMIT, STEP_LIMIT, Session, SessionError, limits};
+pub use state::State;
 pub use stretch::{run_from, step};

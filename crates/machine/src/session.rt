@@ -37,7 +37,7 @@ impl Model for Session {
     ghost use Rattle.std.specs.Coded.{codes};
     ghost use Rattle.command_tail.specs.PageZero.{page_zero};
     ghost use Rattle.machine.specs.Given.{Session as SessionView};
-    ghost use Rattle.machine.specs.Views.{files_code};
+    ghost use Rattle.machine.specs.StateView.{files_code};
     ghost use Rattle.machine.specs.Session.{IsSession};
 
     ghost Value = { SessionView };

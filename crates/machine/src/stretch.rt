@@ -7,8 +7,8 @@ ghost use Rattle.machine.specs.Steps.{TakesStep};
 ghost use Rattle.machine.specs.Stretch.{GoesOn, InstructionsGoOn, OverlayGoesOn, RunsTo};
 
 use crate::meter::Meter;
-use crate::running::Running;
 use crate::session::Session;
+use crate::state::State;
 use crate::system_area::{SYSTEM_AREA, enter_system};
 use console_calls::Cause;
 use i8080::{Did, Regs, execute};
@@ -35,7 +35,7 @@ fn instructions_over(
             Ok(Did::Went) => {}
             Ok(Did::Halt) => return (n, Ok(Some(Cause::Halt))),
             Ok(Did::Undefined(byte)) => return (n, Ok(Some(Cause::Undefined(byte)))),
-            Err(AllocError) => return (n, Err(AllocError)),
+            Err(error) => return (n, Err(error)),
         }
         n += 1;
         if view.look_count() != looks {
@@ -64,7 +64,7 @@ fn instructions(
 // At most so many steps: one in the system's area, or instructions. Answers how many were carried out, and how it ended.
 #[inline(always)]
 fn go_on(
-    running: &mut Running,
+    running: &mut State,
     session: &Session,
     steps: u64,
 ) -> (u64, Result<Option<Cause>, AllocError>)
@@ -80,7 +80,7 @@ fn go_on(
     match enter_system(running, session) {
         Ok(None) => (1, Ok(None)),
         Ok(Some(cause)) => (0, Ok(Some(cause))),
-        Err(AllocError) => (0, Err(AllocError)),
+        Err(error) => (0, Err(error)),
     }
 }
 
@@ -91,7 +91,7 @@ fn go_on(
 /// hands nothing over in memory.
 #[inline(never)]
 pub fn run_from(
-    running: &mut Running,
+    running: &mut State,
     session: &Session,
     meter: &mut Meter,
     from: u64,
@@ -124,7 +124,7 @@ pub fn run_from(
 /// and at an `Err` each cell, script place and question of the host files that is looked at afterwards was looked at before, or is
 /// among those of the step.
 pub fn step(
-    running: &mut Running,
+    running: &mut State,
     session: &Session,
     meter: &mut Meter,
 ) -> Result<Option<Cause>, AllocError>

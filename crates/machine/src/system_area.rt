@@ -9,8 +9,8 @@ ghost use Rattle.machine.specs.Step.{script_limit};
 ghost use Rattle.machine.specs.Steps.{seen, drives_in, TakesStep};
 ghost use Rattle.machine.specs.Stops.{stop_of_call};
 
-use crate::running::Running;
 use crate::session::Session;
+use crate::state::State;
 use bdos::call;
 use console_calls::{Cause, Desk, Served};
 use cpmfiles::Table;
@@ -58,14 +58,14 @@ fn stop_of_call(served: Served) -> Option<Cause>
 // What follows where PC is in the system's area: the call at the BDOS's entry, and a stop elsewhere.
 #[inline(always)]
 pub(crate) fn enter_system(
-    running: &mut Running,
+    running: &mut State,
     session: &Session,
 ) -> Result<Option<Cause>, AllocError>
     requires area { 0xfe00 ≤ running.old.state.core.regs.pc }
     requires sound { IsSound session.now.files running.old.state.own.files }
     ensures { TakesStep session.now running.old result running.new }
 {
-    let Running {
+    let State {
         regs,
         overlay,
         desk,

@@ -57,6 +57,7 @@ impl Overlay {
     pub fn over(marks: BlankMarks, cells: Cells) -> Overlay
         ensures own { own_of result ≡ own_in cells }
         ensures looks { looks_of result ≡ [] }
+        ensures ready { is_ready_at result ≡ is_ready_in cells }
     {
         let BlankMarks { looks, settled } = marks;
         Overlay {
@@ -68,7 +69,8 @@ impl Overlay {
 
     /// What was written, and the marks, cleared, both moved out. It takes no memory, and goes over the cells alone that were looked at.
     pub fn into_parts(self) -> (Cells, BlankMarks)
-        ensures { own_in result.0 ≡ own_of self }
+        ensures own { own_in result.0 ≡ own_of self }
+        ensures ready { is_ready_in result.0 ≡ is_ready_at self }
     {
         let mut overlay = self;
         overlay.forget_looks();
@@ -84,6 +86,7 @@ impl Overlay {
     fn forget_looks(&mut self)
         ensures own { own_of self.new ≡ own_of self.old }
         ensures looks { looks_of self.new ≡ [] }
+        ensures ready { is_ready_at self.new ≡ is_ready_at self.old }
     {
         while let Some(_) = self.take_look() {}
     }
@@ -334,6 +337,7 @@ impl Overlay {
     pub fn snapshot(&self) -> Result<Overlay, AllocError>
         ensures own { IfOk result (λ o. own_of o ≡ own_of self.now) }
         ensures looks { IfOk result (λ o. looks_of o ≡ looks_of self.now) }
+        ensures ready { IfOk result (λ o. (q : ℕ) → is_ready_at o q ≡ is_ready_at self.now q) }
     {
         let cells = self.cells.snapshot()?;
         let looks = self.looks.snapshot()?;

@@ -11,7 +11,7 @@ use Rattle.hostfiles.specs.Looks.{is_looked, is_same_ask, forgot}
 use Rattle.hostfiles.specs.declared.looks.Looks.{Looks}
 use Rattle.hostfiles.specs.declared.looks.Ask.{Ask}
 use Rattle.hostfiles.specs.declared.looks.Ask.TheVariants.{Has, Length, Rec, Directory}
-use Rattle.machine.specs.Views.{Running}
+use Rattle.machine.specs.StateView.{StateView}
 use Rattle.machine.specs.Machine.{Question, Cell, Script, OfHost, same_question}
 use Rattle.machine.proofs.HostLemmas.{same_place_tie}
 use Rattle.replay.specs.FirstLooks.{or_else, mark, erased, is_left_ask, is_ask_of, NoAsks}
@@ -130,7 +130,7 @@ erased_mark (Some m) b n = refl
 erased_mark None false n = refl
 erased_mark None true n = ap (λ c. cond c (Some n) None) (le-ltb n n (omega arith))
 
-module _ (old new : Running) (next : Option Ask) where
+module _ (old new : StateView) (next : Option Ask) where
   pub taken_from : IfSome next (λ ask. is_looked old.looked.files ask ≡ true) → IfSome next (λ ask. new.looked.files ≡ forgot ask old.looked.files) → IfNone next ((a : Ask) → is_looked old.looked.files a ≡ false)
       → IfNone next (new ≡ old) → TakesAsk next old.looked.files new.looked.files
-  taken_from one taken none same = takes_ask next old.looked.files new.looked.files one taken none (if_none next (λ e. ap (λ (r : Running). r.looked.files) e) same)
+  taken_from one taken none same = takes_ask next old.looked.files new.looked.files one taken none (if_none next (λ e. ap (λ (r : StateView). r.looked.files) e) same)

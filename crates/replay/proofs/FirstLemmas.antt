@@ -7,7 +7,7 @@ use Rattle.machine.specs.Machine.{Question}
 use Rattle.machine.specs.Tree.{AgreeOn}
 use Rattle.machine.specs.Dependence as dependence
 use Rattle.machine.proofs.DependenceLemmas as lemmas
-use Rattle.machine.specs.Views.{State}
+use Rattle.machine.specs.StateView.{PartialState}
 use Rattle.machine.specs.Step.{next}
 use Rattle.machine.specs.Machine.{Answers, is_in, part, made, start, looks_at, looks, after}
 use Rattle.replay.specs.FirstLooks.{Noted, or_else, mark, first, erased, step_of, IsFirstLooks}
@@ -58,10 +58,10 @@ unfolding first
 first-suc f q n = refl
 
 pub same_after : (f g : Answers) (n : ℕ) → ((i : ℕ) → i < n → AgreeOn (looks f i) f g) → after g n ≡ after f n
-same_after = lemmas.same_after part (λ (st : State). st.own) (λ (st : State). next st.core) made start
+same_after = lemmas.same_after part (λ (st : PartialState). st.own) (λ (st : PartialState). next st.core) made start
 
 pub same_looks : (f g : Answers) (n : ℕ) → ((i : ℕ) → i < n → AgreeOn (looks f i) f g) → AgreeOn (looks f n) f g → looks g n ≡ looks f n
-same_looks = lemmas.same_looks part (λ (st : State). st.own) (λ (st : State). next st.core) made start
+same_looks = lemmas.same_looks part (λ (st : PartialState). st.own) (λ (st : PartialState). next st.core) made start
 
 -- where two sessions agree on the looks of the steps below n, these steps are first looks alike
 pub same_first : (f g : Answers) (q : Question) (n : ℕ) → ((i : ℕ) → i < n → AgreeOn (looks f i) f g) → first g q n ≡ first f q n
@@ -70,9 +70,9 @@ same_first f g q zero h = refl
 same_first f g q (suc n) h =
     rw (same_first f g q n (λ i k. h i (omega arith)), same_looks f g n (λ i k. h i (omega arith)) (h n (omega arith))) refl
 
-pub looks_here : (f : Answers) (n : ℕ) (st : State) → after f n ≡ Some st → looks f n ≡ looks_at f st
+pub looks_here : (f : Answers) (n : ℕ) (st : PartialState) → after f n ≡ Some st → looks f n ≡ looks_at f st
 unfolding dependence.looks
-looks_here f n st a = ap (λ (o : Option State). dependence.looks_of part (λ (st : State). st.own) (λ (st : State). next st.core) made start f o) a
+looks_here f n st a = ap (λ (o : Option PartialState). dependence.looks_of part (λ (st : PartialState). st.own) (λ (st : PartialState). next st.core) made start f o) a
 
 -- a failed note leaves the table
 pub erased_known : (f : Answers) (old new : Noted) → IsFirstLooks f old → ((q : Question) → step_of new q ≡ erased old.seen (step_of old q)) → new.seen ≡ old.seen → IsFirstLooks f new

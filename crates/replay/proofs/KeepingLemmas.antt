@@ -3,14 +3,14 @@ use Rattle.std.proofs.Common.{◌≡◌, ℕ, ◌<◌, ◌≤◌, Bool, true, fa
 use Rattle.std.proofs.lemmas.Bool.Decides.{nat_tests}
 use Rattle.circular_buffer.specs.Buffer.{Buffer}
 use Rattle.std.proofs.lemmas.List.{take_all, length-take-le, take-take}
-use Rattle.machine.specs.Views.{State}
+use Rattle.machine.specs.StateView.{PartialState}
 use Rattle.machine.specs.Machine.{Answers, after}
 use Rattle.machine.specs.Kept.{whole, kept_of}
 use Rattle.machine.proofs.TextLemmas.{text_begins, text_length}
 use Rattle.replay.specs.declared.ring.Checkpoint.{Checkpoint}
 use Rattle.replay.specs.Ring.{Each, IsValid, Stands, SomeStep, start_step}
 
-pub new_valid : (f : Answers) (n : ℕ) (st : State) → 1 ≤ n → after f n ≡ Some st → IsValid f (record { step = n; state = kept_of st })
+pub new_valid : (f : Answers) (n : ℕ) (st : PartialState) → 1 ≤ n → after f n ≡ Some st → IsValid f (record { step = n; state = kept_of st })
 new_valid f n st later at = record { later = later; text = st.core.desk.text; fits = refl; state = at }
 
 pub stands_valid : (f : Answers) (text : List ℕ) (xs : List Checkpoint) → Each (Stands f text) xs → Each (IsValid f) xs
@@ -19,7 +19,7 @@ stands_valid f text (x ∷ xs) h =
     (record { later = h.0.later; text = take x.state.length text; fits = length-take-le x.state.length text h.0.fits; state = h.0.state }, stands_valid f text xs h.1)
 
 -- a checkpoint that stands with some text stands with that of every later state
-pub later_stands : (f : Answers) (n : ℕ) (st : State) (c : Checkpoint) → after f n ≡ Some st → c.step ≤ n → IsValid f c → Stands f st.core.desk.text c
+pub later_stands : (f : Answers) (n : ℕ) (st : PartialState) (c : Checkpoint) → after f n ≡ Some st → c.step ≤ n → IsValid f c → Stands f st.core.desk.text c
 later_stands f n st c at low v =
     let begins : take (length v.text) st.core.desk.text ≡ v.text = text_begins f c.step n (whole c.state v.text) st low v.state at in
     let long : length v.text ≤ length st.core.desk.text = text_length f c.step n (whole c.state v.text) st low v.state at in
@@ -30,12 +30,12 @@ later_stands f n st c at low v =
       state = v.state ∙ ap (λ (text : List ℕ). Some (whole c.state text)) (sym same);
     }
 
-pub all_later_stand : (f : Answers) (n : ℕ) (st : State) (xs : List Checkpoint) → after f n ≡ Some st → Each (λ c. c.step ≤ n) xs → Each (IsValid f) xs → Each (Stands f st.core.desk.text) xs
+pub all_later_stand : (f : Answers) (n : ℕ) (st : PartialState) (xs : List Checkpoint) → after f n ≡ Some st → Each (λ c. c.step ≤ n) xs → Each (IsValid f) xs → Each (Stands f st.core.desk.text) xs
 all_later_stand f n st [] at low v = tt
 all_later_stand f n st (x ∷ xs) at low v = (later_stands f n st x at low.0 v.0, all_later_stand f n st xs at low.1 v.1)
 
 -- a state before a checkpoint has a beginning of its text
-pub earlier_text : (f : Answers) (n : ℕ) (st : State) (text : List ℕ) (c : Checkpoint) → after f n ≡ Some st → n ≤ c.step → Stands f text c
+pub earlier_text : (f : Answers) (n : ℕ) (st : PartialState) (text : List ℕ) (c : Checkpoint) → after f n ≡ Some st → n ≤ c.step → Stands f text c
     → (take (length st.core.desk.text) text ≡ st.core.desk.text) × (length st.core.desk.text ≤ length text)
 earlier_text f n st text c at low s =
     let whole_text : List ℕ = take c.state.length text in
@@ -58,12 +58,12 @@ some_within limit (x ∷ xs) n (inl s) low = grind (arith, nat_tests)
 some_within limit (x ∷ xs) n (inr h) low = let r = some_within limit xs n h low in grind (arith, nat_tests)
 
 -- the checkpoints stand with the text, and the last state has a beginning of it
-pub record Left (f : Answers) (st : State) (text : List ℕ) (ring : List Checkpoint) : Type 0 where
+pub record Left (f : Answers) (st : PartialState) (text : List ℕ) (ring : List Checkpoint) : Type 0 where
   pub stands : Each (Stands f text) ring
   pub begins : take (length st.core.desk.text) text ≡ st.core.desk.text
   pub fits : length st.core.desk.text ≤ length text
 
-module _ (f : Answers) (limit newest from l : ℕ) (st : State) (old new : Buffer Checkpoint) (first begun last : List ℕ) where
+module _ (f : Answers) (limit newest from l : ℕ) (st : PartialState) (old new : Buffer Checkpoint) (first begun last : List ℕ) where
   -- the text of a checkpoint past the limit stays
   left_before : Each (Stands f first) old.items → (newest ≡ 0) ⊎ SomeStep old.items newest → (n : ℕ) → after f n ≡ Some st → n ≤ limit → limit < newest → Left f st first old.items
   left_before stands (inl e) n at low past = absurd (omega arith)

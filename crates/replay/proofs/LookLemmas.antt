@@ -6,7 +6,7 @@ use Rattle.machine.proofs.LookLemmas.{is_among-append}
 use Rattle.machine.specs.Memory.{is_among}
 use Rattle.machine.specs.Places.{is_within}
 use Rattle.hostfiles.specs.Looks.{is_looked}
-use Rattle.machine.specs.Views.{State, Looked}
+use Rattle.machine.specs.StateView.{PartialState, Looked}
 use Rattle.machine.specs.Machine.{Question, Cell, Script, OfHost, Answers, is_in, looked_at, NothingLooked, Extends, after, looks_at}
 use Rattle.replay.specs.FirstLooks.{Noted, step_of, or_else, mark, first, IsFirstLooks, since, AllNoted, NoPlaces, NoAsks, IsNoted, IsLeftBehind}
 use Rattle.replay.proofs.FirstLemmas.{first-suc, looks_here, erased_known}
@@ -40,7 +40,7 @@ pub record Notes (f : Answers) (old new : Noted) (n : ℕ) (looked : Looked) (re
   pub counted : (refused ≤ refuses) × (refuses ≤ refused + 1)
   pub all : refuses ≡ refused → n ≤ old.seen → n + 1 ≤ new.seen
 
-module _ (f : Answers) (old new : Noted) (n refused refuses : ℕ) (st : State) (looked after_step left : Looked) (known : IsFirstLooks f old) (all : n ≤ old.seen → AllNoted old looked) (at : after f n ≡ Some st)
+module _ (f : Answers) (old new : Noted) (n refused refuses : ℕ) (st : PartialState) (looked after_step left : Looked) (known : IsFirstLooks f old) (all : n ≤ old.seen → AllNoted old looked) (at : after f n ≡ Some st)
     (extends : Extends looked after_step) (asks : (q : Question) → looked_at after_step q ≡ (looked_at looked q || is_in q (looks_at f st))) (same_cells : left.cells ≡ after_step.cells) where
   or_both : (a b : Bool) → (a ≡ true → b ≡ true) → b ≡ (a || b)
   or_both true b h = h refl

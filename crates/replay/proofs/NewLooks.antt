@@ -7,7 +7,7 @@ use Rattle.machine.specs.Places.{is_within}
 use Rattle.hostfiles.specs.Looks.{is_looked}
 use Rattle.hostfiles.specs.declared.looks.Looks.{Looks}
 use Rattle.hostfiles.specs.declared.looks.Ask.{Ask}
-use Rattle.machine.specs.Views.{Looked, Running}
+use Rattle.machine.specs.StateView.{Looked, StateView}
 use Rattle.machine.specs.Machine.{Question, Cell, Script, OfHost, looked_at}
 use Rattle.replay.specs.FirstLooks.{since, is_left, is_left_ask, is_new}
 use Rattle.replay.proofs.AskLemmas.{TakesAsk}
@@ -45,7 +45,7 @@ if_nothing None f h = f h
 if_nothing (Some k) f h = tt
 
 -- the looks that are noted after a place and a question were taken are those before
-pub noted_new : (n : ℕ) (old taken_one taken_both : Running) (taken : Option ℕ) (asked : Option Ask) → IfSome taken (λ k. is_within old.looked.places k ≡ true)
+pub noted_new : (n : ℕ) (old taken_one taken_both : StateView) (taken : Option ℕ) (asked : Option Ask) → IfSome taken (λ k. is_within old.looked.places k ≡ true)
     → IfSome taken (λ k. (j : ℕ) → is_within taken_one.looked.places j ≡ (is_within old.looked.places j && not (j == k))) → IfNone taken (taken_one ≡ old)
     → taken_one.looked.cells ≡ old.looked.cells → taken_one.looked.files ≡ old.looked.files
     → TakesAsk asked taken_one.looked.files taken_both.looked.files → taken_both.looked.cells ≡ taken_one.looked.cells → taken_both.looked.places ≡ taken_one.looked.places
@@ -54,5 +54,5 @@ noted_new n old taken_one taken_both taken asked one gone same cells files t cel
     ap (λ (c : List ℕ). is_new (drop n c) taken taken_both.looked.places asked taken_both.looked.files q) (cells' ∙ cells)
     ∙ ap (λ p. is_new (drop n old.looked.cells) taken p asked taken_both.looked.files q) places
     ∙ sym (new_is n old.looked taken taken_one.looked.places asked taken_both.looked.files
-    (left_places taken old.looked.places taken_one.looked.places one gone (if_nothing taken (λ e. ap (λ (r : Running). r.looked.places) e) same))
+    (left_places taken old.looked.places taken_one.looked.places one gone (if_nothing taken (λ e. ap (λ (r : StateView). r.looked.places) e) same))
     (λ a. ap (λ l. is_looked l a) (sym files) ∙ t.left a) q)

@@ -3,7 +3,7 @@ use Rattle.std.proofs.Common.{◌≡◌, ℕ, ◌+◌, ◌-◌, ◌*◌, ◌/◌
 use Rattle.std.proofs.lemmas.Nat.{le-div}
 use Rattle.std.proofs.lemmas.Bool.{cases_lt}
 use Rattle.std.proofs.lemmas.Bool.Decides.{eqb_tells}
-use Rattle.machine.specs.Views.{Looked}
+use Rattle.machine.specs.StateView.{Looked}
 use Rattle.replay.specs.FirstLooks.{Noted, seen_to, IsNoted, IsLeftBehind}
 use Rattle.replay.specs.RefusalCount.{CountsThisRun, RefusesLooksOnce}
 

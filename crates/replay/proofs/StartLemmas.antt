@@ -3,7 +3,7 @@ use Rattle.std.proofs.Common.{◌≡◌, ℕ, zero, suc, ◌<◌, ◌≤◌, Lis
 use Rattle.std.specs.Prelude.{slice_get}
 use Rattle.std.proofs.lemmas.Bool.{cases_lt}
 use Rattle.std.proofs.lemmas.Bool.Decides.{nat_tests}
-use Rattle.machine.specs.Views.{State}
+use Rattle.machine.specs.StateView.{PartialState}
 use Rattle.machine.specs.Machine.{Answers, start, after}
 use Rattle.machine.specs.Kept.{whole}
 use Rattle.replay.specs.declared.ring.Checkpoint.{Checkpoint}
@@ -62,7 +62,7 @@ none_get (x ∷ xs) zero e = cc
 none_get (x ∷ xs) (suc i) e = let r = none_get xs i e in omega arith
 
 -- a rerun begins at a step that the run reaches
-pub start_reached : (f : Answers) (limit : ℕ) (text : List ℕ) (xs : List Checkpoint) → Each (Stands f text) xs → (st : State) × (after f (start_step limit xs) ≡ Some st)
+pub start_reached : (f : Answers) (limit : ℕ) (text : List ℕ) (xs : List Checkpoint) → Each (Stands f text) xs → (st : PartialState) × (after f (start_step limit xs) ≡ Some st)
 start_reached f limit text [] h = (start, after_none f start refl)
 start_reached f limit text (x ∷ xs) h = elim (cases_lt limit x.step) [
   | inl past ↦

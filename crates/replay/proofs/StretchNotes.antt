@@ -4,7 +4,7 @@ use Rattle.std.proofs.lemmas.Bool.{cases_lt}
 use Rattle.std.proofs.Math.Nat.{eq-or-lt_of_le}
 use Rattle.machine.specs.Dependence as dependence
 use Rattle.machine.specs.Given.{Session}
-use Rattle.machine.specs.Views.{State, Looked}
+use Rattle.machine.specs.StateView.{PartialState, Looked}
 use Rattle.machine.specs.Machine.{Question, Answers, ask, after, is_in, looked_at, looks, looks_at}
 use Rattle.machine.specs.Stretch.{LooksAtNothingNew, Stretches}
 use Rattle.machine.proofs.AfterLemmas.{step_before}
@@ -38,7 +38,7 @@ module _ (f : Answers) (t : Noted) (looked : Looked) (known : IsFirstLooks f t) 
   pub all_passed : AllNoted (seen_to t upto) looked
   all_passed = all
 
-before_step : (f : Answers) (k : ℕ) (st : State) → after f (suc k) ≡ Some st → (b : State) × (after f k ≡ Some b)
+before_step : (f : Answers) (k : ℕ) (st : PartialState) → after f (suc k) ≡ Some st → (b : PartialState) × (after f k ≡ Some b)
 unfolding dependence.after
 before_step f k st at = let (b, there, went) = step_before f (after f k) st at in (b, there)
 
@@ -51,10 +51,10 @@ pub record NotesStretch (f : Answers) (old new : Noted) (n m : ℕ) (looked : Lo
   pub counted : (refused ≤ refuses) × (refuses ≤ refused + 1)
   pub all : refuses ≡ refused → n ≤ old.seen → m ≤ new.seen
 
-module _ (s : Session) (end n m : ℕ) (old new : Noted) (refused refuses : ℕ) (st : State) (looked after_step left : Looked) (stretch : Stretches s n end looked m (Ok None) (record { state = st; looked = after_step })) (more : n < m)
+module _ (s : Session) (end n m : ℕ) (old new : Noted) (refused refuses : ℕ) (st : PartialState) (looked after_step left : Looked) (stretch : Stretches s n end looked m (Ok None) (record { state = st; looked = after_step })) (more : n < m)
     (known : IsFirstLooks (ask s) old) (all : n ≤ old.seen → AllNoted old looked) (seen : n < old.seen → m ≤ old.seen) (same_cells : left.cells ≡ after_step.cells) where
   -- the state before the last step
-  before_last_step : (b : State) × (after (ask s) (m - 1) ≡ Some b)
+  before_last_step : (b : PartialState) × (after (ask s) (m - 1) ≡ Some b)
   before_last_step = before_step (ask s) (m - 1) st (ap (after (ask s)) (let e : suc (m - 1) ≡ m = omega arith in e) ∙ stretch.at)
 
   asks : (q : Question) → looked_at after_step q ≡ (looked_at looked q || is_in q (looks_at (ask s) before_last_step.0))

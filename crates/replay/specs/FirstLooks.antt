@@ -4,7 +4,7 @@ use Rattle.machine.specs.Memory.{is_among}
 use Rattle.machine.specs.PlacesType.{Places}
 use Rattle.machine.specs.Places.{is_within}
 use Rattle.machine.specs.declared.session.TheConstants.{STEP_LIMIT}
-use Rattle.machine.specs.Views.{Looked}
+use Rattle.machine.specs.StateView.{Looked}
 use Rattle.hostfiles.specs.Looks.{is_looked, is_same_ask}
 use Rattle.hostfiles.specs.declared.looks.Looks.{Looks}
 use Rattle.hostfiles.specs.declared.looks.Ask.{Ask}

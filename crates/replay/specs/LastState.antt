@@ -1,14 +1,14 @@
 -- The state that a run left. (This project's own.)
 use Rattle.std.specs.Prelude.{ℕ, List, Option, Some, None, take}
-use Rattle.machine.specs.Views.{State}
+use Rattle.machine.specs.StateView.{PartialState}
 use Rattle.machine.specs.Kept.{Kept, whole}
 use Rattle.machine.specs.Machine.{start}
 use Rattle.replay.specs.declared.report.LastRun.{LastRun}
 
 -- the state that was left, where there is one, with its beginning of the text
-abbrev pub last_state : Option Kept → List ℕ → State
+abbrev pub last_state : Option Kept → List ℕ → PartialState
 last_state None text = start
 last_state (Some kept) text = whole kept (take kept.length text)
 
-abbrev pub left_by : LastRun → State
+abbrev pub left_by : LastRun → PartialState
 left_by s = last_state s.end s.text.items

@@ -11,6 +11,7 @@ pub mod FirstLooks
 pub mod Ring
 pub mod RefusalCount
 pub mod Touch
+pub mod PrefixDependence
 pub mod Resuming
 pub mod RunnerView
 pub mod Lending

@@ -22,6 +22,6 @@ RefusedBy o Spacing = refusal_of o ≡ Some 1
 RefusedBy o Slots = refusal_of o ≡ Some 2
 RefusedBy o OutOfMemory = refusal_of o ≡ None
 
--- those of a runner for one run: at most one checkpoint, at the greatest spacing
+-- the options of a runner for one run: no slots, so no checkpoint is ever kept, and the greatest spacing
 abbrev pub once : Options
-once = record { spacing = 1000000000; slots = 1 }
+once = record { spacing = 1000000000; slots = 0 }

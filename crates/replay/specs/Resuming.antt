@@ -3,7 +3,7 @@ use Rattle.std.specs.Prelude.{◌≡◌, ℕ, ◌+◌, ◌<◌, ◌≤◌, ◌�
 use Rattle.machine.specs.declared.session.TheConstants.{STEP_LIMIT}
 use Rattle.machine.specs.Cause.{Cause}
 use Rattle.machine.specs.Given.{Session}
-use Rattle.machine.specs.Views.{Running}
+use Rattle.machine.specs.StateView.{StateView}
 use Rattle.machine.specs.Machine.{Answers, ask, after}
 use Rattle.replay.specs.declared.keeping.RunNotes.{RunNotes}
 use Rattle.replay.specs.declared.ring.Checkpoints.{Checkpoints}
@@ -29,7 +29,7 @@ abbrev pub begun_at : Session → Checkpoints → ℕ
 begun_at s checkpoints = start_step s.limit checkpoints.ring.items
 
 -- a run of a session goes on here from a kept step or from the start, what was looked at is noted, and the checkpoints have room
-pub record GoesOn (s : Session) (checkpoints : Checkpoints) (from : ℕ) (running : Running) : Type 0 where
+pub record GoesOn (s : Session) (checkpoints : Checkpoints) (from : ℕ) (running : StateView) : Type 0 where
   pub at : after (ask s) from ≡ Some running.state
   pub looks : AllNoted checkpoints.notes.looks running.looked
   pub seen : from ≤ checkpoints.notes.looks.seen

@@ -2,7 +2,7 @@
 use Rattle.std.specs.Prelude.{◌≡◌, ℕ, ◌<◌, ◌≤◌, ◌%◌, List, [], ◌∷◌, ◌++◌, Some, ◌⊎◌, max, nat_le, if◌then◌else◌, length, take, map}
 use Rattle.circular_buffer.specs.Buffer.{Buffer, buffer, keep_last}
 use Rattle.machine.specs.Machine.{Answers, after}
-use Rattle.machine.specs.Views.{State}
+use Rattle.machine.specs.StateView.{PartialState}
 use Rattle.machine.specs.Kept.{whole, kept_of}
 use Rattle.replay.specs.declared.ring.Checkpoint.{Checkpoint}
 
@@ -90,7 +90,7 @@ pub record IsNewest (newest : ℕ) (ring : List Checkpoint) : Type 0 where
   pub there : (newest ≡ 0) ⊎ SomeStep ring newest
 
 -- the checkpoint of a state after a step
-abbrev pub made_at : ℕ → State → Checkpoint
+abbrev pub made_at : ℕ → PartialState → Checkpoint
 made_at step st = record { step = step; state = kept_of st }
 
 -- the ring with one more, and without its oldest where it was full

@@ -2,7 +2,7 @@
 use Rattle.std.specs.Prelude.{◌≡◌, ℕ, ◌+◌, ◌<◌, ◌≤◌, List, [], ◌++◌, Some, drop, map, take}
 use Rattle.machine.specs.declared.session.TheConstants.{STEP_LIMIT}
 use Rattle.machine.specs.Given.{Session}
-use Rattle.machine.specs.Views.{State}
+use Rattle.machine.specs.StateView.{PartialState}
 use Rattle.machine.specs.Machine.{Answers, ask, after}
 use Rattle.machine.specs.Kept.{whole}
 use Rattle.replay.specs.declared.ring.Checkpoint.{Checkpoint as KeptCheckpoint}
@@ -16,7 +16,7 @@ use Rattle.replay.specs.Touch.{Untouched}
 -- a step that a run reached, and the state there
 pub record Checkpoint : Type 0 where
   pub step : ℕ
-  pub state : State
+  pub state : PartialState
 
 -- a session, options, checkpoints, the oldest first, and how often the last rerun was refused memory for a checkpoint, or for
 -- what it notes to keep one
@@ -89,7 +89,7 @@ RanTo old new steps = Reran old new steps × LeavesNoneOut old new steps × Coun
 
 -- the steps of a run from this step on, up to some step that it reaches within the limit, are ticked, and no others
 abbrev pub TicksTo : Answers → ℕ → ℕ → ℕ → ℕ → Type 0
-TicksTo f limit from ticks ticked = (n : ℕ) × (st : State) × (after f n ≡ Some st) × (n ≤ limit) × (ticked + from ≡ ticks + n)
+TicksTo f limit from ticks ticked = (n : ℕ) × (st : PartialState) × (after f n ≡ Some st) × (n ≤ limit) × (ticked + from ≡ ticks + n)
 
 -- what always holds of a runner's parts
 pub record IsSound (s : Session) (text : List ℕ) (checkpoints : Checkpoints) : Type 0 where

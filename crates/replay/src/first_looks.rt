@@ -7,7 +7,7 @@ ghost use Rattle.file_steps.specs.PlaceSteps.{IsEarliestFrom};
 ghost use Rattle.replay.specs.FirstLooks.{Notes, ErasesLast, SameBelow, NoPlaces, NoAsks};
 
 use file_steps::{FileSteps, FirstSteps, PlaceSteps};
-use machine::{Ask, Running, STEP_LIMIT};
+use machine::{Ask, STEP_LIMIT, State};
 use std::alloc::{AllocError, Global};
 use std::marker::Model;
 
@@ -116,7 +116,7 @@ impl FirstLooks {
     #[inline(never)]
     pub fn note(
         &mut self,
-        running: &mut Running,
+        running: &mut State,
         from: usize,
         taken: Option<usize>,
         asked: Option<Ask>,
@@ -141,7 +141,7 @@ impl FirstLooks {
 
     fn note_all(
         &mut self,
-        running: &mut Running,
+        running: &mut State,
         from: usize,
         taken: Option<usize>,
         asked: Option<Ask>,
@@ -166,7 +166,7 @@ impl FirstLooks {
     }
 
     // Notes the cells that were looked at, from the one of this index on.
-    fn note_cells(&mut self, running: &Running, from: usize) -> Result<(), AllocError>
+    fn note_cells(&mut self, running: &State, from: usize) -> Result<(), AllocError>
         requires { self.old.seen ≤ STEP_LIMIT }
         ensures ok { OnOk result (Notes self.old self.new (is_cell_of (drop from running.now.looked.cells))) }
         ensures err { OnErr result (SameBelow self.old self.new) }
@@ -182,7 +182,7 @@ impl FirstLooks {
     }
 
     // Notes the script place that was taken, and then each that is left.
-    fn note_places(&mut self, running: &mut Running, taken: Option<usize>) -> Result<(), AllocError>
+    fn note_places(&mut self, running: &mut State, taken: Option<usize>) -> Result<(), AllocError>
         requires seen { self.old.seen ≤ STEP_LIMIT }
         requires taken { taken ≡ None → NoPlaces running.old.looked.places }
         ensures ok { OnOk result (Notes self.old self.new (is_place_of taken running.old.looked.places)) }
@@ -203,7 +203,7 @@ impl FirstLooks {
 
     // Notes the question of the host files that was taken, and then each that is left.
     #[tactic(auto)]
-    fn note_asks(&mut self, running: &mut Running, asked: Option<Ask>) -> Result<(), AllocError>
+    fn note_asks(&mut self, running: &mut State, asked: Option<Ask>) -> Result<(), AllocError>
         requires seen { self.old.seen ≤ STEP_LIMIT }
         requires asked { asked ≡ None → NoAsks running.old.looked.files }
         ensures ok { OnOk result (Notes self.old self.new (is_ask_of asked running.old.looked.files)) }

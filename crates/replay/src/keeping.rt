@@ -4,7 +4,7 @@ ghost use Rattle.replay.specs.FirstLooks.{Notes, ErasesLast, NoPlaces, NoAsks, i
 ghost use Rattle.replay.specs.RefusalCount.{CountsRefusal};
 
 use crate::first_looks::FirstLooks;
-use machine::{Ask, Kept, Running, STEP_LIMIT};
+use machine::{Ask, Kept, STEP_LIMIT, State};
 use std::alloc::AllocError;
 use std::marker::Model;
 
@@ -39,7 +39,7 @@ impl Refusals {
 }
 
 /// What is kept of the state, or none where memory is refused, which is counted.
-pub fn keep(running: &mut Running, refusals: &mut Refusals) -> Option<Kept>
+pub fn keep(running: &mut State, refusals: &mut Refusals) -> Option<Kept>
     requires { refusals.old < 2 ^ 63 }
     ensures kept { IfSome result (λ k. k ≡ kept_of running.old.state) }
     ensures some { IsSome result → refusals.new ≡ refusals.old }
@@ -68,7 +68,7 @@ pub struct RunNotes {
 #[inline(always)]
 pub fn note(
     notes: &mut RunNotes,
-    running: &mut Running,
+    running: &mut State,
     from: usize,
     taken: Option<usize>,
     asked: Option<Ask>,

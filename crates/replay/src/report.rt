@@ -137,13 +137,6 @@ impl Report<'_> {
         next_changed(self.files(), self.journal(), after)
     }
 
-    /// The limit of the session, in steps.
-    pub fn limit(&self) -> u64
-        ensures { result ≡ (session_of self.now).limit }
-    {
-        self.last_run.session.limit()
-    }
-
     /// The host files of the session.
     pub fn files(&self) -> &HostFiles
         ensures { result.now ≡ (session_of self.now).files }

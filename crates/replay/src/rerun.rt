@@ -14,7 +14,7 @@ use crate::report::LastRun;
 use crate::ring::{Checkpoint, Checkpoints, latest_within, newest_step};
 use crate::run::resume;
 use circular_buffer::HeapCircularBuffer;
-use machine::{BlankMarks, Cause, Kept, Meter, Running, STEP_LIMIT, Session};
+use machine::{BlankMarks, Cause, Kept, Meter, STEP_LIMIT, Session, State};
 use std::alloc::{AllocError, Global};
 use std::mem;
 
@@ -55,7 +55,7 @@ fn begin(
     spare: &mut Option<BlankMarks>,
     ring: &HeapCircularBuffer<Checkpoint>,
     is_needed: bool,
-) -> Result<(u64, Running), AllocError>
+) -> Result<(u64, State), AllocError>
     requires stands { Each (Stands (ask session.now) text.old.items) ring.now.items }
     requires rising { Rising ring.now.items }
     ensures at { IfOk result (λ r. after (ask session.now) r.0 ≡ Some r.1.state) }
@@ -68,7 +68,7 @@ fn begin(
 {
     let Some(checkpoint) = latest_within(ring, session.limit()) else {
         let marks = marks_for(alloc, spare)?;
-        let running = Running::load(alloc, marks)?;
+        let running = State::load_over(alloc, marks)?;
         return Ok((0, running));
     };
     let marks = marks_for(alloc, spare)?;
@@ -86,7 +86,7 @@ fn begin(
 fn put_by(
     text: &mut Vec<u8>,
     spare: &mut Option<BlankMarks>,
-    running: Running,
+    running: State,
     is_needed: bool,
 ) -> Kept
     ensures kept { result ≡ kept_of running.state }

@@ -3,7 +3,7 @@ ghost use Rattle.replay.specs.Ring.{Rising, IsNewest, Keeps, KeptUpTo, HasCheckp
 
 use crate::keeping::{Refusals, RunNotes, keep};
 use circular_buffer::HeapCircularBuffer;
-use machine::{Kept, Running, STEP_LIMIT};
+use machine::{Kept, STEP_LIMIT, State};
 
 /// A step that a run reached, and what is kept of the state there.
 #[derive(Drop)]
@@ -70,7 +70,7 @@ pub fn keep_above(
     newest: u64,
     step: u64,
     seen: u64,
-    running: &mut Running,
+    running: &mut State,
     refusals: &mut Refusals,
 ) -> u64
     requires room { refusals.old < 2 ^ 63 }

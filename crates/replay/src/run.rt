@@ -11,13 +11,13 @@ ghost use Rattle.replay.specs.Ring.{Each, IsNewest};
 use crate::first_looks::FirstLooks;
 use crate::keeping::{RunNotes, note};
 use crate::ring::{Checkpoints, due_after, keep_above};
-use machine::{Cause, Meter, Running, STEP_LIMIT, Session, run_from};
+use machine::{Cause, Meter, STEP_LIMIT, Session, State, run_from};
 use std::alloc::AllocError;
 
 // Notes the looks that are new: the cells from the one of this index on, and the script places and the questions of the host files,
 // which are taken out.
 #[inline(always)]
-fn note_new(notes: &mut RunNotes, running: &mut Running, noted: usize) -> Result<(), AllocError>
+fn note_new(notes: &mut RunNotes, running: &mut State, noted: usize) -> Result<(), AllocError>
     requires few { noted ≤ length running.old.looked.cells }
     requires low { (notes.old.refusals < 2 ^ 63) × (notes.old.looks.seen ≤ STEP_LIMIT) }
     ensures ok { OnOk result (Notes notes.old.looks notes.new.looks
@@ -40,7 +40,7 @@ fn note_new(notes: &mut RunNotes, running: &mut Running, noted: usize) -> Result
 // After the steps from n on and below the one that was `reached`, of which only the last looked at anything new: notes its looks,
 // where exactly the steps below n are seen, and else forgets those of the script and of the host files. Where memory for that is
 // refused, the first looks stay behind, and no later step of the run is noted.
-fn keep_looks(notes: &mut RunNotes, running: &mut Running, noted: usize, n: u64, reached: u64)
+fn keep_looks(notes: &mut RunNotes, running: &mut State, noted: usize, n: u64, reached: u64)
     requires few { noted ≤ length running.old.looked.cells }
     requires room { notes.old.refusals < 2 ^ 63 }
     requires order { (n < reached) × (reached ≤ STEP_LIMIT) }
@@ -88,7 +88,7 @@ fn bound_of(n: u64, seen: u64, end: u64) -> u64
 
 // Runs from the step `from` up to the step `end`, or to a stop. Answers the step that it reached.
 fn advance(
-    running: &mut Running,
+    running: &mut State,
     notes: &mut RunNotes,
     session: &Session,
     meter: &mut Meter,
@@ -134,7 +134,7 @@ pub fn resume(
     meter: &mut Meter,
     newest: u64,
     from: u64,
-    running: &mut Running,
+    running: &mut State,
 ) -> Result<(u64, Cause), AllocError>
     requires begins { GoesOn session.now checkpoints.old from running.old }
     requires sound { AreOf (ask session.now) checkpoints.old }

@@ -1,6 +1,7 @@
-ghost use Rattle.std.specs.Prelude.{◌≡◌, ◌+◌, ◌^◌, ◌≤◌, [], IfOk, IfErr, OnOk, OnErr, MatchResult, slice_get};
+ghost use Rattle.std.specs.Prelude.{◌≡◌, ◌+◌, ◌^◌, ◌<◌, ◌≤◌, [], IfOk, IfErr, OnOk, OnErr, MatchResult, slice_get};
 ghost use Rattle.std.specs.Borrow.{sem};
-ghost use Rattle.machine.specs.Machine.{PrefixDependence, ask};
+ghost use Rattle.machine.specs.Machine.{ask};
+ghost use Rattle.replay.specs.PrefixDependence.{PrefixDependence};
 ghost use Rattle.replay.specs.Plain.{plain_run};
 ghost use Rattle.replay.specs.PlainIsCold.{PlainRunIsCold};
 ghost use Rattle.replay.specs.Edits.{edited};
@@ -45,7 +46,7 @@ pub struct Runner {
 impl Model for Runner {
     ghost use Rattle.std.specs.Prelude.{map};
     ghost use Rattle.std.specs.Coded.{codes};
-    ghost use Rattle.machine.specs.Views.{cells_code, changes_code, files_code};
+    ghost use Rattle.machine.specs.StateView.{cells_code, changes_code, files_code};
     ghost use Rattle.replay.specs.RunnerView.{RunnerView, IsSound, seen_with};
 
     ghost Value = { RunnerView };
@@ -88,6 +89,18 @@ impl Runner {
         requires { refusal_of options ≡ None }
         ensures { IfOk result (λ r. r ≡ with_no_checkpoint session options) }
     {
+        Runner::with_spacing_in_range(alloc, session, options)
+    }
+
+    // The same with any count of slots, also none.
+    fn with_spacing_in_range(
+        alloc: Global,
+        session: Session,
+        options: Options,
+    ) -> Result<Runner, AllocError>
+        requires { (0 < options.spacing) × (options.spacing ≤ 1000000000) }
+        ensures { IfOk result (λ r. r ≡ with_no_checkpoint session options) }
+    {
         let ring = HeapCircularBuffer::with_capacity(alloc, options.slots)?;
         Ok(Runner {
             last_run: LastRun {
@@ -107,16 +120,16 @@ impl Runner {
         })
     }
 
-    /// A runner for a session that is run once. Its runs are not noted, as if memory for that were refused once, which `refusals`
-    /// counts: they take less time and memory, and no checkpoint is kept. `Err` where memory is refused.
+    /// Returns a runner for a session that is run once. It has no slots, so it never has a checkpoint. Its runs are not noted, which
+    /// `refusals` counts as one failed allocation: they take less time and memory. `Err` means out of memory.
     pub fn for_one_run(alloc: Global, session: Session) -> Result<Runner, AllocError>
         ensures { IfOk result (λ r. r ≡ with_no_checkpoint session once) }
     {
         let options = Options {
             spacing: 1_000_000_000,
-            slots: 1,
+            slots: 0,
         };
-        let mut runner = Runner::within(alloc, session, options)?;
+        let mut runner = Runner::with_spacing_in_range(alloc, session, options)?;
         runner.checkpoints.notes.looks.shut();
         Ok(runner)
     }
@@ -213,7 +226,8 @@ impl Runner {
     }
 }
 
-/// A law: what no step below n looks at has no influence on the state after n steps.
+/// A law: input that the first n steps did not read has no influence on them. Two sessions that answer alike what these steps asked
+/// have the same registers, desk and writes after n steps, each over its own memory and files.
 pub fn prefix_dependence()
     ensures { PrefixDependence }
 {}

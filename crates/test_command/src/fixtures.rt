@@ -2,7 +2,8 @@
 
 ghost use Rattle.std.specs.Prelude.{None};
 
-use cpmrun::{Failed, Over, SystemFiles, Writer, command};
+use cpmrun::{Failed, Over, SystemFiles, Writer, command, metered_command};
+use machine::Meter;
 use std::alloc::{AllocError, Global};
 use std::fs::OpenFile;
 use std::process::{Abort, Process};
@@ -38,6 +39,9 @@ pub enum Act<'a> {
     PutZeros(&'a str, u64),
     /// The command has these words, each with the folder's path in place of its first `@`.
     Ask(&'a [&'a str], Wanted<'a>),
+    /// The command has the words of this text, each with the folder's path in place of its first `@`, and its runs execute this many
+    /// steps.
+    Count(&'a str, u64),
     /// The command has words of a program, the folders of A to D, a script, and a file of edit lines that is not there, and this
     /// is told.
     Load(&'a [&'a str; 6], &'a str),
@@ -198,6 +202,35 @@ fn ask_in<R: Files + AllocGlobal + Clone + Drop + Abort>(
     Ok(())
 }
 
+// How many steps the runs of the command execute, which has these words and ends with the status 0.
+fn count<R: Files + AllocGlobal + Clone + Drop + Abort>(rt: &R, words: &[String], wanted: u64) {
+    let mut meter = Meter::new();
+    let mut out = Over::new(Vec::new(rt.alloc()));
+    let mut err = Over::new(Vec::new(rt.alloc()));
+    let mut system = SystemFiles::new(rt);
+    let status = metered_command(&mut system, words, &mut meter, &mut out, &mut err);
+    let steps = meter.count();
+    assert!(rt;
+        status == 0 && steps == wanted,
+        "{words:?} take {steps} steps, with the status {status}"
+    );
+}
+
+fn count_in<R: Files + AllocGlobal + Clone + Drop + Abort>(
+    rt: &R,
+    folder: &str,
+    text: &str,
+    wanted: u64,
+) -> Result<(), Fail> {
+    let mut words = Vec::new(rt.alloc());
+    for word in text.split(' ') {
+        words.push(word)?;
+    }
+    let words = owned(rt.alloc(), folder, words.as_slice())?;
+    count(rt, words.as_slice(), wanted);
+    Ok(())
+}
+
 fn load_in<R: Files + AllocGlobal + Clone + Drop + Abort>(
     rt: &R,
     folder: &str,
@@ -249,6 +282,7 @@ fn carry_out<R: Files + AllocGlobal + Clone + Drop + Abort>(
         Act::Put(file, bytes) => put(rt, folder, file, bytes),
         Act::PutZeros(file, len) => put_zeros(rt, folder, file, len),
         Act::Ask(words, wanted) => ask_in(rt, folder, words, wanted),
+        Act::Count(words, wanted) => count_in(rt, folder, words, wanted),
         Act::Load(named, told) => load_in(rt, folder, named, told),
     }
 }

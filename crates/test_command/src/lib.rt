@@ -1,6 +1,8 @@
 //! The tests of the whole command, over files and folders that they write.
 //!
 //! - `runs`, `edits`, `information`: tests of one run, of edit lines over files, of help and of faults of use
+//! - `steps`: tests of how many steps the replies to edit lines take, by the options
+//! - `messages`: tests of the message of each fault
 //! - `loading`, `devices`: tests of files that are not read, in the order in which they are told; of outputs that
 //!   fail
 //! - `fixtures`: what is done in the folder of a test, and what the command answers there
@@ -17,4 +19,8 @@ mod information;
 #[cfg(test)]
 mod loading;
 #[cfg(test)]
+mod messages;
+#[cfg(test)]
 mod runs;
+#[cfg(test)]
+mod steps;

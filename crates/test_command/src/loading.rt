@@ -92,11 +92,7 @@ const REFUSED: &[Act<'_>] = &[
     PutZeros("more", 1_048_577),
     Ask(
         &["@/short", "--console", "@/typed", "--limit", "0"],
-        Answer(
-            3,
-            "",
-            "stop Limit\ncpmrun: the limit was 0 steps; --limit N sets another\n",
-        ),
+        Answer(3, "", "stop Limit\n"),
     ),
     Ask(
         &["@/long", LONG_TAIL],

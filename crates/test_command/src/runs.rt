@@ -9,35 +9,19 @@ const LIMITS: &[Act<'_>] = &[
     Put("p3.com", HI),
     Ask(
         &["@/p3.com", "--limit", "0", "--slots", "1"],
-        Answer(
-            3,
-            "",
-            "stop Limit\ncpmrun: the limit was 0 steps; --limit N sets another\n",
-        ),
+        Answer(3, "", "stop Limit\n"),
     ),
     Ask(
         &["@/p3.com", "--limit", "4", "--slots", "1"],
-        Answer(
-            3,
-            "",
-            "stop Limit\ncpmrun: the limit was 4 steps; --limit N sets another\n",
-        ),
+        Answer(3, "", "stop Limit\n"),
     ),
     Ask(
         &["@/p3.com", "--limit", "5", "--slots", "1"],
-        Answer(
-            3,
-            "Hi",
-            "stop Limit\ncpmrun: the limit was 5 steps; --limit N sets another\n",
-        ),
+        Answer(3, "Hi", "stop Limit\n"),
     ),
     Ask(
         &["@/p3.com", "--limit", "7", "--slots", "1"],
-        Answer(
-            3,
-            "Hi",
-            "stop Limit\ncpmrun: the limit was 7 steps; --limit N sets another\n",
-        ),
+        Answer(3, "Hi", "stop Limit\n"),
     ),
     Ask(
         &["@/p3.com", "--limit", "8", "--slots", "1"],

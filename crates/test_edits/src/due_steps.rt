@@ -31,11 +31,12 @@ fn is_kept(
 
 // The first run of each of these sessions, with each spacing.
 fn all_are_kept(alloc: Global, cases: &[Case<'_>]) -> Result<(), Trouble> {
-    for case in cases {
-        if let Some(Run(_, wanted)) = case.acts.first() {
-            for spacing in 1..=12 {
-                is_kept(alloc, &case.given, spacing, *wanted)?;
-            }
+    for i in 0..cases.len() {
+        let Some(Run(_, wanted)) = cases[i].acts.first() else {
+            return Err(Trouble::NoRunFirst(i));
+        };
+        for spacing in 1..=12 {
+            is_kept(alloc, &cases[i].given, spacing, *wanted)?;
         }
     }
     Ok(())

@@ -115,6 +115,27 @@ fn devices_fail_in_mid_stream(rt: HostRuntime) -> Result<(), Fail> {
     Ok(())
 }
 
+// Each fault of a replay, and its text.
+const FAULTS: [(ReplayFault, &str); 5] = [
+    (ReplayFault::Malformed(3), "line 3 is malformed"),
+    (
+        ReplayFault::LineTooLong(1_000_000),
+        "line 1000000 is too long",
+    ),
+    (ReplayFault::Read, "the edit lines could not be read"),
+    (ReplayFault::Write, "the replies could not be written"),
+    (ReplayFault::OutOfMemory, "out of memory"),
+];
+
+#[test]
+fn each_fault_has_its_text(rt: HostRuntime) -> Result<(), Fail> {
+    for (fault, wanted) in FAULTS {
+        let text = format!(in rt.alloc(); "{fault}")?;
+        assert!(rt; text.as_str() == wanted, "{fault:?} is {text}");
+    }
+    Ok(())
+}
+
 #[test]
 fn a_line_may_be_too_long(rt: HostRuntime) -> Result<(), Fail> {
     let text = vec![in rt.alloc(); b'a'; 65_537]?;

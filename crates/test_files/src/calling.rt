@@ -7,7 +7,6 @@ use crate::acts::Act::{
 use crate::contents::{filled, filled_but};
 use crate::finding::{finds, finds_bytes, finds_full, finds_next};
 use cpmfiles::{Key, Record, Table};
-use hostfiles::SeenFile;
 use std::alloc::AllocError;
 
 /// Whether a table is asked, and answers so.
@@ -15,26 +14,10 @@ pub fn ask(table: &mut Table<'_>, act: Act<'_>) -> Result<bool, AllocError> {
     Ok(match act {
         Has(key, there) => table.has(&key)? == there,
         Records(key, count) => table.records(&key)? == count,
-        Extent(key, e, count) => counts(table, &key, e, count)?,
+        Extent(key, e, count) => table.extent(&key, e)? == count,
         Read(key, place, byte) => reads(table, &key, place, byte)?,
         _ => false,
     })
-}
-
-// Whether an extent has this count, where there is a file.
-fn counts(
-    table: &mut Table<'_>,
-    key: &Key,
-    e: u32,
-    wanted: Option<u8>,
-) -> Result<bool, AllocError> {
-    match table.records(key)? {
-        Some(_) => {
-            let file = SeenFile::find(table.host, &table.changes.journal, key);
-            Ok(Some(file.count(e)) == wanted)
-        }
-        None => Ok(wanted == None),
-    }
 }
 
 // Whether a record is read so: where it can't be read, what was there before stays.
@@ -79,14 +62,7 @@ fn fills(
     byte: u8,
     done: bool,
 ) -> Result<bool, AllocError> {
-    match table.records(key)? {
-        Some(length) if place < 65_536 => {
-            let journal = &mut table.changes.journal;
-            journal.write(key, length, place, &filled(byte), true)?;
-            Ok(done)
-        }
-        _ => Ok(!done),
-    }
+    Ok(place < 65_536 && table.write_filled(key, place, &filled(byte))? == done)
 }
 
 /// Whether a search of a table finds this.

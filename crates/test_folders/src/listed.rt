@@ -21,7 +21,7 @@ pub fn told(
     folders: [Option<&str>; 4],
     telling: Telling,
 ) -> Result<String, Fail> {
-    match read_folders(&SystemFiles::new(rt), &folders) {
+    match read_folders(&mut SystemFiles::new(rt), &folders) {
         Ok(files) => tell(rt.alloc(), &files, telling),
         Err(failure) => Ok(text(rt.alloc(), &failure)?),
     }

@@ -2,7 +2,7 @@
 //! changed. Expected values are worked out by hand from [Interface Guide 1979, operating system call conventions] and this
 //! project's profile.
 //!
-//! - `names`, `hosts`: tests of names and file control blocks, and of host files
+//! - `names`, `hosts`, `messages`: tests of names and file control blocks, of host files, and of what their refusals print
 //! - `tables`, `renames`, `deletions`: tests of what is made, written, read, renamed and deleted, with the questions
 //!   that each call asks
 //! - `entries`, `searches`: tests of the directory's entries, and of searches that go on while files change
@@ -19,6 +19,8 @@ mod deletions;
 mod entries;
 #[cfg(test)]
 mod hosts;
+#[cfg(test)]
+mod messages;
 #[cfg(test)]
 mod names;
 #[cfg(test)]

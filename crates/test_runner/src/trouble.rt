@@ -24,6 +24,8 @@ pub enum Trouble {
     EditLeftOther,
     /// A run that was refused memory left another session, or lost a checkpoint.
     RunLeftOther,
+    /// A session begins with no run, though one is to be repeated.
+    NoRunFirst,
     /// Something is not as it is wanted.
     Differs(Difference),
 }
@@ -50,6 +52,7 @@ impl From<test_sessions::Trouble> for Trouble {
             test_sessions::Trouble::OutOfMemory => Trouble::OutOfMemory,
             test_sessions::Trouble::Refused => Trouble::Refused,
             test_sessions::Trouble::RefusedFileThere => Trouble::RefusedFileThere,
+            test_sessions::Trouble::NoRunFirst(_) => Trouble::NoRunFirst,
             test_sessions::Trouble::Differs(_, _, difference) => Trouble::Differs(difference),
         }
     }
@@ -82,6 +85,7 @@ impl Trouble {
             Trouble::EditWantsMemory => "an edit that takes no memory names want of it",
             Trouble::EditLeftOther => "a refused edit changed something",
             Trouble::RunLeftOther => "a run that was refused memory changed something",
+            Trouble::NoRunFirst => "a session begins with no run",
             Trouble::Differs(difference) => text_of(difference),
         }
     }

@@ -3,7 +3,9 @@
 //!
 //! - `programs`, `console`, `tails`: tests of programs of a few instructions, of programs that read the console, and
 //!   of what a program finds of its command tail
-//! - `sessions`, `refusals`: tests of sessions that are run again, and of sessions that are refused
+//! - `sessions`, `refusals`, `messages`: tests of sessions that are run again, of sessions that are refused, and of what refusals
+//!   print
+//! - `large`: tests of texts, lines and files that are more than a word, a byte and a table of host files count
 //! - `contents`, `directories`, `holes`: tests of sessions that open, read, write, make and rename files; that search
 //!   and delete; that leave holes
 #![tactic(auto)]
@@ -16,6 +18,10 @@ mod contents;
 mod directories;
 #[cfg(test)]
 mod holes;
+#[cfg(test)]
+mod large;
+#[cfg(test)]
+mod messages;
 #[cfg(test)]
 mod programs;
 #[cfg(test)]

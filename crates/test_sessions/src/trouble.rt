@@ -36,6 +36,8 @@ pub enum Trouble {
     RefusedFileThere,
     /// The case and its act, each counted from 0, and what is not as it is wanted then.
     Differs(usize, usize, Difference),
+    /// The first act of the case, counted from 0, is no run, though one is to be repeated.
+    NoRunFirst(usize),
 }
 
 impl From<AllocError> for Trouble {

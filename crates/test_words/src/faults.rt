@@ -31,7 +31,7 @@ const HELP: Wanted<'_> = Refused(
         "--files-d <DIR>",
         "--console <FILE>",
         "--limit <N>",
-        "0 to 4,000,000,000 [default: 1000000]",
+        "0 to 4,000,000,000; raise it if a run ends with `stop Limit` [default: 1000000]",
         "--out-b <DIR>",
         "--edits <FILE>",
         "1 to 1,000,000,000 [default: 10000]",

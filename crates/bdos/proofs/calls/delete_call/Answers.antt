@@ -7,13 +7,13 @@ use Rattle.bdos.specs.FileCalls.{back, value_of}
 use Rattle.bdos.proofs.Chains.{heads, deleting, fails_asking}
 use Rattle.bdos.proofs.calls.delete_call.Goals as goal
 
-pub returns : goal.returns
-returns g c script =
+pub returns-clause-fulfils : goal.returns-clause-fulfils
+returns-clause-fulfils g c script =
     heads 33 33 c.args.desk.now.desk.spot (λ b to. asking_files (deletion b) (λ names. back (value_of names) c.args.regs.now c.args.desk.now.desk.spot to [] (Deleted names))) refl c.word_of-at.ensures c.drive.ensures c.fetch-dr.ensures (search rules) c.fetch_block-block.ensures c.fetch_word-to.ensures
     (deleting c.args.desk.now.desk.spot c.fetch_word-to.result (deletion c.fetch_block-block.result) c.in_ok-delete_files.ensures c.value_of-value.ensures c.give_back.ensures refl)
 
-pub returns-in_err-delete_files : goal.returns-in_err-delete_files
-returns-in_err-delete_files g c script =
+pub returns-in_err-delete_files-clause-fulfils : goal.returns-in_err-delete_files-clause-fulfils
+returns-in_err-delete_files-clause-fulfils g c script =
     let e = err_from_is_err_and c.from_residual.result c.from_residual.ensures.1 in
     let h = c.in_err-delete_files.ensures in
     rw e.1 (heads 33 33 c.args.desk.now.desk.spot (λ b to. asking_files (deletion b) (λ names. back (value_of names) c.args.regs.now c.args.desk.now.desk.spot to [] (Deleted names))) refl c.word_of-at.ensures c.drive.ensures c.fetch-dr.ensures (search rules) c.fetch_block-block.ensures c.fetch_word-to.ensures

@@ -1,7 +1,7 @@
-use Rattle.std.proofs.Common.{◌∙◌, refl, codes}
+use Rattle.std.proofs.Common.{◌∙◌, inl, refl, sym, codes}
 use Rattle.clap.specs.Words.{found_of}
 use Rattle.clap.proofs.WalkLemmas.{first_value-rows}
-use Rattle.command_words.proofs.Matching.{four_texts, text_or_none}
+use Rattle.command_words.proofs.Matching.{at_none, four_texts, text_or_none}
 use Rattle.command_words.proofs.words.words_of.Goals as goal
 
 pub returns-clause-says : goal.returns-clause-says
@@ -22,3 +22,7 @@ returns-clause-says c =
       spacing = c.in_ok-number-2.ensures.said;
       slots = c.in_ok-number-3.ensures.said;
     }
+
+pub returns-in_err-get_str-clause-none : goal.returns-in_err-get_str-clause-none
+returns-in_err-get_str-clause-none c =
+    at_none c.from_residual.result (inl (sym (first_value-rows (found_of c.args.matches.now) (codes "PROGRAM")) ∙ sym c.in_err-get_str.ensures))

@@ -15,8 +15,8 @@ first_key : (own : Own) (old new : Key) (l m : Looks) → has_wildcard old ≡ f
     → Extends l (look_has own old m) → Extends l (look_renamed own old new m)
 first_key own old new l m plain fit h = rw (plain, fit) (within_second own old new l m h)
 
-pub returns-in_err-there : goal.returns-in_err-there
-returns-in_err-there c =
+pub returns-in_err-there-clause-inquires : goal.returns-in_err-there-clause-inquires
+returns-in_err-there-clause-inquires c =
     let e = err_from_is_err_and c.from_residual.result c.from_residual.ensures.1 in
     let h = c.in_err-there.ensures in
     rw e.1 (record {

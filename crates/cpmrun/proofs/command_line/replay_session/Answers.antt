@@ -19,11 +19,9 @@ returns-in_err-runner-clause-fault g c =
       leaves = at_once _ c.args.session _;
     })
 
--- a new runner has the session that it was given
 pub returns-clause-ok : goal.returns-clause-ok
 returns-clause-ok g c =
-    let same = ap (λ (r : RunnerView). r.session) c.in_ok-runner.ensures in
-    writes_replay c.args.session c.in_ok-runner.runner c.replay.new.runner _ _ _ _ _ _ c.replay.result same c.replay.ensures.ok
+    writes_replay _ c.in_ok-runner.runner c.replay.new.runner _ _ _ _ _ _ c.replay.result c.in_ok-runner.ensures c.requires.meter c.replay.ensures.ok
 
 pub returns-clause-fault : goal.returns-clause-fault
 returns-clause-fault g c =

@@ -1,7 +1,8 @@
-use Rattle.std.proofs.Common.{[], Some, ap, subst, sym, unwrap_or, ◌∙◌}
+use Rattle.std.proofs.Common.{[], Some, ap, ◌+◌, refl, subst, sym, unwrap_or, ◌∙◌}
 use Rattle.std.proofs.lemmas.Result.{err_from_is_err_and}
 use Rattle.folders.specs.Folders.{WritesInto}
 use Rattle.std.specs.List.{concat}
+use Rattle.cpmrun.specs.Complaints.{file_failures}
 use Rattle.cpmrun.specs.RawRun.{home}
 use Rattle.hostfiles.specs.Files.{files}
 use Rattle.hostfiles.specs.Hosts.{Host}
@@ -13,7 +14,10 @@ use Rattle.cpmrun.proofs.raw_run.write_changed.Goals as goal
 use Rattle.cpmrun.proofs.raw_run.write_changed.Goals.{then-has+in_ok-write_file, else-has}
 
 pub loop-name-init : goal.loop-name-init
-loop-name-init g c = begins c.args.folders.now (session_of c.args.report.now).files (run_of c.args.report.now).machine.files (g.S.FileSystem.files c.args.system.now)
+loop-name-init g c = (refl, begins c.args.folders.now (session_of c.args.report.now).files (run_of c.args.report.now).machine.files (g.S.FileSystem.files c.args.system.now))
+
+pub write_file-requires : goal.write_file-requires
+write_file-requires g c = rw c.loop-name.invariant.0 c.requires
 
 pub loop-name-smaller : goal.loop-name-smaller
 loop-name-smaller g c =
@@ -36,15 +40,19 @@ loop-name-preserved g c =
     let split = changed_next_in host all low name (rw c.as_ref.ensures.value at c.in-Some.ensures.above) c.in-Some.ensures.changed (rw c.as_ref.ensures.value at c.in-Some.ensures.least) in
     elim c.if-has.branch [
       | then-has+in_ok-write_file w ↦
-          let next = g.S.FileSystem.files w.write_file.new.system in
-          subst (λ x. WritesOn folders host all before (Some name) (g.S.FileSystem.files x)) (sym w.system-is)
-          (one_written folders host all before low now next name c.loop-name.invariant split (sym c.has.ensures ∙ w.if-has.true)
-          (subst (λ t. WritesInto (home folders name) now next name (concat (unwrap_or t [])))
-          (told_is w.files.result.now w.journal.result.now.entries all (ap (λ (h : Host). files h w.journal.result.now.entries) w.files.ensures ∙ w.journal.ensures) name)
-          w.in_ok-write_file.ensures.written))
-      | else-has w ↦
-          subst (λ x. WritesOn folders host all before (Some name) (g.S.FileSystem.files x)) (sym w.system-is)
-          (one_gone folders host all before low now name c.loop-name.invariant split (sym c.has.ensures ∙ w.if-has.false))
+          let next = g.S.FileSystem.files w.write_file.new.system in (
+            rw w.system-is (w.in_ok-write_file.ensures.failures ∙ c.loop-name.invariant.0),
+            subst (λ x. WritesOn folders host all before (Some name) (g.S.FileSystem.files x)) (sym w.system-is)
+                (one_written folders host all before low now next name c.loop-name.invariant.1 split (sym c.has.ensures ∙ w.if-has.true)
+                (subst (λ t. WritesInto (home folders name) now next name (concat (unwrap_or t [])))
+                (told_is w.files.result.now w.journal.result.now.entries all (ap (λ (h : Host). files h w.journal.result.now.entries) w.files.ensures ∙ w.journal.ensures) name)
+                w.in_ok-write_file.ensures.written)),
+          )
+      | else-has w ↦ (
+        rw w.system-is c.loop-name.invariant.0,
+        subst (λ x. WritesOn folders host all before (Some name) (g.S.FileSystem.files x)) (sym w.system-is)
+            (one_gone folders host all before low now name c.loop-name.invariant.1 split (sym c.has.ensures ∙ w.if-has.false)),
+      )
     ]
 
 pub returns-in_err-write_file : goal.returns-in_err-write_file
@@ -61,8 +69,9 @@ returns-in_err-write_file g c =
     let left = err_from_is_err_and c.from_residual.result c.from_residual.ensures.1 in
     rw (left.1, left.2) (record {
       written = tt;
-      fault = stops_by folders host all before low now last name c.in_err-write_file.field-0.0 c.loop-name.invariant split (sym c.has.ensures ∙ c.if-has.true)
+      fault = stops_by folders host all before low now last name c.in_err-write_file.field-0.0 c.loop-name.invariant.1 split (sym c.has.ensures ∙ c.if-has.true)
           c.in_err-write_file.ensures.fault c.in_err-write_file.ensures.err;
+      failures = c.in_err-write_file.ensures.failures ∙ ap (λ n. n + file_failures c.in_err-write_file.field-0.0) c.loop-name.invariant.0;
     })
 
 pub returns : goal.returns
@@ -74,6 +83,7 @@ returns g c =
     let before = g.S.FileSystem.files c.args.system.now in
     let now = g.S.FileSystem.files c.loop-name.system in
     let none = changed_none_in host all low (rw c.as_ref.ensures.value at c.in_default.ensures.none) in record {
-      written = ends folders host all before low now c.loop-name.invariant none;
+      written = ends folders host all before low now c.loop-name.invariant.1 none;
       fault = tt;
+      failures = c.loop-name.invariant.0;
     }

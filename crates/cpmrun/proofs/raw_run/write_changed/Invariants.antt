@@ -1,4 +1,4 @@
-use Rattle.std.proofs.Common.{length}
+use Rattle.std.proofs.Common.{◌≡◌, length}
 use Rattle.machine.specs.ChangedFiles.{changed_in}
 use Rattle.hostfiles.proofs.ChangedWalk.{keys_above}
 use Rattle.replay.specs.Report.{run_of, session_of}
@@ -8,7 +8,8 @@ use Rattle.cpmrun.proofs.raw_run.write_changed.Given as goal
 -- some first files were written, and those of the names above the last one are left
 abbrev pub invariant-loop-name : goal.invariant-loop-name
 invariant-loop-name g l =
-    WritesOn l.folders (session_of l.report).files (run_of l.report).machine.files (g.S.FileSystem.files l.initial.system) l.after (g.S.FileSystem.files l.system)
+    (g.S.FileSystem.failures l.system ≡ g.S.FileSystem.failures l.initial.system)
+    × WritesOn l.folders (session_of l.report).files (run_of l.report).machine.files (g.S.FileSystem.files l.initial.system) l.after (g.S.FileSystem.files l.system)
 
 -- the changed names above the last one are left
 abbrev pub decreases-loop-name : goal.decreases-loop-name

@@ -8,7 +8,7 @@ returns-in_err-write_piece g c =
     let p = c.pieces.result in
     let drive = c.as_bytes.result.now in
     writes_same _ _ _ _ (((drive ++ p.name.now) ++ p.dot.now) ++ p.kind.now) (printed c.args.name.now) c.from_residual.result
-    (name_of_pieces _ _ _ _ _ _ _ _ _ c.as_bytes.ensures.value refl refl refl c.pieces.ensures)
+    (name_of_pieces _ _ _ _ _ _ _ _ _ c.as_bytes.ensures.value refl refl refl c.pieces.ensures.printed)
     (writes_part _ _ _ _ _ c.from_residual.result c.from_residual.ensures.0
     (part_more _ _ _ _ ((drive ++ p.name.now) ++ p.dot.now) p.kind.now (part_more _ _ _ _ (drive ++ p.name.now) p.dot.now (part_more _ _ _ _ drive p.name.now c.in_err-write_piece.ensures))))
 
@@ -18,7 +18,7 @@ returns-in_err-write_piece-2 g c =
     let drive = c.as_bytes.result.now in
     let name = c.as_bytes-2.result.now in
     writes_same _ _ _ _ (((drive ++ name) ++ p.dot.now) ++ p.kind.now) (printed c.args.name.now) c.from_residual-in_err-write_piece-2.result
-    (name_of_pieces _ _ _ _ _ _ _ _ _ c.as_bytes.ensures.value c.as_bytes-2.ensures.value refl refl c.pieces.ensures)
+    (name_of_pieces _ _ _ _ _ _ _ _ _ c.as_bytes.ensures.value c.as_bytes-2.ensures.value refl refl c.pieces.ensures.printed)
     (writes_part _ _ _ _ _ c.from_residual-in_err-write_piece-2.result c.from_residual-in_err-write_piece-2.ensures.0
     (part_more _ _ _ _ ((drive ++ name) ++ p.dot.now) p.kind.now (part_more _ _ _ _ (drive ++ name) p.dot.now
     (part_then _ _ _ _ _ _ drive name c.in_ok-write_piece.ensures c.in_err-write_piece-2.ensures))))
@@ -30,7 +30,7 @@ returns-in_err-write_piece-3 g c =
     let name = c.as_bytes-2.result.now in
     let dot = c.as_bytes-3.result.now in
     writes_same _ _ _ _ (((drive ++ name) ++ dot) ++ p.kind.now) (printed c.args.name.now) c.from_residual-in_err-write_piece-3.result
-    (name_of_pieces _ _ _ _ _ _ _ _ _ c.as_bytes.ensures.value c.as_bytes-2.ensures.value c.as_bytes-3.ensures.value refl c.pieces.ensures)
+    (name_of_pieces _ _ _ _ _ _ _ _ _ c.as_bytes.ensures.value c.as_bytes-2.ensures.value c.as_bytes-3.ensures.value refl c.pieces.ensures.printed)
     (writes_part _ _ _ _ _ c.from_residual-in_err-write_piece-3.result c.from_residual-in_err-write_piece-3.ensures.0
     (part_more _ _ _ _ ((drive ++ name) ++ dot) p.kind.now
     (part_then _ _ _ _ _ _ (drive ++ name) dot (all_then _ _ _ _ _ _ drive name c.in_ok-write_piece.ensures c.in_ok-write_piece-2.ensures) c.in_err-write_piece-3.ensures)))
@@ -42,7 +42,7 @@ returns g c =
     let dot = c.as_bytes-3.result.now in
     let kind = c.as_bytes-4.result.now in
     writes_same _ _ _ _ (((drive ++ name) ++ dot) ++ kind) (printed c.args.name.now) c.write_piece-4.result
-    (name_of_pieces _ _ _ _ _ _ _ _ _ c.as_bytes.ensures.value c.as_bytes-2.ensures.value c.as_bytes-3.ensures.value c.as_bytes-4.ensures.value c.pieces.ensures)
+    (name_of_pieces _ _ _ _ _ _ _ _ _ c.as_bytes.ensures.value c.as_bytes-2.ensures.value c.as_bytes-3.ensures.value c.as_bytes-4.ensures.value c.pieces.ensures.printed)
     (writes_then _ _ _ _ _ _ ((drive ++ name) ++ dot) kind c.write_piece-4.result
     (all_then _ _ _ _ _ _ (drive ++ name) dot (all_then _ _ _ _ _ _ drive name c.in_ok-write_piece.ensures c.in_ok-write_piece-2.ensures) c.in_ok-write_piece-3.ensures)
     c.write_piece-4.ensures)

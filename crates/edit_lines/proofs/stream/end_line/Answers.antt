@@ -1,6 +1,6 @@
 use Rattle.std.proofs.Common.{arith}
 use Rattle.std.proofs.lemmas.Result.{err_from_is_err_and}
-use Rattle.edit_lines.proofs.Carrying.{wants}
+use Rattle.edit_lines.proofs.Stopping.{fails_for_memory}
 use Rattle.edit_lines.proofs.Stepping.{line_done, line_fails}
 use Rattle.edit_lines.proofs.EffectLemmas.{effects_done, effects_failing}
 use Rattle.edit_lines.proofs.stream.end_line.Goals as goal
@@ -21,17 +21,18 @@ returns-clause-goes g c = λ first held bytes rest r.
 pub returns-in_err-carry_out-clause-memory : goal.returns-in_err-carry_out-clause-memory
 returns-in_err-carry_out-clause-memory g c = λ same.
     let e = err_from_is_err_and c.from_residual.result c.from_residual.ensures.1 in
-    wants (Unit {0}) _ _ _ _ _ _ _ _ c.as_slice.ensures.value c.in_err-carry_out.ensures.carries cc
+    fails_for_memory (Unit {0}) _ _ _ _ _ _ _ _ _ _ c.as_slice.ensures.value (cc) c.in_err-carry_out.ensures.carries c.in_err-carry_out.ensures.effect
 
 pub returns-in_err-carry_out-clause-effects : goal.returns-in_err-carry_out-clause-effects
 returns-in_err-carry_out-clause-effects g c = λ first begun bytes rest r.
     let p = c.args.place.now in
     let e = err_from_is_err_and c.from_residual.result c.from_residual.ensures.1 in
-    rw (e.1, e.2) (effects_failing first begun bytes _ _ p.line.items p.lines r (Unit {0}) rest _ _ c.in_err-carry_out.field-0.0
+    rw (e.1, e.2) (effects_failing first begun bytes _ _ p.line.items p.lines _ r (Unit {0}) rest _ _ c.in_err-carry_out.field-0.0
     _ c.as_slice.ensures.value c.in_err-carry_out.ensures.effect)
 
 pub returns-clause-effects : goal.returns-clause-effects
 returns-clause-effects g c = λ first begun bytes rest r.
     let p = c.args.place.now in
     let h = c.in_ok-carry_out.ensures.effect in
-    rw c.clear.ensures.items (effects_done first begun bytes _ _ p.line.items p.lines r _ _ h.0 (rw c.as_slice.ensures.value at h.1) h.2)
+    effects_done first begun bytes _ _ p.line.items p.lines _ r _ _ h.0 (rw c.as_slice.ensures.value at h.1) h.2 (omega (arith, p.line.ok.0, p.line.ok.1))
+    _ _ c.clear.ensures.items c.clear.ensures.capacity

@@ -1,7 +1,7 @@
 use Rattle.std.proofs.Common.{◌≡◌, ◌<◌, ◌∷◌, [], List, ℕ, length, arith, rules}
 use Rattle.std.proofs.lemmas.Result.{err_from_is_err_and}
 use Rattle.std.specs.List.{concat}
-use Rattle.edit_lines.proofs.Carrying.{wants}
+use Rattle.edit_lines.proofs.Stopping.{fails_for_memory}
 use Rattle.edit_lines.proofs.Stepping.{ends_whole, ends_done, ends_failing}
 use Rattle.edit_lines.proofs.EffectLemmas.{effects_whole, effects_ended, effects_broken}
 use Rattle.edit_lines.proofs.stream.finish.Goals as goal
@@ -35,20 +35,20 @@ returns-clause-ends g c = λ first held bytes r.
 pub returns-in_err-carry_out-clause-memory : goal.returns-in_err-carry_out-clause-memory
 returns-in_err-carry_out-clause-memory g c = λ same.
     let e = err_from_is_err_and c.from_residual.result c.from_residual.ensures.1 in
-    wants (Unit {0}) _ _ _ _ _ _ _ _ c.as_slice.ensures.value c.in_err-carry_out.ensures.carries cc
+    fails_for_memory (Unit {0}) _ _ _ _ _ _ _ _ _ _ c.as_slice.ensures.value (cc) c.in_err-carry_out.ensures.carries c.in_err-carry_out.ensures.effect
 
 pub returns-then-is_empty-clause-effects : goal.returns-then-is_empty-clause-effects
 returns-then-is_empty-clause-effects g c = λ first begun bytes r.
     let p = c.args.place in
     let none : length p.line.items ≡ 0 = search rules in
-    effects_whole first begun bytes _ _ p.line.items p.lines r (empty_list _ none)
+    effects_whole first begun bytes _ _ p.line.items p.lines _ r (empty_list _ none)
 
 pub returns-in_err-carry_out-clause-effects : goal.returns-in_err-carry_out-clause-effects
 returns-in_err-carry_out-clause-effects g c = λ first begun bytes r.
     let p = c.args.place in
     let some : 0 < length p.line.items = search rules in
     let e = err_from_is_err_and c.from_residual.result c.from_residual.ensures.1 in
-    rw (e.1, e.2) (effects_broken first begun bytes _ _ p.line.items p.lines r some (Unit {0}) _ _
+    rw (e.1, e.2) (effects_broken first begun bytes _ _ p.line.items p.lines _ r some (Unit {0}) _ _
     c.in_err-carry_out.field-0.0 _ c.as_slice.ensures.value c.in_err-carry_out.ensures.effect)
 
 pub returns-clause-effects : goal.returns-clause-effects
@@ -56,4 +56,4 @@ returns-clause-effects g c = λ first begun bytes r.
     let p = c.args.place in
     let h = c.in_ok-carry_out.ensures.effect in
     let some : 0 < length p.line.items = search rules in
-    effects_ended first begun bytes _ _ p.line.items p.lines r some _ _ h.0 (rw c.as_slice.ensures.value at h.1) h.2
+    effects_ended first begun bytes _ _ p.line.items p.lines _ r some _ _ h.0 (rw c.as_slice.ensures.value at h.1) h.2

@@ -6,12 +6,13 @@ use Rattle.edit_lines.specs.Faults.{Faults}
 use Rattle.edit_lines.specs.Effects.{EffectsAtFault}
 use Rattle.edit_lines.proofs.Stepping.{at_start}
 use Rattle.edit_lines.proofs.EffectLemmas.{no_effects, SameOptions-refl, SameOptions-trans}
+use Rattle.edit_lines.proofs.Stopping.{last_stops, wants_some}
 use Rattle.edit_lines.proofs.Answering.{no_more_bytes, answers_ok, answers_err}
 use Rattle.edit_lines.proofs.stream.replay.Goals as goal
 
 pub loop-count-init : goal.loop-count-init
 loop-count-init g c = (
-  ([], Consumes-nil _, rw c.new.ensures.items (at_start _ _), rw c.new.ensures.items (no_effects _ _)),
+  ([], Consumes-nil _, rw c.new.ensures.items (at_start _ _), rw c.new.ensures.items (no_effects _ _ _)),
   refl,
   refl,
   omega (arith, c.requires.meter),
@@ -31,6 +32,26 @@ returns-then-count-eq0-clause-fault g c =
     let b = c.in-Ok.ensures.bytes in
     answers_err _ _ _ _ _ _ _ _ i.0 (no_more_bytes _ _ _ i.0 _ _ c.if-count-eq0.true i.1 b.0) (b.1 c.if-count-eq0.true (search rules))
     c.finish.result (c.finish.ensures.ends _ _ i.0 i.2) (c.finish.ensures.effects _ _ i.0 i.3)
+
+pub returns-then-count-eq0-clause-memory : goal.returns-then-count-eq0-clause-memory
+returns-then-count-eq0-clause-memory g c = λ e.
+    let i = c.loop-count.invariant.0 in
+    let p = c.loop-count.place in
+    let b = c.in-Ok.ensures.bytes in
+    let h = c.finish.ensures.memory e in (
+      i.0,
+      no_more_bytes _ _ _ i.0 _ _ c.if-count-eq0.true i.1 b.0,
+      last_stops _ _ _ i.0 _ _ _ p.line.items p.lines _ i.2 i.3 p.few (omega (arith, p.short, p.line.ok.0)) (wants_some _ _ h.0.1) _ _ _ h,
+    )
+
+pub returns-in_err-take_piece-clause-memory : goal.returns-in_err-take_piece-clause-memory
+returns-in_err-take_piece-clause-memory g c = λ is.
+    let i = c.loop-count.invariant.0 in
+    let e = err_from_is_err_and c.from_residual.result c.from_residual.ensures.1 in (
+      i.0 ++ take c.in-Ok.count c.read.new.piece,
+      Consumes-trans _ _ _ i.0 _ i.1 c.in-Ok.ensures.bytes.0,
+      c.in_err-take_piece.ensures.memory _ _ _ i.0 i.2 i.3 cc,
+    )
 
 pub loop-count-preserved : goal.loop-count-preserved
 loop-count-preserved g c =

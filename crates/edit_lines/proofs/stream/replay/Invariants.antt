@@ -1,4 +1,4 @@
-use Rattle.std.proofs.Common.{◌≡◌, ℕ, ◌+◌, ◌-◌, ◌*◌, ◌≤◌, List, vec_len}
+use Rattle.std.proofs.Common.{◌≡◌, ℕ, ◌+◌, ◌-◌, ◌*◌, ◌≤◌, List, vec_capacity, vec_len}
 use Rattle.std.specs.Io.KnownBytes.{Consumes}
 use Rattle.machine.specs.declared.session.TheConstants.{STEP_LIMIT}
 use Rattle.replay.specs.RunnerView.{SameOptions}
@@ -10,7 +10,7 @@ abbrev pub invariant-loop-count : goal.invariant-loop-count
 invariant-loop-count g l =
     ((bytes : List ℕ) × Consumes (g.R.Reader.left l.initial.reader) (g.R.Reader.left l.reader) bytes
     × StandsAt l.initial.runner.session (g.W.Writer.holds l.initial.writer) bytes l.runner.session (g.W.Writer.holds l.writer) l.place.line.items l.place.lines
-    × EffectsSoFar l.initial.runner l.initial.meter bytes l.runner l.meter l.place.line.items l.place.lines)
+    × EffectsSoFar l.initial.runner l.initial.meter bytes l.runner l.meter l.place.line.items l.place.lines (vec_capacity l.place.line))
     × (g.R.Reader.failures l.reader ≡ g.R.Reader.failures l.initial.reader)
     × (g.W.Writer.failures l.writer ≡ g.W.Writer.failures l.initial.writer)
     × (l.meter ≤ STEP_LIMIT * l.place.lines)

@@ -1,4 +1,4 @@
-use Rattle.std.proofs.Common.{◌≡◌, ℕ, ◌+◌, ◌*◌, ◌≤◌, List, ◌++◌, Option, length, vec_len}
+use Rattle.std.proofs.Common.{◌≡◌, ℕ, ◌+◌, ◌*◌, ◌≤◌, List, ◌++◌, Option, length, vec_capacity, vec_len}
 use Rattle.machine.specs.Given.{Session}
 use Rattle.machine.specs.declared.session.TheConstants.{STEP_LIMIT}
 use Rattle.replay.specs.RunnerView.{RunnerView, SameOptions}
@@ -18,8 +18,8 @@ invariant-loop-at g l = record {
   meter : l.meter ≤ STEP_LIMIT * l.place.lines;
   on : 65537 * l.initial.place.lines + vec_len l.initial.place.line + length taken ≤ 65537 * l.place.lines + vec_len l.place.line;
   effects : (first : RunnerView) (begun : ℕ) (bytes : List ℕ)
-      → EffectsSoFar first begun bytes l.initial.runner l.initial.meter l.initial.place.line.items l.initial.place.lines
-      → EffectsSoFar first begun (bytes ++ taken) l.runner l.meter l.place.line.items l.place.lines;
+      → EffectsSoFar first begun bytes l.initial.runner l.initial.meter l.initial.place.line.items l.initial.place.lines (vec_capacity l.initial.place.line)
+      → EffectsSoFar first begun (bytes ++ taken) l.runner l.meter l.place.line.items l.place.lines (vec_capacity l.place.line);
   options : SameOptions l.initial.runner l.runner;
 }
 

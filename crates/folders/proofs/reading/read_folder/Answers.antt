@@ -1,11 +1,22 @@
 use Rattle.std.proofs.lemmas.Result.{on_ok_weaker}
 use Rattle.filenames.specs.Drives.{drive_number}
+use Rattle.folders.proofs.FaultLemmas.{folder_fails}
 use Rattle.folders.proofs.ReadLemmas.{folder_read}
 use Rattle.folders.proofs.reading.read_folder.Goals as goal
 
 pub returns-clause-read : goal.returns-clause-read
 returns-clause-read g c =
+    let listing = c.in-Ok-list.listing in
     on_ok_weaker c.read_listed.result
     (λ read. folder_read (g.S.FileSystem.files c.args.system.now) (g.S.FileSystem.names c.args.system.now c.args.folder.now) (drive_number c.args.drive) c.args.folder.now
-    c.in-Ok.listing.files c.in-Ok.listing.twice c.args.files.now c.read_listed.new.files c.in-Ok.ensures.lists c.in_default.is c.requires c.read_listed.ensures.others read)
+    listing.files listing.twice c.args.files.now c.read_listed.new.files c.in-Ok-list.ensures.lists c.in_default-twice.is c.requires.none c.read_listed.ensures.others
+    (rw c.list.ensures.files at read))
     c.read_listed.ensures.read
+
+pub returns-clause-fault : goal.returns-clause-fault
+returns-clause-fault g c =
+    let listing = c.in-Ok-list.listing in
+    folder_fails (g.S.FileSystem.files c.args.system.now) (g.S.FileSystem.names c.args.system.now c.args.folder.now) (drive_number c.args.drive) c.args.folder.now
+    listing.files listing.twice c.read_listed.new.files c.read_listed.result c.in-Ok-list.ensures.lists c.in_default-twice.is
+    (rw c.in-Ok-list.ensures.drive at listing.on_drive)
+    (rw c.list.ensures.files at c.read_listed.ensures.fault)

@@ -1,9 +1,14 @@
+use Rattle.std.proofs.Common.{◌≡◌}
 use Rattle.keymaps.specs.Walks.{left}
 use Rattle.folders.proofs.ReadLemmas.{SetUpTo, WantedOf}
 use Rattle.folders.proofs.reading.read_listed.Given as goal
 
 abbrev pub invariant-loop-key : goal.invariant-loop-key
-invariant-loop-key g l = SetUpTo (WantedOf (g.S.FileSystem.files l.system) l.folder l.listing.files) l.listing.files l.fn.files l.after l.files
+invariant-loop-key g l =
+    (g.S.FileSystem.files l.system ≡ g.S.FileSystem.files l.fn.system)
+    × (g.S.FileSystem.names l.system ≡ g.S.FileSystem.names l.fn.system)
+    × (g.S.FileSystem.failures l.system ≡ g.S.FileSystem.failures l.fn.system)
+    × SetUpTo (WantedOf (g.S.FileSystem.files l.fn.system) l.folder l.listing.files) l.listing.files l.fn.files l.after l.files
 
 abbrev pub decreases-loop-key : goal.decreases-loop-key
 decreases-loop-key g l = left l.listing.files l.after

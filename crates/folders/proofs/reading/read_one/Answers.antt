@@ -4,21 +4,29 @@ use Rattle.hostfiles.specs.Hosts.{records_in}
 use Rattle.std.specs.FinMap.{insert}
 use Rattle.folders.specs.FileSystem.{Reads}
 use Rattle.folders.proofs.ListingLemmas.{other_stays, now_there}
+use Rattle.folders.proofs.FaultLemmas.{set_fails}
 use Rattle.folders.proofs.ReadLemmas.{put_in}
 use Rattle.folders.proofs.reading.read_one.Goals as goal
 
-pub returns-in-Ok-read_file-clause-others : goal.returns-in-Ok-read_file-clause-others
-returns-in-Ok-read_file-clause-others g c = other_stays _ _ c.args.name _ c.set.result c.set.ensures.ok c.set.ensures.err
+pub returns-in-Ok-read-clause-others : goal.returns-in-Ok-read-clause-others
+returns-in-Ok-read-clause-others g c = other_stays _ _ c.args.name _ c.set.result c.set.ensures.ok c.set.ensures.err
 
-pub returns-in-Ok-read_file-clause-there : goal.returns-in-Ok-read_file-clause-there
-returns-in-Ok-read_file-clause-there g c = now_there _ _ c.args.name _ c.set.result c.set.ensures.ok
+pub returns-in-Ok-read-clause-there : goal.returns-in-Ok-read-clause-there
+returns-in-Ok-read-clause-there g c = now_there _ _ c.args.name _ c.set.result c.set.ensures.ok
 
-pub returns-in-Ok-read_file-clause-read : goal.returns-in-Ok-read_file-clause-read
-returns-in-Ok-read_file-clause-read g c =
+pub returns-in-Ok-read-clause-read : goal.returns-in-Ok-read-clause-read
+returns-in-Ok-read-clause-read g c =
     let files = g.S.FileSystem.files c.args.system.now in
-    let bytes = c.in-Ok-read_file.bytes.items in
+    let bytes = c.in-Ok-read.bytes.items in
     on_ok_weaker c.set.result
     (λ put. put_in files _ bytes c.args.files.now c.args.name c.set.new.files
-    (subst (λ p. Reads files p 8388609 bytes) (c.as_str.ensures.value ∙ c.in-Ok.ensures) c.in-Ok-read_file.ensures)
+    (subst (λ p. Reads files p 8388609 bytes) (c.as_str.ensures.value ∙ c.in-Ok.ensures) c.in-Ok-read.ensures.reads)
     (put ∙ ap (λ b. insert c.args.files.now c.args.name (records_in b)) c.as_slice.ensures.value))
     c.set.ensures.ok
+
+pub returns-in-Ok-read-clause-fault : goal.returns-in-Ok-read-clause-fault
+returns-in-Ok-read-clause-fault g c =
+    let bytes = c.in-Ok-read.bytes.items in
+    set_fails (g.S.FileSystem.files c.args.system.now) _ c.args.files.now c.args.name bytes c.set.result
+    (subst (λ p. Reads (g.S.FileSystem.files c.args.system.now) p 8388609 bytes) (c.as_str.ensures.value ∙ c.in-Ok.ensures) c.in-Ok-read.ensures.reads)
+    (rw c.as_slice.ensures.value at c.set.ensures.refusal)

@@ -1,6 +1,6 @@
 use Rattle.std.proofs.Common.{◌≡◌, subst, ap, arith, ◌∙◌, ◌≤◌, ◌+◌, refl, Option, Ok, ℕ}
 use Rattle.console_calls.specs.declared.cause.Cause.{Cause}
-use Rattle.machine.specs.Views.{Running}
+use Rattle.machine.specs.StateView.{StateView}
 use Rattle.machine.specs.Machine.{ask, after}
 use Rattle.machine.specs.WrittenCells.{devices_of}
 use Rattle.machine.specs.Steps.{running_with, TakesStep}
@@ -19,14 +19,14 @@ enter_system-requires-clause-sound c = sound_reached c.args.session.now _ c.requ
 pub enter_system-requires-clause-area : goal.enter_system-requires-clause-area
 enter_system-requires-clause-area c =
     let inside : 65024 ≤ c.running.inside.regs.pc = c.if-running-lt-SYSTEM_AREA.false in
-    subst (λ (v : Running). 65024 ≤ v.state.core.regs.pc) c.running.view_is inside
+    subst (λ (v : StateView). 65024 ≤ v.state.core.regs.pc) c.running.view_is inside
 
 pub returns-then-running-lt-SYSTEM_AREA-clause-goes : goal.returns-then-running-lt-SYSTEM_AREA-clause-goes
 returns-then-running-lt-SYSTEM_AREA-clause-goes c from at =
     let old = c.running.inside in
     let done = c.instructions in
     let d = devices_of old.desk old.changes in
-    subst (λ (v : Running). Stretches c.args.session.now from (from + c.args.steps) v.looked (from + done.result.0) done.result.1 (running_with done.new.regs d done.new.overlay)) c.running.view_is
+    subst (λ (v : StateView). Stretches c.args.session.now from (from + c.args.steps) v.looked (from + done.result.0) done.result.1 (running_with done.new.regs d done.new.overlay)) c.running.view_is
     (done.ensures.goes d from (rw (← c.running.view_is) at at))
 
 pub returns-then-running-lt-SYSTEM_AREA-clause-within : goal.returns-then-running-lt-SYSTEM_AREA-clause-within

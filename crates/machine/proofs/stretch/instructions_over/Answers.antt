@@ -5,7 +5,7 @@ use Rattle.pagemem.specs.Overlay.{own_of, looks_of}
 use Rattle.pagemem.specs.declared.view.View.{View}
 use Rattle.pagemem.specs.ViewParts.{overlay_in, image_in, loan_of}
 use Rattle.machine.specs.Given.{Session}
-use Rattle.machine.specs.Views.{Looked, Running}
+use Rattle.machine.specs.StateView.{Looked, StateView}
 use Rattle.machine.specs.Session.{image_of}
 use Rattle.machine.specs.Machine.{ask, after}
 use Rattle.machine.specs.WrittenCells.{Devices, state_with}
@@ -19,7 +19,7 @@ use Rattle.machine.proofs.stretch.instructions_over.Goals as goal
 abbrev with_places : Devices → List ℕ → Looked
 with_places d cells = record { cells = cells; places = d.places; files = d.asks }
 
-abbrev seen_here : Regs → Devices → View → Running
+abbrev seen_here : Regs → Devices → View → StateView
 seen_here r d v = running_with r d (overlay_in v)
 
 -- one step more than so many is so many and one

@@ -1,6 +1,6 @@
 use Rattle.std.proofs.Common.{ap, sym, ◌∙◌, inr, arith, take, length, Some}
 use Rattle.std.proofs.lemmas.List.{length-take-le}
-use Rattle.machine.specs.Views.{State}
+use Rattle.machine.specs.StateView.{PartialState}
 use Rattle.machine.specs.Machine.{ask}
 use Rattle.machine.specs.Kept.{whole}
 use Rattle.replay.specs.Ring.{Stands}
@@ -26,7 +26,7 @@ pub returns-clause-at : goal.returns-clause-at
 returns-clause-at c =
     let stands = has_valid (Stands (ask c.args.session.now) c.args.text.now.items) c.args.ring.now.items c.in-Some.checkpoint.now c.in-Some.ensures.some.1 c.requires.stands in
     let own = c.in_ok-own.ensures.value ∙ ap (λ n. take n c.args.text.now.items) c.text_length.ensures in
-    stands.state ∙ ap (λ (s : State). Some s) (sym (c.resume.ensures.state ∙ ap (whole c.in-Some.checkpoint.now.state) own))
+    stands.state ∙ ap (λ (s : PartialState). Some s) (sym (c.resume.ensures.state ∙ ap (whole c.in-Some.checkpoint.now.state) own))
 
 pub returns-clause-started : goal.returns-clause-started
 returns-clause-started c = inr (has_step c.args.ring.now.items c.in-Some.checkpoint.now c.in-Some.ensures.some.1)

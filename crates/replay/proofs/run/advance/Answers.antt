@@ -2,7 +2,7 @@ use Rattle.std.proofs.Common.{arith, refl, inl, inr, ap, sym, ◌∙◌, ◌≡�
 use Rattle.std.proofs.Math.Nat.{eq-or-lt_of_le}
 use Rattle.std.proofs.lemmas.Bool.Decides.{eqb_tells}
 use Rattle.machine.specs.Cause.{Cause}
-use Rattle.machine.specs.Views.{State}
+use Rattle.machine.specs.StateView.{PartialState}
 use Rattle.machine.specs.Machine.{ask}
 use Rattle.machine.specs.Stretch.{LooksAtNothingNew, Stretches}
 use Rattle.replay.specs.declared.keeping.RunNotes.{RunNotes}
@@ -30,7 +30,7 @@ loop-n-preserved c =
     c.run_from.new.running.looked c.keep_looks.new.running.looked stretch more i.noted i.looks seen c.keep_looks.ensures.cells (λ ne. (ap (λ (t : RunNotes). t.looks) (other ne).0, ap (λ (t : RunNotes). t.refusals) (other ne).0, (other ne).1, (other ne).2))
     (rw c.look_count-noted.ensures at c.keep_looks.ensures.here) in
     record {
-      at = stretch.at ∙ ap (λ (st : State). Some st) (sym c.keep_looks.ensures.state);
+      at = stretch.at ∙ ap (λ (st : PartialState). Some st) (sym c.keep_looks.ensures.state);
       looks = notes.looks;
       noted = notes.noted;
       seen_in = elim notes.within [ inl e ↦ omega (arith, e, i.seen_in) | inr e ↦ omega (arith, e, stretch.within, c.bound_of-bound.ensures.within, c.requires.order) ];

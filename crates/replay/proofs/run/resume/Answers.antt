@@ -1,5 +1,5 @@
 use Rattle.std.proofs.Common.{inl, inr, arith, subst, ℕ, refl, ◌∙◌, ◌≡◌, ◌+◌, ◌≤◌, ◌<◌, ap, sym, Some}
-use Rattle.machine.specs.Views.{Running}
+use Rattle.machine.specs.StateView.{StateView}
 use Rattle.machine.specs.Machine.{ask, after}
 use Rattle.replay.specs.Ring.{Adds, AddsAll}
 use Rattle.replay.proofs.KeepingLemmas.{new_valid}
@@ -89,7 +89,7 @@ returns-in-Some-clause-at c =
     let low = a.2 in
     let high = a.3 in (
       a.0,
-      a.1 ∙ ap (λ (r : Running). Some r.state) (sym c.keep_above-last_kept.ensures.running),
+      a.1 ∙ ap (λ (r : StateView). Some r.state) (sym c.keep_above-last_kept.ensures.running),
       omega (arith, high, c.due_after-end.ensures.later, c.limit-limit.ensures.value),
       λ h. kept_each _ c.loop-n.checkpoints.ring _ _ _ c.keep_above-last_kept.ensures.ring (Each-weaken _ _ _ (λ d e. omega (arith, e, low)) (i.upto h)) (λ e. omega (arith, here)),
       omega (arith, low, i.low),

@@ -1,8 +1,23 @@
-use Rattle.machine.specs.Views.{State}
+use Rattle.std.proofs.Common.{refl, ap, ◌∙◌}
+use Rattle.std.specs.Option.{option_map}
+use Rattle.machine.specs.StateView.{PartialState}
 use Rattle.machine.specs.Step.{next}
-use Rattle.machine.specs.Machine.{part, made, start}
+use Rattle.machine.specs.Machine.{ask, part, made, start}
+use Rattle.machine.specs.LaidOver.{laid_over}
 use Rattle.machine.proofs.DependenceLemmas as lemmas
+use Rattle.machine.proofs.WholeLemmas.{whole_goes_as_laid}
 use Rattle.replay.proofs.runner.prefix_dependence.Goals as goal
 
 pub returns : goal.returns
-returns c = lemmas.prefix_dependence part (λ (st : State). st.own) (λ (st : State). next st.core) made start
+returns c s t limits other_limits n st at untouched =
+    let (same, asked) = lemmas.prefix_dependence part (λ (st : PartialState). st.own) (λ (st : PartialState). next st.core) made start (ask s) (ask t) n untouched in
+    record {
+      other = st;
+      there = same ∙ at;
+      regs = refl;
+      desk = refl;
+      own = refl;
+      plain = whole_goes_as_laid.states s limits n ∙ ap (option_map (laid_over s)) at;
+      other_plain = whole_goes_as_laid.states t other_limits n ∙ ap (option_map (laid_over t)) (same ∙ at);
+      looks = asked;
+    }

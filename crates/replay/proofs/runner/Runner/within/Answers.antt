@@ -1,10 +1,5 @@
-use Rattle.std.proofs.Common.{ap}
-use Rattle.circular_buffer.specs.Buffer.{Buffer}
-use Rattle.replay.specs.declared.ring.Checkpoint.{Checkpoint}
-use Rattle.replay.proofs.RunnerLemmas.{sound_start, spacing_within}
+use Rattle.replay.proofs.RunnerLemmas.{spacing_within}
 use Rattle.replay.proofs.runner.Runner.within.Goals as goal
 
-pub invariant_of-result : goal.invariant_of-result
-invariant_of-result c =
-    sound_start _ _ _ (ap (λ (b : Buffer Checkpoint). b.items) c.in_ok-ring.ensures)
-    (record { cells = c.new-2.ensures.cells; places = c.new-2.ensures.places; files = c.new-2.ensures.files; seen = c.new-2.ensures.seen }) (spacing_within c.args.options c.requires)
+pub with_spacing_in_range-requires : goal.with_spacing_in_range-requires
+with_spacing_in_range-requires c = spacing_within c.args.options c.requires

@@ -2,7 +2,7 @@ use Rattle.std.proofs.Common.{◌∙◌}
 use Rattle.machine.specs.Step.{first_regs}
 use Rattle.machine.proofs.HostLemmas.{nothing_asked}
 use Rattle.machine.proofs.WrittenCellLemmas.{cells_none}
-use Rattle.machine.proofs.running.Running.load.Goals as goal
+use Rattle.machine.proofs.state.State.load_over.Goals as goal
 
 pub returns-clause-state : goal.returns-clause-state
 returns-clause-state c =

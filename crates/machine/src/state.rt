@@ -3,6 +3,7 @@ ghost use Rattle.console_calls.specs.Places.{is_within};
 ghost use Rattle.hostfiles.specs.Looks.{is_looked, asks_nothing, forgot};
 ghost use Rattle.machine.specs.Machine.{start, NothingLooked};
 
+use crate::session::Session;
 use console_calls::{Desk, Places};
 use hostfiles::{Ask, Changes};
 use i8080::{Flags, Regs};
@@ -13,21 +14,21 @@ use std::marker::Model;
 /// A state of a run, and what was looked at: the registers, the overlay with what was written and the cells, the desk with the
 /// script places, and what was done to the files with the questions of the host files. All else is the session's.
 #[derive(Drop)]
-pub struct Running {
+pub struct State {
     pub regs: Regs,
     pub overlay: Overlay,
     pub desk: Desk,
     pub changes: Changes,
 }
 
-impl Model for Running {
+impl Model for State {
     ghost use Rattle.std.specs.Coded.{codes};
     ghost use Rattle.pagemem.specs.Overlay.{own_of};
-    ghost use Rattle.machine.specs.Views.{Running, cells_code, changes_code, looks_code};
+    ghost use Rattle.machine.specs.StateView.{StateView, cells_code, changes_code, looks_code};
     ghost use Rattle.machine.specs.WrittenCells.{devices_of, state_with};
     ghost use Rattle.machine.specs.Steps.{looked_in};
 
-    ghost Value = { Running };
+    ghost Value = { StateView };
 
     ghost coded = { Prim.hlevel (codes, cells_code, changes_code, looks_code) };
 
@@ -37,14 +38,30 @@ impl Model for Running {
     } };
 }
 
-impl Running {
-    /// The loaded state, over the memory for its marks: nothing is written or looked at yet. `Err` where memory is refused.
-    pub fn load(alloc: Global, marks: BlankMarks) -> Result<Running, AllocError>
+impl State {
+    /// Returns the loaded state of a session: nothing is written, and nothing was looked at.
+    ///
+    /// # Errors
+    ///
+    /// `Err` means out of memory.
+    pub fn load(alloc: Global, _session: &Session) -> Result<State, AllocError>
+        ensures state { IfOk result (λ r. r.state ≡ start) }
+        ensures looked { IfOk result (λ r. NothingLooked r.looked) }
+    {
+        State::load_over(alloc, BlankMarks::new(alloc)?)
+    }
+
+    /// Returns the loaded state of any session, over memory for its marks that an earlier run may have given back.
+    ///
+    /// # Errors
+    ///
+    /// `Err` means out of memory.
+    pub fn load_over(alloc: Global, marks: BlankMarks) -> Result<State, AllocError>
         ensures state { IfOk result (λ r. r.state ≡ start) }
         ensures looked { IfOk result (λ r. NothingLooked r.looked) }
     {
         let cells = Cells::new(alloc)?;
-        Ok(Running {
+        Ok(State {
             regs: Regs {
                 a: 0,
                 b: 0,
@@ -107,8 +124,8 @@ impl Running {
             && self.places().begin_as(places)
     }
 
-    /// Takes a script place that was looked at out of those that were. `None` where there is none. The state and the cells
-    /// that were looked at stay.
+    /// Removes and returns one script offset that was looked at; `None` if there is none. The state and the cells that were looked at
+    /// stay.
     #[inline(always)]
     pub fn take_place(&mut self) -> Option<usize>
         ensures state { self.new.state ≡ self.old.state }
@@ -120,7 +137,10 @@ impl Running {
         ensures none { IfNone result ((j : ℕ) → is_within self.old.looked.places j ≡ false) }
         ensures same { IfNone result (self.new ≡ self.old) }
     {
-        self.desk.take_look()
+        match self.desk.take_look() {
+            Some(place) => Some(place as usize),
+            None => None,
+        }
     }
 
     /// Forgets which script places were looked at, and what the host files were asked. The state and the cells that were looked at

@@ -67,7 +67,7 @@ pub record Own : Type 0 where
   pub files : files.Own
 
 -- a state without its session: all that was not written is the session's
-pub record State : Type 0 where
+pub record PartialState : Type 0 where
   pub core : Core
   pub own : Own
 
@@ -78,6 +78,6 @@ pub record Looked : Type 0 where
   pub files : Looks
 
 -- a state, and what was looked at
-pub record Running : Type 0 where
-  pub state : State
+pub record StateView : Type 0 where
+  pub state : PartialState
   pub looked : Looked

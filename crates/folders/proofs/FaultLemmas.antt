@@ -1,0 +1,95 @@
+-- Why files and folders are not read.
+use Rattle.std.proofs.Common.{◌≡◌, ◌≢◌, ℕ, ◌+◌, ◌<◌, List, true, false, is_some, Option, Some, None, IfSome, IfErr, Result, Ok, Err, inr, refl, sym, ap, subst, ◌∙◌, slice_index, arith}
+use Rattle.std.specs.Prelude.{String, string_bytes}
+use Rattle.std.specs.declared.cmp.Ordering.{Ordering}
+use Rattle.std.specs.declared.cmp.Ordering.TheVariants.{Less, Equal, Greater}
+use Rattle.std.specs.Borrow.{Bor}
+use Rattle.std.specs.Ordering.{nat_cmp, is_lt}
+use Rattle.std.specs.Cmp.Lexicographic.{slice_cmp}
+use Rattle.std.specs.FinMap.{get, contains_key}
+use Rattle.keymaps.specs.Order.{is_above}
+use Rattle.filenames.specs.Names.{Key}
+use Rattle.hostfiles.specs.Hosts.{Host, refusal_of}
+use Rattle.hostfiles.specs.declared.host.TheConstants.{FILE_LIMIT}
+use Rattle.folders.specs.Entries.{path_text}
+use Rattle.folders.specs.Faults.{FailsBy}
+use Rattle.folders.specs.FileSystem.{Path, Stored, Reads}
+use Rattle.folders.specs.Listings.{Lists}
+use Rattle.folders.specs.Folders.{AreOf, FailsFile, FailsFolder, FailsListed, IsNextFile, IsReadAs, RefusesAs, folder_of}
+use Rattle.folders.specs.declared.fault.Failure.{Failure}
+use Rattle.folders.specs.declared.fault.Failure.TheVariants.{AtFault, OutOfMemory}
+use Rattle.folders.proofs.ListingLemmas.{Map}
+use Rattle.folders.proofs.ReadLemmas.{ReadBelow, SetUpTo, WantedOf, named_of, still_of}
+
+-- a file that was read is refused, or memory was
+pub set_fails : (files : Option Stored) (path : Path) (host : Host) (key : Key) (bytes : List ℕ) (r : Result (Unit {0}) Failure) → Reads files path (FILE_LIMIT + 1) bytes
+    → RefusesAs (refusal_of host key bytes) key r → IfErr r (FailsBy (FailsFile files path host key))
+set_fails files path host key bytes r read h = by_number (refusal_of host key bytes) refl r h where
+  by_number : (o : Option ℕ) → refusal_of host key bytes ≡ o → (r : Result (Unit {0}) Failure) → RefusesAs o key r → IfErr r (FailsBy (FailsFile files path host key))
+  by_number None e (Ok u) h = tt
+  by_number None e (Err f) h = subst (FailsBy (FailsFile files path host key)) (sym h) tt
+  by_number (Some n) e (Ok u) h = tt
+  by_number (Some n) e (Err f) h = subst (FailsBy (FailsFile files path host key)) (sym h) (refl, (bytes, read, e))
+
+-- a file of a listing is not read, and those of lesser keys were
+pub listed_fails : {Z : Type 0} (files : Option Stored) (folder : Path) (listed : Map (String Z)) (first : Host) (after : Option Key) (host : Host) (key : Key) (file : String Z) (failure : Failure)
+    → SetUpTo (WantedOf files folder listed) listed first after host
+    → ((x : Key) → is_above after x ≡ true → slice_cmp nat_cmp x key ≡ Less → get listed x ≡ None)
+    → get listed key ≡ Some file
+    → FailsBy (FailsFile files (path_text folder (string_bytes file)) host key) failure → FailsBy (FailsListed files folder listed host) failure
+listed_fails files folder listed first after host key file OutOfMemory s least there h = tt
+listed_fails {Z = Z} files folder listed first after host key file (AtFault fault) s least there h = record {
+  key = key;
+  file = file;
+  there = there;
+  before = λ k lt. was_read k (get listed k) refl (less (slice_cmp nat_cmp k key) lt);
+  fails = h;
+} where
+  less : (o : Ordering) → is_lt o ≡ true → o ≡ Less
+  less Less e = refl
+  less Equal e = cc
+  less Greater e = cc
+
+  was_read : (k : Key) (o : Option (String Z)) → get listed k ≡ o → slice_cmp nat_cmp k key ≡ Less → IsReadAs files folder o (get host k)
+  was_read k None e lt = tt
+  was_read k (Some f) e lt = subst (λ o. IsReadAs files folder o (get host k)) e (elim (is_above after k) as (λ b. is_above after k ≡ b → WantedOf files folder listed k (get host k)) [
+    | true ↦ λ b. let none : Some f ≡ None = sym e ∙ least k b lt in cc
+    | false ↦ λ b. s.there k (ap is_some e) b
+  ] refl)
+
+-- what is not read of a listing is not read of its folder
+pub folder_fails : {Z : Type 0} (files : Option Stored) (names : List Path) (drive : ℕ) (folder : Path) (listed : Map (String Z)) (twice : Option Key) (host : Host) (r : Result (Unit {0}) Failure)
+    → IfSome files (λ stored. Lists stored drive folder names listed twice) → twice ≡ None
+    → ((k : Key) → contains_key listed k ≡ true → slice_index k 0 ≡ drive)
+    → IfErr r (FailsBy (FailsListed files folder listed host)) → IfErr r (FailsBy (FailsFolder files names drive folder host))
+folder_fails files names drive folder listed twice host (Ok u) l one on h = tt
+folder_fails files names drive folder listed twice host (Err OutOfMemory) l one on h = tt
+folder_fails files names drive folder listed twice host (Err (AtFault fault)) l one on h = inr (inr (record {
+  key = h.key;
+  name = string_bytes h.file;
+  on_drive = on h.key (ap is_some h.there);
+  next = next_in files l h.before;
+  fails = h.fails;
+})) where
+  next_in : (o : Option Stored) → IfSome o (λ stored. Lists stored drive folder names listed twice)
+      → ((k : Key) → is_lt (slice_cmp nat_cmp k h.key) ≡ true → IsReadAs o folder (get listed k) (get host k))
+      → IfSome o (λ stored. IsNextFile stored names drive folder host h.key (string_bytes h.file))
+  next_in None l b = tt
+  next_in (Some stored) l b =
+      let at = l.listed h.key h.file h.there in record {
+        listed = at.0;
+        is = at.1;
+        before = λ k other lt there is. named_of stored folder other (get listed k) (get host k) (l.alone one k other there is) (b k lt);
+      }
+
+-- the folders of the drives before one were read, and stay so where no file of them changes
+pub before_still : (files : Option Stored) (names : Path → List Path) (folders : List (Option (Bor (List ℕ)))) (drive : ℕ) (before now : Host) → ReadBelow files names folders drive before
+    → ((k : Key) → slice_index k 0 ≢ drive → get now k ≡ get before k)
+    → IfSome files (λ stored. (d : ℕ) (f : Path) → d < drive → folder_of folders d ≡ Some f → AreOf stored (names f) d f now)
+before_still files names folders drive before now r others = all_of files r.all where
+  all_of : (o : Option Stored) → IfSome o (λ stored. (d : ℕ) (f : Path) → d < drive → folder_of folders d ≡ Some f → AreOf stored (names f) d f before)
+      → IfSome o (λ stored. (d : ℕ) (f : Path) → d < drive → folder_of folders d ≡ Some f → AreOf stored (names f) d f now)
+  all_of None a = tt
+  all_of (Some stored) a = λ d f low e. still_of stored (names f) d f before now (λ k on. others k (λ bad. apart d low (sym on ∙ bad))) (a d f low e) where
+    apart : (d : ℕ) → d < drive → d ≢ drive
+    apart d low e = absurd (omega (arith, low, e))

@@ -1,0 +1,13 @@
+//! Every public call with its arguments and its result, so that one that is missing or has another form does not compile.
+//!
+//! - `processor`, `memory`: `i8080`; `pagemem`
+//! - `files`, `calls`: `cpmfiles`; `bdos`
+//! - `sessions`, `program`: `machine` and `replay`; `cpmrun`
+#![tactic(auto)]
+
+pub mod calls;
+pub mod files;
+pub mod memory;
+pub mod processor;
+pub mod program;
+pub mod sessions;
