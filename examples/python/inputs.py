@@ -4,6 +4,7 @@ from __future__ import annotations
 
 import argparse
 import os
+import shutil
 import sys
 from collections.abc import Callable
 from pathlib import Path
@@ -29,12 +30,19 @@ class Parser(argparse.ArgumentParser):
         add("--limit", type=int, metavar="N", help="the steps after which a run stops")
         add("--spacing", type=int, metavar="N", help="the steps from checkpoint to checkpoint")
         add("--slots", type=int, metavar="N", help="the most checkpoints")
-        add("--runner", metavar="PATH", default=os.environ.get("CPMRUN", "./cpmrun"),
-            help="the runner; else the variable CPMRUN names it, and else it is ./cpmrun")
+        add("--runner", metavar="PATH", default=_runner(),
+            help="the runner; by default the one that the variable CPMRUN names, else ./cpmrun, "
+                 "else the cpmrun on the PATH")
 
     def error(self, message: str) -> NoReturn:
         """Tells a fault of the words in one line, and ends with status 2."""
         self.exit(2, f"{self.prog}: {message}\n")
+
+
+def _runner() -> str:
+    """The runner if no option names it."""
+    here = "./cpmrun"
+    return os.environ.get("CPMRUN") or (here if Path(here).exists() else shutil.which("cpmrun") or here)
 
 
 def start(words: argparse.Namespace, **options: int) -> Session:
@@ -47,9 +55,13 @@ def start(words: argparse.Namespace, **options: int) -> Session:
 
 
 def run_main(main: Callable[[], None]) -> None:
-    """Runs a program, and tells a fault in one line, with status 1."""
+    """Runs a program, and prints an error in one line, with status 1. Where the reader of its
+    output has gone, as `head` does, it ends quietly."""
     try:
         main()
+        sys.stdout.flush()
+    except BrokenPipeError:
+        os.dup2(os.open(os.devnull, os.O_WRONLY), sys.stdout.fileno())
     except KeyboardInterrupt:
         sys.exit(f"{Path(sys.argv[0]).name}: interrupted")
     except (OSError, ValueError, SessionError) as fault:

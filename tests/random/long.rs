@@ -9,7 +9,7 @@ mod model;
 
 use counts::Counts;
 use generator::{Case, Command, Line};
-use model::{name_in_folder, printed, Cause, Run, Session};
+use model::{name_in_folder, printed, Run, Session};
 use std::collections::BTreeMap;
 use std::fs;
 use std::path::{Path, PathBuf};
@@ -183,11 +183,7 @@ fn compare_one_run(laid: &Laid, counts: &mut Counts) -> Result<(), String> {
     let output = laid.run(&WRITTEN.map(|(option, name)| [option, name]).concat())?;
     counts.count("Processes", "all", 1);
     let gone = wanted.changed.iter().filter(|(_, bytes)| bytes.is_none()).map(|(key, _)| format!("gone {}\n", printed(key)));
-    let limit = match wanted.cause {
-        Cause::Limit => format!("cpmrun: the limit was {} steps; --limit N sets another\n", laid.case.session.limit),
-        _ => String::new(),
-    };
-    let told = format!("stop {}\n", wanted.cause) + &gone.collect::<String>() + &limit;
+    let told = format!("stop {}\n", wanted.cause) + &gone.collect::<String>();
     if output.status.code() != Some(wanted.cause.status()) || output.stdout != wanted.text || output.stderr != told.as_bytes() {
         return Err(format!("the one run without edits gives another text or status: {}", output.status));
     }
