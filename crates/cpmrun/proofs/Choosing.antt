@@ -1,37 +1,34 @@
--- What the words ask for a session, told as an end of the program.
-use Rattle.std.proofs.Common.{◌≡◌, ℕ, List, refl, inr, Some, None, Result, Ok, Err, IfOk, IfErr}
+-- How what is done for the words ends the program.
+use Rattle.std.proofs.Common.{◌≡◌, ℕ, List, refl, inr, Some, None, Result, Err, IfErr}
 use Rattle.std.specs.Borrow.{Bor}
 use Rattle.command_words.specs.declared.words.Words.{Words}
 use Rattle.machine.specs.Given.{Session}
 use Rattle.replay.specs.RunnerView.{with_no_checkpoint}
-use Rattle.folders.specs.Failures.{AddsFailures}
 use Rattle.folders.specs.FileSystem.{text_at}
 use Rattle.cpmrun.specs.declared.fault.Fault.{Fault}
 use Rattle.cpmrun.specs.Requests.{AreWords}
-use Rattle.cpmrun.specs.RawRun.{BreaksRun, RunsOnce}
-use Rattle.cpmrun.specs.World.{World}
-use Rattle.cpmrun.specs.Complaints.{file_failures}
+use Rattle.one_run.specs.RawRun.{BreaksRun, RunsOnce}
+use Rattle.one_run.specs.declared.fault.RunFault.{RunFault}
+use Rattle.one_run.specs.World.{World}
+use Rattle.cpmrun.specs.Complaints.{of_run}
 use Rattle.cpmrun.specs.Ends.{BreaksReplay, FaultOf, IsSessionOf}
 use Rattle.cpmrun.specs.MeteredEnds.{MeteredEnds, WritesReplayBy, options_of}
 
 module _ (words : List (List ℕ)) (w : Words) (are : AreWords words w) (s : Session) (before after : World) (steps : ℕ) (of : IsSessionOf before w s) where
   -- it was run once
-  pub ran_once : (r : Result ℕ Fault) → w.edits ≡ None → AddsFailures file_failures r before.failures after.failures
-      → IfOk r (λ status. RunsOnce w.out s status before after) → IfOk r (λ status. MeteredEnds words status before after steps)
-  ran_once (Ok status) e same h = (same, inr (w, are, (s, of, rw e h)))
-  ran_once (Err f) e same h = tt
+  pub ran_once : (status : ℕ) → w.edits ≡ None → after.failures ≡ before.failures → RunsOnce w.out s status before after → MeteredEnds words status before after steps
+  ran_once status e same h = (same, inr (w, are, (s, of, rw e h)))
 
   -- its edit lines were replayed
   pub replayed : (path : Bor (List ℕ)) → w.edits ≡ Some path → after.err ≡ before.err → after.files ≡ before.files → after.failures ≡ before.failures
       → WritesReplayBy (text_at before.files path.now) (with_no_checkpoint s (options_of w)) before.out after.out steps → MeteredEnds words 0 before after steps
   replayed path e err files same h = (same, inr (w, are, (s, of, rw e (refl, err, files, h))))
 
-  -- its run was broken off
-  pub run_broken : {T : Type 0} (r : Result T Fault) → w.edits ≡ None → IfErr r (BreaksRun w.out s before after) → IfErr r (FaultOf words before after)
-  run_broken (Ok x) e h = tt
-  run_broken (Err f) e h = inr (inr (w, are, inr (s, of, rw e h)))
+  -- a fault broke off its run
+  pub run_broken : {T : Type 0} (r : Result T Fault) (f : RunFault) → r ≡ Err (of_run f) → w.edits ≡ None → BreaksRun w.out s before after f → IfErr r (FaultOf words before after)
+  run_broken r f is e h = rw is (inr (inr (w, are, inr (s, of, rw e (f, refl, h)))))
 
-  -- the replay of its edit lines was broken off
+  -- a fault broke off the replay of its edit lines
   pub replay_broken : {T : Type 0} (r : Result T Fault) (f : Fault) (path : Bor (List ℕ)) → r ≡ Err f → w.edits ≡ Some path → after.files ≡ before.files
       → BreaksReplay path.now (text_at before.files path.now) s (before.out, before.out_failures) (after.out, after.out_failures) f → IfErr r (FaultOf words before after)
   replay_broken r f path is e files h = rw is (inr (inr (w, are, inr (s, of, rw e (h, files)))))

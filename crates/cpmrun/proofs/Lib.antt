@@ -1,6 +1,4 @@
-pub mod Telling
-pub mod Refusing
-pub mod Choosing
-pub mod Writing
-pub mod Walking
+mod Telling
+mod Choosing
+mod Writing
 mod Unmetered

@@ -1,8 +1,8 @@
 -- How the program ends, without the steps that it executed.
-use Rattle.std.proofs.Common.{◌≡◌, ℕ, List, Option, Some, None, inl, inr}
+use Rattle.std.proofs.Common.{ℕ, List, Option, Some, None, inl, inr}
 use Rattle.std.specs.Prelude.{MatchOption}
 use Rattle.replay.specs.RunnerView.{RunnerView}
-use Rattle.cpmrun.specs.World.{World}
+use Rattle.one_run.specs.World.{World}
 use Rattle.cpmrun.specs.Ends.{Ends, WritesReplay}
 use Rattle.cpmrun.specs.MeteredEnds.{MeteredEnds, WritesReplayBy}
 

@@ -2,17 +2,26 @@
 use Rattle.std.specs.Prelude.{◌≡◌, ℕ, List, [], ◌⊎◌, ◌++◌, codes, Option, string_bytes}
 use Rattle.std.specs.Fmt.{decimal}
 use Rattle.folders.specs.Faults.{fault_failures, text_of}
-use Rattle.folders.specs.declared.fault.Failure.{Failure}
-use Rattle.folders.specs.declared.fault.Failure.TheVariants as failure
+use Rattle.loading.specs.declared.fault.LoadFault.{LoadFault}
+use Rattle.loading.specs.declared.fault.LoadFault.TheVariants as load
+use Rattle.one_run.specs.declared.fault.RunFault.{RunFault}
+use Rattle.one_run.specs.declared.fault.RunFault.TheVariants as run
 use Rattle.cpmrun.specs.declared.fault.Fault.{Fault}
 use Rattle.cpmrun.specs.declared.fault.Fault.TheVariants.{Use, NotText, CannotRead, CannotWrite, Folders, Refused, Malformed, TooLong, OutOfMemory}
-use Rattle.edit_lines.specs.ReportText.{line}
-use Rattle.edit_lines.specs.Writing.{WritesOrFails}
+use Rattle.report_lines.specs.FirstLines.{line}
+use Rattle.report_lines.specs.Writing.{WritesOrFails}
 
--- what a failure of the folders is
-abbrev pub fault_of : Failure → Fault
-fault_of (failure.AtFault f) = Folders f
-fault_of failure.OutOfMemory = OutOfMemory
+-- a fault of loading, and one of the run
+abbrev pub of_load : LoadFault → Fault
+of_load (load.CannotRead path) = CannotRead path
+of_load (load.Folders f) = Folders f
+of_load (load.Refused n) = Refused n
+of_load load.OutOfMemory = OutOfMemory
+
+abbrev pub of_run : RunFault → Fault
+of_run run.CannotWrite = CannotWrite
+of_run (run.Folders f) = Folders f
+of_run run.OutOfMemory = OutOfMemory
 
 -- the failures of the file system that a fault reports: one if a file or a folder could not be read or written
 abbrev pub file_failures : Fault → ℕ

@@ -10,13 +10,15 @@ use Rattle.edit_lines.specs.declared.ending.ReplayFault.TheVariants as replay_fa
 use Rattle.cpmrun.specs.declared.fault.Fault.{Fault}
 use Rattle.cpmrun.specs.declared.fault.Fault.TheVariants.{Use, NotText, CannotRead, CannotWrite, Folders, Refused, Malformed, TooLong, OutOfMemory}
 use Rattle.cpmrun.specs.Requests.{AreWords, Misread}
-use Rattle.cpmrun.specs.Loading.{IsOf, Unloaded}
-use Rattle.cpmrun.specs.World.{World}
+use Rattle.loading.specs.Loading.{FailsToLoad, IsLoadedFrom}
+use Rattle.loading.specs.declared.fault.LoadFault.{LoadFault}
+use Rattle.one_run.specs.RawRun.{BreaksRun, RunsOnce}
+use Rattle.one_run.specs.World.{World}
+use Rattle.one_run.specs.declared.fault.RunFault.{RunFault}
 use Rattle.folders.specs.FileSystem.{text_at}
 use Rattle.edit_lines.specs.Pieces.{lines_of}
-use Rattle.cpmrun.specs.Complaints.{Complains, file_failures}
+use Rattle.cpmrun.specs.Complaints.{Complains, file_failures, of_load, of_run}
 use Rattle.edit_lines.specs.Faults.{Faults}
-use Rattle.cpmrun.specs.RawRun.{BreaksRun, RunsOnce}
 use Rattle.edit_lines.specs.Replay.{Finished, Replays}
 
 -- if a reader reports its bytes they are these, and the text was written that their lines give, replayed to their end from this session
@@ -60,7 +62,7 @@ Informs held holds = (text : List ℕ) × Appends held holds text
 
 -- the session that words say, whose files and folders are these
 abbrev pub IsSessionOf : World → Words → Session → Type 0
-IsSessionOf before w s = IsOf before.files before.names w s
+IsSessionOf before w s = IsLoadedFrom before.files before.names w s
 
 -- what a session that words say comes to without a fault: it is run once, or the lines of the file of edit lines are replayed to their
 -- end, which is said of the path of that file
@@ -83,7 +85,7 @@ Ends words status before after = EndsBy (λ w s path. WritesReplay (text_at befo
 -- what a fault leaves that broke off what is done with a session that words say
 abbrev pub BreaksOff : Words → Session → World → World → Fault → Type 0
 BreaksOff w s before after fault = MatchOption w.edits
-    (BreaksRun w.out s before after fault)
+    ((f : RunFault) × (fault ≡ of_run f) × BreaksRun w.out s before after f)
     (λ path. BreaksReplay path.now (text_at before.files path.now) s (before.out, before.out_failures) (after.out, after.out_failures) fault
     × (after.files ≡ before.files))
 
@@ -97,7 +99,7 @@ abbrev pub FaultOf : List (List ℕ) → World → World → Fault → Type 0
 FaultOf words before after fault =
     (Misread words fault × LeavesAll before after)
     ⊎ (ComesTo words Information × (fault ≡ CannotWrite) × (before.out_failures < after.out_failures) × Informs before.out after.out × (after.files ≡ before.files))
-    ⊎ ((w : Words) × AreWords words w × ((Unloaded before.files before.names w fault × LeavesAll before after)
+    ⊎ ((w : Words) × AreWords words w × (((f : LoadFault) × (fault ≡ of_load f) × FailsToLoad before.files before.names w f × LeavesAll before after)
     ⊎ ((s : Session) × IsSessionOf before w s × BreaksOff w s before after fault)))
 
 -- a fault came, and it was reported with its status, or "out of memory" if there was none to name its value; a call of the file

@@ -9,7 +9,7 @@ use Rattle.edit_lines.specs.Effects.{Effects}
 use Rattle.edit_lines.specs.Pieces.{lines_of}
 use Rattle.edit_lines.specs.Replay.{Finished, Replays}
 use Rattle.cpmrun.specs.Ends.{EndsBy}
-use Rattle.cpmrun.specs.World.{World}
+use Rattle.one_run.specs.World.{World}
 
 -- how checkpoints are made, as words say
 abbrev pub options_of : Words → Options

@@ -8,19 +8,20 @@ ghost use Rattle.folders.specs.Failures.{AddsFailures};
 ghost use Rattle.cpmrun.specs.Complaints.{file_failures};
 ghost use Rattle.cpmrun.specs.Ends.{BreaksOffWith, BreaksReplay, Ends, EndsByFault, FaultOf, Informs};
 ghost use Rattle.cpmrun.specs.MeteredEnds.{MeteredEnds, WritesReplayBy, options_of};
-ghost use Rattle.cpmrun.specs.World.{world};
+ghost use Rattle.one_run.specs.World.{world};
 ghost use Rattle.folders.specs.FileSystem.{text_at};
 
 use crate::edit_file::EditFile;
 use crate::fault::{Fault, complain};
-use crate::loading::{load, open};
-use crate::raw_run::run_once;
 use crate::request::{Request, read_request};
 use command_words::Words;
-use edit_lines::{Ending, Reader, ReplayFault, Writer, replay, write_all};
+use edit_lines::{Ending, Reader, ReplayFault, Writer, replay};
 use folders::FileSystem;
+use loading::{load, open};
 use machine::{Meter, Session};
+use one_run::run_once;
 use replay::{Options, Runner};
+use report_lines::write_all;
 use std::alloc::Global;
 
 /// Returns how checkpoints are made, as the words say.
@@ -143,7 +144,7 @@ fn run<'a, S: FileSystem, O: Writer, E: Writer>(
     };
     let session = load(system, &words)?;
     let Some(path) = words.edits else {
-        return run_once(system, &words.out, session, meter, out, err);
+        return Ok(run_once(system, &words.out, session, meter, out, err)?);
     };
     replay_file(system, path, session, options(&words), meter, out)?;
     Ok(0)

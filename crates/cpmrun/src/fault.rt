@@ -1,9 +1,10 @@
 ghost use Rattle.std.specs.Prelude.{◌≡◌, ◌^◌, ◌<◌, IfOk, IfSome, IfNone, string_bytes};
 ghost use Rattle.cpmrun.specs.Complaints.{Complains};
-ghost use Rattle.edit_lines.specs.Writing.{WritesOrFails};
+ghost use Rattle.report_lines.specs.Writing.{WritesOrFails};
 
-use edit_lines::{Writer, write_all};
-use folders::Failure;
+use loading::LoadFault;
+use one_run::RunFault;
+use report_lines::{Writer, write_piece};
 use std::alloc::{AllocError, Global};
 
 /// Why the program ends with a status other than 0.
@@ -29,16 +30,33 @@ pub enum Fault<'a> {
     OutOfMemory,
 }
 
-impl From<Failure> for Fault<'_> {
+impl<'a> From<LoadFault<'a>> for Fault<'a> {
     ghost use Rattle.std.specs.Prelude.{◌≡◌};
-    ghost use Rattle.cpmrun.specs.Complaints.{fault_of};
+    ghost use Rattle.cpmrun.specs.Complaints.{of_load};
 
-    ghost from_gives = { λ failure fault. fault ≡ fault_of failure };
+    ghost from_gives = { λ load fault. fault ≡ of_load load };
 
-    fn from(failure: Failure) -> Self {
-        match failure {
-            Failure::AtFault(fault) => Fault::Folders(fault),
-            Failure::OutOfMemory => Fault::OutOfMemory,
+    fn from(fault: LoadFault<'a>) -> Self {
+        match fault {
+            LoadFault::CannotRead(path) => Fault::CannotRead(path),
+            LoadFault::Folders(fault) => Fault::Folders(fault),
+            LoadFault::Refused(number) => Fault::Refused(number),
+            LoadFault::OutOfMemory => Fault::OutOfMemory,
+        }
+    }
+}
+
+impl From<RunFault> for Fault<'_> {
+    ghost use Rattle.std.specs.Prelude.{◌≡◌};
+    ghost use Rattle.cpmrun.specs.Complaints.{of_run};
+
+    ghost from_gives = { λ run fault. fault ≡ of_run run };
+
+    fn from(fault: RunFault) -> Self {
+        match fault {
+            RunFault::CannotWrite => Fault::CannotWrite,
+            RunFault::Folders(fault) => Fault::Folders(fault),
+            RunFault::OutOfMemory => Fault::OutOfMemory,
         }
     }
 }
@@ -99,13 +117,13 @@ impl Fault<'_> {
     }
 }
 
-/// Writes the text, or a beginning of it where the writer fails, which is passed over.
+/// Writes a text. A failure of the writer is ignored.
 fn tell<E: Writer>(err: &mut E, text: &[u8])
     requires { E.failures err.old < 2 ^ 63 }
     ensures { WritesOrFails (E.holds err.old) (E.holds err.new) (E.failures err.old)
         (E.failures err.new) text.now }
 {
-    let _ = write_all(err, text);
+    let _ = write_piece(err, text);
 }
 
 /// Writes the message of a fault, or that of want of memory where there is no memory to name its

@@ -8,6 +8,4 @@ pub mod Answering
 pub mod Grammar
 pub mod Once
 pub mod SaidNames
-pub mod WrittenPieces
 pub mod Reporting
-pub mod ReportLines

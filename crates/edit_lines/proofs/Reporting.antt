@@ -16,20 +16,20 @@ use Rattle.edit_lines.specs.declared.ending.ReplayFault.TheVariants as fault
 use Rattle.edit_lines.specs.declared.line.Command.TheVariants as command
 use Rattle.edit_lines.specs.Progress.{Does}
 use Rattle.edit_lines.specs.Replay.{edit_after, edit_reply}
-use Rattle.edit_lines.specs.Writing.{Replies}
-use Rattle.edit_lines.specs.ReportText.{line, head_text, text_line}
-use Rattle.edit_lines.specs.ChangedLines.{changed_lines}
+use Rattle.edit_lines.specs.Replies.{Replies}
+use Rattle.report_lines.specs.FirstLines.{line, report_head, text_line}
+use Rattle.report_lines.specs.ChangedLines.{changed_lines}
 use Rattle.edit_lines.specs.Reports.{report_text}
 
-pub report_is : (s : Session) (run : PlainRun) (head text : List ℕ) (host : Host) (all : Files) → head ≡ head_text run
+pub report_is : (s : Session) (run : PlainRun) (head text : List ℕ) (host : Host) (all : Files) → head ≡ report_head run.cause run.steps run.machine.core.regs
     → text ≡ run.machine.core.desk.text → host ≡ s.files → all ≡ run.machine.files
     → (((head ++ text_line text) ++ changed_lines host all) ++ line (codes "end")) ≡ report_text s run
 unfolding report_text
 report_is s run head text host all first printed files done =
     ap (λ (h : List ℕ). ((h ++ text_line text) ++ changed_lines host all) ++ line (codes "end")) first
-    ∙ ap (λ (t : List ℕ). ((head_text run ++ text_line t) ++ changed_lines host all) ++ line (codes "end")) printed
-    ∙ ap (λ (h : Host). ((head_text run ++ text_line run.machine.core.desk.text) ++ changed_lines h all) ++ line (codes "end")) files
-    ∙ ap (λ (m : Files). ((head_text run ++ text_line run.machine.core.desk.text) ++ changed_lines s.files m) ++ line (codes "end")) done
+    ∙ ap (λ (t : List ℕ). ((report_head run.cause run.steps run.machine.core.regs ++ text_line t) ++ changed_lines host all) ++ line (codes "end")) printed
+    ∙ ap (λ (h : Host). ((report_head run.cause run.steps run.machine.core.regs ++ text_line run.machine.core.desk.text) ++ changed_lines h all) ++ line (codes "end")) files
+    ∙ ap (λ (m : Files). ((report_head run.cause run.steps run.machine.core.regs ++ text_line run.machine.core.desk.text) ++ changed_lines s.files m) ++ line (codes "end")) done
 
 -- the refusal that was answered
 pub refused_by : (wanted : Result Session ℕ) (e : EditError) (after : Session) → (e ≡ OutOfMemory → ⊥) → AnswersEdit {U = Unit {0}} wanted (Err e) after → wanted ≡ Err (number_of e)

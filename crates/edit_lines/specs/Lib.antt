@@ -1,7 +1,6 @@
 pub mod Pieces
 pub mod EditLine
 pub mod LineParts
-pub mod ReportText
 pub mod Reports
 pub mod Replay
 pub mod Faults
@@ -9,5 +8,4 @@ pub mod Progress
 pub mod Effects
 pub mod MemoryFaults
 pub mod FileLines
-pub mod Writing
-pub mod ChangedLines
+pub mod Replies

@@ -9,7 +9,7 @@ use Rattle.replay.specs.Edits.{edited}
 use Rattle.edit_lines.specs.declared.line.Command.{Command}
 use Rattle.edit_lines.specs.declared.line.Command.TheVariants.{Edit, Run, DropOldest}
 use Rattle.edit_lines.specs.EditLine.{EditLine}
-use Rattle.edit_lines.specs.ReportText.{line}
+use Rattle.report_lines.specs.FirstLines.{line}
 use Rattle.edit_lines.specs.Reports.{report_text}
 use Rattle.edit_lines.specs.declared.limits.TheConstants.{LINE_LIMIT, LINES_LIMIT}
 

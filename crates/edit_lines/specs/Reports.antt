@@ -2,11 +2,11 @@
 use Rattle.std.specs.Prelude.{ℕ, List, ◌++◌, codes}
 use Rattle.machine.specs.Given.{Session}
 use Rattle.replay.specs.Plain.{PlainRun}
-use Rattle.edit_lines.specs.ReportText.{line, head_text, text_line}
-use Rattle.edit_lines.specs.ChangedLines.{changed_lines}
+use Rattle.report_lines.specs.FirstLines.{line, report_head, text_line}
+use Rattle.report_lines.specs.ChangedLines.{changed_lines}
 
 -- of a session and its run: why it stopped, the count of steps, the registers and the console text, then a line for each changed
 -- file in the order of the names
 unfoldable pub report_text : Session → PlainRun → List ℕ
 report_text s run =
-    ((head_text run ++ text_line run.machine.core.desk.text) ++ changed_lines s.files run.machine.files) ++ line (codes "end")
+    ((report_head run.cause run.steps run.machine.core.regs ++ text_line run.machine.core.desk.text) ++ changed_lines s.files run.machine.files) ++ line (codes "end")

@@ -5,17 +5,20 @@ ghost use Rattle.replay.specs.Report.{run_of, session_of};
 ghost use Rattle.edit_lines.specs.Effects.{CommandDid, LineDid};
 ghost use Rattle.edit_lines.specs.Progress.{CarriesOut, Does};
 ghost use Rattle.edit_lines.specs.Reports.{report_text};
-ghost use Rattle.edit_lines.specs.Writing.{Replies, Writes};
+ghost use Rattle.edit_lines.specs.Replies.{Replies};
+ghost use Rattle.report_lines.specs.Writing.{Writes};
 
-use crate::changed_lines::{Asked, write_changed_files};
 use crate::ending::ReplayFault;
-use crate::ends::{Failed, Over, Writer, write_all, write_piece};
 use crate::limits::LINES_LIMIT;
 use crate::line::{Command, parse_line};
-use crate::reply::{head_of, refused, write_text};
+use crate::reply::refused;
 use arrayvec::ArrayVec;
 use machine::{Meter, STEP_LIMIT};
 use replay::{Edit, EditError, Report, Runner};
+use report_lines::{
+    Failed, FileFilter, Over, Writer, report_head, write_all, write_changed_files, write_piece,
+    write_text,
+};
 use std::alloc::Global;
 
 /// Writes a reply, or some first part of it where the writer fails.
@@ -80,9 +83,10 @@ fn write_report<W: Writer>(report: &Report<'_>, writer: &mut W) -> Result<(), Fa
     ensures { Writes (W.holds writer.old) (W.holds writer.new) (W.failures writer.old) (W.failures writer.new)
         (report_text (session_of report.now) (run_of report.now)) result }
 {
-    write_piece(writer, head_of(report).as_bytes())?;
+    let head = report_head(report.cause(), report.steps(), report.regs());
+    write_piece(writer, head.as_bytes())?;
     write_text(writer, report.text())?;
-    write_changed_files(writer, Asked::All, report.files(), report.journal())?;
+    write_changed_files(writer, FileFilter::All, report.files(), report.journal())?;
     write_piece(writer, b"end\n")
 }
 

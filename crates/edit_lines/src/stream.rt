@@ -12,11 +12,11 @@ ghost use Rattle.edit_lines.specs.Progress.{Finishes, Goes, IsPartFault, StandsA
 
 use crate::carry_out::carry_out;
 use crate::ending::{Ending, ReplayFault};
-use crate::ends::{Reader, Writer};
 use crate::limits::{LINE_LIMIT, LINES_LIMIT};
 use machine::{Meter, STEP_LIMIT};
 use memchr::memchr;
 use replay::Runner;
+use report_lines::{Reader, Writer};
 use std::alloc::Global;
 
 /// The beginning of a line that was read, and how many lines were carried out.

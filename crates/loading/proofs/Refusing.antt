@@ -8,40 +8,30 @@ use Rattle.machine.specs.Session.{made_of}
 use Rattle.folders.specs.FileSystem.{Path, Stored}
 use Rattle.folders.specs.Folders.{AreFromFolders}
 use Rattle.std.specs.Prelude.{Option}
-use Rattle.cpmrun.specs.declared.fault.Fault.{Fault}
-use Rattle.cpmrun.specs.declared.fault.Fault.TheVariants.{Use, NotText, CannotRead, CannotWrite, Folders, Refused, Malformed, TooLong, OutOfMemory}
-use Rattle.cpmrun.specs.Loading.{IsProgramOf, IsScriptOf, MadeOrRefused, Unloaded, Unread, UnreadIfAny}
+use Rattle.loading.specs.declared.fault.LoadFault.{LoadFault}
+use Rattle.loading.specs.declared.fault.LoadFault.TheVariants.{CannotRead, Folders, Refused, OutOfMemory}
+use Rattle.loading.specs.Loading.{IsProgramOf, IsScriptOf, MadeOrRefused, FailsToLoad, IsReadFaultOf, IsReadFaultIfAny}
 
 -- a refusal is one of the words
-pub refused_of_words : (stored : Option Stored) (names : Path → List Path) (w : Words) (program : List ℕ) (files : Host) (script : List ℕ) (r : Result Session Fault)
+pub refused_of_words : (stored : Option Stored) (names : Path → List Path) (w : Words) (program : List ℕ) (files : Host) (script : List ℕ) (r : Result Session LoadFault)
     → IsProgramOf stored w program → AreFromFolders stored names w.files files → IsScriptOf stored w script
-    → MadeOrRefused (made_of program w.tail.now files script w.limit) r → IfErr r (Unloaded stored names w)
+    → MadeOrRefused (made_of program w.tail.now files script w.limit) r → IfErr r (FailsToLoad stored names w)
 refused_of_words stored names w program files script (Ok s) p a b h = tt
-refused_of_words stored names w program files script (Err (Use text)) p a b h = absurd h
-refused_of_words stored names w program files script (Err NotText) p a b h = absurd h
 refused_of_words stored names w program files script (Err (CannotRead path)) p a b h = absurd h
-refused_of_words stored names w program files script (Err CannotWrite) p a b h = absurd h
 refused_of_words stored names w program files script (Err (Folders f)) p a b h = absurd h
 refused_of_words stored names w program files script (Err (Refused n)) p a b h =
     record { program = program; files = files; script = script; of_program = p; from_folders = a; of_script = b; refused = h }
-refused_of_words stored names w program files script (Err (Malformed k)) p a b h = absurd h
-refused_of_words stored names w program files script (Err (TooLong k)) p a b h = absurd h
 refused_of_words stored names w program files script (Err OutOfMemory) p a b h = absurd h
 
 -- a script that is not read gives no session
-pub script_unread : (stored : Option Stored) (names : Path → List Path) (w : Words) (f : Fault) → UnreadIfAny (text_of w.console) f → Unloaded stored names w f
+pub script_unread : (stored : Option Stored) (names : Path → List Path) (w : Words) (f : LoadFault) → IsReadFaultIfAny (text_of w.console) f → FailsToLoad stored names w f
 script_unread stored names w f h = by_path (text_of w.console) refl h where
-  by_fault : (path : Path) → text_of w.console ≡ Some path → (f : Fault) → Unread path f → Unloaded stored names w f
-  by_fault path e (Use text) h = absurd h
-  by_fault path e NotText h = absurd h
+  by_fault : (path : Path) → text_of w.console ≡ Some path → (f : LoadFault) → IsReadFaultOf path f → FailsToLoad stored names w f
   by_fault path e (CannotRead p) h = inr (e ∙ ap Some (sym h))
-  by_fault path e CannotWrite h = absurd h
   by_fault path e (Folders x) h = absurd h
   by_fault path e (Refused n) h = absurd h
-  by_fault path e (Malformed k) h = absurd h
-  by_fault path e (TooLong k) h = absurd h
   by_fault path e OutOfMemory h = tt
 
-  by_path : (o : Option Path) → text_of w.console ≡ o → UnreadIfAny o f → Unloaded stored names w f
+  by_path : (o : Option Path) → text_of w.console ≡ o → IsReadFaultIfAny o f → FailsToLoad stored names w f
   by_path None e h = absurd h
   by_path (Some path) e h = by_fault path e f h

@@ -1,4 +1,4 @@
--- The session that the files of the command line give, and why they give none. (This project's profile.)
+-- The session that the files of the command line make, and why they make none. (This project's profile.)
 use Rattle.std.specs.Prelude.{◌≡◌, ◌+◌, ℕ, ◌⊎◌, List, [], Option, Some, None, Result, Ok, Err}
 use Rattle.command_words.specs.CommandLine.{text_of}
 use Rattle.command_words.specs.declared.words.Words.{Words}
@@ -9,14 +9,14 @@ use Rattle.folders.specs.declared.fault.Failure.TheVariants.{AtFault}
 use Rattle.machine.specs.declared.session.TheConstants.{PROGRAM_LIMIT, SCRIPT_LIMIT}
 use Rattle.machine.specs.Given.{Session}
 use Rattle.machine.specs.Session.{made_of}
-use Rattle.cpmrun.specs.declared.fault.Fault.{Fault}
-use Rattle.cpmrun.specs.declared.fault.Fault.TheVariants.{Use, NotText, CannotRead, CannotWrite, Folders, Refused, Malformed, TooLong, OutOfMemory}
+use Rattle.loading.specs.declared.fault.LoadFault.{LoadFault}
+use Rattle.loading.specs.declared.fault.LoadFault.TheVariants.{CannotRead, Folders, Refused, OutOfMemory}
 
--- the bytes of a program: those of the file of PROGRAM, of which at most one more is read than a session takes
+-- the bytes of a program: the file of PROGRAM, of which at most one byte more is read than a session takes
 abbrev pub IsProgramOf : Option Stored → Words → List ℕ → Type 0
 IsProgramOf files w program = Reads files w.program.now (PROGRAM_LIMIT + 1) program
 
--- the bytes of a script: none where there is no path, else those of its file, of which at most one more is read than a session takes
+-- the bytes of a script: none without a path, else its file, of which at most one byte more is read than a session takes
 abbrev pub IsScriptAt : Option Stored → Option (List ℕ) → List ℕ → Type 0
 IsScriptAt files None script = script ≡ []
 IsScriptAt files (Some path) script = Reads files path (SCRIPT_LIMIT + 1) script
@@ -24,8 +24,8 @@ IsScriptAt files (Some path) script = Reads files path (SCRIPT_LIMIT + 1) script
 abbrev pub IsScriptOf : Option Stored → Words → List ℕ → Type 0
 IsScriptOf files w script = IsScriptAt files (text_of w.console) script
 
--- the session of the files that the words name, and of the tail and the limit that they say
-pub record IsOf (stored : Option Stored) (names : Path → List Path) (w : Words) (s : Session) : Type 0 where
+-- the session of the files that the words name, with their tail and limit
+pub record IsLoadedFrom (stored : Option Stored) (names : Path → List Path) (w : Words) (s : Session) : Type 0 where
   pub program : IsProgramOf stored w s.program
   pub tail : s.tail ≡ w.tail.now
   pub files : AreFromFolders stored names w.files s.files
@@ -33,7 +33,7 @@ pub record IsOf (stored : Option Stored) (names : Path → List Path) (w : Words
   pub limit : s.limit ≡ w.limit
 
 -- such a session is refused by this number
-pub record IsRefusal (stored : Option Stored) (names : Path → List Path) (w : Words) (n : ℕ) : Type 0 where
+pub record IsSessionRefusal (stored : Option Stored) (names : Path → List Path) (w : Words) (n : ℕ) : Type 0 where
   pub program : List ℕ
   pub files : Host
   pub script : List ℕ
@@ -43,43 +43,28 @@ pub record IsRefusal (stored : Option Stored) (names : Path → List Path) (w : 
   pub refused : made_of program w.tail.now files script w.limit ≡ Err n
 
 -- the session that is wanted, or its refusal
-abbrev pub MadeOrRefused : Result Session ℕ → Result Session Fault → Type 0
+abbrev pub MadeOrRefused : Result Session ℕ → Result Session LoadFault → Type 0
 MadeOrRefused wanted (Ok s) = wanted ≡ Ok s
-MadeOrRefused wanted (Err (Use text)) = ⊥
-MadeOrRefused wanted (Err NotText) = ⊥
 MadeOrRefused wanted (Err (CannotRead p)) = ⊥
-MadeOrRefused wanted (Err CannotWrite) = ⊥
 MadeOrRefused wanted (Err (Folders f)) = ⊥
 MadeOrRefused wanted (Err (Refused n)) = wanted ≡ Err n
-MadeOrRefused wanted (Err (Malformed k)) = ⊥
-MadeOrRefused wanted (Err (TooLong k)) = ⊥
 MadeOrRefused wanted (Err OutOfMemory) = ⊥
 
 -- why the file of this path can't be read
-abbrev pub Unread : List ℕ → Fault → Type 0
-Unread path (Use text) = ⊥
-Unread path NotText = ⊥
-Unread path (CannotRead p) = p.now ≡ path
-Unread path CannotWrite = ⊥
-Unread path (Folders f) = ⊥
-Unread path (Refused n) = ⊥
-Unread path (Malformed k) = ⊥
-Unread path (TooLong k) = ⊥
-Unread path OutOfMemory = Unit {0}
+abbrev pub IsReadFaultOf : List ℕ → LoadFault → Type 0
+IsReadFaultOf path (CannotRead p) = p.now ≡ path
+IsReadFaultOf path (Folders f) = ⊥
+IsReadFaultOf path (Refused n) = ⊥
+IsReadFaultOf path OutOfMemory = Unit {0}
 
 -- the same, where there is a path
-abbrev pub UnreadIfAny : Option (List ℕ) → Fault → Type 0
-UnreadIfAny None f = ⊥
-UnreadIfAny (Some path) f = Unread path f
+abbrev pub IsReadFaultIfAny : Option (List ℕ) → LoadFault → Type 0
+IsReadFaultIfAny None f = ⊥
+IsReadFaultIfAny (Some path) f = IsReadFaultOf path f
 
 -- why the files of the words give no session
-abbrev pub Unloaded : Option Stored → (Path → List Path) → Words → Fault → Type 0
-Unloaded files names w (Use text) = ⊥
-Unloaded files names w NotText = ⊥
-Unloaded files names w (CannotRead p) = (p.now ≡ w.program.now) ⊎ (text_of w.console ≡ Some p.now)
-Unloaded files names w CannotWrite = ⊥
-Unloaded files names w (Folders f) = FailsFolders files names w.files (AtFault f)
-Unloaded files names w (Refused n) = IsRefusal files names w n
-Unloaded files names w (Malformed k) = ⊥
-Unloaded files names w (TooLong k) = ⊥
-Unloaded files names w OutOfMemory = Unit {0}
+abbrev pub FailsToLoad : Option Stored → (Path → List Path) → Words → LoadFault → Type 0
+FailsToLoad files names w (CannotRead p) = (p.now ≡ w.program.now) ⊎ (text_of w.console ≡ Some p.now)
+FailsToLoad files names w (Folders f) = FailsFolders files names w.files (AtFault f)
+FailsToLoad files names w (Refused n) = IsSessionRefusal files names w n
+FailsToLoad files names w OutOfMemory = Unit {0}

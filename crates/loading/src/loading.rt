@@ -5,10 +5,10 @@ ghost use Rattle.command_words.specs.CommandLine.{text_of};
 ghost use Rattle.folders.specs.Failures.{AddsFailures, io_failures};
 ghost use Rattle.folders.specs.FileSystem.{Opens, Reads};
 ghost use Rattle.machine.specs.Session.{made_of};
-ghost use Rattle.cpmrun.specs.Complaints.{file_failures};
-ghost use Rattle.cpmrun.specs.Loading.{IsOf, IsScriptAt, MadeOrRefused, Unloaded, Unread, UnreadIfAny};
+ghost use Rattle.loading.specs.Faults.{load_failures};
+ghost use Rattle.loading.specs.Loading.{IsLoadedFrom, IsScriptAt, MadeOrRefused, FailsToLoad, IsReadFaultOf, IsReadFaultIfAny};
 
-use crate::fault::Fault;
+use crate::fault::LoadFault;
 use command_words::Words;
 use folders::{FileSystem, read_folders};
 use hostfiles::HostFiles;
@@ -17,112 +17,121 @@ use std::alloc::Global;
 use std::io;
 use std::io::ErrorKind;
 
-/// The most bytes of a program that are read: one more than a session takes, so that a longer one
-/// is refused by the session and not read on.
+/// The most bytes of a program that are read: one more than a session takes, so that the session refuses a longer one.
 const PROGRAM_READ: u64 = PROGRAM_LIMIT as u64 + 1;
 
 /// The most bytes of a script that are read: one more than a session takes.
 const SCRIPT_READ: u64 = SCRIPT_LIMIT as u64 + 1;
 
-/// Returns the fault that an error of opening or reading this file is.
-fn unread<'a>(error: io::Error, path: &'a str) -> Fault<'a>
-    ensures fault { Unread path.now result }
-    ensures failures { file_failures result ≡ io_failures error }
+/// Returns the fault of an error of opening or reading this file.
+fn read_fault<'a>(error: io::Error, path: &'a str) -> LoadFault<'a>
+    ensures fault { IsReadFaultOf path.now result }
+    ensures failures { load_failures result ≡ io_failures error }
 {
     if error.kind() == ErrorKind::OutOfMemory {
-        Fault::OutOfMemory
+        LoadFault::OutOfMemory
     } else {
-        Fault::CannotRead(path)
+        LoadFault::CannotRead(path)
     }
 }
 
 /// Opens a file to read it piece by piece.
-pub fn open<'a, S: FileSystem>(system: &mut S, path: &'a str) -> Result<S::Input, Fault<'a>>
+///
+/// # Errors
+///
+/// The file could not be opened, or an allocation failed.
+pub fn open<'a, S: FileSystem>(system: &mut S, path: &'a str) -> Result<S::Input, LoadFault<'a>>
     requires { S.failures system.old < 2 ^ 63 }
     ensures opens { IfOk result (λ input. Opens (S.files system.old) path.now (S.Input.left input)) }
     ensures unfailed { IfOk result (λ input. S.Input.failures input ≡ 0) }
-    ensures fault { IfErr result (Unread path.now) }
+    ensures fault { IfErr result (IsReadFaultOf path.now) }
     ensures files { S.files system.new ≡ S.files system.old }
     ensures names { S.names system.new ≡ S.names system.old }
-    ensures failures { AddsFailures file_failures result (S.failures system.old) (S.failures system.new) }
+    ensures failures { AddsFailures load_failures result (S.failures system.old) (S.failures system.new) }
 {
     match system.open(path) {
         Ok(file) => Ok(file),
-        Err(error) => Err(unread(error, path)),
+        Err(error) => Err(read_fault(error, path)),
     }
 }
 
-/// Reads the program of this path.
-fn program_at<'a, S: FileSystem>(system: &mut S, path: &'a str) -> Result<Vec<u8>, Fault<'a>>
+/// Reads the program at this path.
+fn program_at<'a, S: FileSystem>(system: &mut S, path: &'a str) -> Result<Vec<u8>, LoadFault<'a>>
     requires { S.failures system.old < 2 ^ 63 }
     ensures program { IfOk result
         (λ program. Reads (S.files system.old) path.now (PROGRAM_LIMIT + 1) program.items) }
-    ensures fault { IfErr result (Unread path.now) }
+    ensures fault { IfErr result (IsReadFaultOf path.now) }
     ensures files { S.files system.new ≡ S.files system.old }
     ensures names { S.names system.new ≡ S.names system.old }
-    ensures failures { AddsFailures file_failures result (S.failures system.old) (S.failures system.new) }
+    ensures failures { AddsFailures load_failures result (S.failures system.old) (S.failures system.new) }
 {
     match system.read(path, PROGRAM_READ) {
         Ok(program) => Ok(program),
-        Err(error) => Err(unread(error, path)),
+        Err(error) => Err(read_fault(error, path)),
     }
 }
 
-/// Reads the script of this path; without a path it is empty.
-fn script_at<'a, S: FileSystem>(system: &mut S, path: Option<&'a str>) -> Result<Vec<u8>, Fault<'a>>
+/// Reads the script at this path; without a path it is empty.
+fn script_at<'a, S: FileSystem>(
+    system: &mut S,
+    path: Option<&'a str>,
+) -> Result<Vec<u8>, LoadFault<'a>>
     requires { S.failures system.old < 2 ^ 63 }
     ensures script { IfOk result
         (λ script. IsScriptAt (S.files system.old) (text_of path.entry) script.items) }
-    ensures fault { IfErr result (UnreadIfAny (text_of path.entry)) }
+    ensures fault { IfErr result (IsReadFaultIfAny (text_of path.entry)) }
     ensures files { S.files system.new ≡ S.files system.old }
     ensures names { S.names system.new ≡ S.names system.old }
-    ensures failures { AddsFailures file_failures result (S.failures system.old) (S.failures system.new) }
+    ensures failures { AddsFailures load_failures result (S.failures system.old) (S.failures system.new) }
 {
     let Some(path) = path else {
         return Ok(Vec::new(system.alloc()));
     };
     match system.read(path, SCRIPT_READ) {
         Ok(script) => Ok(script),
-        Err(error) => Err(unread(error, path)),
+        Err(error) => Err(read_fault(error, path)),
     }
 }
 
 /// Returns a copy of the command tail.
-fn tail_of<'a>(alloc: Global, words: &Words<'a>) -> Result<Vec<u8>, Fault<'a>>
+fn tail_of<'a>(alloc: Global, words: &Words<'a>) -> Result<Vec<u8>, LoadFault<'a>>
     ensures tail { IfOk result (λ tail. tail.items ≡ words.now.tail.now) }
-    ensures memory { IfErr result (λ fault. fault ≡ Fault.OutOfMemory) }
+    ensures memory { IfErr result (λ fault. fault ≡ LoadFault.OutOfMemory) }
 {
     match words.tail.as_bytes().to_vec(alloc) {
         Ok(tail) => Ok(tail),
-        Err(_) => Err(Fault::OutOfMemory),
+        Err(_) => Err(LoadFault::OutOfMemory),
     }
 }
 
-/// Returns the session of these, or its refusal. Takes no memory.
+/// Returns the session of these parts, or its refusal. Allocates nothing.
 fn session_of<'a>(
     program: Vec<u8>,
     tail: Vec<u8>,
     files: HostFiles,
     script: Vec<u8>,
     limit: u64,
-) -> Result<Session, Fault<'a>>
+) -> Result<Session, LoadFault<'a>>
     ensures { MadeOrRefused (made_of program.items tail.items files script.items limit) result }
 {
     match Session::new(program, tail, files, script, limit) {
         Ok(session) => Ok(session),
-        Err(error) => Err(Fault::Refused(error.number())),
+        Err(error) => Err(LoadFault::Refused(error.number())),
     }
 }
 
-/// Returns the session that the words say: the program, the folders of the drives A to D and the script are
-/// read in this order, and then the session is made. A fault ends this.
-pub fn load<'a, S: FileSystem>(system: &mut S, words: &Words<'a>) -> Result<Session, Fault<'a>>
+/// Loads the session that the words ask for: reads the program, the folders of the drives A to D and the script, in this order.
+///
+/// # Errors
+///
+/// A file or a folder could not be read or was refused, the session was refused, or an allocation failed.
+pub fn load<'a, S: FileSystem>(system: &mut S, words: &Words<'a>) -> Result<Session, LoadFault<'a>>
     requires { S.failures system.old < 2 ^ 63 }
-    ensures session { IfOk result (IsOf (S.files system.old) (S.names system.old) words.now) }
-    ensures fault { IfErr result (Unloaded (S.files system.old) (S.names system.old) words.now) }
+    ensures session { IfOk result (IsLoadedFrom (S.files system.old) (S.names system.old) words.now) }
+    ensures fault { IfErr result (FailsToLoad (S.files system.old) (S.names system.old) words.now) }
     ensures files { S.files system.new ≡ S.files system.old }
     ensures names { S.names system.new ≡ S.names system.old }
-    ensures failures { AddsFailures file_failures result (S.failures system.old) (S.failures system.new) }
+    ensures failures { AddsFailures load_failures result (S.failures system.old) (S.failures system.new) }
 {
     let tail = tail_of(system.alloc(), words)?;
     let program = program_at(system, words.program)?;

@@ -10,10 +10,7 @@ use Rattle.machine.specs.WholeFiles.{Files}
 use Rattle.folders.specs.FileSystem.{Stored}
 use Rattle.folders.specs.Folders.{FailsToWrite, LeavesIn, WritesInto}
 use Rattle.folders.specs.declared.fault.Failure.{Failure}
-use Rattle.folders.specs.declared.fault.Failure.TheVariants as failure
-use Rattle.cpmrun.specs.declared.fault.Fault.{Fault}
-use Rattle.cpmrun.specs.declared.fault.Fault.TheVariants.{Use, NotText, CannotRead, CannotWrite, Folders, Refused, Malformed, TooLong, OutOfMemory}
-use Rattle.cpmrun.specs.RawRun.{IsOfFolder, StopsAt, Unwritten, WritesEach, bytes_in, home, written_keys}
+use Rattle.one_run.specs.RawRun.{StopsAt, WritesEach, bytes_in, drive_folder, written_keys}
 
 -- the changed files that are there, of those whose keys lie above one
 abbrev pub there_above : Host → Files → Option Key → List Key
@@ -49,7 +46,7 @@ module _ (folders : List (Option (Bor (List ℕ)))) (host : Host) (files : Files
 
   pub one_written : (before : Option Stored) (after : Option Key) (now next : Option Stored) (key : Key) → WritesOn before after now
       → keys_above (changed_in host files) after ≡ key ∷ keys_above (changed_in host files) (Some key) → contains_key files key ≡ true
-      → WritesInto (home folders key) now next key (bytes_in files key) → WritesOn before (Some key) next
+      → WritesInto (drive_folder folders key) now next key (bytes_in files key) → WritesOn before (Some key) next
   one_written before after now next key w split h into = record {
     all = λ last rest. w.all last (subst (λ keys. WritesEach folders files now keys last) (sym (there_next after key split h)) (next, into, rest));
     some = λ f last rest. w.some f last (subst (λ keys. StopsAt (λ name. FailsToWrite folders name f) folders files now keys last) (sym (there_next after key split h)) (inr (next, into, rest)));
@@ -70,20 +67,6 @@ module _ (folders : List (Option (Bor (List ℕ)))) (host : Host) (files : Files
   -- the next one is not written
   pub stops : (f : Failure) (before : Option Stored) (after : Option Key) (now last : Option Stored) (key : Key) → WritesOn before after now
       → keys_above (changed_in host files) after ≡ key ∷ keys_above (changed_in host files) (Some key) → contains_key files key ≡ true
-      → FailsToWrite folders key f → LeavesIn (home folders key) now last key → StopsAt (λ name. FailsToWrite folders name f) folders files before (written_keys host files) last
+      → FailsToWrite folders key f → LeavesIn (drive_folder folders key) now last key → StopsAt (λ name. FailsToWrite folders name f) folders files before (written_keys host files) last
   stops f before after now last key w split h fails leaves =
       w.some f last (subst (λ keys. StopsAt (λ name. FailsToWrite folders name f) folders files now keys last) (sym (there_next after key split h)) (inl (fails, leaves)))
-
-  -- and why
-  pub stops_by : (before : Option Stored) (after : Option Key) (now last : Option Stored) (key : Key) (fault : Fault) → WritesOn before after now
-      → keys_above (changed_in host files) after ≡ key ∷ keys_above (changed_in host files) (Some key) → contains_key files key ≡ true
-      → IsOfFolder folders key fault → LeavesIn (home folders key) now last key → Unwritten folders host files before last fault
-  stops_by before after now last key (Use text) w split h fails leaves = absurd fails
-  stops_by before after now last key NotText w split h fails leaves = absurd fails
-  stops_by before after now last key (CannotRead p) w split h fails leaves = absurd fails
-  stops_by before after now last key CannotWrite w split h fails leaves = absurd fails
-  stops_by before after now last key (Folders f) w split h fails leaves = stops (failure.AtFault f) before after now last key w split h fails leaves
-  stops_by before after now last key (Refused n) w split h fails leaves = absurd fails
-  stops_by before after now last key (Malformed k) w split h fails leaves = absurd fails
-  stops_by before after now last key (TooLong k) w split h fails leaves = absurd fails
-  stops_by before after now last key OutOfMemory w split h fails leaves = stops failure.OutOfMemory before after now last key w split h fails leaves

@@ -11,16 +11,16 @@ use Rattle.std.proofs.lemmas.Option.{get_or_from_slice_get, slice_get_past, slic
 use Rattle.hostfiles.specs.Files.{Own, told}
 use Rattle.hostfiles.specs.Changed.{changed_names, changed_keys}
 use Rattle.hostfiles.proofs.ChangedWalk.{keys_above, keys_above_none}
-use Rattle.edit_lines.specs.ReportText.{line, text_line}
+use Rattle.report_lines.specs.FirstLines.{line, text_line}
 use Rattle.hex.specs.Hex.{encode_with, encode_lower, lower_digits}
 use Rattle.filenames.specs.Names.{Key, printed}
 use Rattle.hostfiles.specs.Hosts.{Record, Host}
-use Rattle.edit_lines.specs.ChangedLines.{records_text, file_text, changed_line, line_of_file, lines_of_files}
-use Rattle.edit_lines.specs.declared.changed_lines.Asked.{Asked}
+use Rattle.report_lines.specs.ChangedLines.{records_text, file_text, changed_line, line_of_file, lines_of_files}
+use Rattle.report_lines.specs.declared.changed_lines.FileFilter.{FileFilter}
 use Rattle.machine.proofs.ChangedFileLemmas.{told_laid, changed_keys_laid}
 use Rattle.hostfiles.specs.Files.{files}
-use Rattle.edit_lines.specs.Writing.{WritesOrFails}
-use Rattle.edit_lines.specs.Writing.{Writes}
+use Rattle.report_lines.specs.Writing.{WritesOrFails}
+use Rattle.report_lines.specs.Writing.{Writes}
 
 -- some first part of a text is one of a longer text
 first_part : (n : ℕ) (x y : List ℕ) → (m : ℕ) × (take m (x ++ y) ≡ take n x)
@@ -181,11 +181,11 @@ abbrev pub all_parts : (Key → List ℕ) → Host → Own → List ℕ
 all_parts part host own = concat (map part (changed_keys host own))
 
 -- the line of a file, by what was done to the host files
-abbrev pub own_line : Asked → Host → Own → Key → List ℕ
-own_line asked host own key = line_of_file asked key (told host own key)
+abbrev pub own_line : FileFilter → Host → Own → Key → List ℕ
+own_line filter host own key = line_of_file filter key (told host own key)
 
-pub lines_laid : (asked : Asked) (host : Host) (own : Own) → all_parts (own_line asked host own) host own ≡ lines_of_files asked host (files host own)
-lines_laid asked host own = sym (λ i. concat (map (λ key. line_of_file asked key (told_laid host own key i)) (changed_keys_laid host own i)))
+pub lines_laid : (filter : FileFilter) (host : Host) (own : Own) → all_parts (own_line filter host own) host own ≡ lines_of_files filter host (files host own)
+lines_laid filter host own = sym (λ i. concat (map (λ key. line_of_file filter key (told_laid host own key i)) (changed_keys_laid host own i)))
 
 pub parts_begin : (part : Key → List ℕ) (host : Host) (own : Own) → [] ++ parts_above part host own None ≡ all_parts part host own
 parts_begin part host own = ap (λ ks. concat (map part ks)) (keys_above_none (changed_names host own))

@@ -6,9 +6,9 @@ use Rattle.filenames.specs.Names.{Key, printed}
 use Rattle.hostfiles.specs.Hosts.{Record, Host}
 use Rattle.machine.specs.ChangedFiles.{changed_keys_in, told_in}
 use Rattle.machine.specs.WholeFiles.{Files}
-use Rattle.edit_lines.specs.ReportText.{line}
-use Rattle.edit_lines.specs.declared.changed_lines.Asked.{Asked}
-use Rattle.edit_lines.specs.declared.changed_lines.Asked.TheVariants.{All, GoneAlone}
+use Rattle.report_lines.specs.FirstLines.{line}
+use Rattle.report_lines.specs.declared.changed_lines.FileFilter.{FileFilter}
+use Rattle.report_lines.specs.declared.changed_lines.FileFilter.TheVariants.{All, GoneOnly}
 
 -- `-` for no record, else two digits in lower case for each byte
 abbrev pub records_text : List Record → List ℕ
@@ -29,17 +29,17 @@ abbrev pub gone_line : Key → Option (List Record) → List ℕ
 gone_line key None = line (codes "gone " ++ printed key)
 gone_line key (Some records) = []
 
--- the line of a changed file as it is told, where it is asked for
-abbrev pub line_of_file : Asked → Key → Option (List Record) → List ℕ
+-- the line of a changed file as it is told, where it is filter for
+abbrev pub line_of_file : FileFilter → Key → Option (List Record) → List ℕ
 line_of_file All = changed_line
-line_of_file GoneAlone = gone_line
+line_of_file GoneOnly = gone_line
 
--- the lines of the changed files that are asked for, in the order of their names
-abbrev pub lines_of_files : Asked → Host → Files → List ℕ
-lines_of_files asked host files = concat (map (λ key. line_of_file asked key (told_in files key)) (changed_keys_in host files))
+-- the lines of the changed files that are filter for, in the order of their names
+abbrev pub lines_of_files : FileFilter → Host → Files → List ℕ
+lines_of_files filter host files = concat (map (λ key. line_of_file filter key (told_in files key)) (changed_keys_in host files))
 
 abbrev pub changed_lines : Host → Files → List ℕ
 changed_lines = lines_of_files All
 
 abbrev pub gone_lines : Host → Files → List ℕ
-gone_lines = lines_of_files GoneAlone
+gone_lines = lines_of_files GoneOnly

@@ -1,4 +1,4 @@
--- The texts that a replay writes: the report and its lines. (This project's own.)
+-- The first lines of a report, and the line of its console text. (This project's own.)
 use Rattle.std.specs.Prelude.{ℕ, ◌/◌, ◌%◌, List, [], ◌∷◌, ◌++◌, codes}
 use Rattle.std.specs.Fmt.{decimal}
 use Rattle.hex.specs.Hex.{encode_lower, encode_upper}
@@ -6,7 +6,6 @@ use Rattle.machine.specs.Flags.{byte_of}
 use Rattle.machine.specs.Regs.{Regs}
 use Rattle.machine.specs.Cause.{Cause}
 use Rattle.machine.specs.Cause.TheVariants.{WarmBoot, Halt, Limit, Undefined, SystemArea, ConsoleExhausted, NoDollar, Unsupported, BadDrive}
-use Rattle.replay.specs.Plain.{PlainRun}
 
 -- `-` for no byte, else two digits in lower case for each
 abbrev pub hex_text : List ℕ → List ℕ
@@ -45,12 +44,9 @@ regs_text r =
     ++ codes " H=" ++ byte_text r.h ++ codes " L=" ++ byte_text r.l
     ++ codes " SP=" ++ word_text r.sp ++ codes " PC=" ++ word_text r.pc
 
--- the first lines of the reply to `run`, of a run: why it stopped, after how many steps, and with which registers
-abbrev pub head_text : PlainRun → List ℕ
-head_text run =
-    line (codes "stop " ++ cause_text run.cause)
-    ++ line (codes "steps " ++ decimal run.steps)
-    ++ line (regs_text run.machine.core.regs)
+-- why a run stopped, after how many steps, and with which registers
+abbrev pub report_head : Cause → ℕ → Regs → List ℕ
+report_head cause steps regs = line (codes "stop " ++ cause_text cause) ++ line (codes "steps " ++ decimal steps) ++ line (regs_text regs)
 
 -- the line of the console text
 abbrev pub text_line : List ℕ → List ℕ

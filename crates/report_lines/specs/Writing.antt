@@ -1,18 +1,11 @@
 -- What a writer took of a text. (This project's own.)
 use Rattle.std.specs.Prelude.{◌≡◌, ℕ, ◌+◌, ◌<◌, ◌⊎◌, List, take, Option, Result, Ok, Err}
 use Rattle.std.specs.Io.KnownBytes.{Appends}
-use Rattle.edit_lines.specs.declared.ending.ReplayFault.{ReplayFault}
-use Rattle.edit_lines.specs.declared.ending.ReplayFault.TheVariants.{Write}
 
 -- the whole text, with no failure; or some first part of it, with one failure more
 abbrev pub Writes : {U E : Type 0} → Option (List ℕ) → Option (List ℕ) → ℕ → ℕ → List ℕ → Result U E → Type 0
 Writes held holds before after text (Ok u) = Appends held holds text × (after ≡ before)
 Writes held holds before after text (Err e) = ((n : ℕ) × Appends held holds (take n text)) × (after ≡ before + 1)
-
--- the same of a reply, whose fault is the writer's
-abbrev pub Replies : {U : Type 0} → Option (List ℕ) → Option (List ℕ) → ℕ → ℕ → List ℕ → Result U ReplayFault → Type 0
-Replies held holds before after text (Ok u) = Appends held holds text × (after ≡ before)
-Replies held holds before after text (Err e) = (e ≡ Write) × ((n : ℕ) × Appends held holds (take n text)) × (after ≡ before + 1)
 
 -- the text was written, or a part of it where writing failed
 abbrev pub WritesOrFails : Option (List ℕ) → Option (List ℕ) → ℕ → ℕ → List ℕ → Type 0

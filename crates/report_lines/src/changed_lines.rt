@@ -1,66 +1,66 @@
-// The lines that tell the changed files. They are written in pieces, and no memory is taken.
+// The lines of the changed files, written in pieces.
 
 ghost use Rattle.std.specs.Prelude.{◌≡◌, ◌^◌, ◌<◌, ◌++◌, [], length, unwrap_or};
 ghost use Rattle.filenames.specs.Names.{printed};
 ghost use Rattle.hostfiles.specs.Files.{files, told};
 ghost use Rattle.hostfiles.specs.Seen.{own_of};
-ghost use Rattle.edit_lines.specs.ChangedLines.{records_text, changed_line, gone_line, line_of_file, lines_of_files};
-ghost use Rattle.edit_lines.specs.Writing.{Writes};
+ghost use Rattle.report_lines.specs.ChangedLines.{records_text, changed_line, gone_line, line_of_file, lines_of_files};
+ghost use Rattle.report_lines.specs.Writing.{Writes};
 
-use crate::ends::{Failed, Writer, write_piece};
 use crate::hex_writer::write_hex;
+use crate::streams::{Failed, Writer, write_piece};
 use arrayvec::ArrayVec;
 use filenames::Pieces;
 use hostfiles::{HostFiles, Journal, Name, SeenFile, next_changed, told_count};
 
-/// Which changed files are told.
+/// Which changed files are reported.
 #[derive(Clone, Copy, Debug, PartialEq, Eq)]
-pub enum Asked {
+pub enum FileFilter {
     /// All of them.
     All,
-    /// Those that are gone.
-    GoneAlone,
+    /// The ones that are gone.
+    GoneOnly,
 }
 
-/// Writes the lines of the changed files that are asked for, in the order of their names, each with its 0AH: `file NAME HEX` with all
-/// records of a file that is there, `gone NAME` for one that is gone. Where the writer fails, some first part of them is written.
+/// Writes the lines of the changed files that pass the filter, in the order of their names: `file NAME HEX` with all records of a file
+/// that is there, `gone NAME` for one that is gone. If the writer fails, a prefix of them is written.
 pub fn write_changed_files<W: Writer>(
     writer: &mut W,
-    asked: Asked,
+    filter: FileFilter,
     host: &HostFiles,
     journal: &Journal,
 ) -> Result<(), Failed>
     requires { W.failures writer.old < 2 ^ 63 }
     ensures { Writes (W.holds writer.old) (W.holds writer.new) (W.failures writer.old) (W.failures writer.new)
-        (lines_of_files asked host.now (files host.now journal.now.entries)) result }
+        (lines_of_files filter host.now (files host.now journal.now.entries)) result }
 {
     let mut after: Option<Name> = None;
     while let Some(name) = next_changed(host, journal, after.as_ref()) {
-        write_asked(writer, asked, host, journal, &name)?;
+        write_filtered(writer, filter, host, journal, &name)?;
         after = Some(name);
     }
     Ok(())
 }
 
-// Writes the line of a changed file, where it is asked for.
-fn write_asked<W: Writer>(
+// Writes the line of a changed file if it passes the filter.
+fn write_filtered<W: Writer>(
     writer: &mut W,
-    asked: Asked,
+    filter: FileFilter,
     host: &HostFiles,
     journal: &Journal,
     name: &Name,
 ) -> Result<(), Failed>
     requires { W.failures writer.old < 2 ^ 63 }
     ensures { Writes (W.holds writer.old) (W.holds writer.new) (W.failures writer.old) (W.failures writer.new)
-        (line_of_file asked name.now (told host.now journal.now.entries name.now)) result }
+        (line_of_file filter name.now (told host.now journal.now.entries name.now)) result }
 {
-    match asked {
-        Asked::All => write_changed(writer, host, journal, name),
-        Asked::GoneAlone => write_gone(writer, host, journal, name),
+    match filter {
+        FileFilter::All => write_changed(writer, host, journal, name),
+        FileFilter::GoneOnly => write_gone(writer, host, journal, name),
     }
 }
 
-// Writes the line of a file that is gone, and nothing for one that is there.
+// Writes the line of a file that is gone, and nothing for a file that is there.
 fn write_gone<W: Writer>(
     writer: &mut W,
     host: &HostFiles,
@@ -99,7 +99,7 @@ fn write_changed<W: Writer>(
     write_piece(writer, b"\n")
 }
 
-// Writes a word with its blank, and a name.
+// Writes a word with its blank, and then a name.
 fn write_head<W: Writer>(writer: &mut W, word: &[u8], name: &Name) -> Result<(), Failed>
     requires { W.failures writer.old < 2 ^ 63 }
     ensures { Writes (W.holds writer.old) (W.holds writer.new) (W.failures writer.old)
@@ -109,7 +109,7 @@ fn write_head<W: Writer>(writer: &mut W, word: &[u8], name: &Name) -> Result<(),
     write_name(writer, name)
 }
 
-// Writes a name as it is printed.
+// Writes a name in its printed form.
 fn write_name<W: Writer>(writer: &mut W, name: &Name) -> Result<(), Failed>
     requires { W.failures writer.old < 2 ^ 63 }
     ensures { Writes (W.holds writer.old) (W.holds writer.new) (W.failures writer.old)
@@ -127,7 +127,7 @@ fn write_name<W: Writer>(writer: &mut W, name: &Name) -> Result<(), Failed>
     write_piece(writer, kind.as_bytes())
 }
 
-// Writes all records of a file as it is told: `-` where it has none.
+// Writes all records of a file, with zeros in its holes, or `-` if it has none.
 fn write_records<W: Writer>(writer: &mut W, file: &SeenFile<'_>, count: u32) -> Result<(), Failed>
     requires room { W.failures writer.old < 2 ^ 63 }
     requires count { count ≡

@@ -1,19 +1,18 @@
-// Bytes written as hexadecimal digits, a chunk at a time. No memory is taken.
+// Bytes written as hexadecimal digits, a chunk at a time.
 
 ghost use Rattle.std.specs.Prelude.{◌^◌, ◌<◌, ◌≤◌, length};
 ghost use Rattle.hex.specs.Hex.{encode_lower};
-ghost use Rattle.edit_lines.specs.Writing.{Writes};
+ghost use Rattle.report_lines.specs.Writing.{Writes};
 
-use crate::ends::{Failed, Writer, write_piece};
+use crate::streams::{Failed, Writer, write_piece};
 
-/// How many bytes are written at once.
+/// The bytes of a chunk.
 const CHUNK_BYTES: usize = 2048;
 
-/// How many digits these have.
+/// The digits of a chunk.
 const CHUNK_DIGITS: usize = 4096;
 
-/// Writes two digits in lower case for each byte, or some first part of them where the writer fails. The writer gets 4096 digits at
-/// a time, and the rest at the end.
+/// Writes two lower-case digits for each byte, 4096 digits at a time. If the writer fails, a prefix of them is written.
 pub fn write_hex<W: Writer>(writer: &mut W, bytes: &[u8]) -> Result<(), Failed>
     requires { W.failures writer.old < 2 ^ 63 }
     ensures { Writes (W.holds writer.old) (W.holds writer.new) (W.failures writer.old)

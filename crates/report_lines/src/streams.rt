@@ -1,24 +1,25 @@
 ghost use Rattle.std.specs.Prelude.{◌≡◌, ℕ, ◌+◌, ◌^◌, ◌<◌, ◌≤◌, List, Option, length, take, IfOk, OnOk, OnErr};
 ghost use Rattle.std.specs.Io.KnownBytes.{ReadConsumes, WriteAppends, Appends};
-ghost use Rattle.edit_lines.specs.Writing.{Writes};
+ghost use Rattle.report_lines.specs.Writing.{Writes};
 
 use std::io;
 
-/// A reader or a writer failed. Why, its own side knows.
+/// The failure of a reader or a writer. The cause is not recorded.
 #[derive(Clone, Copy, Debug, PartialEq, Eq)]
 pub struct Failed;
 
-/// Where bytes come from. A contract sees the bytes that are left, where the reader tells them, and
-/// a count of failures.
+/// A source of bytes. A contract sees the bytes that are left, if the reader reports them, and a count of failures.
 pub trait Reader {
-    /// The bytes that are left, where the reader tells them.
+    /// The bytes that are left, if the reader reports them.
     ghost left: { Self → Option (List ℕ) };
     /// How often it failed.
     ghost failures: { Self → ℕ };
 
-    /// Moves the next bytes, at most as many as the piece has places, to the front of the piece, and
-    /// gives their count. No byte for a piece that is not empty is the end. An error moves no byte and
-    /// adds one failure.
+    /// Reads bytes to the front of the piece and returns their count. A count of 0 for a piece that is not empty is the end.
+    ///
+    /// # Errors
+    ///
+    /// The reader failed: no byte was read, and the count of failures is one higher.
     fn read(&mut self, piece: &mut [u8]) -> Result<usize, Failed>
         requires { failures self.old < 2 ^ 63 }
         ensures count { IfOk result (λ n. n ≤ length piece.new) }
@@ -27,16 +28,18 @@ pub trait Reader {
         ensures err { OnErr result (failures self.new ≡ failures self.old + 1) };
 }
 
-/// Where bytes go. A contract sees the bytes that it holds, where the writer tells them, and a count
-/// of failures.
+/// A sink for bytes. A contract sees the bytes that it holds, if the writer reports them, and a count of failures.
 pub trait Writer {
-    /// The bytes that it holds, where it tells them.
+    /// The bytes that it holds, if it reports them.
     ghost holds: { Self → Option (List ℕ) };
     /// How often it failed.
     ghost failures: { Self → ℕ };
 
-    /// Takes some first bytes of the piece, at least one where there is one, and gives their count. An
-    /// error takes no byte and adds one failure.
+    /// Writes a prefix of the piece, at least one byte of a piece that is not empty, and returns its length.
+    ///
+    /// # Errors
+    ///
+    /// The writer failed: no byte was written, and the count of failures is one higher.
     fn write(&mut self, piece: &[u8]) -> Result<usize, Failed>
         requires { failures self.old < 2 ^ 63 }
         ensures count { IfOk result (λ n. n ≤ length piece.now) }
@@ -46,8 +49,8 @@ pub trait Writer {
         ensures err { OnErr result (failures self.new ≡ failures self.old + 1) };
 }
 
-/// A reader or writer of the standard library, with a count of its failures. A write that takes no
-/// byte of a piece that has some is a failure.
+/// A reader or writer of the standard library with a count of its failures. A write that takes no byte of a piece that is not empty is a
+/// failure.
 #[derive(Drop)]
 pub struct Over<T> {
     inner: T,
@@ -55,7 +58,7 @@ pub struct Over<T> {
 }
 
 impl<T> Over<T> {
-    /// Over this reader or writer, with no failure yet.
+    /// Wraps a reader or writer that has not failed yet.
     pub fn new(inner: T) -> Over<T>
         ensures none { result.failures ≡ 0 }
         ensures same { result.inner ≡ inner }
@@ -63,7 +66,7 @@ impl<T> Over<T> {
         Over { inner, failures: 0 }
     }
 
-    /// The reader or writer, as it now is.
+    /// Returns the reader or writer.
     pub fn into_inner(self) -> T
         ensures { result ≡ self.inner }
     {
@@ -104,8 +107,11 @@ impl<T: io::Write> Writer for Over<T> {
     }
 }
 
-/// Writes the whole text, or some first part of it where the writer fails. No failure is tried
-/// again.
+/// Writes a text.
+///
+/// # Errors
+///
+/// The writer failed: a prefix of the text was written. A failed write is not tried again.
 pub fn write_all<W: Writer>(writer: &mut W, text: &[u8]) -> Result<(), Failed>
     requires { W.failures writer.old < 2 ^ 63 }
     ensures ok { OnOk result (Appends (W.holds writer.old) (W.holds writer.new) text.now) }
@@ -122,7 +128,7 @@ pub fn write_all<W: Writer>(writer: &mut W, text: &[u8]) -> Result<(), Failed>
     Ok(())
 }
 
-/// Writes a piece of a text, or some first part of it where the writer fails.
+/// Writes a piece of a text, as `write_all` does, with a contract that joins pieces.
 pub fn write_piece<W: Writer>(writer: &mut W, text: &[u8]) -> Result<(), Failed>
     requires { W.failures writer.old < 2 ^ 63 }
     ensures { Writes (W.holds writer.old) (W.holds writer.new) (W.failures writer.old)

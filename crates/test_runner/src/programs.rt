@@ -2,9 +2,9 @@
 
 use crate::standing::SLOTS;
 use crate::trouble::Trouble;
-use edit_lines::{Asked, Over, cause_text, write_all, write_changed_files};
 use machine::{HostFiles, Meter, Session};
 use replay::{Edit, Options, Report, Runner};
+use report_lines::{FileFilter, Over, cause_text, write_all, write_changed_files};
 use std::alloc::Global;
 use std::rt::Files;
 use std::{fs, io};
@@ -76,7 +76,7 @@ fn tell(rt: &impl Print, alloc: Global, report: &Report<'_>) -> Result<(), Troub
     let Ok(()) = write_all(&mut out, line.as_bytes()) else {
         return Err(Trouble::Device);
     };
-    match write_changed_files(&mut out, Asked::All, report.files(), report.journal()) {
+    match write_changed_files(&mut out, FileFilter::All, report.files(), report.journal()) {
         Ok(()) => Ok(()),
         Err(_) => Err(Trouble::Device),
     }

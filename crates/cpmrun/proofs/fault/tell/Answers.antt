@@ -1,5 +1,5 @@
-use Rattle.cpmrun.proofs.Telling.{written_or_failed}
+use Rattle.report_lines.proofs.WrittenPieces.{writes_or_fails}
 use Rattle.cpmrun.proofs.fault.tell.Goals as goal
 
 pub returns : goal.returns
-returns g c = written_or_failed _ _ _ _ _ _ c.write_all.ensures.ok c.write_all.ensures.part c.write_all.ensures.err
+returns g c = writes_or_fails _ _ _ _ _ c.write_piece.result c.write_piece.ensures

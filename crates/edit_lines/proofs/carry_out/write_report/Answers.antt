@@ -2,10 +2,10 @@ use Rattle.std.proofs.Common.{◌++◌, ◌∙◌, ap, codes, refl}
 use Rattle.hostfiles.specs.Files.{files}
 use Rattle.hostfiles.specs.Hosts.{Host}
 use Rattle.replay.specs.Report.{run_of, session_of}
-use Rattle.edit_lines.specs.ReportText.{line, text_line}
+use Rattle.report_lines.specs.FirstLines.{line, text_line}
 use Rattle.edit_lines.specs.Reports.{report_text}
-use Rattle.edit_lines.specs.ChangedLines.{changed_lines}
-use Rattle.edit_lines.proofs.WrittenPieces.{all_then, part_then, part_more, writes_part, writes_then, writes_same}
+use Rattle.report_lines.specs.ChangedLines.{changed_lines}
+use Rattle.report_lines.proofs.WrittenPieces.{all_then, part_then, part_more, writes_part, writes_then, writes_same}
 use Rattle.edit_lines.proofs.Reporting.{report_is}
 use Rattle.edit_lines.proofs.carry_out.write_report.Goals as goal
 
@@ -18,7 +18,7 @@ returns-in_err-write_piece g c =
     let lines = changed_lines s.files run.machine.files in
     let last = line (codes "end") in
     writes_same _ _ _ _ (((head ++ text) ++ lines) ++ last) (report_text s run) c.from_residual.result
-    (report_is s run head run.machine.core.desk.text s.files run.machine.files (c.as_bytes.ensures.value ∙ c.deref.ensures.0 ∙ c.head_of.ensures) refl refl refl)
+    (report_is s run head run.machine.core.desk.text s.files run.machine.files (c.as_bytes.ensures.value ∙ c.deref.ensures.0 ∙ (rw (c.cause.ensures, c.steps.ensures, c.regs.ensures) at c.report_head-head.ensures)) refl refl refl)
     (writes_part _ _ _ _ (((head ++ text) ++ lines) ++ last) c.from_residual.result c.from_residual.ensures.0
     (part_more _ _ _ _ ((head ++ text) ++ lines) last (part_more _ _ _ _ (head ++ text) lines (part_more _ _ _ _ head text c.in_err-write_piece.ensures))))
 
@@ -31,7 +31,7 @@ returns-in_err-write_text g c =
     let lines = changed_lines s.files run.machine.files in
     let last = line (codes "end") in
     writes_same _ _ _ _ (((head ++ text) ++ lines) ++ last) (report_text s run) c.from_residual-in_err-write_text.result
-    (report_is s run head c.text.result.now s.files run.machine.files (c.as_bytes.ensures.value ∙ c.deref.ensures.0 ∙ c.head_of.ensures) c.text.ensures refl refl)
+    (report_is s run head c.text.result.now s.files run.machine.files (c.as_bytes.ensures.value ∙ c.deref.ensures.0 ∙ (rw (c.cause.ensures, c.steps.ensures, c.regs.ensures) at c.report_head-head.ensures)) c.text.ensures refl refl)
     (writes_part _ _ _ _ (((head ++ text) ++ lines) ++ last) c.from_residual-in_err-write_text.result c.from_residual-in_err-write_text.ensures.0
     (part_more _ _ _ _ ((head ++ text) ++ lines) last (part_more _ _ _ _ (head ++ text) lines
     (part_then _ _ _ _ _ _ head text c.in_ok-write_piece.ensures c.in_err-write_text.ensures))))
@@ -47,7 +47,7 @@ returns-in_err-write_changed_files g c =
     let lines = changed_lines host all in
     let last = line (codes "end") in
     writes_same _ _ _ _ (((head ++ text) ++ lines) ++ last) (report_text s run) c.from_residual-in_err-write_changed_files.result
-    (report_is s run head c.text.result.now host all (c.as_bytes.ensures.value ∙ c.deref.ensures.0 ∙ c.head_of.ensures) c.text.ensures c.files.ensures
+    (report_is s run head c.text.result.now host all (c.as_bytes.ensures.value ∙ c.deref.ensures.0 ∙ (rw (c.cause.ensures, c.steps.ensures, c.regs.ensures) at c.report_head-head.ensures)) c.text.ensures c.files.ensures
     (ap (λ (h : Host). files h c.journal.result.now.entries) c.files.ensures ∙ c.journal.ensures))
     (writes_part _ _ _ _ (((head ++ text) ++ lines) ++ last) c.from_residual-in_err-write_changed_files.result
     c.from_residual-in_err-write_changed_files.ensures.0
@@ -65,7 +65,7 @@ returns g c =
     let lines = changed_lines host all in
     let last = line (codes "end") in
     writes_same _ _ _ _ (((head ++ text) ++ lines) ++ last) (report_text s run) c.write_piece-2.result
-    (report_is s run head c.text.result.now host all (c.as_bytes.ensures.value ∙ c.deref.ensures.0 ∙ c.head_of.ensures) c.text.ensures c.files.ensures
+    (report_is s run head c.text.result.now host all (c.as_bytes.ensures.value ∙ c.deref.ensures.0 ∙ (rw (c.cause.ensures, c.steps.ensures, c.regs.ensures) at c.report_head-head.ensures)) c.text.ensures c.files.ensures
     (ap (λ (h : Host). files h c.journal.result.now.entries) c.files.ensures ∙ c.journal.ensures))
     (writes_then _ _ _ _ _ _ ((head ++ text) ++ lines) last c.write_piece-2.result
     (all_then _ _ _ _ _ _ (head ++ text) lines (all_then _ _ _ _ _ _ head text c.in_ok-write_piece.ensures c.in_ok-write_text.ensures)

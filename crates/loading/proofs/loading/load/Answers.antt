@@ -1,6 +1,6 @@
 use Rattle.std.proofs.lemmas.Result.{err_from_is_err_and}
-use Rattle.cpmrun.proofs.Refusing.{refused_of_words, script_unread}
-use Rattle.cpmrun.proofs.loading.load.Goals as goal
+use Rattle.loading.proofs.Refusing.{refused_of_words, script_unread}
+use Rattle.loading.proofs.loading.load.Goals as goal
 
 pub returns-clause-fault : goal.returns-clause-fault
 returns-clause-fault g c =

@@ -2,16 +2,16 @@ use Rattle.std.proofs.Common.{[], Some, ap, ◌+◌, refl, subst, sym, unwrap_or
 use Rattle.std.proofs.lemmas.Result.{err_from_is_err_and}
 use Rattle.folders.specs.Folders.{WritesInto}
 use Rattle.std.specs.List.{concat}
-use Rattle.cpmrun.specs.Complaints.{file_failures}
-use Rattle.cpmrun.specs.RawRun.{home}
+use Rattle.folders.specs.Faults.{reported_failures}
+use Rattle.one_run.specs.RawRun.{drive_folder}
 use Rattle.hostfiles.specs.Files.{files}
 use Rattle.hostfiles.specs.Hosts.{Host}
 use Rattle.machine.proofs.ChangedFileLemmas.{changed_next_in, changed_none_in}
 use Rattle.replay.proofs.ReportLemmas.{told_is}
 use Rattle.replay.specs.Report.{run_of, session_of}
-use Rattle.cpmrun.proofs.Walking.{WritesOn, fewer_left, begins, one_written, one_gone, ends, stops_by}
-use Rattle.cpmrun.proofs.raw_run.write_changed.Goals as goal
-use Rattle.cpmrun.proofs.raw_run.write_changed.Goals.{then-has+in_ok-write_file, else-has}
+use Rattle.one_run.proofs.Walking.{WritesOn, fewer_left, begins, one_written, one_gone, ends, stops}
+use Rattle.one_run.proofs.raw_run.write_changed.Goals as goal
+use Rattle.one_run.proofs.raw_run.write_changed.Goals.{then-has+in_ok-write_file, else-has}
 
 pub loop-name-init : goal.loop-name-init
 loop-name-init g c = (refl, begins c.args.folders.now (session_of c.args.report.now).files (run_of c.args.report.now).machine.files (g.S.FileSystem.files c.args.system.now))
@@ -44,7 +44,7 @@ loop-name-preserved g c =
             rw w.system-is (w.in_ok-write_file.ensures.failures ∙ c.loop-name.invariant.0),
             subst (λ x. WritesOn folders host all before (Some name) (g.S.FileSystem.files x)) (sym w.system-is)
                 (one_written folders host all before low now next name c.loop-name.invariant.1 split (sym c.has.ensures ∙ w.if-has.true)
-                (subst (λ t. WritesInto (home folders name) now next name (concat (unwrap_or t [])))
+                (subst (λ t. WritesInto (drive_folder folders name) now next name (concat (unwrap_or t [])))
                 (told_is w.files.result.now w.journal.result.now.entries all (ap (λ (h : Host). files h w.journal.result.now.entries) w.files.ensures ∙ w.journal.ensures) name)
                 w.in_ok-write_file.ensures.written)),
           )
@@ -69,9 +69,9 @@ returns-in_err-write_file g c =
     let left = err_from_is_err_and c.from_residual.result c.from_residual.ensures.1 in
     rw (left.1, left.2) (record {
       written = tt;
-      fault = stops_by folders host all before low now last name c.in_err-write_file.field-0.0 c.loop-name.invariant.1 split (sym c.has.ensures ∙ c.if-has.true)
+      fault = stops folders host all c.in_err-write_file.field-0.0 before low now last name c.loop-name.invariant.1 split (sym c.has.ensures ∙ c.if-has.true)
           c.in_err-write_file.ensures.fault c.in_err-write_file.ensures.err;
-      failures = c.in_err-write_file.ensures.failures ∙ ap (λ n. n + file_failures c.in_err-write_file.field-0.0) c.loop-name.invariant.0;
+      failures = c.in_err-write_file.ensures.failures ∙ ap (λ n. n + reported_failures c.in_err-write_file.field-0.0) c.loop-name.invariant.0;
     })
 
 pub returns : goal.returns

@@ -2,8 +2,8 @@ use Rattle.std.proofs.Common.{◌≡◌, length}
 use Rattle.machine.specs.ChangedFiles.{changed_in}
 use Rattle.hostfiles.proofs.ChangedWalk.{keys_above}
 use Rattle.replay.specs.Report.{run_of, session_of}
-use Rattle.cpmrun.proofs.Walking.{WritesOn}
-use Rattle.cpmrun.proofs.raw_run.write_changed.Given as goal
+use Rattle.one_run.proofs.Walking.{WritesOn}
+use Rattle.one_run.proofs.raw_run.write_changed.Given as goal
 
 -- some first files were written, and those of the names above the last one are left
 abbrev pub invariant-loop-name : goal.invariant-loop-name

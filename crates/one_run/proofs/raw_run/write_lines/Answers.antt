@@ -1,5 +1,5 @@
-use Rattle.edit_lines.proofs.WrittenPieces.{part_more, writes_part, writes_then}
-use Rattle.cpmrun.proofs.raw_run.write_lines.Goals as goal
+use Rattle.report_lines.proofs.WrittenPieces.{part_more, writes_part, writes_then}
+use Rattle.one_run.proofs.raw_run.write_lines.Goals as goal
 
 pub returns-in_err-write_piece : goal.returns-in_err-write_piece
 returns-in_err-write_piece g c =

@@ -2,9 +2,9 @@ use Rattle.std.proofs.Common.{◌≡◌, ◌∙◌, ◌++◌, ◌∷◌, [], ap,
 use Rattle.filenames.specs.Names.{printed}
 use Rattle.hostfiles.specs.Files.{told}
 use Rattle.hostfiles.specs.Seen.{own_of}
-use Rattle.edit_lines.specs.ChangedLines.{records_text, changed_line}
-use Rattle.edit_lines.proofs.WrittenPieces.{all_then, part_then, part_more, writes_part, writes_then, writes_same, gone, there, gone_line, file_line, same_told}
-use Rattle.edit_lines.proofs.changed_lines.write_changed.Goals as goal
+use Rattle.report_lines.specs.ChangedLines.{records_text, changed_line}
+use Rattle.report_lines.proofs.WrittenPieces.{all_then, part_then, part_more, writes_part, writes_then, writes_same, gone, there, gone_line, file_line, same_told}
+use Rattle.report_lines.proofs.changed_lines.write_changed.Goals as goal
 
 pub returns-in_err-write_head : goal.returns-in_err-write_head
 returns-in_err-write_head g c =

@@ -3,8 +3,8 @@ use Rattle.std.specs.List.{concat}
 use Rattle.std.specs.Io.KnownBytes.{Appends}
 use Rattle.hostfiles.specs.Changed.{changed_names}
 use Rattle.hostfiles.proofs.ChangedWalk.{keys_above}
-use Rattle.edit_lines.proofs.WrittenPieces.{all_parts, own_line}
-use Rattle.edit_lines.proofs.changed_lines.write_changed_files.Given as goal
+use Rattle.report_lines.proofs.WrittenPieces.{all_parts, own_line}
+use Rattle.report_lines.proofs.changed_lines.write_changed_files.Given as goal
 
 -- some first lines were written, and those of the names above the last one are left
 abbrev pub invariant-loop-name : goal.invariant-loop-name
@@ -12,7 +12,7 @@ invariant-loop-name g l = record {
   text : List ℕ;
   written : Appends (g.W.Writer.holds l.initial.writer) (g.W.Writer.holds l.writer) text;
   same : g.W.Writer.failures l.writer ≡ g.W.Writer.failures l.initial.writer;
-  left : text ++ concat (map (own_line l.asked l.host l.journal.entries) (keys_above (changed_names l.host l.journal.entries) l.after)) ≡ all_parts (own_line l.asked l.host l.journal.entries) l.host l.journal.entries;
+  left : text ++ concat (map (own_line l.filter l.host l.journal.entries) (keys_above (changed_names l.host l.journal.entries) l.after)) ≡ all_parts (own_line l.filter l.host l.journal.entries) l.host l.journal.entries;
 }
 
 abbrev pub decreases-loop-name : goal.decreases-loop-name

@@ -1,5 +1,5 @@
-use Rattle.edit_lines.proofs.WrittenPieces.{writes_then, writes_part, part_more}
-use Rattle.edit_lines.proofs.changed_lines.write_head.Goals as goal
+use Rattle.report_lines.proofs.WrittenPieces.{writes_then, writes_part, part_more}
+use Rattle.report_lines.proofs.changed_lines.write_head.Goals as goal
 
 pub returns-in_err-write_piece : goal.returns-in_err-write_piece
 returns-in_err-write_piece g c =

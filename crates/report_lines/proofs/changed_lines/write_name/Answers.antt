@@ -1,7 +1,7 @@
 use Rattle.std.proofs.Common.{◌++◌, refl}
 use Rattle.filenames.specs.Names.{printed}
-use Rattle.edit_lines.proofs.WrittenPieces.{all_then, name_of_pieces, writes_then, writes_part, writes_same, part_then, part_more}
-use Rattle.edit_lines.proofs.changed_lines.write_name.Goals as goal
+use Rattle.report_lines.proofs.WrittenPieces.{all_then, name_of_pieces, writes_then, writes_part, writes_same, part_then, part_more}
+use Rattle.report_lines.proofs.changed_lines.write_name.Goals as goal
 
 pub returns-in_err-write_piece : goal.returns-in_err-write_piece
 returns-in_err-write_piece g c =

@@ -4,10 +4,10 @@ use Rattle.std.proofs.KnownBytes.{Appends-nil}
 use Rattle.hex.specs.Hex.{encode_lower}
 use Rattle.hostfiles.specs.Files.{told}
 use Rattle.hostfiles.specs.Seen.{own_of}
-use Rattle.edit_lines.specs.ChangedLines.{records_text}
-use Rattle.edit_lines.proofs.WrittenPieces.{all_then, part_then, part_more, writes_part, writes_then, writes_same, no_bytes, encode-append, one_record_more, first_digits, last_digits, record_here, no_record}
-use Rattle.edit_lines.proofs.changed_lines.write_records.Goals.{then-remaining_capacity-lt128+in_ok-write_hex, else-remaining_capacity-lt128}
-use Rattle.edit_lines.proofs.changed_lines.write_records.Goals as goal
+use Rattle.report_lines.specs.ChangedLines.{records_text}
+use Rattle.report_lines.proofs.WrittenPieces.{all_then, part_then, part_more, writes_part, writes_then, writes_same, no_bytes, encode-append, one_record_more, first_digits, last_digits, record_here, no_record}
+use Rattle.report_lines.proofs.changed_lines.write_records.Goals.{then-remaining_capacity-lt128+in_ok-write_hex, else-remaining_capacity-lt128}
+use Rattle.report_lines.proofs.changed_lines.write_records.Goals as goal
 
 pub loop-place-init : goal.loop-place-init
 loop-place-init g c = record { first = []; split = c.new-block.ensures; written = rw no_bytes (Appends-nil _); same = refl }

@@ -4,7 +4,7 @@ use Rattle.std.specs.Io.KnownBytes.{Appends}
 use Rattle.hex.specs.Hex.{encode_lower}
 use Rattle.hostfiles.specs.Files.{told}
 use Rattle.hostfiles.specs.Seen.{own_of}
-use Rattle.edit_lines.proofs.changed_lines.write_records.Given as goal
+use Rattle.report_lines.proofs.changed_lines.write_records.Given as goal
 
 -- of the first records some first bytes were written, and the others stand in the block
 abbrev pub invariant-loop-place : goal.invariant-loop-place

@@ -1,7 +1,7 @@
 use Rattle.std.proofs.Common.{◌≡◌, ℕ, List, ◌++◌, ◌∷◌, [], ◌/◌, ◌%◌, slice_index, ap, ◌∙◌, append_assoc, refl}
 use Rattle.hex.specs.Hex.{encode_with, upper_digits}
-use Rattle.edit_lines.specs.ReportText.{byte_text}
-use Rattle.edit_lines.proofs.reply.push_byte.Goals as goal
+use Rattle.report_lines.specs.FirstLines.{byte_text}
+use Rattle.report_lines.proofs.first_lines.push_byte.Goals as goal
 
 -- the two digits of a byte
 two_digits : (b high low : ℕ) → high ≡ slice_index upper_digits (b / 16) → low ≡ slice_index upper_digits (b % 16)

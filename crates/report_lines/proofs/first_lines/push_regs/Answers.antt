@@ -1,7 +1,7 @@
 use Rattle.std.proofs.Common.{ℕ, ◌++◌, codes, ap, ◌∙◌, append_assoc}
-use Rattle.edit_lines.specs.ReportText.{byte_text}
-use Rattle.edit_lines.proofs.ReportLines.{named_behind}
-use Rattle.edit_lines.proofs.reply.push_regs.Goals as goal
+use Rattle.report_lines.specs.FirstLines.{byte_text}
+use Rattle.report_lines.proofs.GrowingText.{named_behind}
+use Rattle.report_lines.proofs.first_lines.push_regs.Goals as goal
 
 pub returns-clause-regs : goal.returns-clause-regs
 returns-clause-regs c =

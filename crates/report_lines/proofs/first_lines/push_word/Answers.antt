@@ -1,7 +1,7 @@
 use Rattle.std.proofs.Common.{◌≡◌, ℕ, List, ◌++◌, ◌/◌, ◌%◌, ap, ◌∙◌, append_assoc, refl}
 use Rattle.hex.specs.Hex.{encode_with}
-use Rattle.edit_lines.specs.ReportText.{byte_text, word_text}
-use Rattle.edit_lines.proofs.reply.push_word.Goals as goal
+use Rattle.report_lines.specs.FirstLines.{byte_text, word_text}
+use Rattle.report_lines.proofs.first_lines.push_word.Goals as goal
 
 -- the four digits of a word
 four_digits : (w : ℕ) → byte_text (w / 256) ++ byte_text (w % 256) ≡ word_text w

@@ -1,8 +1,8 @@
 use Rattle.std.proofs.Common.{◌≡◌, ◌++◌, ◌∷◌, [], length, codes, rules}
 use Rattle.hex.specs.Hex.{encode_lower}
-use Rattle.edit_lines.specs.ReportText.{hex_text, text_line}
-use Rattle.edit_lines.proofs.WrittenPieces.{all_then, part_then, part_more, writes_part, writes_then, writes_same, no_text, some_text}
-use Rattle.edit_lines.proofs.reply.write_text.Goals as goal
+use Rattle.report_lines.specs.FirstLines.{hex_text, text_line}
+use Rattle.report_lines.proofs.WrittenPieces.{all_then, part_then, part_more, writes_part, writes_then, writes_same, no_text, some_text}
+use Rattle.report_lines.proofs.first_lines.write_text.Goals as goal
 
 pub returns-in_err-write_piece : goal.returns-in_err-write_piece
 returns-in_err-write_piece g c =

@@ -1,8 +1,8 @@
 use Rattle.std.proofs.Common.{◌≡◌, ℕ, List, ◌++◌, [], ◌∙◌, ap, refl, sym, append_assoc}
 use Rattle.std.proofs.KnownBytes.{Appends-nil}
 use Rattle.hex.specs.Hex.{encode_lower}
-use Rattle.edit_lines.proofs.WrittenPieces.{all_then, part_then, part_more, writes_part, writes_same, encode-append, no_bytes}
-use Rattle.edit_lines.proofs.hex_writer.write_hex.Goals as goal
+use Rattle.report_lines.proofs.WrittenPieces.{all_then, part_then, part_more, writes_part, writes_same, encode-append, no_bytes}
+use Rattle.report_lines.proofs.hex_writer.write_hex.Goals as goal
 
 -- the digits of three parts
 three_parts : (x y z : List ℕ) → (encode_lower x ++ encode_lower y) ++ encode_lower z ≡ encode_lower ((x ++ y) ++ z)

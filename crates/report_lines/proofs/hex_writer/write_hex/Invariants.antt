@@ -1,7 +1,7 @@
 use Rattle.std.proofs.Common.{◌≡◌, ◌++◌, ℕ, List, length}
 use Rattle.std.specs.Io.KnownBytes.{Appends}
 use Rattle.hex.specs.Hex.{encode_lower}
-use Rattle.edit_lines.proofs.hex_writer.write_hex.Given as goal
+use Rattle.report_lines.proofs.hex_writer.write_hex.Given as goal
 
 -- some first bytes were written, and the others are left
 abbrev pub invariant-loop-rest : goal.invariant-loop-rest

@@ -1,7 +1,7 @@
 use Rattle.std.proofs.Common.{◌+◌, ◌≤◌, length, arith, ◌-◌, ◌∙◌}
 use Rattle.std.proofs.lemmas.List.{length-drop}
-use Rattle.edit_lines.proofs.Parts.{rest_after, Appends-more}
-use Rattle.edit_lines.proofs.ends.write_all.Goals as goal
+use Rattle.report_lines.proofs.Parts.{rest_after, Appends-more}
+use Rattle.report_lines.proofs.streams.write_all.Goals as goal
 
 pub loop-rest-preserved : goal.loop-rest-preserved
 loop-rest-preserved g c =

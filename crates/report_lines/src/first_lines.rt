@@ -1,0 +1,155 @@
+// The first lines of a report, and the line of its console text.
+
+ghost use Rattle.std.specs.Prelude.{◌≡◌, ◌+◌, ◌^◌, ◌<◌, ◌≤◌, ◌++◌, IfOk, length, slice_index, string_bytes};
+ghost use Rattle.arrayvec.specs.ArrayString.{array_string_len};
+ghost use Rattle.hex.specs.Hex.{upper_digits};
+ghost use Rattle.report_lines.specs.FirstLines as texts;
+ghost use Rattle.report_lines.specs.FirstLines.{byte_text, word_text, regs_text, text_line};
+ghost use Rattle.report_lines.specs.Writing.{Writes};
+
+use crate::hex_writer::write_hex;
+use crate::streams::{Failed, Writer, write_piece};
+use arrayvec::ArrayString;
+use itoa::Buffer;
+use machine::{Cause, Regs};
+use std::alloc::{AllocError, Global};
+
+/// Returns a digit in upper case.
+fn digit(value: u8) -> char
+    requires { value < 16 }
+    ensures value { result ≡ slice_index upper_digits value }
+    ensures ascii { result < 128 }
+{
+    char::from(b"0123456789ABCDEF"[usize::from(value)])
+}
+
+/// Appends the two digits of a byte.
+fn push_byte<const N: usize>(text: &mut ArrayString<N>, value: u8)
+    requires { array_string_len text.old + 2 ≤ N }
+    ensures digits { text.new.bytes ≡ text.old.bytes ++ byte_text value }
+    ensures len { array_string_len text.new ≡ array_string_len text.old + 2 }
+{
+    text.push(digit(value / 16));
+    text.push(digit(value % 16));
+}
+
+/// Appends the four digits of a word, the high byte first.
+fn push_word<const N: usize>(text: &mut ArrayString<N>, value: u16)
+    requires { array_string_len text.old + 4 ≤ N }
+    ensures digits { text.new.bytes ≡ text.old.bytes ++ word_text value }
+    ensures len { array_string_len text.new ≡ array_string_len text.old + 4 }
+{
+    push_byte(text, (value / 256) as u8);
+    push_byte(text, (value % 256) as u8);
+}
+
+/// Returns the name of a cause with its value, as a report has it.
+fn cause_words(cause: Cause) -> ArrayString<64>
+    ensures { result.bytes ≡ texts.cause_text cause }
+{
+    let mut text = ArrayString::new();
+    match cause {
+        Cause::WarmBoot => text.push_str("WarmBoot"),
+        Cause::Halt => text.push_str("Halt"),
+        Cause::Limit => text.push_str("Limit"),
+        Cause::Undefined(value) => {
+            text.push_str("Undefined ");
+            push_byte(&mut text, value);
+        }
+        Cause::SystemArea(address) => {
+            text.push_str("SystemArea ");
+            push_word(&mut text, address);
+        }
+        Cause::ConsoleExhausted => text.push_str("ConsoleExhausted"),
+        Cause::NoDollar => text.push_str("NoDollar"),
+        Cause::Unsupported(number) => {
+            text.push_str("Unsupported ");
+            text.push_str(Buffer::new().format(number));
+        }
+        Cause::BadDrive(number) => {
+            text.push_str("BadDrive ");
+            text.push_str(Buffer::new().format(number));
+        }
+    }
+    text
+}
+
+/// Returns the name of a cause with its value, as a report has it: a byte or an address in upper-case hexadecimal digits, the number
+/// of a call or a drive in decimal.
+///
+/// # Errors
+///
+/// The allocation of the string failed.
+pub fn cause_text(alloc: Global, cause: Cause) -> Result<String, AllocError>
+    ensures { IfOk result (λ s. string_bytes s ≡ texts.cause_text cause) }
+{
+    String::from_str(alloc, cause_words(cause).as_str())
+}
+
+/// Appends a name and the two digits of a byte.
+fn push_named_byte(text: &mut ArrayString<256>, name: &str, value: u8)
+    requires { array_string_len text.old + length name.now + 2 ≤ 256 }
+    ensures digits { text.new.bytes ≡ text.old.bytes ++ name.now ++ byte_text value }
+    ensures len { array_string_len text.new ≡ array_string_len text.old + length name.now + 2 }
+{
+    text.push_str(name);
+    push_byte(text, value);
+}
+
+/// Appends a name and the four digits of a word.
+fn push_named_word(text: &mut ArrayString<256>, name: &str, value: u16)
+    requires { array_string_len text.old + length name.now + 4 ≤ 256 }
+    ensures digits { text.new.bytes ≡ text.old.bytes ++ name.now ++ word_text value }
+    ensures len { array_string_len text.new ≡ array_string_len text.old + length name.now + 4 }
+{
+    text.push_str(name);
+    push_word(text, value);
+}
+
+/// Appends the registers with their names, without a line end.
+fn push_regs(text: &mut ArrayString<256>, regs: Regs)
+    requires { array_string_len text.old ≤ 128 }
+    ensures regs { text.new.bytes ≡ text.old.bytes ++ regs_text regs }
+    ensures len { array_string_len text.new ≤ array_string_len text.old + 62 }
+{
+    push_named_byte(text, "regs A=", regs.a);
+    push_named_byte(text, " F=", regs.flags.byte());
+    push_named_byte(text, " B=", regs.b);
+    push_named_byte(text, " C=", regs.c);
+    push_named_byte(text, " D=", regs.d);
+    push_named_byte(text, " E=", regs.e);
+    push_named_byte(text, " H=", regs.h);
+    push_named_byte(text, " L=", regs.l);
+    push_named_word(text, " SP=", regs.sp);
+    push_named_word(text, " PC=", regs.pc);
+}
+
+/// Returns the first three lines of a report: `stop`, `steps` and `regs`.
+pub fn report_head(cause: Cause, steps: u64, regs: Regs) -> ArrayString<256>
+    ensures { result.bytes ≡ texts.report_head cause steps regs }
+{
+    let mut text = ArrayString::new();
+    text.push_str("stop ");
+    text.push_str(cause_words(cause).as_str());
+    text.push_str("\nsteps ");
+    text.push_str(Buffer::new().format(steps));
+    text.push_str("\n");
+    push_regs(&mut text, regs);
+    text.push_str("\n");
+    text
+}
+
+/// Writes the line of a report with the console text: two lower-case digits for each byte, or `-` for none. If the writer fails, a prefix
+/// of the line is written.
+pub fn write_text<W: Writer>(writer: &mut W, text: &[u8]) -> Result<(), Failed>
+    requires { W.failures writer.old < 2 ^ 63 }
+    ensures { Writes (W.holds writer.old) (W.holds writer.new) (W.failures writer.old)
+        (W.failures writer.new) (text_line text.now) result }
+{
+    write_piece(writer, b"text ")?;
+    if text.is_empty() {
+        return write_piece(writer, b"-\n");
+    }
+    write_hex(writer, text)?;
+    write_piece(writer, b"\n")
+}
