@@ -1,10 +1,14 @@
 # Proves the crates that the program needs, independent ones in parallel, and builds the program: `make -f scripts/build.mk`, at the
 # top of the repository. `cpmrun` calls it. A line of crates.txt reads as a rule: a crate is made after those that it uses.
 
-# as many crates at a time as there are processors, and 5,000 MB of memory for each
+# A proof takes at most 3,000 MB with one job, and 1,500 MB more for each further job.
 MEMORY := $(shell awk '/^MemAvailable:/ { print int($$2 / 1024) }' /proc/meminfo)
 LANES := $(shell cores=$$(nproc) lanes=$$(($(MEMORY) / 5000)); echo $$((lanes < 1 ? 1 : lanes < cores ? lanes : cores)))
 MAKEFLAGS += --no-builtin-rules --no-print-directory --jobs=$(LANES)
+
+# The crates whose proofs take longest, most of which wait for one another: a build takes as long as these, so each gets as many jobs as
+# there are lanes. The others get one, and the time that is left.
+LONG := i8080 pagemem console_calls bdos machine replay edit_lines one_run cpmrun
 
 # how many crates the program needs
 export NEEDED := $(shell tac crates.txt | awk -F '[: ]+' \
@@ -13,13 +17,15 @@ export NEEDED := $(shell tac crates.txt | awk -F '[: ]+' \
 CRATES := $(notdir $(wildcard crates/*))
 .PHONY: program $(CRATES)
 
-# the longest proof is begun first
 program: i8080 executable
 
 include crates.txt
 
-$(CRATES):
-	@scripts/prove $@ $(filter $(CRATES),$^)
+$(LONG):
+	@scripts/prove $@ $(LANES) $(filter $(CRATES),$^)
+
+$(filter-out $(LONG),$(CRATES)):
+	@nice scripts/prove $@ 1 $(filter $(CRATES),$^)
 
 # a library of the kit
 .DEFAULT:
