@@ -8,16 +8,16 @@ MAKEFLAGS += --no-builtin-rules --no-print-directory --jobs=$(LANES)
 
 # The crates whose proofs take longest, most of which wait for one another: a build takes as long as these, so each gets as many jobs as
 # there are lanes. The others get one, and the time that is left.
-LONG := i8080 pagemem console_calls bdos machine replay edit_lines one_run cpmrun
+CRATES := $(notdir $(wildcard crates/*))
+LONG := $(filter i8080 pagemem console_calls bdos machine replay edit_lines one_run cpmrun,$(CRATES))
 
 # how many crates the program needs
 export NEEDED := $(shell tac crates.txt | awk -F '[: ]+' \
     '$$1 == "executable" || $$1 in used { count++; for (i = 2; i <= NF; i++) used[$$i] } END { print count }')
 
-CRATES := $(notdir $(wildcard crates/*))
 .PHONY: program $(CRATES)
 
-program: i8080 executable
+program: $(filter i8080,$(CRATES)) executable
 
 include crates.txt
 
