@@ -1,7 +1,7 @@
 """A client of cpmrun, the runner of CP/M 2.2 programs.
 
-A session is a program with its command tail, host files, script (what is typed at its console) and limit of steps. Each method of
-`Session` but `close` sends one edit line, or a few, and reads the reply before it returns:
+A session is a program with its command tail, host files, script (the console input) and step limit. Each method of `Session` except `close`
+sends one or more edit lines and reads the replies before it returns:
 
     with Session("path/of/cpmrun", "name.com") as session:
         session.insert(0, b"Ada\\r")
@@ -30,59 +30,59 @@ LONGEST_LINE = 65_536
 """The most bytes of an edit line, without its end."""
 
 LONGEST_DATA = (LONGEST_LINE - len("replace 0123456789 ")) // 2
-"""As many bytes of data as each edit line can hold, two digits for each."""
+"""The most bytes of data that every edit line can hold, at two digits a byte."""
 
 GRACE_SECONDS = 10.0
-"""How long a program that is to end may take before it is killed."""
+"""The seconds that a closed runner may take before it is killed."""
 
 _FOLDER_OPTIONS = {"A": "--files", "B": "--files-b", "C": "--files-c", "D": "--files-d"}
 
 _HEXADECIMAL = {"Undefined": "02X", "SystemArea": "04X"}
 
 _MEANINGS = {
-    1: "the place, or the end of the bytes from there on, is past the end of the script",
+    1: "the offset, or the end of the bytes from there on, is past the end of the script",
     2: "the script would have more than 1,048,576 bytes",
     3: "there is no host file of this name",
     4: "the file would have more than 8,388,608 bytes",
     5: "there are 512 host files, and none has this name",
-    6: "the bytes do not lie within the program",
+    6: "the bytes are not all within the program",
     7: "the limit is more than 4,000,000,000",
 }
 
 
 class SessionError(Exception):
-    """What goes wrong in a session."""
+    """An error of a session."""
 
 
 class Refused(SessionError):
-    """An edit was refused, and changed nothing. The session goes on."""
+    """An edit was refused and changed nothing. The session can be used further."""
 
     def __init__(self, number: int) -> None:
         self.number = number
-        """The number behind `refused`."""
-        self.meaning = _MEANINGS.get(number, "a refusal of which this module does not know")
+        """The number after `refused`."""
+        self.meaning = _MEANINGS.get(number, "a refusal that this module does not know")
         """Why it was refused, in words."""
         super().__init__(f"refused {number}: {self.meaning}")
 
 
 class ProgramEnded(SessionError):
-    """The runner ended before it was told to, or with a status other than 0."""
+    """The runner ended before `close`, or with a status other than 0."""
 
     def __init__(self, status: int, errors: str) -> None:
         self.status = status
-        """Its exit status; the number of a signal that ended it, below 0."""
+        """Its exit status, or the negative number of the signal that ended it."""
         self.errors = errors
         """Its standard error."""
         super().__init__(f"the runner ended with status {status}: {errors.strip() or 'it wrote no message'}")
 
 
 class UnknownReply(SessionError):
-    """The reply is none that the runner gives, so that something else is being run. The session is over."""
+    """The reply is not one of the runner's, so another program is running. The session is over."""
 
 
 @dataclass(frozen=True)
 class Cause:
-    """Why a run stopped: `str` gives it as a report has it."""
+    """Why a run stopped. `str` returns it in the form of a report."""
 
     name: str
     """One of `WarmBoot`, `Halt`, `Limit`, `Undefined`, `SystemArea`, `NoDollar`, `ConsoleExhausted`, `Unsupported`, `BadDrive`."""
@@ -97,7 +97,7 @@ class Cause:
 
 @dataclass(frozen=True)
 class Registers:
-    """The registers of the 8080, where `f` is the byte of the flags."""
+    """The registers of the 8080; `f` is the flag byte."""
 
     a: int
     f: int
@@ -113,26 +113,26 @@ class Registers:
 
 @dataclass(frozen=True)
 class Report:
-    """What a run came to. Reports are equal if all that they tell is equal."""
+    """The result of a run. Reports are equal if all their fields are."""
 
     cause: Cause
     """Why the run stopped."""
     steps: int
-    """How many steps the run has from its start. A cold run carries out all of them, and a rerun those after its checkpoint."""
+    """The steps of the run from its start. A rerun executes only those after its checkpoint."""
     registers: Registers
     """The registers at the end."""
     text: bytes
-    """What the program printed."""
+    """The console text."""
     files: dict[str, bytes | None]
     """The changed files by name, in the order of the report: all records of a file, or None for one that was deleted."""
 
 
 class Session:
-    """A running cpmrun that replays edit lines as they come.
+    """A running cpmrun that is sent edit lines.
 
-    It is closed by `close`, or at the end of a `with` block. A fault of the words, as a program that can't be read, is told by the
-    first method that is called. Numbers and names are checked by the runner: what is no number or name of an edit line, as -1 or a
-    name of ten bytes, is a malformed line, which ends the session by `ProgramEnded`. So does the 1,000,001st line.
+    `close` ends it, or the end of a `with` block. The first method that is called raises an error of the arguments, such as a program
+    that cannot be read. The runner checks numbers and names: -1, or a name of ten bytes, makes a line malformed, which ends the session with
+    `ProgramEnded`, and so does the 1,000,001st line.
     """
 
     def __init__(
@@ -149,10 +149,9 @@ class Session:
     ) -> None:
         """Starts the runner at this path on a `.COM` file with its command tail.
 
-        `folders` has the folder of the host files for each of the drives `A` to `D` that has files, and `script` is the file of
-        what is typed at the console. `limit` is the count of steps after which a run stops, `spacing` that from one checkpoint to
-        the next, and `slots` the most checkpoints. What is None is as where its option is not given. OSError: the runner can't be
-        started. KeyError: a drive is none of the four.
+        `folders` has the folder of host files for each drive `A` to `D` that has files; `script` is the path of the console input.
+        `limit` is the step limit, `spacing` the steps between checkpoints, and `slots` the most checkpoints; None means the default.
+        Raises OSError if the runner cannot be started, and KeyError for another drive.
         """
         words = [os.fspath(runner), "--edits=/dev/stdin"]
         for drive, folder in (folders or {}).items():
@@ -182,7 +181,7 @@ class Session:
             self._kill()
 
     def insert(self, at: int, data: bytes) -> None:
-        """Puts bytes into the script before this place. Where they need several lines and one is refused, all are taken out."""
+        """Inserts bytes into the script before this offset. If they need several lines and one is refused, all are removed again."""
         for start in range(0, max(len(data), 1), LONGEST_DATA):
             try:
                 self._edit(f"insert {at + start}", data[start:start + LONGEST_DATA])
@@ -192,22 +191,22 @@ class Session:
                 raise
 
     def replace(self, at: int, data: bytes) -> None:
-        """Replaces the bytes of the script from this place on; its length stays."""
-        # from the end on, since none is refused where the last is not
+        """Replaces bytes of the script from this offset on; its length stays."""
+        # from the end: if the last line is not refused, none is
         for start in reversed(range(0, max(len(data), 1), LONGEST_DATA)):
             self._edit(f"replace {at + start}", data[start:start + LONGEST_DATA])
 
     def remove(self, at: int, count: int) -> None:
-        """Takes so many bytes out of the script, from this place on."""
+        """Removes `count` bytes of the script from this offset on."""
         self._edit(f"remove {at} {count}")
 
     def poke(self, address: int, data: bytes) -> None:
-        """Replaces bytes of the loaded program from this address on. ValueError: one line can't hold them."""
+        """Replaces bytes of the loaded program from this address on. Raises ValueError if one line cannot hold them."""
         self._edit(f"poke {address:04X}", data)
 
     def file(self, name: str, data: bytes) -> None:
-        """Sets a host file, whose last record is filled up with 1AH. ValueError: one line can't hold it, so that it must come from a
-        folder of the session."""
+        """Sets a host file, whose last record is padded with 1AH. Raises ValueError if one line cannot hold it: put such a file into a folder
+        of the session."""
         self._edit(f"file {name}", data)
 
     def gone(self, name: str) -> None:
@@ -215,15 +214,15 @@ class Session:
         self._edit(f"gone {name}")
 
     def limit(self, steps: int) -> None:
-        """Sets the count of steps after which a run stops."""
+        """Sets the step limit."""
         self._edit(f"limit {steps}")
 
     def drop(self, count: int) -> None:
-        """Drops the oldest checkpoints; no later report depends on it."""
+        """Drops the `count` oldest checkpoints; no later report depends on it."""
         self._edit(f"drop {count}")
 
     def run(self) -> Report:
-        """Runs the session as it now is. It waits for as long as the run takes."""
+        """Runs the session and returns its report. Waits as long as the run takes."""
         reply = self._answer("run")
         try:
             return _report(reply)
@@ -232,14 +231,14 @@ class Session:
             raise UnknownReply(f"no report: {reply[0]!r}") from None
 
     def close(self) -> None:
-        """Ends the lines and waits for the runner. ProgramEnded: its status is not 0. A session that is over stays so."""
+        """Ends the session and waits for the runner. Raises ProgramEnded if its status is not 0."""
         if self._ended is None:
             ended = self._finish()
             if ended.status != 0:
                 raise ended
 
     def _edit(self, words: str, data: bytes | None = None) -> None:
-        """Sends an edit line, which may end with data, and wants it to be carried out."""
+        """Sends an edit line, which may end with data, and expects `ok`."""
         reply = self._answer(words if data is None else f"{words} {data.hex() or '-'}")[0]
         kind, _, number = reply.partition(" ")
         if kind == "refused" and number.isdecimal():
@@ -249,13 +248,13 @@ class Session:
             raise UnknownReply(f"neither `ok` nor a refusal: {reply!r}")
 
     def _answer(self, line: str) -> list[str]:
-        """Sends a line, and reads the whole reply to it. Where that is cut off by an exception, the session is over."""
+        """Sends a line and reads its whole reply. If an exception cuts that off, the session is over."""
         sent = line.encode("ascii")
         if len(sent) > LONGEST_LINE:
-            raise ValueError(f"the line `{line[:30]}...` would have {len(sent):,} bytes, and it can have {LONGEST_LINE:,}, "
+            raise ValueError(f"the line `{line[:30]}...` would have {len(sent):,} bytes; a line can have {LONGEST_LINE:,}, "
                              f"with {LONGEST_DATA:,} bytes of data")
         if b"\n" in sent:
-            raise ValueError(f"there is an end of a line within the line {line!r}")
+            raise ValueError(f"there is a line end within the line {line!r}")
         if self._ended is not None:
             raise self._ended if self._ended.status != 0 else ValueError("the session is closed")
         lines, replies = self._pipes()
@@ -273,12 +272,12 @@ class Session:
             raise
 
     def _pipes(self) -> tuple[IO[bytes], IO[bytes]]:
-        """Where lines are written, and where replies are read."""
+        """Returns the pipe for lines and the pipe for replies."""
         assert self._process.stdin is not None and self._process.stdout is not None
         return self._process.stdin, self._process.stdout
 
     def _finish(self) -> ProgramEnded:
-        """Closes the pipes, and waits for the runner for some time before it is killed."""
+        """Closes the pipes, waits for the runner, and kills it if that takes too long."""
         lines, replies = self._pipes()
         try:
             with suppress(BrokenPipeError):
@@ -296,14 +295,14 @@ class Session:
         return self._ended
 
     def _kill(self) -> None:
-        """Ends the runner at once, whatever it does."""
+        """Kills the runner."""
         if self._ended is None:
             self._process.kill()
             self._finish()
 
 
 def _read_line(replies: IO[bytes]) -> str:
-    """A line of a reply, without its end. EOFError: there is no whole line."""
+    """Returns a line of a reply without its end. Raises EOFError if there is no whole line."""
     line = replies.readline()
     if not line.endswith(b"\n"):
         raise EOFError
@@ -311,7 +310,7 @@ def _read_line(replies: IO[bytes]) -> str:
 
 
 def _report(lines: list[str]) -> Report:
-    """The report of these lines. TypeError or ValueError: they are none."""
+    """Returns the report of these lines. Raises TypeError or ValueError if they are not a report."""
     stop, steps, registers, text, *changed, end = [line.split(" ") for line in lines]
     if [stop[0], steps[0], registers[0], text[0], *end] != ["stop", "steps", "regs", "text", "end"]:
         raise ValueError
@@ -331,12 +330,12 @@ def _report(lines: list[str]) -> Report:
 
 
 def _cause(name: str, number: str | None = None) -> Cause:
-    """The cause of the words behind `stop`."""
+    """Returns the cause of the words after `stop`."""
     if number is None:
         return Cause(name)
     return Cause(name, int(number, 16 if name in _HEXADECIMAL else 10))
 
 
 def _data(digits: str) -> bytes:
-    """The bytes of hexadecimal digits, or of `-` for none."""
+    """Returns the bytes of hexadecimal digits, or none for `-`."""
     return b"" if digits == "-" else bytes.fromhex(digits)

@@ -1,4 +1,4 @@
-"""What `shrink.py` and `explore.py` share: the words that name a session, and its inputs."""
+"""What `shrink.py` and `explore.py` share: the arguments that name a session, and its inputs."""
 
 from __future__ import annotations
 
@@ -16,14 +16,14 @@ DRIVES = {"A": "files", "B": "files_b", "C": "files_c", "D": "files_d"}
 
 
 class Parser(argparse.ArgumentParser):
-    """Reads the words that name a session, and those that a program adds to them."""
+    """Reads the arguments that name a session, and those that a program adds."""
 
     def __init__(self, description: str, epilog: str) -> None:
         super().__init__(description=description, epilog=epilog, allow_abbrev=False)
         add = self.add_argument
         add("program", metavar="PROGRAM", help="the .COM file")
         add("tail", metavar="TAIL", nargs="?", help="its command tail, one word")
-        add("--console", metavar="FILE", help="the script: what is typed at the console")
+        add("--console", metavar="FILE", help="the script: the console input")
         for drive, name in DRIVES.items():
             option = "--" + name.replace("_", "-")
             add(option, metavar="DIR", help=f"the folder of the host files of drive {drive}")
@@ -35,18 +35,18 @@ class Parser(argparse.ArgumentParser):
                  "else the cpmrun on the PATH")
 
     def error(self, message: str) -> NoReturn:
-        """Tells a fault of the words in one line, and ends with status 2."""
+        """Prints a usage error in one line, and ends with status 2."""
         self.exit(2, f"{self.prog}: {message}\n")
 
 
 def _runner() -> str:
-    """The runner if no option names it."""
+    """Returns the runner if no option names it."""
     here = "./cpmrun"
     return os.environ.get("CPMRUN") or (here if Path(here).exists() else shutil.which("cpmrun") or here)
 
 
 def start(words: argparse.Namespace, **options: int) -> Session:
-    """The session that the words name; options that are given here go before theirs."""
+    """Returns the session that the arguments name; `options` override them."""
     numbers = {name: getattr(words, name) for name in ("limit", "spacing", "slots")}
     folders = {drive: getattr(words, name) for drive, name in DRIVES.items()}
     return Session(words.runner, words.program, words.tail, script=words.console,
@@ -55,8 +55,8 @@ def start(words: argparse.Namespace, **options: int) -> Session:
 
 
 def run_main(main: Callable[[], None]) -> None:
-    """Runs a program, and prints an error in one line, with status 1. Where the reader of its
-    output has gone, as `head` does, it ends quietly."""
+    """Runs a program, and prints an error in one line, with status 1. If the reader of its output has closed the pipe, as `head` does,
+    it ends quietly."""
     try:
         main()
         sys.stdout.flush()
@@ -65,14 +65,14 @@ def run_main(main: Callable[[], None]) -> None:
     except KeyboardInterrupt:
         sys.exit(f"{Path(sys.argv[0]).name}: interrupted")
     except (OSError, ValueError, SessionError) as fault:
-        told = str(fault)
+        message = str(fault)
         if isinstance(fault, OSError) and fault.filename is not None:
-            told = f"{fault.filename}: {fault.strerror}"
-        sys.exit(f"{Path(sys.argv[0]).name}: {' '.join(told.split())}")
+            message = f"{fault.filename}: {fault.strerror}"
+        sys.exit(f"{Path(sys.argv[0]).name}: {' '.join(message.split())}")
 
 
 class Input:
-    """The script of a session or, where a name is given, a host file; `data` is what it is."""
+    """The script of a session, or the host file of a name; `data` has its bytes."""
 
     def __init__(self, session: Session, words: argparse.Namespace, name: str | None) -> None:
         self._session = session
@@ -81,8 +81,8 @@ class Input:
         self.data = b"" if path is None else Path(path).read_bytes()
 
     def become(self, data: bytes) -> None:
-        """Makes it these bytes. Of a script only what lies between the ends that stay is edited,
-        so that no edit touches a step before the first byte that is another one."""
+        """Sets its bytes. Of a script only the part between the unchanged ends is edited, so that no edit affects a step before
+        the first changed byte is read."""
         if data == self.data:
             return
         if self.name is not None:
@@ -102,7 +102,7 @@ class Input:
 
 
 def common(one: bytes, other: bytes) -> int:
-    """With how many bytes both begin, found by halves."""
+    """Returns the length of the common prefix, found by binary search."""
     low, high = 0, min(len(one), len(other))
     while low < high:
         middle = (low + high + 1) // 2
@@ -112,7 +112,7 @@ def common(one: bytes, other: bytes) -> int:
 
 
 def _path_of(name: str, words: argparse.Namespace) -> Path:
-    """Where the host file of this name stands."""
+    """Returns the path of the host file of this name."""
     drive, _, rest = name.upper().rpartition(":")
     folder = getattr(words, DRIVES.get(drive or "A", ""), None)
     for path in Path(folder).iterdir() if folder is not None else ():

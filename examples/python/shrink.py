@@ -1,6 +1,6 @@
-"""Shrinks what is typed at a console, or a host file, to the least that still fails.
+"""Shrinks the script, or a host file, to the least that still fails.
 
-This is delta debugging: ever smaller pieces are left out, and stay out where the run still fails.
+This is delta debugging: smaller and smaller pieces are removed, and stay removed if the run still fails.
 """
 
 import argparse
@@ -17,21 +17,21 @@ MOST_SLOTS = 4096
 
 @dataclass
 class Shrunk:
-    """What shrinking came to."""
+    """The result of shrinking."""
 
     data: bytes
     length: int
-    """How many bytes there were."""
+    """The length of the input before."""
     runs: int = 0
     steps: int = 0
-    """How many steps cold runs of all inputs that were tried have."""
+    """The steps of all tried inputs, each run from the start."""
     seconds: float = 0.0
 
 
 def least(data: bytes, fails: Callable[[bytes], bool]) -> bytes:
-    """What is left of failing bytes when no single one can be left out.
+    """Returns what is left of failing bytes when no single one can be removed.
 
-    Pieces are left out from the last to the first: so the checkpoints before each of them stand.
+    Pieces are removed from the last to the first, so that the checkpoints before each of them stay.
     """
     size = len(data)
     while size > 0:
@@ -47,7 +47,7 @@ def least(data: bytes, fails: Callable[[bytes], bool]) -> bytes:
 
 
 def shrink(words: argparse.Namespace, cold: bool = False) -> Shrunk:
-    """Shrinks the input that the words name, with checkpoints or in cold runs."""
+    """Shrinks the input that the arguments name, with checkpoints or in cold runs."""
     with start(words, **({"spacing": 1_000_000_000, "slots": 1} if cold else {})) as session:
         tested = Input(session, words, words.file)
         came = Shrunk(tested.data, len(tested.data))
@@ -73,21 +73,21 @@ def shrink(words: argparse.Namespace, cold: bool = False) -> Shrunk:
 
 
 def main() -> None:
-    parser = Parser(__doc__, "A run fails that has the cause and the text, where both are given.")
+    parser = Parser(__doc__, "If both --cause and --text are given, a run fails if it has both.")
     add = parser.add_argument
-    add("--cause", help="the stop cause of a run that fails, as Halt or 'Undefined ED'")
-    add("--text", help="what a run that fails prints, or a part of it")
-    add("--file", metavar="NAME", help="the host file to shrink; else it is the script")
-    add("-o", "--output", metavar="FILE", help="where the least input goes; else standard output")
-    add("--cold", action="store_true", help="shrink in cold runs too, and tell both times")
+    add("--cause", help="the stop cause of a failing run, such as Halt or 'Undefined ED'")
+    add("--text", help="a part of the console text of a failing run")
+    add("--file", metavar="NAME", help="the host file to shrink [default: the script]")
+    add("-o", "--output", metavar="FILE", help="the file for the shrunk input [default: standard output]")
+    add("--cold", action="store_true", help="shrink in cold runs too, and print both times")
     words = parser.parse_args()
     if words.cause is None and words.text is None:
         parser.error("--cause or --text must say what fails")
     came = shrink(words)
     with open(words.output or sys.stdout.fileno(), "wb", closefd=bool(words.output)) as output:
         output.write(came.data)
-    told = f"{came.runs} runs, whose steps are {came.steps} in cold runs"
-    print(f"{len(came.data)} of {came.length} bytes left after {told}", file=sys.stderr)
+    cost = f"{came.runs} runs, whose steps are {came.steps} in cold runs"
+    print(f"{len(came.data)} of {came.length} bytes left after {cost}", file=sys.stderr)
     if words.cold:
         cold = shrink(words, cold=True)
         print(f"{came.seconds:.3f} seconds with checkpoints, {cold.seconds:.3f} in cold runs",
