@@ -1,4 +1,4 @@
-"""What the tests of `shrink.py` and `explore.py` share: small programs, and how one is run."""
+"""What the tests of `shrink.py`, `explore.py` and `snap.py` share: small programs, and how one is run."""
 
 import subprocess
 import sys
@@ -12,13 +12,12 @@ NEST = HERE / "nest.com"
 
 NEST_CODE = bytes.fromhex(
     "0600 C5 0E01 CD0500 C1 FE0D C8 FE28 C21901 04 78 FE03 C20201 76 FE29 C20201 05 F20201 ED")
-"""What nest.asm comes to."""
+"""The bytes of nest.asm."""
 
 SLOW_CODE = bytes.fromhex(
     "210000 2B 7C B5 C20301 "
     "0600 C5 0E01 CD0500 C1 FE0D C8 FE28 C22201 04 78 FE03 C20B01 76 FE29 C20B01 05 F20B01 ED")
-"""The same behind LXI H,0 and a loop of DCX H, MOV A,H, ORA L and JNZ: 9 bytes, so that each jump
-goes 9 further, and 1 + 4 * 65,536 steps."""
+"""The same after LXI H,0 and a loop of DCX H, MOV A,H, ORA L and JNZ: 9 bytes, so each jump goes 9 further, and 1 + 4 * 65,536 steps."""
 
 SCAN_CODE = bytes.fromhex(
     "115C00 0E0F CD0500 115C00 0E14 CD0500 218000 7E FE23 CA1E01 2C C21301 C9 76")
@@ -28,15 +27,14 @@ LXI D,5CH; MVI C,15; CALL 5; LXI D,5CH; MVI C,20; CALL 5; LXI H,80H;
 
 
 def nest(typed: bytes) -> tuple[str, bytes, int]:
-    """The stop cause, the text and the steps of nest.com, as its source has them.
+    """Returns the stop cause, the text and the steps of nest.com, worked out from its source.
 
-    It begins with one step. A byte that is neither a parenthesis nor CR takes 12, and a `)` and a
-    `(` take 14, where the third that is open ends before the HLT. CR takes 9 with the jump to the
-    warm start. Where no byte is left there are PUSH, MVI, CALL and the JMP at 5.
+    It begins with one step. A byte that is neither a parenthesis nor CR takes 12 steps, a parenthesis 14; the third open one ends before
+    the HLT. CR takes 9 with the jump to the warm start. After the last byte there are PUSH, MVI, CALL and the JMP at 5.
     """
     steps, count = 1, 0
-    for place, byte in enumerate(typed):
-        text = typed[:place + 1]
+    for offset, byte in enumerate(typed):
+        text = typed[:offset + 1]
         if byte == ord("\r"):
             return "WarmBoot", text, steps + 9
         count += (byte == ord("(")) - (byte == ord(")"))
@@ -49,7 +47,7 @@ def nest(typed: bytes) -> tuple[str, bytes, int]:
 
 
 class CommandCase(unittest.TestCase):
-    """A case with a folder of its own, which runs a command of this folder."""
+    """A case with its own folder, which runs a command of this folder."""
 
     command: str
 
@@ -58,19 +56,19 @@ class CommandCase(unittest.TestCase):
         self.addCleanup(folder.cleanup)
         self.room = Path(folder.name)
 
-    def tell(self, *words: str | Path) -> tuple[int, bytes, str]:
-        """The status of the command, what it prints, and what it tells on standard error."""
+    def outcome(self, *words: str | Path) -> tuple[int, bytes, str]:
+        """Returns the exit status, the standard output and the standard error of the command."""
         run = subprocess.run([sys.executable, "-B", HERE / self.command, *words],
                              capture_output=True)
         return run.returncode, run.stdout, run.stderr.decode()
 
-    def faulty(self, status: int, told: str, *words: str | Path) -> None:
-        """Wants the words to be a fault of this status, which is told in this line."""
-        with self.subTest(told):
-            self.assertEqual(self.tell(*words), (status, b"", f"{self.command}: {told}\n"))
+    def faulty(self, status: int, message: str, *words: str | Path) -> None:
+        """Expects this status, and this message on standard error."""
+        with self.subTest(message):
+            self.assertEqual(self.outcome(*words), (status, b"", f"{self.command}: {message}\n"))
 
     def put(self, name: str, data: bytes) -> Path:
-        """Puts a file into the folder."""
+        """Writes a file into the folder."""
         path = self.room / name
         path.write_bytes(data)
         return path

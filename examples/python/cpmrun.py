@@ -230,6 +230,13 @@ class Session:
             self._kill()
             raise UnknownReply(f"no report: {reply[0]!r}") from None
 
+    def send(self, line: str) -> Report | None:
+        """Sends an edit line. Returns the report of `run`, and None for every other line."""
+        if line == "run":
+            return self.run()
+        self._edit(line)
+        return None
+
     def close(self) -> None:
         """Ends the session and waits for the runner. Raises ProgramEnded if its status is not 0."""
         if self._ended is None:

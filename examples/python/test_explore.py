@@ -35,7 +35,7 @@ class Explore(CommandCase):
 
     def kept(self, *words) -> list[tuple[int, str, bytes | None, bytes]]:
         """Of each try that is printed its number, the new cause, the new text, and the script."""
-        status, printed, errors = self.tell(*words)
+        status, printed, errors = self.outcome(*words)
         self.assertEqual((status, errors), (0, ""))
         self.assertEqual(LINES.sub("", printed.decode()), "")
         return [(int(number), cause, ast.literal_eval(text or "None"), ast.literal_eval(script))
@@ -71,7 +71,7 @@ class Explore(CommandCase):
         # of the script and the file, only the file is read; it has a `#` where the program halts
         program = self.put("scan.com", SCAN_CODE)
         self.put("X.TXT", b"one")
-        status, printed, errors = self.tell(
+        status, printed, errors = self.outcome(
             program, "x.txt", "--files", self.room, "--file", "X.TXT", "--alphabet", "#",
             "--tries", "100", "-o", self.room)
         self.assertEqual((status, errors), (0, ""))

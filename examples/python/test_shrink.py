@@ -54,8 +54,8 @@ class Shrink(CommandCase):
         steps = (1 + 12 + 14) + (1 + 4) + (1 + 12 + 4) + (1 + 14) + (1 + 4)
         told = f"1 of 2 bytes left after 5 runs, whose steps are {steps} in cold runs\n"
         words = self.typed(b"a)")
-        self.assertEqual(self.tell(*words, "--cause", "Undefined"), (0, b")", told))
-        self.assertEqual(self.tell(*words, "--cause", "Undefined ED"), (0, b")", told))
+        self.assertEqual(self.outcome(*words, "--cause", "Undefined"), (0, b")", told))
+        self.assertEqual(self.outcome(*words, "--cause", "Undefined ED"), (0, b")", told))
 
     def test_cause_and_text(self) -> None:
         # no byte but `(` raises the count
@@ -70,16 +70,16 @@ class Shrink(CommandCase):
         counts = f"{len(tried)} runs, whose steps are {sum(nest(data)[2] for data in tried)}"
         told = f"3 of {len(typed)} bytes left after {counts} in cold runs\n"
         words = [*self.typed(typed), "--cause", "Halt"]
-        self.assertEqual(self.tell(*words), (0, b"(((", told))
+        self.assertEqual(self.outcome(*words), (0, b"(((", told))
         # what is typed is printed, and a `)` that comes first ends the run
         words = self.typed(b"(a)(b)\r")
-        self.assertEqual(self.tell(*words, "--text", ")(")[:2], (0, b"()("))
+        self.assertEqual(self.outcome(*words, "--text", ")(")[:2], (0, b"()("))
         words += ["--cause", "WarmBoot"]
-        self.assertEqual(self.tell(*words, "--text", ")(")[:2], (0, b"()(\r"))
+        self.assertEqual(self.outcome(*words, "--text", ")(")[:2], (0, b"()(\r"))
 
     def test_output(self) -> None:
         output = self.room / "least"
-        told = self.tell(*self.typed(b"a)"), "--cause", "Undefined", "-o", output)
+        told = self.outcome(*self.typed(b"a)"), "--cause", "Undefined", "-o", output)
         self.assertEqual((told[:2], output.read_bytes()), ((0, b""), b")"))
 
     def test_files(self) -> None:
@@ -87,11 +87,11 @@ class Shrink(CommandCase):
         self.put("note.txt", b"one\r\ntwo # three\r\n")
         for name, option in ("NOTE.TXT", "--files"), ("b:note.txt", "--files-b"):
             words = [program, name, option, self.room, "--file", name, "--cause", "Halt"]
-            self.assertEqual(self.tell(*words)[:2], (0, b"#"))
+            self.assertEqual(self.outcome(*words)[:2], (0, b"#"))
 
     def test_cold(self) -> None:
         words = [self.put("slow.com", SLOW_CODE), *self.typed(b"a)")[1:], "--cause", "Undefined"]
-        status, printed, errors = self.tell(*words, "--cold")
+        status, printed, errors = self.outcome(*words, "--cold")
         self.assertEqual((status, printed), (0, b")"))
         counts, times = errors.splitlines()
         self.assertIn(f"5 runs, whose steps are {69 + 5 * (1 + 4 * 65_536)} in cold runs", counts)

@@ -1,0 +1,93 @@
+"""Shows what a file of edit lines gives, in a form for people, and compares it with what was kept.
+
+Each line is shown with its reply. A report shows the console text and changed text files as text, and other files as a hex dump.
+With --kept FILE nothing is printed if FILE has the same; else the differences are printed, with status 1. --accept writes FILE.
+"""
+
+import difflib
+import sys
+from collections.abc import Iterator
+from pathlib import Path
+
+from cpmrun import Refused, Report, Session
+from inputs import Parser, run_main, start
+
+LONGEST_SHOWN = 100
+"""The characters of an edit line that are shown."""
+
+TEXT = bytes(range(0x20, 0x7F)) + b"\r\n\t\f"
+
+
+def escaped(line: bytes) -> str:
+    """Returns a line with escapes for what cannot be seen."""
+    return "".join(chr(byte) if 0x20 <= byte < 0x7F and byte != 0x5C else f"\\x{byte:02x}" for byte in line)
+
+
+def text_lines(text: bytes) -> Iterator[str]:
+    """Yields the lines of a text that ends its lines with CR LF."""
+    lines = text.split(b"\r\n")
+    for number, line in enumerate(lines):
+        if number + 1 < len(lines) or line:
+            yield f"  | {escaped(line)}"
+
+
+def file_lines(data: bytes) -> Iterator[str]:
+    """Yields the lines of a text file up to its first 1AH, or a hex dump of any other file."""
+    text = data.partition(b"\x1a")[0]
+    if not text.strip(TEXT) and not data[len(text):].strip(b"\x1a"):
+        yield from text_lines(text)
+        return
+    for offset in range(0, len(data), 16):
+        row = data[offset:offset + 16]
+        yield f"  {offset:06x}  {row.hex(' ')}  {escaped(row) if not row.strip(TEXT[:95]) else ''}".rstrip()
+
+
+def report_lines(report: Report) -> Iterator[str]:
+    """Yields a report in a form for people."""
+    yield f"stop {report.cause} after {report.steps:,} steps"
+    yield " ".join(f"{name.upper()}={value:0{2 if value < 256 and name not in ('sp', 'pc') else 4}X}"
+                   for name, value in vars(report.registers).items())
+    yield from text_lines(report.text)
+    for name, data in report.files.items():
+        if data is None:
+            yield f"gone {name}"
+        else:
+            yield f"file {name}, {len(data) // 128} record{'s' * (len(data) != 128)}"
+            yield from file_lines(data)
+
+
+def shown(session: Session, edits: list[str]) -> Iterator[str]:
+    """Yields each edit line and its reply."""
+    for line in edits:
+        yield f"> {line}" if len(line) <= LONGEST_SHOWN else f"> {line[:LONGEST_SHOWN]}..., {len(line)} bytes"
+        try:
+            report = session.send(line)
+            yield from ["ok"] if report is None else report_lines(report)
+        except Refused as refusal:
+            yield str(refusal)
+
+
+def main() -> None:
+    parser = Parser(__doc__, "The exit status is 1 if the kept file differs.")
+    parser.add_argument("--edits", metavar="FILE", required=True, help="the edit lines")
+    parser.add_argument("--kept", metavar="FILE", help="the file to compare with")
+    parser.add_argument("--accept", action="store_true", help="write the kept file")
+    words = parser.parse_args()
+    if words.accept and words.kept is None:
+        parser.error("--accept needs --kept")
+    edits = Path(words.edits).read_text("latin-1").removesuffix("\n").split("\n")
+    with start(words) as session:
+        new = [f"{line}\n" for line in shown(session, edits)]
+    if words.kept is None:
+        sys.stdout.writelines(new)
+    elif words.accept:
+        Path(words.kept).write_text("".join(new))
+    else:
+        kept = Path(words.kept).read_text().splitlines(keepends=True) if Path(words.kept).exists() else []
+        differences = list(difflib.unified_diff(kept, new, words.kept, "now"))
+        sys.stdout.writelines(differences)
+        sys.exit(1 if differences else 0)
+
+
+if __name__ == "__main__":
+    run_main(main)
