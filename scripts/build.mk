@@ -6,10 +6,10 @@ MEMORY := $(shell awk '/^MemAvailable:/ { print int($$2 / 1024) }' /proc/meminfo
 LANES := $(shell cores=$$(nproc) lanes=$$(($(MEMORY) / 5000)); echo $$((lanes < 1 ? 1 : lanes < cores ? lanes : cores)))
 MAKEFLAGS += --no-builtin-rules --no-print-directory --jobs=$(LANES)
 
-# The crates whose proofs take longest, most of which wait for one another: a build takes as long as these, so each gets as many jobs as
-# there are lanes. The others get one, and the time that is left.
 CRATES := $(notdir $(wildcard crates/*))
-LONG := $(filter i8080 pagemem console_calls bdos machine replay edit_lines one_run cpmrun,$(CRATES))
+# A build takes as long as its longest chain of crates. These are in no long chain: each gets one job, and the time that is left. Every
+# other crate gets as many jobs as there are lanes.
+SIDE := $(filter records command_words command_tail folders loading report_lines file_steps,$(CRATES))
 
 # how many crates the program needs
 export NEEDED := $(shell tac crates.txt | awk -F '[: ]+' \
@@ -21,10 +21,10 @@ program: $(filter i8080,$(CRATES)) executable
 
 include crates.txt
 
-$(LONG):
+$(filter-out $(SIDE),$(CRATES)):
 	@scripts/prove $@ $(LANES) $(filter $(CRATES),$^)
 
-$(filter-out $(LONG),$(CRATES)):
+$(SIDE):
 	@nice scripts/prove $@ 1 $(filter $(CRATES),$^)
 
 # a library of the kit
