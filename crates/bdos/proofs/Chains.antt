@@ -1,4 +1,4 @@
--- From what the parts of a call leave to what the call leaves.
+-- The effect of a call, from the effects of its parts.
 use Rattle.std.proofs.Common.{◌≡◌, ℕ, Bool, ◌||◌, List, [], ◌∷◌, ◌++◌, Result, Ok, Err, IfOk, OnOk, OnErr, Some, cond, refl, sym, ap, subst, ◌∙◌}
 use Rattle.std.proofs.lemmas.List.{append-nil}
 use Rattle.std.specs.declared.alloc.AllocError.{AllocError}
@@ -64,7 +64,7 @@ look_for-append own [] ys l = refl
 look_for-append own (x ∷ xs) ys l = look_for-append own xs ys _
 
 module _ {script : List ℕ} {r : Regs} {m m1 : Memory} {d : Desk} {v : Drives} {was is : ℕ → Bool} {result : Result Served AllocError} {r' : Regs} {m' : Memory} {d' : Desk} {v' : Drives} where
-  -- a reading, and what follows its end
+  -- A reading, and what follows its end.
   pub after_read : {E : Type 0} (t : Reading E) (k : E → SystemTree SystemEnd) (e : E) → Reads t m e m1
       → Fulfils (k e) script (scene_with r m1 d v was) result (scene_with r' m' d' v' is) → Fulfils (reading_first t k) script (scene_with r m d v was) result (scene_with r' m' d' v' is)
   after_read t k e h w =
@@ -112,7 +112,7 @@ module _ {script : List ℕ} {r : Regs} {m m1 : Memory} {d : Desk} {v : Drives} 
 swapped : {X : Type 0} {a b : Host} {o p : hostfiles.Own} → a ≡ b → o ≡ p → (g : Host → hostfiles.Own → X) → g a o ≡ g b p
 swapped {b = b} {o = o} h k g = ap (λ x. g x o) h ∙ ap (g b) k
 
--- what asking the files leaves, seen as drives
+-- The effect of questions to the files, seen as drives.
 record Told {E : Type 0} (t : FileTree E) (e : E) (v v' : Drives) : Type 0 where
   found : e ≡ result_of (file_answers v.host v.own) t
   looks : v'.looks ≡ look_for_all v.own (asked (file_answers v.host v.own) t) v.looks
@@ -122,7 +122,7 @@ record Told {E : Type 0} (t : FileTree E) (e : E) (v v' : Drives) : Type 0 where
   lender : v'.lender ≡ v.lender
 
 module _ {script : List ℕ} {r : Regs} {m : Memory} {d : Desk} {v v1 : Drives} {was is : ℕ → Bool} {result : Result Served AllocError} {r' : Regs} {m' : Memory} {d' : Desk} {v' : Drives} where
-  -- what the files are asked, and what follows what they tell
+  -- Questions to the files, and what follows their answers.
   after_told : {E : Type 0} (t : FileTree E) (k : E → SystemTree SystemEnd) (e : E) → Told t e v v1
       → Fulfils (k e) script (scene_with r m d v1 was) result (scene_with r' m' d' v' is) → Fulfils (asking_files t k) script (scene_with r m d v was) result (scene_with r' m' d' v' is)
   after_told t k e h w =
@@ -165,7 +165,7 @@ module _ {script : List ℕ} {r : Regs} {m : Memory} {d : Desk} {v v1 : Drives} 
         lender = w.lender;
       }
 
--- drives, of which a run did and looked at this
+-- The drives of host files and the changes of a run.
 abbrev pub drives_with : Host → Changes → GName → Drives
 drives_with host c lender = record { host = host; own = c.journal.entries; looks = c.looks; lender = lender }
 
@@ -182,7 +182,7 @@ module _ {script : List ℕ} {r : Regs} {m : Memory} {d : Desk} {host : Host} {c
     lender = refl;
   }) w
 
--- what is asked of the files first is among what the whole call asks
+-- The looks of the first questions to the files are among the looks of the whole call.
 asked_before : {E : Type 0} (t : FileTree E) (k : E → SystemTree SystemEnd) (script : List ℕ) (m : Memory) (v : Drives) (l : file_questions_asked.Looks)
     → file_looks.Extends l (look_for_all v.own (asked (file_answers v.host v.own) t) v.looks)
     → file_looks.Extends l (look_for_all v.own (files_asked (asking_files t k) script m v) v.looks)
@@ -194,7 +194,7 @@ asked_before t k script m v l h =
     (sym (look_for-append v.own first rest v.looks) ∙ ap (λ qs. look_for_all v.own qs v.looks) (sym (questions-files f k t)))
     (within_all v.own rest l (look_for_all v.own first v.looks) h)
 
--- want of memory where the files are asked, or after it: nothing was changed, and nothing more was read
+-- Out of memory during or after the questions to the files: nothing was changed, and nothing more was read.
 module _ {t : SystemTree SystemEnd} {script : List ℕ} {r r' : Regs} {m m' : Memory} {d d' : Desk} {v v' : Drives} {was is : ℕ → Bool} {e : AllocError} where
   pub gives_up : r' ≡ r → m' ≡ m → d' ≡ d → v'.own ≡ v.own → file_looks.Extends v.looks v'.looks
       → file_looks.Extends v'.looks (look_for_all v.own (files_asked t script m v) v.looks)
@@ -224,7 +224,7 @@ module _ {t : SystemTree SystemEnd} {script : List ℕ} {r r' : Regs} {m m' : Me
     lender = ap (λ (x : Memory). x.lender) memory;
   }
 
--- want of memory where the files are asked
+-- Out of memory during the questions to the files.
 module _ {script : List ℕ} {r r' : Regs} {m m' : Memory} {d d' : Desk} {v v' : Drives} {was is : ℕ → Bool} {e : AllocError} where
   pub fails_asking : {E : Type 0} (t : FileTree E) (k : E → SystemTree SystemEnd) → r' ≡ r → m' ≡ m → d' ≡ d → v'.own ≡ v.own → file_looks.Extends v.looks v'.looks
       → file_looks.Extends v'.looks (look_for_all v.own (asked (file_answers v.host v.own) t) v.looks)
@@ -233,11 +233,11 @@ module _ {script : List ℕ} {r r' : Regs} {m m' : Memory} {d d' : Desk} {v v' :
   fails_asking t k regs memory desk files extends bound host lends same =
       gives_up regs memory desk files extends (asked_before t k script m v v'.looks bound) host lends same
 
--- what another name of a tree asks
+-- Equal trees ask the same.
 pub asked_as : (host : Host) {t u : FileTree Finding} {c c' : Changes} {result : Result Finding AllocError} → t ≡ u → Asks t host c result c' → Asks u host c result c'
 asked_as host {c = c} {c' = c'} {result = result} e h = subst (λ (x : FileTree Finding). Asks x host c result c') e h
 
--- a tree by another name
+-- An equal tree.
 module _ {script : List ℕ} {r r' : Regs} {m m' : Memory} {d d' : Desk} {v v' : Drives} {was is : ℕ → Bool} {result : Result Served AllocError} where
   pub named : {t t' : SystemTree SystemEnd} → t' ≡ t → Fulfils t script (scene_with r m d v was) result (scene_with r' m' d' v' is) → Fulfils t' script (scene_with r m d v was) result (scene_with r' m' d' v' is)
   named e w = subst (λ (t : SystemTree SystemEnd). Fulfils t script (scene_with r m d v was) result (scene_with r' m' d' v' is)) (sym e) w
@@ -245,12 +245,12 @@ module _ {script : List ℕ} {r r' : Regs} {m m' : Memory} {d d' : Desk} {v v' :
   pub found_as : (spot : Spot) (to : ℕ) {x y : Finding} → x ≡ y → Fulfils (carried_on y r spot to) script (scene_with r m d v was) result (scene_with r' m' d' v' is) → Fulfils (carried_on x r spot to) script (scene_with r m d v was) result (scene_with r' m' d' v' is)
   found_as spot to e w = named (ap (λ (x : Finding). carried_on x r spot to) e) w
 
-  -- and with the same bytes in the same cells
+  -- The same bytes in the same cells.
   pub cells_as : (value : ℕ) (spot : Spot) (to : ℕ) (change : FileChange) {a b : ℕ} {xs ys : List ℕ} → a ≡ b → xs ≡ ys
       → Fulfils (back value r spot to (cells_from a xs) change) script (scene_with r m d v was) result (scene_with r' m' d' v' is) → Fulfils (back value r spot to (cells_from b ys) change) script (scene_with r m d v was) result (scene_with r' m' d' v' is)
   cells_as value spot to change {a = a} {ys = ys} e f w = named (ap (λ x. back value r spot to (cells_from x ys) change) (sym e) ∙ ap (λ (xs : List ℕ). back value r spot to (cells_from a xs) change) (sym f)) w
 
--- a call that goes back, once it wrote cells and changed files
+-- A call that returns to its caller after it wrote cells and changed files.
 module _ {script : List ℕ} {r r' : Regs} {m m' : Memory} {d d' : Desk} {v v' : Drives} {was is : ℕ → Bool} where
   pub goes_back : (value : ℕ) (spot : Spot) (to : ℕ) (cells : List (ℕ × ℕ)) (change : FileChange) → r' ≡ at_caller value to r → d' ≡ record { spot = spot; text = d.text }
       → m'.own ≡ write_all m.own cells → m'.looks ≡ m.looks → m'.beneath ≡ m.beneath → m'.lender ≡ m.lender
@@ -280,7 +280,7 @@ module _ {script : List ℕ} {r r' : Regs} {m m' : Memory} {d d' : Desk} {v v' :
     lender = lender;
   }
 
-  -- a drive that is not there stops it
+  -- A call that stops at a drive that is not there.
   pub stops : (cause : Cause) → r' ≡ r → d' ≡ d → m' ≡ m → v' ≡ v → ((j : ℕ) → is j ≡ was j)
       → Fulfils (Return (Stopped cause, Unchanged)) script (scene_with r m d v was) (Ok (served.Stop cause)) (scene_with r' m' d' v' is)
   stops cause regs desk memory drives same = record {
@@ -307,7 +307,7 @@ module _ {script : List ℕ} {r r' : Regs} {m m' : Memory} {d d' : Desk} {v v' :
     lender = ap (λ (x : Memory). x.lender) memory;
   }
 
--- the head of a call that names a file: the drive byte, the rest of the control block, and the return address
+-- The first part of a call that names a file: the drive byte, the rest of the control block, and the return address.
 module _ {script : List ℕ} {r : Regs} {m m1 m2 m3 : Memory} {d : Desk} {v : Drives} {was is : ℕ → Bool} {result : Result Served AllocError} {r' : Regs} {m' : Memory} {d' : Desk} {v' : Drives} where
   pub heads : (length n : ℕ) (spot : Spot) (k : Block → ℕ → SystemTree SystemEnd) {at : ℕ} {current : Drive} {dr : ℕ} {drive : Drive} {to : ℕ} {block : Block} → length ≡ n → at ≡ word r.e r.d → current ≡ spot.drive
       → Reads (Cell at Done) m dr m1 → Some drive ≡ drive_named current dr → Reads (block_read drive dr n at) m1 block m2 → Reads (word_at r.sp Done) m2 to m3
@@ -319,7 +319,7 @@ module _ {script : List ℕ} {r : Regs} {m m1 m2 m3 : Memory} {d : Desk} {v : Dr
       (subst (λ (a : ℕ). Reads (block_read drive dr length a) m1 block m2) de (subst (λ (x : ℕ). Reads (block_read drive dr x at) m1 block m2) (sym same) second))
       (after_read (word_at r.sp Done) (λ to. k block to) to third w)))
 
--- a call of the desk alone
+-- A call of the desk alone.
 module _ {script : List ℕ} {r : Regs} {m : Memory} {d : Desk} {was is : ℕ → Bool} {result : Result Served AllocError} {r' : Regs} {m' : Memory} {d' : Desk} where
   pub of_desk : (v : Drives) (t : StateTree CallEnd) → parts.FulfilsBy t script r m d was result r' m' d' is
       → Fulfils (asking_state t (λ e. Return (e, Unchanged))) script (scene_with r m d v was) result (scene_with r' m' d' v is)
@@ -352,7 +352,7 @@ module _ {script : List ℕ} {r : Regs} {m : Memory} {d : Desk} {was is : ℕ �
         lender = w.lender;
       }
 
--- files are asked and deleted, and the call goes back
+-- A call that deletes files and returns to its caller.
 module _ {script : List ℕ} {r r' : Regs} {m : Memory} {d : Desk} {v v' : Drives} {was : ℕ → Bool} where
   pub deleting : (spot : Spot) (to : ℕ) (t : FileTree (List Key)) {some : Bool} {value : ℕ} → Deletes t v (Ok some) v' → value ≡ cond some 0 0xff → r' ≡ at_caller value to r
       → d ≡ record { spot = spot; text = d.text }
@@ -387,6 +387,6 @@ module _ {script : List ℕ} {r r' : Regs} {m : Memory} {d : Desk} {v v' : Drive
         lender = refl;
       }
 
--- what another name of an answer asks
+-- Equal answers ask the same.
 pub answered_as : (t : FileTree Finding) (host : Host) {c c' : Changes} {result answer : Result Finding AllocError} → result ≡ answer → Asks t host c result c' → Asks t host c answer c'
 answered_as t host {c = c} {c' = c'} e h = subst (λ (x : Result Finding AllocError). Asks t host c x c') e h

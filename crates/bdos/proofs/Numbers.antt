@@ -1,4 +1,4 @@
--- Which tree a number names.
+-- The tree of each call number.
 use Rattle.std.proofs.Common.{◌≡◌, ℕ, sym, ap, ◌∙◌}
 use Rattle.i8080.specs.declared.registers.Regs.{Regs}
 use Rattle.console_calls.specs.declared.desk.Spot.{Spot}

@@ -1,6 +1,6 @@
--- No question is forgotten.
+-- No look is lost.
 pub use Rattle.hostfiles.proofs.LookLemmas.{extends_same, extends_trans}
 pub use Rattle.i8080.proofs.WriteLookLemmas.{extends_itself}
 
--- what was looked at before was looked at after
+-- The rules by which the looks before a call are among the looks after it.
 pub ruleset still_looked_at = (extends_same, extends_itself)

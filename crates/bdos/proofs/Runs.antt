@@ -26,7 +26,7 @@ asked_none : (byte : ℕ → ℕ) (a : ℕ) → asked (bytes_at 0 a) byte ≡ []
 unfolding bytes_at
 asked_none byte a = refl
 
--- one cell more was read
+-- One more cell was read.
 pub taken_on : (byte : ℕ → ℕ) (n i a v : ℕ) (cells : List ℕ) → i < n → i < length cells → v ≡ byte a
     → take (i + 1) (slice_set cells i v) ++ end_of (bytes_at (n - (i + 1)) (onward a 1)) byte ≡ take i cells ++ end_of (bytes_at (n - i) a) byte
 taken_on byte n i a v cells h k e =
@@ -41,7 +41,7 @@ looked_on byte own looks looks' n i a h e =
     ap (look_all own (asked (bytes_at (n - (i + 1)) (onward a 1)) byte)) e
     ∙ ap (λ (at : List ℕ). look_all own at looks) (sym (asked_more byte (n - (i + 1)) a) ∙ ap (λ k. asked (bytes_at k a) byte) (sym (one_less n i h)))
 
--- all were read
+-- All cells were read.
 pub taken_all : (byte : ℕ → ℕ) (n i a : ℕ) (cells : List ℕ) → n ≤ i → length cells ≤ i → cells ≡ take i cells ++ end_of (bytes_at (n - i) a) byte
 taken_all byte n i a cells h k =
     sym (ap (λ j. take i cells ++ end_of (bytes_at j a) byte) (none_left n i h) ∙ ap (λ xs. take i cells ++ xs) (end_none byte a) ∙ append-nil (take i cells) ∙ take_all i cells k)
@@ -49,7 +49,7 @@ taken_all byte n i a cells h k =
 pub looked_all : (byte : ℕ → ℕ) (own : Own) (looks : Looks) (n i a : ℕ) → n ≤ i → looks ≡ look_all own (asked (bytes_at (n - i) a) byte) looks
 looked_all byte own looks n i a h = sym (ap (λ j. look_all own (asked (bytes_at j a) byte) looks) (none_left n i h) ∙ ap (λ (at : List ℕ). look_all own at looks) (asked_none byte a))
 
--- some cells are written, and then others
+-- Some cells are written, and then others.
 pub write_all-append : (own : Own) (xs ys : List (ℕ × ℕ)) → write_all own (xs ++ ys) ≡ write_all (write_all own xs) ys
 write_all-append own [] ys = refl
 write_all-append own (x ∷ xs) ys = write_all-append (write own x.0 x.1) xs ys
@@ -57,11 +57,11 @@ write_all-append own (x ∷ xs) ys = write_all-append (write own x.0 x.1) xs ys
 pub written_both : (own mid new : Own) (xs ys : List (ℕ × ℕ)) → mid ≡ write_all own xs → new ≡ write_all mid ys → new ≡ write_all own (xs ++ ys)
 written_both own mid new xs ys a b = b ∙ ap (λ (o : Own). write_all o ys) a ∙ sym (write_all-append own xs ys)
 
--- the same cells by another name of their address
+-- The same cells at an equal address.
 pub read_at : (n a b : ℕ) {m m1 : Memory} {cells : List ℕ} → a ≡ b → Reads (bytes_at n a) m cells m1 → Reads (bytes_at n b) m cells m1
 read_at n a b {m = m} {m1 = m1} {cells = cells} e h = subst (λ (x : ℕ). Reads (bytes_at n x) m cells m1) e h
 
--- a control block whose first byte was read
+-- A control block whose first byte was already read.
 pub block_of : (length : ℕ) (drive : Drive) (dr at a : ℕ) {m m1 : Memory} {cells fcb : List ℕ} → a ≡ onward at 1 → Reads (bytes_at (length - 1) a) m cells m1 → fcb ≡ dr ∷ cells ++ replicate (36 - length) 0
     → Reads (block_read drive dr length at) m (record { drive = drive; fcb = fcb }) m1
 unfolding block_read
@@ -76,18 +76,18 @@ block_of length drive dr at a {m = m} {m1 = m1} {cells = cells} e h f =
       lender = w.lender;
     }
 
--- ---- cells whose bytes are known
+-- ---- known cells
 
--- a cell has this byte, and a read does not look at it
+-- A cell has this byte, and a read of it is not a look.
 record IsKnown (own : Own) (beneath : ℕ → ℕ) (looks : Looks) (a v : ℕ) : Type 0 where
   value : v ≡ over own beneath a
   unlooked : look own looks a ≡ looks
 
--- so have the cells from an address on
+-- The cells from an address on have these bytes, and a read of them is not a look.
 abbrev AreKnown : Own → (ℕ → ℕ) → Looks → ℕ → List ℕ → Type 0
 AreKnown own beneath looks a values = (i : ℕ) → i < length values → IsKnown own beneath looks (onward a i) (slice_index values i)
 
--- of the cells after the first
+-- The cells after the first.
 further : (own : Own) (beneath : ℕ → ℕ) (looks : Looks) (a v : ℕ) (rest : List ℕ) → AreKnown own beneath looks a (v ∷ rest) → AreKnown own beneath looks (onward a 1) rest
 further own beneath looks a v rest w i h = subst (λ (x : ℕ). IsKnown own beneath looks x (slice_index rest i)) (let e : onward a (suc i) ≡ onward (onward a 1) i = omega arith in e) (w (suc i) (omega (arith, h)))
 
@@ -108,7 +108,7 @@ looks_known own beneath looks a (v ∷ rest) low w =
     ∙ ap (look_all own (asked (bytes_at (length rest) (onward a 1)) (over own beneath))) (sym (first_of own beneath looks a v rest low w).unlooked)
     ∙ sym (ap (λ (at : List ℕ). look_all own at looks) (asked_more (over own beneath) (length rest) a))
 
--- they are read at once, and nothing is looked at
+-- Known cells are read at once, and nothing is looked at.
 pub reads_known : (m : Memory) (a n : ℕ) (values : List ℕ) → a < 65536 → length values ≡ n → ((i : ℕ) → i < n → slice_index values i ≡ bytes m (onward a i)) → ((i : ℕ) → i < n → look m.own m.looks (onward a i) ≡ m.looks)
     → Reads (bytes_at n a) m values m
 reads_known m a n values low count value unlooked =

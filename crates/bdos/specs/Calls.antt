@@ -30,13 +30,13 @@ system_function number =
     else if number == 40 then OfFile WriteRandomZeroFill
     else OfDesk
 
--- a call, over a script of at most n bytes; those of the desk are told by their numbers there
+-- A call, over a script of at most n bytes. The calls of the desk are defined by their numbers in the crate `console_calls`.
 abbrev pub called : ℕ → SystemFunction → Regs → Spot → SystemTree SystemEnd
 called n (OfFile f) r spot = file_call f r spot
 called n SearchNext r spot = search_next_call r spot
 called n DeleteFile r spot = delete_call r spot
 called n OfDesk r spot = asking_state (desk_calls.call n r spot) (λ e. Return (e, Unchanged))
 
--- the call whose number is in C
+-- The call whose number is in C.
 unfoldable pub call : ℕ → Regs → Spot → SystemTree SystemEnd
 call n r spot = called n (system_function r.c) r spot

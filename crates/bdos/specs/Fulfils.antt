@@ -1,4 +1,4 @@
--- What a function leaves that carries out a call. (This project's own.)
+-- The effect of a function that executes a call. (This project's own.)
 use Rattle.std.specs.Prelude.{◌≡◌, ℕ, ◌||◌, Bool, List, IfOk, OnOk, OnErr, [], ◌∷◌}
 use Rattle.std.specs.declared.result.Result.{Result}
 use Rattle.std.specs.declared.alloc.AllocError.{AllocError}
@@ -20,7 +20,7 @@ use Rattle.hostfiles.specs.Hosts.{Host}
 use Rattle.hostfiles.specs.Files.{Own}
 use Rattle.bdos.specs.Calls.{call}
 
--- those of the one kind, and those of the other
+-- The questions to the state, and the questions to the files.
 abbrev pub state_questions : List SystemQuestion → List StateQuestion
 state_questions [] = []
 state_questions (OfState q ∷ rest) = q ∷ state_questions rest
@@ -31,12 +31,12 @@ file_questions [] = []
 file_questions (OfState q ∷ rest) = file_questions rest
 file_questions (OfFiles q ∷ rest) = q ∷ file_questions rest
 
--- what a memory, a script, and files answer
+-- The answers of a memory, a script and files.
 abbrev pub system_answers : (ℕ → ℕ) → List ℕ → Host → Own → SystemAnswers
 system_answers byte script host own (OfState q) = answers byte script q
 system_answers byte script host own (OfFiles q) = file_answers host own q
 
--- how a tree ends, and what it asks, over a memory, a script and files
+-- How a tree ends over a memory, a script and files, and what it asks.
 abbrev pub end_in : SystemTree SystemEnd → List ℕ → Memory → Drives → SystemEnd
 end_in t script m v = result_of (system_answers (bytes m) script v.host v.own) t
 
@@ -49,7 +49,7 @@ places_asked t script m v = script_places (state_questions (asked (system_answer
 abbrev pub files_asked : SystemTree SystemEnd → List ℕ → Memory → Drives → List FileQuestion
 files_asked t script m v = file_questions (asked (system_answers (bytes m) script v.host v.own) t)
 
--- what a call is carried out over: the registers, memory, the desk, the files, and which places of the script were looked at
+-- The state of a call: registers, memory, desk, files, and for each script offset whether it was looked at.
 pub record Scene : Type 0 where
   pub regs : Regs
   pub memory : Memory
@@ -60,11 +60,12 @@ pub record Scene : Type 0 where
 abbrev pub scene_with : Regs → Memory → Desk → Drives → (ℕ → Bool) → Scene
 scene_with r m d v places = record { regs = r; memory = m; desk = d; files = v; places = places }
 
--- at a desk that keeps these places
+-- A scene with a desk and the script offsets that were looked at.
 abbrev pub scene : Regs → Memory → Watched → Drives → Scene
 scene r m d v = scene_with r m d.desk v (is_within d.places)
 
--- a tree of a call, carried out over a script: how it ends, and what it asks, over the old scene is what the new one shows
+-- The tree of a call was executed over a script: the new scene is the old one, changed by the end of the tree and with the looks on
+-- the way to it.
 pub record Fulfils (t : SystemTree SystemEnd) (script : List ℕ) (old : Scene) (result : Result Served AllocError) (new : Scene) : Type 0 where
   pub served : IfOk result (λ s. s ≡ served_of (end_in t script old.memory old.files).0)
   pub regs : OnOk result (new.regs ≡ regs_after (end_in t script old.memory old.files).0 old.regs)
@@ -74,7 +75,7 @@ pub record Fulfils (t : SystemTree SystemEnd) (script : List ℕ) (old : Scene) 
   pub looks : OnOk result (new.memory.looks ≡ look_all old.memory.own (cells_asked t script old.memory old.files) old.memory.looks)
   pub places : OnOk result ((k : ℕ) → new.places k ≡ (old.places k || is_among k (places_asked t script old.memory old.files)))
   pub asks : OnOk result (new.files.looks ≡ look_for_all old.files.own (files_asked t script old.memory old.files) old.files.looks)
-  -- at a failure: the looks before, and some of those of the whole call, of memory and of the files
+  -- After an error the looks at memory and files are the old ones and some of the looks of the whole call.
   pub err_looks : OnErr result (Extends old.memory.looks new.memory.looks)
   pub err_bound : OnErr result (Extends new.memory.looks (look_all old.memory.own (cells_asked t script old.memory old.files) old.memory.looks))
   pub err_asks_bound : OnErr result (file_looks.Extends new.files.looks (look_for_all old.files.own (files_asked t script old.memory old.files) old.files.looks))
@@ -89,6 +90,6 @@ pub record Fulfils (t : SystemTree SystemEnd) (script : List ℕ) (old : Scene) 
   pub beneath : new.memory.beneath ≡ old.memory.beneath
   pub lender : new.memory.lender ≡ old.memory.lender
 
--- what a call leaves, over a script of at most n bytes
+-- The effect of the call whose number is in C, over a script of at most n bytes.
 abbrev pub Serves : ℕ → List ℕ → Scene → Result Served AllocError → Scene → Type 0
 Serves n script old result new = Fulfils (call n old.regs old.desk.spot) script old result new

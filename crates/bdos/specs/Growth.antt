@@ -1,4 +1,4 @@
--- Which calls could want memory. (This project's own.)
+-- The calls that can run out of memory. (This project's own.)
 use Rattle.std.specs.Prelude.{ℕ, Bool, true, false, List, is_some}
 use Rattle.i8080.specs.declared.registers.Regs.{Regs}
 use Rattle.i8080.specs.Registers.{word}
@@ -11,19 +11,19 @@ use Rattle.bdos.specs.declared.function.SystemFunction.{SystemFunction}
 use Rattle.bdos.specs.declared.function.SystemFunction.TheVariants.{OfFile, SearchNext, DeleteFile, OfDesk}
 use Rattle.bdos.specs.FileCalls.{drive_named}
 
--- whether the first byte of the control block at DE names a drive
+-- Whether the first byte of the control block at DE names a drive.
 abbrev pub names_drive : Regs → Spot → (ℕ → ℕ) → Bool
 names_drive r spot byte = is_some (drive_named spot.drive (byte (word r.e r.d)))
 
--- whether a call could want memory: a call of a file, for what it asks, writes and does, if its drive is there; function 18 if there
--- is a search to go on with; and those of the console. All others never fail
+-- Whether a call can run out of memory: a call that names a file, for what it asks, writes and does, if its drive is there; function
+-- 18 if there is a search to continue; and the console calls that can. The other calls never fail.
 abbrev pub may_grow : SystemFunction → Regs → Spot → (ℕ → ℕ) → List ℕ → Bool
 may_grow (OfFile f) r spot byte script = names_drive r spot byte
 may_grow SearchNext r spot byte script = is_some spot.search
 may_grow DeleteFile r spot byte script = names_drive r spot byte
 may_grow OfDesk r spot byte script = console.may_grow (function_of r.c) r spot script
 
--- whether what a call found makes it write or do something
+-- Whether a finding makes the call write or do something.
 abbrev pub is_done : Finding → Bool
 is_done (finding.Value v) = false
 is_done finding.NoEntry = false

@@ -1,4 +1,4 @@
--- What a call asks of the state: memory and the console script, and the files. (This project's own.)
+-- What a call asks of the state: of memory and the script, and of the files. (This project's own.)
 use Rattle.interaction_trees.specs.Tree.{Tree, Return, Query}
 use Rattle.i8080.specs.Reading.{Reading, Done}
 use Rattle.i8080.specs.Reading as reading
@@ -19,17 +19,17 @@ SystemAnswers = (q : SystemQuestion) → SystemAnswer q
 abbrev pub SystemTree : Type 0 → Type 0
 SystemTree E = Tree SystemQuestion SystemAnswer E
 
--- reads of memory, and what follows them
+-- Reads of memory, and what follows them.
 abbrev pub reading_first : {E F : Type 0} → Reading E → (E → SystemTree F) → SystemTree F
 reading_first (Done e) k = k e
 reading_first (reading.Cell a t) k = Query (OfState (Byte a)) (λ v. reading_first (t v) k)
 
--- what is asked of memory and the script, and what follows it
+-- Questions to memory and the script, and what follows them.
 abbrev pub asking_state : {E F : Type 0} → StateTree E → (E → SystemTree F) → SystemTree F
 asking_state (Return e) k = k e
 asking_state (Query q t) k = Query (OfState q) (λ a. asking_state (t a) k)
 
--- what is asked of the files, and what follows it
+-- Questions to the files, and what follows them.
 abbrev pub asking_files : {E F : Type 0} → FileTree E → (E → SystemTree F) → SystemTree F
 asking_files (Return e) k = k e
 asking_files (Query q t) k = Query (OfFiles q) (λ a. asking_files (t a) k)

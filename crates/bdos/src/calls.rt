@@ -18,9 +18,14 @@ use filenames::{Drive, Fcb};
 use i8080::{Bus, Regs, fetch, fetch_word, word_of};
 use std::alloc::AllocError;
 
-/// Executes the call whose number is in C. If it stops or fails, the registers, the written cells, the desk and
-/// the files stay as they were, and only the set of looks may have grown, by no more than the whole call looks at.
-/// `Err` means out of memory, which a call that asks no file, writes nothing and sends nothing never is. [Interface Guide 1979, system function summary]
+/// Executes the call whose number is in C. [Interface Guide 1979, system function summary]
+///
+/// If the call stops or fails, the registers, the written cells, the desk and the files are unchanged, and only the
+/// set of looks may have grown, by no more than the whole call looks at.
+///
+/// # Errors
+///
+/// `Err` means out of memory. A call that asks about no file, writes nothing and sends nothing is never an `Err`.
 #[tactic(auto, unfolding(crate::specs::Calls::call))]
 #[inline(always)]
 pub fn call<B: Bus>(
@@ -44,7 +49,7 @@ pub fn call<B: Bus>(
     }
 }
 
-// A call that names a file by a control block.
+// Executes a call that names a file by a control block.
 #[inline(never)]
 fn file_call<B: Bus>(
     regs: &mut Regs,
@@ -72,7 +77,7 @@ fn file_call<B: Bus>(
     }
 }
 
-// Function 19, which deletes files.
+// Executes function 19, which deletes files.
 #[inline(never)]
 fn delete_call<B: Bus>(
     regs: &mut Regs,
@@ -98,14 +103,14 @@ fn delete_call<B: Bus>(
     Ok(Served::Went)
 }
 
-// The value of a deletion: 0 where a file was deleted.
+// Returns the value of a deletion: 0 if a file was deleted, else 0FFH.
 fn value_of(is_some_deleted: bool) -> u16
     ensures { result ≡ (if is_some_deleted then 0 else 0xff) }
 {
     if is_some_deleted { 0 } else { 0xff }
 }
 
-// Function 18, which goes on with a search.
+// Executes function 18, which continues a search.
 #[inline(never)]
 fn search_next_call<B: Bus>(
     regs: &mut Regs,
@@ -123,7 +128,7 @@ fn search_next_call<B: Bus>(
     carry_on(&finding, regs, bus, table, desk, to)
 }
 
-// The drive that the first byte of a control block names.
+// Returns the drive that the first byte of a control block names, if it names one.
 fn drive_named(current: Drive, dr: u8) -> Option<Drive>
     ensures { result ≡ drive_named current dr }
 {
@@ -133,7 +138,7 @@ fn drive_named(current: Drive, dr: u8) -> Option<Drive>
     }
 }
 
-// The control block at an address, whose drive byte was read: 36 bytes, or 33 and zeros.
+// Reads the control block at an address, whose drive byte was already read: 36 bytes, or 33 bytes followed by zeros.
 fn fetch_block<B: Bus>(bus: &mut B, at: u16, drive: Drive, dr: u8, whole: bool) -> Block
     ensures { let length = if whole then 36 else 33 in
         Reads (block_read drive dr length at) (B.memory bus.old) result (B.memory bus.new) }

@@ -22,8 +22,12 @@ use file_calls::{Finding, Write};
 use i8080::{Bus, Regs, word_of};
 use std::alloc::AllocError;
 
-/// Finishes a call that found something, and goes back to an address. `Err` means out of memory: registers, cells,
-/// desk and files stay, and what was found is more than a value.
+/// Completes a call by what it found, and returns to the caller at `to`.
+///
+/// # Errors
+///
+/// `Err` means out of memory; the registers, cells, desk and files are unchanged. A finding that is a value, or that
+/// no entry matches, is never an `Err`.
 #[inline(always)]
 pub fn carry_on<B: Bus>(
     finding: &Finding,
@@ -55,7 +59,7 @@ pub fn carry_on<B: Bus>(
     }
 }
 
-// Gives back a value, and does nothing else.
+// Completes a call with a value and does nothing else.
 #[tactic(auto, using(crate::proofs::Parts::still_looked_at))]
 fn give_nothing<B: Bus>(regs: &mut Regs, bus: &B, desk: &Desk, value: u8, to: u16) -> Served
     ensures { (script : List ℕ) (v : Drives) →
@@ -67,7 +71,7 @@ fn give_nothing<B: Bus>(regs: &mut Regs, bus: &B, desk: &Desk, value: u8, to: u1
     Served::Went
 }
 
-// Clears the bytes of the control block from 13 to 31, but for the count of the extent at 15.
+// Clears the bytes 13 to 31 of the control block, except byte 15, which gets the record count of the opened extent.
 #[tactic(auto, using(crate::proofs::Parts::still_looked_at))]
 fn give_count<B: Bus>(
     regs: &mut Regs,
@@ -85,7 +89,7 @@ fn give_count<B: Bus>(
     give_cells(regs, bus, at, &opened_bytes(count), 0, to)
 }
 
-// Gives a value and a random place, in the three bytes of the control block from 33 on.
+// Writes a random record number into the bytes 33 to 35 of the control block, and completes the call with a value.
 #[tactic(auto, using(crate::proofs::Parts::still_looked_at))]
 fn give_place<B: Bus>(
     regs: &mut Regs,
@@ -105,7 +109,7 @@ fn give_place<B: Bus>(
     give_cells(regs, bus, at, &random_bytes(place), value, to)
 }
 
-// No entry matches: there is no search to go on with.
+// Completes a call whose search matches no entry, which ends the search.
 #[tactic(auto, using(crate::proofs::Parts::still_looked_at))]
 fn give_no_entry<B: Bus>(regs: &mut Regs, bus: &B, desk: &mut Desk, to: u16) -> Served
     ensures { (script : List ℕ) (v : Drives) →
@@ -118,7 +122,7 @@ fn give_no_entry<B: Bus>(regs: &mut Regs, bus: &B, desk: &mut Desk, to: u16) -> 
     Served::Went
 }
 
-// Gives back a value, once bytes are written into the cells from an address on.
+// Writes bytes into the cells from an address on, and completes the call with a value.
 #[tactic(auto, using(crate::proofs::Parts::still_looked_at))]
 fn give_cells<B: Bus>(
     regs: &mut Regs,
@@ -139,7 +143,7 @@ fn give_cells<B: Bus>(
     Ok(Served::Went)
 }
 
-// The entry that a search found, in a directory record, and from where the search goes on.
+// Writes the entry that a search found into the buffer, as a directory record, and sets where the search continues.
 #[tactic(auto, using(crate::proofs::Parts::still_looked_at))]
 fn give_entry<B: Bus>(
     regs: &mut Regs,
@@ -159,7 +163,7 @@ fn give_entry<B: Bus>(
     Ok(Served::Went)
 }
 
-// A directory record whose first entry is this one, and whose others are unused.
+// Returns a directory record with this first entry; the other entries are unused.
 fn directory_record(entry: &[u8; 32]) -> Record
     ensures { result ≡ directory_record entry.now }
 {
@@ -168,7 +172,7 @@ fn directory_record(entry: &[u8; 32]) -> Record
     bytes
 }
 
-// The record that was read, in the buffer, and the next place.
+// Writes the record that was read into the buffer, and a sequential record number into the control block.
 #[tactic(auto, using(crate::proofs::Parts::still_looked_at))]
 fn give_record<B: Bus>(
     regs: &mut Regs,
@@ -189,7 +193,7 @@ fn give_record<B: Bus>(
     Ok(Served::Went)
 }
 
-// A record of the buffer goes into a file.
+// Writes the record in the buffer to a file, and a sequential record number into the control block.
 fn store<B: Bus>(
     regs: &mut Regs,
     bus: &mut B,
@@ -213,7 +217,7 @@ fn store<B: Bus>(
     Ok(Served::Went)
 }
 
-// Writes a record, and leaves holes before it or fills them. An `Err` changes no file.
+// Writes a record to a file; the gap before it becomes holes or zeros. An `Err` changes no file.
 fn write_record(table: &mut Table<'_>, write: &Write, bytes: &Record) -> Result<(), AllocError>
     ensures ok { OnOk result ((drives_of table.new).own ≡
         own_with (Stored write.now bytes.now) (drives_of table.old).own) }
@@ -227,7 +231,7 @@ fn write_record(table: &mut Table<'_>, write: &Write, bytes: &Record) -> Result<
     journal.write(&write.key, write.length, place, bytes, write.filled)
 }
 
-// Makes an empty file, and clears the bytes of the control block from 13 to 31.
+// Makes an empty file, and clears the bytes 13 to 31 of the control block.
 fn make<B: Bus>(
     regs: &mut Regs,
     bus: &mut B,
@@ -249,7 +253,7 @@ fn make<B: Bus>(
     Ok(Served::Went)
 }
 
-// Puts a file under another key.
+// Renames a file.
 fn rename<B: Bus>(
     regs: &mut Regs,
     bus: &B,
@@ -270,7 +274,7 @@ fn rename<B: Bus>(
     Ok(Served::Went)
 }
 
-// The bytes 13 to 31 of a control block that is opened at an extent of a count.
+// Returns the bytes 13 to 31 of a control block that is opened at an extent with this record count.
 #[tactic(auto, unfolding(crate::specs::FileCalls::opened_bytes))]
 fn opened_bytes(count: u8) -> [u8; 19]
     ensures { result ≡ opened_bytes count }
@@ -280,7 +284,7 @@ fn opened_bytes(count: u8) -> [u8; 19]
     bytes
 }
 
-// The bytes 13 to 31 of a control block whose file is made.
+// Returns the bytes 13 to 31 of a control block whose file is made.
 #[tactic(auto, unfolding(crate::specs::FileCalls::made_bytes))]
 fn made_bytes() -> [u8; 19]
     ensures { result ≡ made_bytes }
@@ -288,7 +292,7 @@ fn made_bytes() -> [u8; 19]
     [0; 19]
 }
 
-// The three bytes of a random place, the low one first.
+// Returns the three bytes of a random record number, the low byte first.
 #[tactic(auto, unfolding(crate::specs::FileCalls::random_bytes))]
 fn random_bytes(place: u32) -> [u8; 3]
     ensures { result ≡ random_bytes place }

@@ -10,8 +10,8 @@ ghost use Rattle.bdos.specs.FileCalls.{bytes_at, place_cells};
 use i8080::{Bus, fetch};
 use std::alloc::AllocError;
 
-/// Reads cells, from an address on; the cell after 0FFFFH is 0000H. It is part of each call that reads some, so that their count is
-/// known there.
+/// Reads the cells from an address on; the cell after 0FFFFH is 0000H. It is inlined into each call that reads cells,
+/// so that their count is known there.
 #[inline(always)]
 pub fn fetch_cells<B: Bus>(bus: &mut B, at: u16, cells: &mut [u8])
     requires { length cells.old ≤ 128 }
@@ -23,7 +23,7 @@ pub fn fetch_cells<B: Bus>(bus: &mut B, at: u16, cells: &mut [u8])
     }
 }
 
-// The same, one by one: reading some of them is a look, or they are not at hand.
+// Reads the cells one by one, for when a read of some of them is a look or the memory cannot copy them at once.
 #[inline(never)]
 fn fetch_each<B: Bus>(bus: &mut B, at: u16, cells: &mut [u8])
     requires { length cells.old ≤ 128 }
@@ -37,7 +37,8 @@ fn fetch_each<B: Bus>(bus: &mut B, at: u16, cells: &mut [u8])
     }
 }
 
-/// Writes bytes into the cells from an address on, once all are ready.
+/// Writes bytes into the cells from an address on, after all of them are ready. `Err` means out of memory and writes
+/// nothing.
 pub fn put_cells<B: Bus>(bus: &mut B, at: u16, bytes: &[u8]) -> Result<(), AllocError>
     requires { length bytes.now ≤ 128 }
     ensures { Writes (cells_from at bytes.now) (B.memory bus.old) result (B.memory bus.new) }
@@ -47,7 +48,7 @@ pub fn put_cells<B: Bus>(bus: &mut B, at: u16, bytes: &[u8]) -> Result<(), Alloc
     Ok(())
 }
 
-/// Makes the three bytes of a control block ready that hold its sequential place.
+/// Makes the three bytes of a control block that hold its sequential record number ready to be written.
 pub fn ready_place<B: Bus>(bus: &mut B, at: u16) -> Result<(), AllocError>
     ensures extent { OnOk result (IsTrue (B.is_ready bus.new (onward at 12))) }
     ensures high { OnOk result (IsTrue (B.is_ready bus.new (onward at 14))) }
@@ -60,7 +61,7 @@ pub fn ready_place<B: Bus>(bus: &mut B, at: u16) -> Result<(), AllocError>
     bus.ready(at.wrapping_add(32))
 }
 
-/// Writes the sequential place of a control block, whose three bytes are ready.
+/// Writes the sequential record number of a control block, whose three bytes are ready.
 pub fn write_place<B: Bus>(bus: &mut B, at: u16, place: u32)
     requires extent { IsTrue (B.is_ready bus.old (onward at 12)) }
     requires high { IsTrue (B.is_ready bus.old (onward at 14)) }
@@ -75,7 +76,8 @@ pub fn write_place<B: Bus>(bus: &mut B, at: u16, place: u32)
     bus.write(at.wrapping_add(32), (place % 128) as u8);
 }
 
-/// Writes a record into the buffer, and then the place of a control block, once all cells are ready.
+/// Writes a record into the buffer, and then the sequential record number of a control block, after all cells are
+/// ready. `Err` means out of memory and writes nothing.
 #[tactic(auto, using(crate::proofs::Runs::written_both))]
 pub fn put_record<B: Bus>(
     bus: &mut B,

@@ -3,21 +3,21 @@ ghost use Rattle.bdos.specs.Calls.{system_function};
 
 use file_calls::FileFunction;
 
-/// Which calls a number names.
+/// The kind of call that a number names.
 #[derive(Clone, Copy, Debug, PartialEq, Eq)]
 pub enum SystemFunction {
     /// A call that names a file by a control block.
     OfFile(FileFunction),
-    /// 18: the next entry of the directory.
+    /// 18: returns the next matching entry of the directory.
     SearchNext,
-    /// 19: files are deleted.
+    /// 19: deletes files.
     DeleteFile,
-    /// A call of the console and of drives, or none.
+    /// A call for the console or the drives, or no call.
     OfDesk,
 }
 
 impl SystemFunction {
-    /// The calls of a number.
+    /// Returns the kind of call that a number names.
     pub fn decode(number: u8) -> SystemFunction
         ensures { result ≡ system_function number }
     {

@@ -1,6 +1,6 @@
 //! The calls of the BDOS of CP/M 2.2, over any memory and any files.
 //!
-//! - `function`, `calls`: the calls by their numbers; `call`, and the head of a call that names a file
+//! - `function`, `calls`: the calls by their numbers; `call`, and the first part of a call that names a file
 //! - `carry_on`, `cells`: what a call does with what it found; the cells of control blocks and of the buffer
 #![tactic(auto)]
 

@@ -14,7 +14,7 @@ one_on n m = grind (arith, nat_tests)
 zero_below : (m : ℕ) → true ≡ nat_lt 0 (suc m)
 zero_below m = grind (arith, nat_tests)
 
--- a byte passes where the first that does stands within
+-- A list has a byte that passes exactly if the index of the first such byte is below its length.
 any_within : (p : ℕ → Bool) (xs : List ℕ) → list_any p xs ≡ nat_lt (position_or_len p xs) (length xs)
 any_within p [] = refl
 any_within p (x ∷ xs) = elim (p x) as (λ b. p x ≡ b → list_any p (x ∷ xs) ≡ nat_lt (position_or_len p (x ∷ xs)) (length (x ∷ xs))) [
@@ -22,7 +22,7 @@ any_within p (x ∷ xs) = elim (p x) as (λ b. p x ≡ b → list_any p (x ∷ x
   | false ↦ λ e. rw e (any_within p xs ∙ one_on _ _)
 ] refl
 
--- a field of blanks or `?`, with a part over its beginning
+-- A field of blanks or `?`, with a part written over its beginning.
 pub field_made : (n star rest : ℕ) (part : List ℕ) → star ≤ length part → star ≤ n → take star part ++ drop star (replicate n rest) ≡ take n (take star part ++ replicate n rest)
 field_made n star rest part within short =
     let front : length (take star part) ≡ star = length-take-le star part within in
@@ -30,7 +30,7 @@ field_made n star rest part within short =
     ap (λ r. take star part ++ r) (drop-replicate star n rest ∙ sym (take-replicate (n - star) n rest (omega arith)))
     ∙ sym (take-append-add (take star part) (replicate n rest) (n - star)) ∙ ap (λ k. take k (take star part ++ replicate n rest)) (ap (λ k. k + (n - star)) front ∙ more)
 
--- and where the part is longer
+-- A field with a part that is longer.
 pub field_cut : (n star rest : ℕ) (part : List ℕ) → star ≤ length part → n ≤ star → take n part ++ drop n (replicate n rest) ≡ take n (take star part ++ replicate n rest)
 field_cut n star rest part within long =
     let front : length (take star part) ≡ star = length-take-le star part within in
@@ -48,7 +48,7 @@ pub length_named : (word : List ℕ) → length (named_by word) ≡ 12
 unfolding named_by
 length_named word = ap suc (length_fields (before_first is_dot (name_text word)) (before_first is_dot (after_first is_dot (name_text word))))
 
--- the fields behind the drive byte
+-- The fields after the drive byte.
 pub fields_made : (drive : ℕ) (name kind first second spare : List ℕ) → length spare ≡ 3 → first ≡ field_of 8 name → second ≡ field_of (length (take 3 (drop 8 (first ++ spare)))) kind
     → drive ∷ (take 8 (first ++ spare) ++ (second ++ drop 3 (drop 8 (first ++ spare)))) ≡ drive ∷ (field_of 8 name ++ field_of 3 kind)
 fields_made drive name kind first second spare three f s =
@@ -60,14 +60,14 @@ fields_made drive name kind first second spare three f s =
     ∙ ap (λ r. drive ∷ (r ++ (second ++ []))) (take_at first spare 8 eight ∙ f)
     ∙ ap (λ r. drive ∷ (field_of 8 name ++ r)) (append-nil second ∙ s ∙ ap (λ n. field_of n kind) count)
 
--- what fills the rest of a field
+-- The byte that fills the rest of a field.
 abbrev pub filling : Bool → ℕ
 filling b = cond b 63 32
 
 pub rest_is : (star : ℕ) (part : List ℕ) → star ≡ position_or_len is_star part → filling (nat_lt star (length part)) ≡ filling (list_any is_star part)
 rest_is star part e = ap filling (ap (λ n. nat_lt n (length part)) e ∙ sym (any_within is_star part))
 
--- a field that was filled, and then written over from its beginning
+-- A field that was filled, and then written over from its beginning.
 pub field_filled : (n star end rest : ℕ) (part filled front : List ℕ) → star ≡ position_or_len is_star part → star ≤ length part → end ≡ min star n
     → rest ≡ filling (nat_lt star (length part)) → filled ≡ replicate n rest → front ≡ take end part → front ++ drop end filled ≡ field_of n part
 field_filled n star end rest part filled front place within e r f t = elim (leb_tells n star) [
@@ -80,7 +80,7 @@ field_filled n star end rest part filled front place within e r f t = elim (leb_
   whole : take n (take star part ++ replicate n rest) ≡ field_of n part
   whole = ap (λ k. take n (take k part ++ replicate n rest)) place ∙ ap (λ x. take n (before_first is_star part ++ replicate n x)) (r ∙ rest_is star part place)
 
--- the fields of a word, by its halves
+-- The fields of a word, from its parts before and after the dots.
 pub name_named : (word : List ℕ) (drive : ℕ) (text name behind kind : List ℕ) → drive ≡ drive_byte word → text ≡ name_text word → name ≡ before_first is_dot text → behind ≡ after_first is_dot text
     → kind ≡ before_first is_dot behind → drive ∷ (field_of 8 name ++ field_of 3 kind) ≡ named_by word
 unfolding named_by

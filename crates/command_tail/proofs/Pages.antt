@@ -6,14 +6,14 @@ use Rattle.command_tail.specs.Words.{named_by}
 use Rattle.command_tail.specs.PageZero.{written, tail_cells}
 use Rattle.command_tail.proofs.Fields.{length_named}
 
--- what stands there is exchanged for as much
+-- A part of a list is replaced by one of the same length.
 placed : (front old new back : List ℕ) (at : ℕ) → length front ≡ at → length old ≡ length new → written (front ++ (old ++ back)) at new ≡ front ++ (new ++ back)
 placed front old new back at f l =
     ap (λ r. r ++ (new ++ drop (at + length new) (front ++ (old ++ back)))) (take_at front (old ++ back) at f)
     ∙ ap (λ k. front ++ (new ++ drop (k + length new) (front ++ (old ++ back)))) (sym f)
     ∙ ap (λ r. front ++ (new ++ r)) (drop-append-add front (old ++ back) (length new) ∙ drop_at old back (length new) l)
 
--- three parts of a page that are exchanged, and what stands between
+-- Three parts of a page are replaced; the parts between them stay.
 parts_placed : (a x b y c z p q r : List ℕ) (m n : ℕ) → m ≡ length a + 12 + length b → n ≡ m + 12 + length c → length x ≡ 12 → length p ≡ 12 → length y ≡ 12 → length q ≡ 12 → length z ≡ length r
     → written (written (written (a ++ (x ++ (b ++ (y ++ (c ++ z))))) (length a) p) m q) n r ≡ ((((a ++ p) ++ b) ++ q) ++ c) ++ r
 parts_placed a x b y c z p q r m n em en lx lp ly lq lz =
@@ -32,7 +32,7 @@ length_tail (b ∷ bs) h =
     let count : length zeros ≡ 126 - length (b ∷ bs) = length-replicate (126 - length (b ∷ bs)) 0 in
     omega (arith, length-append bs zeros)
 
--- the jumps, two names and the tail, written over zeros
+-- The jumps, two names and the tail, written over zeros.
 pub page_made : (first second tail p1 p2 p3 p4 : List ℕ) → length tail ≤ 126
     → p1 ≡ written (replicate 256 0) 0 (0xc3 ∷ 0x03 ∷ 0xff ∷ 0 ∷ 0 ∷ 0xc3 ∷ 0x06 ∷ 0xfe ∷ []) → p2 ≡ written p1 92 (named_by first) → p3 ≡ written p2 108 (named_by second) → p4 ≡ written p3 128 (tail_cells tail)
     → p4 ≡ (((((0xc3 ∷ 0x03 ∷ 0xff ∷ 0 ∷ 0 ∷ 0xc3 ∷ 0x06 ∷ 0xfe ∷ []) ++ replicate 84 0) ++ named_by first) ++ replicate 4 0) ++ named_by second) ++ replicate 8 0 ++ tail_cells tail
@@ -41,7 +41,7 @@ page_made first second tail p1 p2 p3 p4 h e1 e2 e3 e4 =
     ∙ parts_placed ((0xc3 ∷ 0x03 ∷ 0xff ∷ 0 ∷ 0 ∷ 0xc3 ∷ 0x06 ∷ 0xfe ∷ []) ++ replicate 84 0) (replicate 12 0) (replicate 4 0) (replicate 12 0) (replicate 8 0) (replicate 128 0)
     (named_by first) (named_by second) (tail_cells tail) 108 128 refl refl refl (length_named first) refl (length_named second) (sym (length_tail tail h))
 
--- a tail written behind its length and a blank
+-- A tail written after its length and a blank.
 pub tail_made : (tail cells : List ℕ) → 0 < length tail → length tail ≤ 126 → cells ≡ written ((length tail + 1) ∷ 32 ∷ replicate 126 0) 2 tail → cells ≡ tail_cells tail
 tail_made [] cells h k e = absurd (omega arith)
 tail_made (b ∷ bs) cells h k e =

@@ -1,15 +1,15 @@
--- The words of a command tail, and the drive and the name that a word gives.
+-- The words of a command tail, and the drive and the name in a word.
 -- ([Interface Guide 1979, page zero and file control blocks]; which words give what: this project's profile.)
 use Rattle.std.specs.Prelude.{ℕ, ◌-◌, ◌==◌, ◌&&◌, not, Bool, if◌then◌else◌, List, ◌∷◌, ◌++◌, take, drop, replicate, slice_index}
 use Rattle.std.specs.List.{list_any, before_first, after_first, position_or_len}
 use Rattle.std.specs.Char.{is_ascii_uppercase}
 use Rattle.filenames.specs.Names.{is_dot, is_blank, has_drive}
 
--- a text without the blanks that it begins with
+-- A text without its leading blanks.
 abbrev pub without_blanks : List ℕ → List ℕ
 without_blanks text = drop (position_or_len (λ b. not (is_blank b)) text) text
 
--- words are separated by blanks; where there is none, it is empty
+-- The first word, which ends at a blank; empty if there is none.
 abbrev pub first_word : List ℕ → List ℕ
 first_word text = before_first is_blank (without_blanks text)
 
@@ -19,26 +19,26 @@ behind_first_word text = drop (position_or_len is_blank (without_blanks text)) (
 abbrev pub second_word : List ℕ → List ℕ
 second_word text = first_word (behind_first_word text)
 
--- whether a word's second byte is `:`, and its first a letter A to Z
+-- Whether a word's second byte is `:`, and its first a letter A to Z.
 abbrev pub names_drive : List ℕ → Bool
 names_drive word = has_drive word && is_ascii_uppercase (slice_index word 0)
 
--- the drive byte: 1 for A to 26 for Z, and 0 where no drive is named
+-- The drive byte: 1 for A to 26 for Z, and 0 if no drive is named.
 abbrev pub drive_byte : List ℕ → ℕ
 drive_byte word = if names_drive word then slice_index word 0 - 64 else 0
 
--- the name stands behind the `:`
+-- The text of the name, which is after the `:`.
 abbrev pub name_text : List ℕ → List ℕ
 name_text word = if names_drive word then drop 2 word else word
 
 abbrev pub is_star : ℕ → Bool
 is_star b = b == 42
 
--- a field of n bytes from a part of a name: `*` fills the rest with `?`; else blanks do. A longer part is cut
+-- A field of n bytes with a part of a name: the rest is `?` after a `*`, else blanks. A longer part is cut.
 abbrev pub field_of : ℕ → List ℕ → List ℕ
 field_of n part = take n (before_first is_star part ++ replicate n (if list_any is_star part then 63 else 32))
 
--- the drive byte; 8 bytes of what stands before the first `.`, and 3 of what stands behind it, up to the next
+-- The drive byte; a field of 8 bytes for the text before the first `.`, and one of 3 for the text between that and the next.
 unfoldable pub named_by : List ℕ → List ℕ
 named_by word =
     drive_byte word ∷ field_of 8 (before_first is_dot (name_text word))

@@ -1,6 +1,6 @@
-//! What a program finds of its command tail. [Interface Guide 1979, page zero]
+//! Page zero as a program finds it, with its command tail. [Interface Guide 1979, page zero]
 //!
-//! - `word`, `page`: the words of a command tail, and what a word says of a drive and a name; page zero
+//! - `word`, `page`: the words of a command tail, with the drive and the name in a word; page zero
 #![tactic(auto)]
 
 mod page;

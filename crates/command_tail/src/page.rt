@@ -1,4 +1,4 @@
-// Page zero of a command tail.
+// Page zero with a command tail.
 
 ghost use Rattle.std.specs.Prelude.{◌≡◌, ◌+◌, ◌≤◌, length};
 ghost use Rattle.command_tail.specs.PageZero.{page_zero, page_of, tail_cells, written};
@@ -6,15 +6,17 @@ ghost use Rattle.command_tail.specs.PageZero.{page_zero, page_of, tail_cells, wr
 use crate::word::{named_by, split_word};
 use filenames::fill;
 
-/// The most bytes of a command tail.
+/// The maximum length of a command tail, in bytes.
 pub const TAIL_LIMIT: usize = 126;
 
 /// The jump to the warm start, the I/O byte, the drive, and the jump to the BDOS.
 const JUMPS: [u8; 8] = [0xc3, 0x03, 0xff, 0, 0, 0xc3, 0x06, 0xfe];
 
-/// Page zero with a command tail: the jumps to the warm start and to the BDOS, at 005CH and 006CH the drive
-/// byte and the name of the tail's first two words, and from 0080H on 0 for an empty tail, else its length
-/// plus one, a blank and the tail. Its letters are raised.
+/// Returns page zero with a command tail of at most 126 bytes, whose letters are converted to upper case.
+///
+/// At 0000H and 0005H are the jumps to the warm start and to the BDOS. At 005CH and 006CH are the drive byte and the
+/// name of the tail's first and second word. At 0080H is 0 for an empty tail, else the tail's length plus one, a blank
+/// and the tail.
 pub fn page_zero(tail: &[u8]) -> [u8; 256]
     requires { length tail.now ≤ TAIL_LIMIT }
     ensures { result ≡ page_zero tail.now }
@@ -24,7 +26,7 @@ pub fn page_zero(tail: &[u8]) -> [u8; 256]
     page_of(&raised[..tail.len()])
 }
 
-// Page zero with a tail of raised letters.
+// Returns page zero with a tail in upper case.
 fn page_of(tail: &[u8]) -> [u8; 256]
     requires { length tail.now ≤ TAIL_LIMIT }
     ensures { result ≡ page_of tail.now }
@@ -39,7 +41,7 @@ fn page_of(tail: &[u8]) -> [u8; 256]
     page
 }
 
-// Writes bytes from a cell on.
+// Overwrites the cells from an address on.
 fn write(cells: &mut [u8], at: usize, bytes: &[u8])
     requires { at + length bytes.now ≤ length cells.old }
     ensures { cells.new ≡ written cells.old at bytes.now }
@@ -47,7 +49,7 @@ fn write(cells: &mut [u8], at: usize, bytes: &[u8])
     cells[at..at + bytes.len()].copy_from_slice(bytes);
 }
 
-// The cells from 0080H on.
+// Returns the cells from 0080H on.
 fn tail_cells(tail: &[u8]) -> [u8; 128]
     requires { length tail.now ≤ TAIL_LIMIT }
     ensures { result ≡ tail_cells tail.now }

@@ -1,12 +1,12 @@
-// The words of a tail, and what a word says of a drive and a name.
+// The words of a command tail, with the drive and the name in a word.
 
 ghost use Rattle.std.specs.Prelude.{◌≡◌, length};
 ghost use Rattle.command_tail.specs.Words.{without_blanks, first_word, behind_first_word, drive_byte, name_text, field_of, named_by};
 
 use filenames::{first, halves};
 
-/// The first word of a text, and what stands behind it. Words are separated by blanks; where there is none,
-/// it is empty.
+/// Returns the first word of a text, and the text after it. Words are separated by blanks; if there is no word, both
+/// are empty.
 pub fn split_word(text: &[u8]) -> (&[u8], &[u8])
     ensures word { result.0.now ≡ first_word text.now }
     ensures rest { result.1.now ≡ behind_first_word text.now }
@@ -16,7 +16,7 @@ pub fn split_word(text: &[u8]) -> (&[u8], &[u8])
     (&text[..end], &text[end..])
 }
 
-// A text from its first byte on that is no blank.
+// Returns a text without its leading blanks.
 fn without_blanks(text: &[u8]) -> &[u8]
     ensures { result.now ≡ without_blanks text.now }
 {
@@ -28,8 +28,8 @@ fn without_blanks(text: &[u8]) -> &[u8]
     &[]
 }
 
-/// The drive byte and the name of a word: 1 to 26 where it begins with a letter A to Z and `:`, else 0, then
-/// the field of the name, of 8 bytes, and that of the type, of 3.
+/// Returns the drive byte and the name in a word. The drive byte is 1 to 26 if the word begins with a letter A to Z and
+/// `:`, else 0. The field of the name has 8 bytes, and the field of the type 3.
 pub fn named_by(word: &[u8]) -> [u8; 12]
     ensures { result ≡ named_by word.now }
 {
@@ -42,7 +42,7 @@ pub fn named_by(word: &[u8]) -> [u8; 12]
     bytes
 }
 
-// The drive byte of a word, and the text of its name.
+// Returns the drive byte of a word, and the text of its name.
 fn split_drive(word: &[u8]) -> (u8, &[u8])
     ensures drive { result.0 ≡ drive_byte word.now }
     ensures text { result.1.now ≡ name_text word.now }
@@ -53,8 +53,8 @@ fn split_drive(word: &[u8]) -> (u8, &[u8])
     (0, word)
 }
 
-// Fills a field from a part of a name: `*` fills the rest with `?`, a shorter part is padded with blanks, and
-// a longer one is cut.
+// Fills a field with a part of a name. The part ends at a `*`, which fills the rest of the field with `?`. A shorter
+// part is padded with blanks, and a longer one is cut.
 fn fill_field(field: &mut [u8], part: &[u8])
     ensures { field.new ≡ field_of (length field.old) part.now }
 {

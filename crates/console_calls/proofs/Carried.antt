@@ -1,4 +1,4 @@
--- From what the parts of a call leave to what the call leaves.
+-- The effect of a call, from the effects of its parts.
 use Rattle.std.proofs.Common.{◌≡◌, ℕ, Bool, ◌||◌, List, [], Result, Ok, Err, IfOk, OnOk, OnErr, ◌==◌, Option, slice_get, sym, ap, subst, ◌∙◌}
 use Rattle.std.specs.declared.alloc.AllocError.{AllocError}
 use Rattle.interaction_trees.specs.Tree.{Query, result_of, asked}
@@ -20,7 +20,7 @@ use Rattle.console_calls.proofs.Scanning.{same_bytes}
 use Rattle.console_calls.proofs.Trees.{result_of-reads, addresses-reads, places-reads, look_all-append, or_assoc, result_of-followed_by, addresses-followed_by, places-followed_by}
 
 module _ {script : List ℕ} {r : Regs} {m : Memory} {d : Desk} {was is : ℕ → Bool} {result : Result Served AllocError} {r' : Regs} {m' : Memory} {d' : Desk} where
-  -- a tree by another name
+  -- An equal tree.
   pub named : {t t' : StateTree CallEnd} → t' ≡ t → FulfilsBy t script r m d was result r' m' d' is → FulfilsBy t' script r m d was result r' m' d' is
   named e w = subst (λ t. FulfilsBy t script r m d was result r' m' d' is) (sym e) w
 
@@ -31,7 +31,7 @@ on_err (Err e) f h = f h
 -- ---- the looks of a tree
 
 module _ {E : Type 0} (script : List ℕ) (m m1 : Memory) (t : Reading E) (k : E → StateTree CallEnd) where
-  -- the looks of what follows a reading are those of the whole
+  -- The looks of a reading and then of what follows it are the looks of the whole.
   looks_of_rest : (e : E) → e ≡ end_of t (bytes m) → m1.looks ≡ looks_after t m → m1.own ≡ m.own → m1.beneath ≡ m.beneath
       → look_all m1.own (addresses (asked (answers (bytes m1) script) (k e))) m1.looks ≡ look_all m.own (addresses (asked (answers (bytes m) script) (reads t k))) m.looks
   looks_of_rest e value looks own beneath =
@@ -47,7 +47,7 @@ module _ {E : Type 0} (script : List ℕ) (m m1 : Memory) (t : Reading E) (k : E
       → Extends new (look_all m1.own (addresses (asked (answers (bytes m1) script) (k e))) m1.looks) → Extends new (look_all m.own (addresses (asked (answers (bytes m) script) (reads t k))) m.looks)
   bound_rest {new = new} e value looks own beneath h = subst (λ (l : Looks). Extends new l) (looks_of_rest e value looks own beneath) h
 
--- some of the looks of a reading are some of those of the whole
+-- Some of the looks of a reading are some of the looks of the whole.
 pub bound_first : {E : Type 0} (script : List ℕ) (m : Memory) (t : Reading E) (k : E → StateTree CallEnd) {new : Looks} → Extends new (looks_after t m) → Extends new (look_all m.own (addresses (asked (answers (bytes m) script) (reads t k))) m.looks)
 bound_first script m t k {new = new} h =
     let rest : List ℕ = addresses (asked (answers (bytes m) script) (k (end_of t (bytes m)))) in
@@ -55,7 +55,7 @@ bound_first script m t k {new = new} h =
     (subst (λ (l : Looks). Extends new l) (sym (look_all-append m.own (reading.asked t (bytes m)) rest m.looks)) (bound_all m.own rest new (looks_after t m) h))
 
 module _ {script : List ℕ} {r : Regs} {m m1 : Memory} {d : Desk} {was is : ℕ → Bool} {result : Result Served AllocError} {r' : Regs} {m' : Memory} {d' : Desk} where
-  -- a reading, and what follows its end
+  -- A reading, and what follows its end.
   pub after_reading : {E : Type 0} (t : Reading E) (k : E → StateTree CallEnd) (e : E) → e ≡ end_of t (bytes m) → m1.looks ≡ looks_after t m
       → m1.own ≡ m.own → m1.beneath ≡ m.beneath → m1.lender ≡ m.lender
       → FulfilsBy (k e) script r m1 d was result r' m' d' is → FulfilsBy (reads t k) script r m d was result r' m' d' is
@@ -89,7 +89,7 @@ module _ {script : List ℕ} {r : Regs} {m m1 : Memory} {d : Desk} {was is : ℕ
       → FulfilsBy (k e) script r m1 d was result r' m' d' is → FulfilsBy (reads t k) script r m d was result r' m' d' is
   after_read t k e h w = after_reading t k e h.value h.looks h.own h.beneath h.lender w
 
--- the script byte at a place, and what follows it
+-- The script byte at an offset, and what follows it.
 module _ {script : List ℕ} {r : Regs} {m : Memory} {d : Desk} {was is : ℕ → Bool} {s : Served} {r' : Regs} {m' : Memory} {d' : Desk} where
   pub after_input : (k : ℕ) (next : Option ℕ → StateTree CallEnd)
       → FulfilsBy (next (slice_get script k)) script r m d (λ j. was j || j == k) (Ok s) r' m' d' is
@@ -111,7 +111,7 @@ module _ {script : List ℕ} {r : Regs} {m : Memory} {d : Desk} {was is : ℕ �
     lender = w.lender;
   }
 
-  -- a tree that asks for script places alone, and what follows its end
+  -- A tree that asks only for script offsets, and what follows its end.
   pub after_asking : {E : Type 0} (t : StateTree E) (k : E → StateTree CallEnd) (e : E) (ahead : ℕ → Bool)
       → result_of (answers (bytes m) script) t ≡ e → addresses (asked (answers (bytes m) script) t) ≡ [] → ((j : ℕ) → is_among j (script_places (asked (answers (bytes m) script) t)) ≡ ahead j)
       → FulfilsBy (k e) script r m d (λ j. was j || ahead j) (Ok s) r' m' d' is
@@ -143,7 +143,7 @@ module _ {script : List ℕ} {r : Regs} {m : Memory} {d : Desk} {was is : ℕ �
         lender = w.lender;
       }
 
--- a call that fails
+-- A call that fails.
 module _ {t : StateTree CallEnd} {script : List ℕ} {r : Regs} {m : Memory} {d : Desk} {was is : ℕ → Bool} {e : AllocError} {r' : Regs} {m' : Memory} {d' : Desk} where
   pub fails : Extends m.looks m'.looks → Extends m'.looks (look_all m.own (addresses (asked (answers (bytes m) script) t)) m.looks) → r' ≡ r → d' ≡ d → m'.own ≡ m.own → ((j : ℕ) → is j ≡ was j) → m'.beneath ≡ m.beneath → m'.lender ≡ m.lender
       → FulfilsBy t script r m d was (Err e) r' m' d' is

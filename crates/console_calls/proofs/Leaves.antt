@@ -20,11 +20,11 @@ use Rattle.console_calls.proofs.Carried.{after_read, after_input}
 use Rattle.console_calls.proofs.Trees.{or_false}
 
 module _ {script : List ℕ} {r : Regs} {m : Memory} {d : Desk} {was is : ℕ → Bool} where
-  -- a stop
+  -- A stop.
   pub stops : {d' : Desk} (cause : Cause) → d' ≡ d → ((j : ℕ) → is j ≡ was j) → FulfilsBy (Return (Stopped cause)) script r m d was (Ok (served.Stop cause)) r m d' is
   stops cause e same = record { served = refl; regs = refl; desk = e; own = refl; looks = refl; places = λ j. same j ∙ or_false (was j); err_looks = tt; err_bound = tt; err_regs = tt; err_desk = tt; err_own = tt; err_places = tt; beneath = refl; lender = refl }
 
-  -- the return address was read, and then the call at_caller with a value
+  -- A call that read the return address and returned to its caller with a value.
   pub returns_with : {m1 m' : Memory} {r' : Regs} {d' : Desk} {to : ℕ} (value : ℕ) (spot : Spot) (bytes : List ℕ) (written : Written)
       → Reads (word_at r.sp Done) m to m1 → r' ≡ at_caller value to r → d' ≡ record { spot = spot; text = d.text ++ bytes }
       → m'.own ≡ write_all m1.own written.cells → m'.looks ≡ m1.looks → m'.beneath ≡ m1.beneath → m'.lender ≡ m1.lender → ((j : ℕ) → is j ≡ was j)
@@ -36,12 +36,12 @@ module _ {script : List ℕ} {r : Regs} {m : Memory} {d : Desk} {was is : ℕ �
 one_ahead : (cursor j : ℕ) → is_ahead cursor 1 j ≡ (j == cursor)
 one_ahead cursor j = grind (arith, nat_tests)
 
--- the next place was looked at
+-- The next offset was looked at.
 next_place : (was : ℕ → Bool) {is : ℕ → Bool} (cursor : ℕ) → ((j : ℕ) → is j ≡ (was j || is_ahead cursor 1 j)) → (j : ℕ) → is j ≡ (was j || j == cursor)
 next_place was cursor looked j = looked j ∙ ap (λ b. was j || b) (one_ahead cursor j)
 
 module _ {script : List ℕ} {r : Regs} {m : Memory} {d d' : Desk} {was is : ℕ → Bool} where
-  -- function 1, where no byte is left, and where one is
+  -- Function 1, if no byte is left, and if one is.
   pub input_ends : ((j : ℕ) → is j ≡ (was j || is_ahead d.spot.cursor 1 j)) → None ≡ slice_get script d.spot.cursor → d' ≡ d → FulfilsBy (console_input r d.spot) script r m d was (Ok (served.Stop ConsoleExhausted)) r m d' is
   input_ends looked e same = after_input d.spot.cursor (taking r d.spot)
       (subst (λ x. FulfilsBy (taking r d.spot x) script r m d (λ j. was j || j == d.spot.cursor) (Ok (served.Stop ConsoleExhausted)) r m d' is) e (stops ConsoleExhausted same (next_place was d.spot.cursor looked)))
@@ -53,13 +53,13 @@ module _ {script : List ℕ} {r : Regs} {m : Memory} {d d' : Desk} {was is : ℕ
       (subst (λ x. FulfilsBy (taking r d.spot x) script r m d (λ j. was j || j == d.spot.cursor) (Ok served.Went) r' m1 d' is) e
       (returns_with byte _ _ nothing address back desk refl refl refl refl (next_place was d.spot.cursor looked)))
 
-  -- function 11
+  -- Function 11.
   pub status_goes : {to value : ℕ} {m1 : Memory} {r' : Regs} → ((j : ℕ) → is j ≡ (was j || is_ahead d.spot.cursor 1 j)) → value ≡ (if is_some (slice_get script d.spot.cursor) then 0xff else 0) → Reads (word_at r.sp Done) m to m1 → r' ≡ at_caller value to r
       → d' ≡ d → FulfilsBy (console_status r d.spot) script r m d was (Ok served.Went) r' m1 d' is
   status_goes {to = to} looked e address back same = after_input d.spot.cursor _
       (returns_with _ d.spot [] nothing address (back ∙ ap (λ v. at_caller v to r) e) (same ∙ ap (λ text. record { spot = d.spot; text = text }) (sym (append-nil d.text))) refl refl refl refl (next_place was d.spot.cursor looked))
 
-  -- function 6
+  -- Function 6.
   pub given_none : {to : ℕ} {m1 : Memory} {r' : Regs} → ((j : ℕ) → is j ≡ (was j || is_ahead d.spot.cursor 1 j)) → None ≡ slice_get script d.spot.cursor → Reads (word_at r.sp Done) m to m1
       → r' ≡ at_caller 0 to r → d' ≡ d → FulfilsBy (direct_input r d.spot) script r m d was (Ok served.Went) r' m1 d' is
   given_none {m1 = m1} {r' = r'} looked e address back same = after_input d.spot.cursor (given r d.spot)

@@ -1,4 +1,4 @@
--- Function 10, from the parts.
+-- Function 10, from its parts.
 use Rattle.std.proofs.Common.{◌≡◌, ℕ, suc, ◌+◌, ◌||◌, ◌++◌, Bool, List, [], ◌∷◌, reverse, Ok, ap, sym, subst, ◌∙◌}
 use Rattle.interaction_trees.specs.Tree.{asked}
 use Rattle.i8080.specs.declared.registers.Regs.{Regs}
@@ -27,7 +27,7 @@ use Rattle.console_calls.proofs.Trees.{addresses-followed_by}
 
 module _ {script : List ℕ} {r : Regs} {m m1 : Memory} {d : Desk} {was : ℕ → Bool} {at capacity n : ℕ} {line e : LineEnd} (de : at ≡ word r.e r.d) (first : Reads (Cell at Done) m capacity m1)
     (types : Types script capacity d.spot.cursor line (bytes m1) n) (went : line ≡ e) where
-  -- the capacity was read and the line taken
+  -- The capacity was read and the line taken.
   after_line : {s : Served} {r' : Regs} {m' : Memory} {d' : Desk} {is : ℕ → Bool}
       → FulfilsBy (line_ended r d.spot (end_from d.spot.cursor e)) script r m1 d (λ j. was j || is_ahead d.spot.cursor (looks_of e) j) (Ok s) r' m' d' is
       → FulfilsBy (line_input n r d.spot) script r m d was (Ok s) r' m' d' is
@@ -58,7 +58,7 @@ module _ {script : List ℕ} {r : Regs} {m m1 : Memory} {d : Desk} {was is : ℕ
         (own ∙ ap (λ (x : Memory). write_all x.own (line_cells at (reverse l.stored))) ready ∙ ap (λ a. write_all m2.own (line_cells a (reverse l.stored))) de)
         (seen ∙ ap (λ (x : Memory). x.looks) ready) (beneath ∙ ap (λ (x : Memory). x.beneath) ready) (lender ∙ ap (λ (x : Memory). x.lender) ready) looked)
 
--- a failure after the line was taken
+-- An error after the line was taken.
 pub line_bound : (script : List ℕ) (r : Regs) (d : Desk) (n : ℕ) {m m1 : Memory} {at capacity cursor looks : ℕ} {line : LineEnd} {l : Line} {new : Looks}
     → at ≡ word r.e r.d → Reads (Cell at Done) m capacity m1 → cursor ≡ d.spot.cursor → Types script capacity cursor line (bytes m1) n → line ≡ code.Ended l looks
     → Extends new (looks_after (word_at r.sp Done) m1) → Extends new (look_all m.own (addresses (asked (answers (bytes m) script) (line_input n r d.spot))) m.looks)

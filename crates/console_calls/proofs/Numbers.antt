@@ -1,4 +1,4 @@
--- Which tree a number names.
+-- The tree of each call number.
 use Rattle.std.proofs.Common.{◌≡◌, ◌≢◌, ℕ, Option, Some, refl, sym, ap, ◌∙◌}
 use Rattle.std.proofs.lemmas.Bool.{ne_eqb}
 use Rattle.i8080.specs.declared.registers.Regs.{Regs}

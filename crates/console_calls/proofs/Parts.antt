@@ -1,4 +1,4 @@
--- What a function leaves that carries out a call, with each part of what the call stands on by itself.
+-- The effect of a function that executes a call, with each part of the call's state by itself.
 use Rattle.std.proofs.Common.{ℕ, Bool, List}
 use Rattle.std.specs.declared.result.Result.{Result}
 use Rattle.std.specs.declared.alloc.AllocError.{AllocError}

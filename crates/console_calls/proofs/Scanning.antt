@@ -28,7 +28,7 @@ one_less n i h = omega arith
 pub none_left : (n i : ℕ) → n ≤ i → n - i ≡ 0
 none_left n i h = omega arith
 
--- the string from a cell on: that the cell ends it, or that it goes on from the next
+-- The string from a cell on: the cell ends it, or the string continues at the next cell.
 ends_here : (byte : ℕ → ℕ) (n a : ℕ) → byte a ≡ 0x24 → end_of (string_at (suc n) a) byte ≡ Some []
 unfolding string_at
 ends_here byte n a h = rw (eq-eqb (byte a) 0x24 h, end_of) refl
@@ -58,7 +58,7 @@ print_first : (d : Desk) (v : ℕ) (rest : Option (List ℕ)) → option_map (de
 print_first d v None = refl
 print_first d v (Some rest) = ap (λ text. Some (record { spot = record d.spot { column = (printed_all d.spot.column (v ∷ rest)).column }; text = text })) (sym (append_assoc d.text (printed d.spot.column v).bytes (printed_all (printed d.spot.column v).column rest).bytes))
 
--- one turn: a byte that is no `$` was read and printed
+-- One pass of the loop: a byte other than `$` was read and printed.
 pub desk_on : (byte : ℕ → ℕ) (n i a v : ℕ) (d d' : Desk) → i < n → v ≡ byte a → v ≢ 0x24 → d' ≡ desk_showing d (printed d.spot.column v)
     → option_map (desk_printing d') (end_of (string_at (n - (i + 1)) (onward a 1)) byte) ≡ option_map (desk_printing d) (end_of (string_at (n - i) a) byte)
 desk_on byte n i a v d d' h e other p =
@@ -69,7 +69,7 @@ pub looks_on : (byte : ℕ → ℕ) (own : Own) (looks looks' : Looks) (n i a v 
 looks_on byte own looks looks' n i a v h e other l =
     rw (l, one_less n i h, asked_on byte (n - (i + 1)) a (rw (← e) other)) refl
 
--- at the `$`
+-- At the `$`.
 pub desk_here : (byte : ℕ → ℕ) (n i a v : ℕ) (d : Desk) → i < n → v ≡ byte a → v ≡ 0x24
     → option_map (desk_printing d) (end_of (string_at (n - i) a) byte) ≡ Some d
 desk_here byte n i a v d h e dollar = rw (one_less n i h, ends_here byte (n - (i + 1)) a (sym e ∙ dollar)) (ap (λ text. Some (record { spot = d.spot; text = text })) (append-nil d.text))
@@ -78,7 +78,7 @@ pub looks_here : (byte : ℕ → ℕ) (own : Own) (looks : Looks) (n i a v : ℕ
     → look_all own (asked (string_at (n - i) a) byte) looks ≡ look own looks a
 looks_here byte own looks n i a v h e dollar = rw (one_less n i h, asked_here byte (n - (i + 1)) a (sym e ∙ dollar)) refl
 
--- after the last cell
+-- After the last cell.
 pub desk_end : (byte : ℕ → ℕ) (n i a : ℕ) (d : Desk) → n ≤ i → option_map (desk_printing d) (end_of (string_at (n - i) a) byte) ≡ None
 desk_end byte n i a d h = rw (none_left n i h, nothing_left byte a) refl
 
@@ -88,7 +88,7 @@ looks_end byte own looks n i a h = rw (none_left n i h, nothing_asked byte a) re
 pub same_bytes : (m n : Memory) → n.own ≡ m.own → n.beneath ≡ m.beneath → bytes n ≡ bytes m
 same_bytes m n o b = rw (o, b) refl
 
--- a byte read from a memory that has the bytes of the first one
+-- A byte read from a memory with the same bytes as the first memory.
 module _ (first now next : Memory) (a v : ℕ) (h : Reads (Cell a Done) now v next) (own : now.own ≡ first.own) (beneath : now.beneath ≡ first.beneath) where
   pub byte_read : v ≡ bytes first a
   byte_read = h.value ∙ ap (λ (f : ℕ → ℕ). f a) (same_bytes first now own beneath)
@@ -96,7 +96,7 @@ module _ (first now next : Memory) (a v : ℕ) (h : Reads (Cell a Done) now v ne
   pub looked_at : next.looks ≡ look first.own now.looks a
   looked_at = h.looks ∙ ap (λ (o : Own). look o now.looks a) own
 
--- what the desk tells of the string
+-- There is a string if the desk printed one.
 pub found_some : (d d' : Desk) (string : Option (List ℕ)) → Some d' ≡ option_map (desk_printing d) string → true ≡ is_some string
 found_some d d' None h = cc
 found_some d d' (Some s) h = refl
@@ -109,7 +109,7 @@ pub desk_is : (d d' : Desk) (string : Option (List ℕ)) → Some d' ≡ option_
 desk_is d d' None h = cc
 desk_is d d' (Some s) h = cc
 
--- printing only adds to the text
+-- Printing only adds to the text.
 grown_by : (d : Desk) (text more : List ℕ) → length d.text ≤ length text → take (length d.text) text ≡ d.text
     → (length d.text ≤ length (text ++ more)) × (take (length d.text) (text ++ more) ≡ d.text)
 grown_by d text more h e = (omega (arith, length-append text more), take-append-le (length d.text) text more h ∙ e)
@@ -117,16 +117,16 @@ grown_by d text more h e = (omega (arith, length-append text more), take-append-
 pub grown_on : (d d1 : Desk) (s : Shown) → Grown d d1 → Grown d (desk_showing d1 s)
 grown_on d d1 s h = let both = grown_by d d1.text s.bytes h.longer h.since in record { longer = both.0; since = both.1; cursor = h.cursor }
 
--- the cell that comes next is looked at, whatever it holds
+-- The next cell is looked at, whatever it holds.
 first_asked : (byte : ℕ → ℕ) (n a : ℕ) → (rest : List ℕ) × (asked (string_at (suc n) a) byte ≡ a ∷ rest)
 unfolding string_at
 first_asked byte n a = (asked (cond (byte a == 0x24) (Done (Some [])) (ending (option_map (λ rest. byte a ∷ rest)) (string_at n (onward a 1)))) byte, refl)
 
--- a failure at a cell, or after it
+-- An error at a cell, or after it.
 pub bound_at : (byte : ℕ → ℕ) (own : Own) (looks new whole : Looks) (n i a : ℕ) → i < n → look_all own (asked (string_at (n - i) a) byte) looks ≡ whole → Extends new (look own looks a) → Extends new whole
 bound_at byte own looks new whole n i a h e bound =
     let first = first_asked byte (n - (i + 1)) a in
     subst (λ (l : Looks). Extends new l) (sym (rw (one_less n i h) (ap (λ (at : List ℕ). look_all own at looks) first.1)) ∙ e) (bound_all own first.0 new (look own looks a) bound)
 
--- the looks of a string that is read cell by cell
+-- The rules for a string that is read cell by cell.
 pub ruleset byte_by_byte = (one_more, some_more, here, bound_at)

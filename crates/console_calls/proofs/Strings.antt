@@ -1,4 +1,4 @@
--- Function 9, from the parts.
+-- Function 9, from its parts.
 use Rattle.std.proofs.Common.{◌≡◌, ℕ, Bool, true, false, List, Option, Some, None, is_some, Ok, refl, ap, sym, subst, ◌∙◌}
 use Rattle.interaction_trees.specs.Tree.{Return, asked}
 use Rattle.i8080.specs.declared.registers.Regs.{Regs}
@@ -21,7 +21,7 @@ use Rattle.console_calls.proofs.Parts.{FulfilsBy}
 use Rattle.console_calls.proofs.Carried.{after_reading, after_read, bound_rest, bound_first}
 use Rattle.console_calls.proofs.Trees.{or_false}
 
--- the end of the call, where no string was found, and where one was
+-- The end of the call, if no string was found, and if one was.
 stop_leaf : {script : List ℕ} {r : Regs} {m : Memory} {d d' : Desk} {was is : ℕ → Bool} → ((j : ℕ) → is j ≡ was j) → (to : ℕ) (string : Option (List ℕ)) → false ≡ is_some string → d' ≡ printed_if d string
     → FulfilsBy (Return (printing r d.spot to string)) script r m d was (Ok (served.Stop NoDollar)) r m d' is
 stop_leaf {was = was} same to None h e = record { served = refl; regs = refl; desk = e; own = refl; looks = refl; places = λ j. same j ∙ or_false (was j); err_looks = tt; err_bound = tt; err_regs = tt; err_desk = tt; err_own = tt; err_places = tt; beneath = refl; lender = refl }
@@ -46,7 +46,7 @@ module _ (script : List ℕ) (r : Regs) (d d' : Desk) (m m1 m2 : Memory) (to pla
   pub string_goes : (r' : Regs) → found ≡ true → r' ≡ at_caller 0 to r → FulfilsBy (string_output r d.spot) script r m d was (Ok served.Went) r' m2 d' is
   string_goes r' h back = read_then (went_leaf same to _ (sym h ∙ prints.found) prints.desk back)
 
--- a failure while the string is printed
+-- An error while the string is printed.
 pub string_bound : (script : List ℕ) (r : Regs) (spot : Spot) {m m1 : Memory} {to place : ℕ} {new : Looks} → Reads (word_at r.sp Done) m to m1 → place ≡ word r.e r.d
     → Extends new (looks_after (string_at 65536 place) m1) → Extends new (look_all m.own (addresses (asked (answers (bytes m) script) (string_output r spot))) m.looks)
 string_bound script r spot {m = m} {m1 = m1} {to = to} {new = new} address de h =

@@ -33,7 +33,7 @@ pub places-reads : {E F : Type 0} (f : StateAnswers) (t : Reading E) (k : E → 
 places-reads f (Done e) k = refl
 places-reads f (reading.Cell a t) k = places-reads f (t (f (Byte a))) k
 
--- one tree after another
+-- One tree after another.
 pub result_of-followed_by : {E F : Type 0} (f : StateAnswers) (t : StateTree E) (k : E → StateTree F) → result_of f (followed_by t k) ≡ result_of f (k (result_of f t))
 result_of-followed_by f (Return e) k = refl
 result_of-followed_by f (Query q t) k = result_of-followed_by f (t (f q)) k

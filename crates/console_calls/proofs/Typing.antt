@@ -1,4 +1,4 @@
--- A line that is typed byte by byte, against the tree that asks for its bytes.
+-- A line that is taken byte by byte, and the tree that asks for its bytes.
 use Rattle.std.proofs.Common.{◌≡◌, ℕ, zero, suc, cond, ◌+◌, ◌-◌, ◌<◌, ◌≤◌, ◌||◌, ◌==◌, Bool, true, false, nat_lt, List, [], ◌∷◌, length, get_or, Option, Some, None, slice_get, refl, ap, sym, ◌∙◌, arith}
 use Rattle.std.proofs.lemmas.Bool.Decides.{nat_tests}
 use Rattle.std.proofs.lemmas.Option.{slice_get-get_or, slice_get_past}
@@ -17,11 +17,11 @@ below n m h = grind (arith, nat_tests)
 above : (n m : ℕ) → m ≤ n → nat_lt n m ≡ false
 above n m h = grind (arith, nat_tests)
 
--- one place more
+-- One more offset.
 ahead_next : (k i j : ℕ) → (is_ahead k i j || j == k + i) ≡ is_ahead k (i + 1) j
 ahead_next k i j = grind (arith, nat_tests)
 
--- no cell is asked for
+-- No cell is asked for.
 pub no_cells : (byte : ℕ → ℕ) (script : List ℕ) (n m k : ℕ) (l : Line) → addresses (asked (answers byte script) (typing n m k l)) ≡ []
 unfolding typing
 no_cells byte script zero m k l = refl
@@ -40,7 +40,7 @@ no_cells byte script (suc n) m k l = by (λ l. no_cells byte script n m (k + 1) 
   by h false = refl
 
 module _ (byte : ℕ → ℕ) (script : List ℕ) (n m k : ℕ) (l : Line) where
-  -- the next byte is asked for
+  -- The next byte is asked for.
   asks_result : length l.stored < m → result_of (answers byte script) (typing (suc n) m k l) ≡ result_of (answers byte script) (typed (typing n m (k + 1)) k l (slice_get script k))
   unfolding typing
   asks_result h = rw (below (length l.stored) m h) refl
@@ -57,7 +57,7 @@ module _ (byte : ℕ → ℕ) (script : List ℕ) (n m k : ℕ) (l : Line) where
   unfolding typing
   full_places h = rw (above (length l.stored) m h) refl
 
--- the first i bytes are taken, and make this line
+-- The first i bytes were taken and make this line.
 pub record IsTyped (script : List ℕ) (m k i : ℕ) (l : Line) : Type 0 where
   pub ends : (byte : ℕ → ℕ) (fuel : ℕ) → result_of (answers byte script) (typing (i + fuel) m k no_line) ≡ result_of (answers byte script) (typing fuel m (k + i) l)
   pub places : (byte : ℕ → ℕ) (fuel j : ℕ) → is_among j (script_places (asked (answers byte script) (typing (i + fuel) m k no_line))) ≡ (is_ahead k i j || is_among j (script_places (asked (answers byte script) (typing fuel m (k + i) l))))
@@ -87,7 +87,7 @@ one_on : (k i : ℕ) → (k + i) + 1 ≡ k + (i + 1)
 one_on k i = omega arith
 
 module _ {script : List ℕ} {m k i : ℕ} {l l' : Line} (t : IsTyped script m k i l) (room : length l.stored < m) (b : ℕ) (is : slice_get script (k + i) ≡ Some b) where
-  -- the line goes on
+  -- The line continues.
   pub goes_typed : Goes l' ≡ type_byte l b → IsTyped script m k (i + 1) l'
   goes_typed e = record {
     ends = λ byte fuel.
@@ -110,12 +110,12 @@ module _ {script : List ℕ} {m k i : ℕ} {l l' : Line} (t : IsTyped script m k
         ∙ ap (λ (b : Bool). b || is_among j rest) (ahead_next k i j);
   }
 
--- the bound that is left after i bytes
+-- The bound that is left after i bytes.
 left : (i n : ℕ) → i ≤ n → suc n ≡ i + suc (n - i)
 left i n h = omega arith
 
 module _ {script : List ℕ} {m k i : ℕ} {l : Line} (t : IsTyped script m k i l) (byte : ℕ → ℕ) (n : ℕ) (within : i ≤ n) where
-  -- from the end of the rest to the end of the whole
+  -- From the end of the rest to the end of the whole.
   ends_as : (e : LineEnd) → result_of (answers byte script) (typing (suc (n - i)) m (k + i) l) ≡ e → result_of (answers byte script) (typing (suc n) m k no_line) ≡ e
   ends_as e h = ap (λ (x : ℕ). result_of (answers byte script) (typing x m k no_line)) (left i n within) ∙ t.ends byte (suc (n - i)) ∙ h
 
@@ -127,14 +127,14 @@ module _ {script : List ℕ} {m k i : ℕ} {l : Line} (t : IsTyped script m k i 
   one_place : (j : ℕ) → (is_ahead k i j || is_among j ((k + i) ∷ [])) ≡ is_ahead k (i + 1) j
   one_place j = sym (or_assoc (is_ahead k i j) (j == k + i) false) ∙ sym (or_false (is_ahead k i j || j == k + i)) ∙ ahead_next k i j
 
-  -- the line is full
+  -- The line is full.
   pub full_types : m ≤ length l.stored → Types script m k (code.Ended l i) byte n
   full_types h = record {
     ends = ends_as (Ended l (k + i)) (full_result byte script (n - i) m (k + i) l h);
     places = λ j. asks_as [] (full_places byte script (n - i) m (k + i) l h) j ∙ sym (or_false (is_ahead k i j));
   }
 
-  -- a byte ends it
+  -- A byte ends it.
   module _ (room : length l.stored < m) (b : ℕ) (is : slice_get script (k + i) ≡ Some b) where
     pub ends_types : (l' : Line) → Ends l' ≡ type_byte l b → Types script m k (code.Ended l' (i + 1)) byte n
     ends_types l' e = record {
@@ -163,7 +163,7 @@ module _ {script : List ℕ} {m k i : ℕ} {l : Line} (t : IsTyped script m k i 
           ∙ one_place j;
     }
 
-  -- the script ends first
+  -- The script ends first.
   pub short_types : length l.stored < m → slice_get script (k + i) ≡ None → Types script m k (code.Short (i + 1)) byte n
   short_types room is = record {
     ends = ends_as Short
@@ -175,7 +175,7 @@ module _ {script : List ℕ} {m k i : ℕ} {l : Line} (t : IsTyped script m k i 
         ∙ one_place j;
   }
 
--- the byte at a place of the script
+-- The byte at an offset of the script.
 pub byte_is : (script : List ℕ) (place k i : ℕ) → place ≡ k + i → place < length script → slice_get script (k + i) ≡ Some (get_or script place 0)
 byte_is script place k i e h = ap (slice_get script) (sym e) ∙ slice_get-get_or script place 0 h
 

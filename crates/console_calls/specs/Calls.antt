@@ -22,29 +22,29 @@ use Rattle.console_calls.specs.Questions.{Input, StateTree, reads, followed_by}
 use Rattle.console_calls.specs.Strings.{string_at}
 use Rattle.console_calls.specs.Line.{LineEnd, Ended, Booted, Short, no_line, typing}
 
--- what a call wrote: bytes of cells, in order
+-- The cells that a call wrote, each with its byte, in order.
 pub record Written : Type 0 where
   pub cells : List (ℕ × ℕ)
 
 abbrev pub nothing : Written
 nothing = record { cells = [] }
 
--- it went back to its caller with these registers and this spot, after it sent these bytes and wrote that; or it stopped, and
--- changed nothing
+-- The end of a call: it returned to its caller with these registers and this spot, after it sent these bytes and wrote these
+-- cells; or it stopped and changed nothing.
 pub data CallEnd : Type 0 where
   Completed : Regs → Spot → List ℕ → Written → CallEnd
   Stopped : Cause → CallEnd
 
--- the registers back at the caller, at an address, with a value: HL is the value, A is L and B is H, and the stack is popped
+-- The registers back at the caller, at an address, with a value: HL is the value, A is L and B is H, and the stack is popped.
 -- [Interface Guide 1979, operating system call conventions]
 abbrev pub at_caller : ℕ → ℕ → Regs → Regs
 at_caller value to r = record r { a = low value; b = high value; h = high value; l = low value; sp = onward r.sp 2; pc = to }
 
--- the return address is read, and the call is completed with a value, this spot, these bytes sent and this written
+-- A call that reads the return address and is completed with a value, this spot, these bytes sent and these cells written.
 abbrev pub completing : ℕ → Regs → Spot → List ℕ → Written → StateTree CallEnd
 completing value r spot bytes written = reads (word_at r.sp Done) (λ to. Return (Completed (at_caller value to r) spot bytes written))
 
--- function 1 takes the script byte at the cursor, prints it, and gives it; the end of the script stops
+-- Function 1 takes the script byte at the cursor, echoes it, and returns it; at the end of the script it stops.
 -- [Interface Guide 1979, function 1]
 abbrev pub taking : Regs → Spot → Option ℕ → StateTree CallEnd
 taking r spot None = Return (Stopped ConsoleExhausted)
@@ -53,8 +53,8 @@ taking r spot (Some byte) = let s = echoed spot.column byte in completing byte r
 abbrev pub console_input : Regs → Spot → StateTree CallEnd
 console_input r spot = Query (Input spot.cursor) (taking r spot)
 
--- function 6: with 0FFH in E it takes the script byte at the cursor and gives it, or 0 where none is left; else it sends E, and
--- the column stays [Interface Guide 1979, function 6]
+-- Function 6: with 0FFH in E it takes the script byte at the cursor and returns it, or returns 0 if none is left; with another E
+-- it sends E and leaves the column unchanged. [Interface Guide 1979, function 6]
 abbrev pub given : Regs → Spot → Option ℕ → StateTree CallEnd
 given r spot None = completing 0 r spot [] nothing
 given r spot (Some byte) = completing byte r (record spot { cursor = spot.cursor + 1 }) [] nothing
@@ -68,12 +68,12 @@ direct_output r spot = completing 0 r spot (r.e ∷ []) nothing
 abbrev pub direct_console : Regs → Spot → StateTree CallEnd
 direct_console r spot = if r.e == 0xff then direct_input r spot else direct_output r spot
 
--- function 11 gives whether a script byte is left [Interface Guide 1979, function 11]
+-- Function 11 returns whether a byte of the script is left. [Interface Guide 1979, function 11]
 abbrev pub console_status : Regs → Spot → StateTree CallEnd
 console_status r spot = Query (Input spot.cursor) (λ answer. completing (if is_some answer then 0xff else 0) r spot [] nothing)
 
--- function 10: the capacity at DE is read first, then the line is taken from the script, then the return address is read. The
--- count goes to the next cell, the text to those after it; a warm boot and the end of the script stop
+-- Function 10 reads the capacity at DE, then takes the line from the script, then reads the return address. The count goes to the
+-- cell after the capacity, the text to those after it. A warm boot and the end of the script stop the call.
 -- [Interface Guide 1979, function 10]
 abbrev pub line_cells : ℕ → List ℕ → List (ℕ × ℕ)
 line_cells at text = (onward at 1, length text) ∷ cells_from (onward at 2) text
@@ -86,11 +86,11 @@ line_ended r spot (Ended l k) = completing 0 r (record spot { cursor = k; column
 abbrev pub line_input : ℕ → Regs → Spot → StateTree CallEnd
 line_input n r spot = reads (Cell (word r.e r.d) Done) (λ capacity. followed_by (typing (suc n) capacity spot.cursor no_line) (line_ended r spot))
 
--- function 2 prints E [Interface Guide 1979, function 2]
+-- Function 2 prints E. [Interface Guide 1979, function 2]
 abbrev pub console_output : Regs → Spot → StateTree CallEnd
 console_output r spot = let s = printed spot.column r.e in completing 0 r (spot_showing spot s) s.bytes nothing
 
--- function 9 prints the string at DE, which is read after the return address; a string with no `$` stops
+-- Function 9 prints the string at DE, which it reads after the return address; a string without `$` stops the call.
 -- [Interface Guide 1979, function 9]
 abbrev pub printing : Regs → Spot → ℕ → Option (List ℕ) → CallEnd
 printing r spot to None = Stopped NoDollar
@@ -99,7 +99,7 @@ printing r spot to (Some string) = let s = printed_all spot.column string in Com
 abbrev pub string_output : Regs → Spot → StateTree CallEnd
 string_output r spot = reads (word_at r.sp Done) (λ to. reads (string_at 65536 (word r.e r.d)) (λ string. Return (printing r spot to string)))
 
--- functions 7 and 8 give and set the I/O byte, at 0003H [Interface Guide 1979, functions 7 and 8]
+-- Functions 7 and 8 return and set the I/O byte, at 0003H. [Interface Guide 1979, functions 7 and 8]
 abbrev pub io_byte : ℕ
 io_byte = 0x0003
 
@@ -109,16 +109,16 @@ get_io_byte r spot = reads (Cell io_byte Done) (λ byte. completing byte r spot 
 abbrev pub set_io_byte : Regs → Spot → StateTree CallEnd
 set_io_byte r spot = completing 0 r spot [] (record { cells = (io_byte, r.e) ∷ [] })
 
--- function 12 gives the version, 2.2 [Interface Guide 1979, function 12]
+-- Function 12 returns the version, 2.2. [Interface Guide 1979, function 12]
 abbrev pub version_number : Regs → Spot → StateTree CallEnd
 version_number r spot = completing 0x0022 r spot [] nothing
 
--- function 13 goes back to the first drive and to the buffer in page zero [Interface Guide 1979, function 13]
+-- Function 13 selects the first drive and the buffer in page zero. [Interface Guide 1979, function 13]
 abbrev pub reset_disks : Regs → Spot → StateTree CallEnd
 reset_disks r spot = completing 0 r (record spot { buffer = 0x80; drive = A }) [] nothing
 
--- function 14 sets the current drive, 0 to 3 for A to D; another stops ([Interface Guide 1979, function 14]; the stop is this
--- project's profile)
+-- Function 14 sets the current drive, 0 to 3 for A to D; another number stops the call. ([Interface Guide 1979, function 14]; the
+-- stop is this project's profile)
 abbrev pub selecting : Regs → Spot → Option Drive → StateTree CallEnd
 selecting r spot None = Return (Stopped (BadDrive r.e))
 selecting r spot (Some drive) = completing 0 r (record spot { drive = drive }) [] nothing
@@ -126,19 +126,19 @@ selecting r spot (Some drive) = completing 0 r (record spot { drive = drive }) [
 abbrev pub select_disk : Regs → Spot → StateTree CallEnd
 select_disk r spot = selecting r spot (drive_at r.e)
 
--- function 24 gives a bit for each drive, from A on [Interface Guide 1979, function 24]
+-- Function 24 returns a bit for each drive, from A on. [Interface Guide 1979, function 24]
 abbrev pub login_vector : Regs → Spot → StateTree CallEnd
 login_vector r spot = completing 0x000f r spot [] nothing
 
--- function 25 gives the current drive [Interface Guide 1979, function 25]
+-- Function 25 returns the current drive. [Interface Guide 1979, function 25]
 abbrev pub current_disk : Regs → Spot → StateTree CallEnd
 current_disk r spot = completing (drive_number spot.drive) r spot [] nothing
 
--- function 26 sets the buffer address to DE [Interface Guide 1979, function 26]
+-- Function 26 sets the buffer address to DE. [Interface Guide 1979, function 26]
 abbrev pub set_buffer_address : Regs → Spot → StateTree CallEnd
 set_buffer_address r spot = completing 0 r (record spot { buffer = word r.e r.d }) [] nothing
 
--- a function that is carried out, over a script of at most n bytes
+-- A supported function, over a script of at most n bytes.
 abbrev pub carried_out : ℕ → Function → Regs → Spot → StateTree CallEnd
 carried_out n SystemReset r spot = Return (Stopped WarmBoot)
 carried_out n ConsoleInput r spot = console_input r spot
@@ -160,7 +160,7 @@ abbrev pub called : ℕ → Option Function → Regs → Spot → StateTree Call
 called n None r spot = Return (Stopped (Unsupported r.c))
 called n (Some f) r spot = carried_out n f r spot
 
--- the call whose number is in C, over a script of at most n bytes; other numbers stop
+-- The call whose number is in C, over a script of at most n bytes; any other number stops.
 -- [Interface Guide 1979, system function summary]
 unfoldable pub call : ℕ → Regs → Spot → StateTree CallEnd
 call n r spot = called n (function_of r.c) r spot

@@ -1,21 +1,21 @@
--- What the BDOS keeps beside memory and files: how far the console script was taken, what the console shows, where records go,
--- the current drive, and where a search of the directory goes on. ([Interface Guide 1979, functions 1, 2, 9, 14, 17 and 26];
--- the cursor, the text, the rules of the column, and what is kept of a search: this project's profile.)
+-- The desk: the cursor of the script, the text and the column of the console, the buffer address, the current drive, and where a
+-- search of the directory continues. ([Interface Guide 1979, functions 1, 2, 9, 14, 17 and 26]; the cursor, the text, the rules of
+-- the column, and what is kept of a search: this project's profile.)
 use Rattle.std.specs.Prelude.{ℕ, ◌+◌, ◌-◌, ◌%◌, ◌==◌, ◌||◌, Bool, nat_le, nat_lt, if◌then◌else◌, List, [], ◌∷◌, ◌++◌, replicate, None}
 use Rattle.filenames.specs.declared.drive.Drive.TheVariants.{A}
 use Rattle.console_calls.specs.declared.desk.Spot.{Spot}
 
--- the spot, and all bytes sent to the console
+-- The spot, and all bytes sent to the console.
 pub record Desk : Type 0 where
   pub spot : Spot
   pub text : List ℕ
 
--- nothing taken and nothing sent, the buffer in page zero, at 0080H, A the current drive, and no search
+-- The desk at the start: nothing taken and nothing sent, the buffer in page zero, at 0080H, A the current drive, and no search.
 -- [Interface Guide 1979, functions 14, 17 and 26]
 abbrev pub first_desk : Desk
 first_desk = record { spot = record { cursor = 0; column = 0; buffer = 0x80; drive = A; search = None }; text = [] }
 
--- the column after a byte: a carriage return goes to 0, a backspace one back, other control bytes stay
+-- The column after a byte: 0 after a carriage return, one less after a backspace, unchanged after any other control byte.
 abbrev pub column_after : ℕ → ℕ → ℕ
 column_after column byte =
     if byte == 0x0d then 0
@@ -23,45 +23,45 @@ column_after column byte =
     else if nat_lt byte 0x20 || byte == 0x7f then column
     else column + 1
 
--- the column after bytes, one after another
+-- The column after bytes, one after another.
 abbrev pub column_after_all : ℕ → List ℕ → ℕ
 column_after_all column [] = column
 column_after_all column (byte ∷ rest) = column_after_all (column_after column byte) rest
 
--- bytes that are sent, and the column after them
+-- Bytes that are sent, and the column after them.
 pub record Shown : Type 0 where
   pub bytes : List ℕ
   pub column : ℕ
 
--- a byte sent at a column
+-- A byte sent at a column.
 abbrev pub sent : ℕ → ℕ → Shown
 sent column byte = record { bytes = byte ∷ []; column = column_after column byte }
 
--- blanks, at least one, up to the next column of eight (that tabs are expanded: [Interface Guide 1979, function 2])
+-- Blanks, at least one, up to the next column that is a multiple of 8. (Tabs are expanded: [Interface Guide 1979, function 2])
 abbrev pub tabbed : ℕ → Shown
 tabbed column = let blanks = 8 - column % 8 in record { bytes = replicate blanks 0x20; column = column + blanks }
 
--- a byte printed at a column
+-- A byte printed at a column.
 abbrev pub printed : ℕ → ℕ → Shown
 printed column byte = if byte == 0x09 then tabbed column else sent column byte
 
--- whether function 1 prints the byte that it takes [Interface Guide 1979, function 1]
+-- Whether function 1 echoes the byte that it takes. [Interface Guide 1979, function 1]
 abbrev pub is_echoed : ℕ → Bool
 is_echoed byte = nat_le 0x20 byte || byte == 0x08 || byte == 0x09 || byte == 0x0a || byte == 0x0d
 
--- what function 1 prints of the byte that it takes
+-- What function 1 prints for the byte that it takes.
 abbrev pub echoed : ℕ → ℕ → Shown
 echoed column byte = if is_echoed byte then printed column byte else record { bytes = []; column = column }
 
--- one after the other
+-- One after the other: the bytes of the first, and then of the second.
 abbrev pub followed : Shown → Shown → Shown
 followed s t = record { bytes = s.bytes ++ t.bytes; column = t.column }
 
--- bytes printed from a column on
+-- Bytes printed from a column on.
 abbrev pub printed_all : ℕ → List ℕ → Shown
 printed_all column [] = record { bytes = []; column = column }
 printed_all column (byte ∷ rest) = followed (printed column byte) (printed_all (printed column byte).column rest)
 
--- the spot after it
+-- The spot after these bytes were sent.
 abbrev pub spot_showing : Spot → Shown → Spot
 spot_showing spot s = record spot { column = s.column }

@@ -4,7 +4,7 @@ use Rattle.std.specs.Prelude.{ℕ, ◌==◌, if◌then◌else◌, Option, Some, 
 use Rattle.console_calls.specs.declared.function.Function.{Function}
 use Rattle.console_calls.specs.declared.function.Function.TheVariants.{SystemReset, ConsoleInput, ConsoleOutput, DirectConsole, GetIoByte, SetIoByte, PrintString, ReadConsoleBuffer, ConsoleStatus, VersionNumber, ResetDisks, SelectDisk, LoginVector, CurrentDisk, SetBufferAddress}
 
--- the call of a number; other numbers name none
+-- The call with this number, if one has it.
 abbrev pub function_of : ℕ → Option Function
 function_of number =
     if number == 0 then Some SystemReset

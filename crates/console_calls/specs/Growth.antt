@@ -1,4 +1,4 @@
--- Which calls could want memory. (This project's own.)
+-- The calls that can run out of memory. (This project's own.)
 use Rattle.std.specs.Prelude.{ℕ, ◌==◌, not, Bool, true, false, List, Option, Some, slice_get}
 use Rattle.std.specs.Option.{option_map_or}
 use Rattle.i8080.specs.declared.registers.Regs.{Regs}
@@ -7,8 +7,8 @@ use Rattle.console_calls.specs.declared.function.Function.{Function}
 use Rattle.console_calls.specs.declared.function.Function.TheVariants.{ConsoleInput, ConsoleOutput, DirectConsole, SetIoByte, PrintString, ReadConsoleBuffer}
 use Rattle.console_calls.specs.Desk.{is_echoed}
 
--- whether a call could want memory: one that sends bytes, for the text; 8 and 10, for the cells that they write; and 10, for the line
--- that it collects. All other calls never fail
+-- Whether a call can run out of memory: a call that sends bytes, for the text; functions 8 and 10, for the cells that they write;
+-- and function 10, for the line that it collects. The other calls never fail.
 abbrev pub may_grow : Option Function → Regs → Spot → List ℕ → Bool
 may_grow (Some ConsoleInput) r spot script = option_map_or is_echoed (slice_get script spot.cursor) false
 may_grow (Some ConsoleOutput) r spot script = true

@@ -4,7 +4,7 @@ use Rattle.std.specs.Prelude.{ℕ, zero, suc, ◌+◌, ◌==◌, ◌&&◌, ◌||
 use Rattle.interaction_trees.specs.Tree.{Return, Query}
 use Rattle.console_calls.specs.Questions.{Input, StateTree}
 
--- the bytes that are stored, the last first, and the bytes sent
+-- The bytes that are stored, the last one first, and the bytes that are sent.
 pub record Line : Type 0 where
   pub stored : List ℕ
   pub sends : List ℕ
@@ -12,25 +12,25 @@ pub record Line : Type 0 where
 abbrev pub no_line : Line
 no_line = record { stored = []; sends = [] }
 
--- what a byte makes of a line: it goes on, it ends, or the byte is a warm boot
+-- What a byte does to a line: the line continues, it ends, or the byte is a warm boot.
 pub data Typed : Type 0 where
   Goes : Line → Typed
   Ends : Line → Typed
   Boots : Typed
 
--- what a byte sends when it is stored
+-- The bytes that are sent for a byte when it is stored.
 abbrev pub shown : ℕ → List ℕ
 shown byte = if nat_lt byte 0x20 then 0x5e ∷ (byte + 0x40) ∷ [] else byte ∷ []
 
 abbrev pub kept : ℕ → Line → Line
 kept byte l = record { stored = byte ∷ l.stored; sends = l.sends ++ shown byte }
 
--- the last byte taken back: a backspace, a blank and a backspace are sent
+-- The line without its last byte, for a backspace: a backspace, a blank and a backspace are sent.
 abbrev pub taken_back : List ℕ → Line → Line
 taken_back [] l = l
 taken_back (last ∷ rest) l = record { stored = rest; sends = l.sends ++ 0x08 ∷ 0x20 ∷ 0x08 ∷ [] }
 
--- the last byte taken back: what it sent is sent again
+-- The line without its last byte, for a rubout: what was sent for that byte is sent again.
 abbrev pub rubbed_out : List ℕ → Line → Line
 rubbed_out [] l = l
 rubbed_out (last ∷ rest) l = record { stored = rest; sends = l.sends ++ shown last }
@@ -47,7 +47,7 @@ type_byte l byte =
     else if byte == 0x03 && is_empty l.stored then Boots
     else Goes (kept byte l)
 
--- how a line went: it ended before a place of the script, it is a warm boot, or the script ended first
+-- How a line ended: before an offset of the script, with a warm boot, or because the script ended first.
 pub data LineEnd : Type 0 where
   Ended : Line → ℕ → LineEnd
   Booted : LineEnd
@@ -62,8 +62,8 @@ abbrev pub typed : (Line → StateTree LineEnd) → ℕ → Line → Option ℕ 
 typed more k l None = Return Short
 typed more k l (Some byte) = typed_on more k (type_byte l byte)
 
--- The line of at most `capacity` bytes that the script's bytes from a place on type, after a line so far. At most n bytes are
--- asked: a tree is finite, and a script of fewer than n bytes ends before.
+-- The line of at most `capacity` bytes that the script's bytes from offset `k` on make, after a line so far. At most n bytes are
+-- asked for, because a tree is finite; a script of fewer than n bytes ends before that.
 unfoldable pub typing : ℕ → ℕ → ℕ → Line → StateTree LineEnd
 typing zero capacity k l = Return Short
 typing (suc n) capacity k l = if nat_lt (length l.stored) capacity then Query (Input k) (typed (typing n capacity (k + 1)) k l) else Return (Ended l k)

@@ -1,31 +1,31 @@
--- The script places that were looked at: calls look at places in order, and never behind the cursor. (This project's own.)
+-- The script offsets that were looked at: calls look at offsets in order, and never before the cursor. (This project's own.)
 use Rattle.std.specs.Prelude.{◌≡◌, ℕ, ◌+◌, ◌≤◌, ◌<◌, ◌==◌, ◌&&◌, ◌||◌, not, nat_le, nat_lt, Bool}
 use Rattle.console_calls.specs.declared.places.Places.{Places}
 use Rattle.console_calls.specs.declared.desk.Spot.{Spot}
 use Rattle.console_calls.specs.Desk.{Desk}
 
--- whether a place is one of them
+-- Whether an offset is among them.
 abbrev pub is_within : Places → ℕ → Bool
 is_within p k = nat_le p.from k && nat_lt k p.to
 
--- whether a place is one of some from another on
+-- Whether an offset is among the `count` offsets from the cursor on.
 abbrev pub is_ahead : ℕ → ℕ → ℕ → Bool
 is_ahead cursor count k = nat_le cursor k && nat_lt k (cursor + count)
 
--- some places from the cursor on were looked at, beside those before
+-- The `count` offsets from the cursor on were looked at, as well as the earlier ones.
 abbrev pub LooksAhead : Places → ℕ → ℕ → Places → Type 0
 LooksAhead old cursor count new = (k : ℕ) → is_within new k ≡ (is_within old k || is_ahead cursor count k)
 
--- one place is no longer among those that were looked at
+-- One offset is removed from the offsets that were looked at.
 abbrev pub LeavesOut : Places → ℕ → Places → Type 0
 LeavesOut old place new = (k : ℕ) → is_within new k ≡ (is_within old k && not (k == place))
 
--- a desk, and the script places that were looked at
+-- A desk, and the script offsets that were looked at.
 pub record Watched : Type 0 where
   pub desk : Desk
   pub places : Places
 
--- a spot of a text of some length
+-- A spot that fits a text of this length.
 pub record IsSpotOf (spot : Spot) (length : ℕ) : Type 0 where
   pub column : spot.column ≤ length
   pub cursor : spot.cursor < 9223372036854775808

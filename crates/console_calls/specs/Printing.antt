@@ -1,5 +1,5 @@
--- What printing the string of a memory leaves. ([Interface Guide 1979, function 9]; what is left where there is no `$`, and
--- where memory is refused: this project's own.)
+-- The effect of printing a string from memory. ([Interface Guide 1979, function 9]; what is left if there is no `$`, and if memory
+-- runs out: this project's own.)
 use Rattle.std.specs.Prelude.{◌≡◌, ℕ, Bool, true, List, Option, Some, None, is_some, length, take, ◌≤◌, IfOk, OnOk, OnErr}
 use Rattle.std.specs.declared.result.Result.{Result}
 use Rattle.std.specs.declared.alloc.AllocError.{AllocError}
@@ -10,22 +10,22 @@ use Rattle.console_calls.specs.Desk.{Desk}
 use Rattle.console_calls.specs.DeskAfter.{desk_printing}
 use Rattle.console_calls.specs.Strings.{string_at}
 
--- the string from an address on, if a `$` ends it
+-- The string from an address on, if a `$` ends it.
 abbrev pub string_in : ℕ → Memory → Option (List ℕ)
 string_in at m = end_of (string_at 65536 at) (bytes m)
 
--- the desk after the string; with none it stays
+-- The desk after the string, unchanged if there is none.
 abbrev pub printed_if : Desk → Option (List ℕ) → Desk
 printed_if d None = d
 printed_if d (Some string) = desk_printing d string
 
--- the text has only grown, and nothing was taken
+-- Text was only added, and nothing was taken.
 pub record Grown (d d' : Desk) : Type 0 where
   pub longer : length d.text ≤ length d'.text
   pub since : take (length d.text) d'.text ≡ d.text
   pub cursor : d'.spot.cursor ≡ d.spot.cursor
 
--- what a call leaves that prints byte by byte: with no `$`, and where memory is refused, some bytes stay printed
+-- The effect of a function that prints byte by byte: without a `$`, and on an error, some bytes stay printed.
 pub record Scans (at : ℕ) (m : Memory) (d : Desk) (result : Result Bool AllocError) (m' : Memory) (d' : Desk) : Type 0 where
   pub found : IfOk result (λ b. b ≡ is_some (string_in at m))
   pub printed : IfOk result (λ b. b ≡ true → d' ≡ printed_if d (string_in at m))
@@ -37,7 +37,7 @@ pub record Scans (at : ℕ) (m : Memory) (d : Desk) (result : Result Bool AllocE
   pub beneath : m'.beneath ≡ m.beneath
   pub lender : m'.lender ≡ m.lender
 
--- what a call leaves that prints the whole string, or nothing
+-- The effect of a function that prints the whole string or nothing.
 pub record Prints (at : ℕ) (m : Memory) (d : Desk) (result : Result Bool AllocError) (m' : Memory) (d' : Desk) : Type 0 where
   pub found : IfOk result (λ b. b ≡ is_some (string_in at m))
   pub desk : OnOk result (d' ≡ printed_if d (string_in at m))

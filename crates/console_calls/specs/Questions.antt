@@ -1,11 +1,11 @@
--- What a step asks of memory and of the console script: the byte of a cell, and the byte at a place or that there is none. What
--- it asks of files is defined in the crate `file_calls`. (This project's own.)
+-- What a step asks of memory and of the script. What it asks of files is defined in the crate `file_calls`. (This project's
+-- own.)
 use Rattle.std.specs.Prelude.{ℕ, Option, List, [], ◌∷◌, slice_get}
 use Rattle.i8080.specs.Reading.{Reading, Done}
 use Rattle.i8080.specs.Reading as reading
 use Rattle.interaction_trees.specs.Tree.{Tree, Return, Query}
 
--- the byte of a cell; the script byte at a place, or that there is none
+-- The byte of a cell; the script byte at an offset, or that there is none.
 pub data StateQuestion : Type 0 where
   Byte : ℕ → StateQuestion
   Input : ℕ → StateQuestion
@@ -20,29 +20,29 @@ StateAnswers = (q : StateQuestion) → StateAnswer q
 abbrev pub StateTree : Type 0 → Type 0
 StateTree E = Tree StateQuestion StateAnswer E
 
--- reads of memory as questions, and what follows them
+-- Reads of memory as questions, and what follows them.
 abbrev pub reads : {E F : Type 0} → Reading E → (E → StateTree F) → StateTree F
 reads (Done e) k = k e
 reads (reading.Cell a t) k = Query (Byte a) (λ v. reads (t v) k)
 
--- one tree, and what follows its end
+-- One tree, and what follows its end.
 abbrev pub followed_by : {E F : Type 0} → StateTree E → (E → StateTree F) → StateTree F
 followed_by (Return e) k = k e
 followed_by (Query q t) k = Query q (λ a. followed_by (t a) k)
 
--- the addresses among the questions
+-- The addresses among the questions.
 abbrev pub addresses : List StateQuestion → List ℕ
 addresses [] = []
 addresses (Byte a ∷ rest) = a ∷ addresses rest
 addresses (Input k ∷ rest) = addresses rest
 
--- the script places among the questions
+-- The script offsets among the questions.
 abbrev pub script_places : List StateQuestion → List ℕ
 script_places [] = []
 script_places (Byte a ∷ rest) = script_places rest
 script_places (Input k ∷ rest) = k ∷ script_places rest
 
--- what a memory and a script answer
+-- The answers of a memory and a script.
 abbrev pub answers : (ℕ → ℕ) → List ℕ → StateAnswers
 answers byte script (Byte a) = byte a
 answers byte script (Input k) = slice_get script k

@@ -1,4 +1,4 @@
--- What a function leaves that carries out a call. (This project's own.)
+-- The effect of a function that executes a call. (This project's own.)
 use Rattle.std.specs.Prelude.{◌≡◌, ℕ, ◌+◌, ◌||◌, Bool, List, ◌++◌, IfOk, OnOk, OnErr}
 use Rattle.std.specs.declared.result.Result.{Result}
 use Rattle.std.specs.declared.alloc.AllocError.{AllocError}
@@ -29,34 +29,34 @@ abbrev pub own_after : CallEnd → Own → Own
 own_after (Completed r spot bytes written) own = write_all own written.cells
 own_after (Stopped cause) own = own
 
--- what a call stands on: the registers, the memory, the desk, and whether a script place was looked at
+-- The state of a call: registers, memory, desk, and for each script offset whether it was looked at.
 pub record Standing : Type 0 where
   pub regs : Regs
   pub memory : Memory
   pub desk : Desk
   pub looked : ℕ → Bool
 
--- the end of a tree of questions, by the answers of a memory and a script
+-- The end of a tree of questions, by the answers of a memory and a script.
 abbrev pub end_in : StateTree CallEnd → Memory → List ℕ → CallEnd
 end_in t m script = result_of (answers (bytes m) script) t
 
--- the cells and the script places that are asked for on the way to it
+-- The cells and the script offsets that are asked for on the way to the end.
 abbrev pub cells_in : StateTree CallEnd → Memory → List ℕ → List ℕ
 cells_in t m script = addresses (asked (answers (bytes m) script) t)
 
 abbrev pub places_in : StateTree CallEnd → Memory → List ℕ → List ℕ
 places_in t m script = script_places (asked (answers (bytes m) script) t)
 
--- what a function leaves that carries out a tree of questions and its end
+-- The effect of a function that asks a tree of questions and executes its end.
 pub record Fulfils (t : StateTree CallEnd) (script : List ℕ) (old : Standing) (result : Result Served AllocError) (new : Standing) : Type 0 where
   pub served : IfOk result (λ s. s ≡ served_of (end_in t old.memory script))
   pub regs : OnOk result (new.regs ≡ regs_after (end_in t old.memory script) old.regs)
   pub desk : OnOk result (new.desk ≡ desk_after (end_in t old.memory script) old.desk)
   pub own : OnOk result (new.memory.own ≡ own_after (end_in t old.memory script) old.memory.own)
   pub looks : OnOk result (new.memory.looks ≡ look_all old.memory.own (cells_in t old.memory script) old.memory.looks)
-  -- the script places that were looked at are the old ones and those that were asked
+  -- The offsets that were looked at are the old ones and the ones that were asked for.
   pub places : OnOk result ((k : ℕ) → new.looked k ≡ (old.looked k || is_among k (places_in t old.memory script)))
-  -- at a failure: the looks before, and some of those of the whole call
+  -- After an error the looks are the old ones and some of the looks of the whole call.
   pub err_looks : OnErr result (Extends old.memory.looks new.memory.looks)
   pub err_bound : OnErr result (Extends new.memory.looks (look_all old.memory.own (cells_in t old.memory script) old.memory.looks))
   pub err_regs : OnErr result (new.regs ≡ old.regs)
@@ -66,13 +66,13 @@ pub record Fulfils (t : StateTree CallEnd) (script : List ℕ) (old : Standing) 
   pub beneath : new.memory.beneath ≡ old.memory.beneath
   pub lender : new.memory.lender ≡ old.memory.lender
 
--- registers, memory, and a desk with the script places that were looked at
+-- Registers, memory, and a desk with the script offsets that were looked at.
 abbrev pub CallState : Type 0
 CallState = Regs × Memory × Watched
 
 abbrev pub standing : CallState → Standing
 standing s = record { regs = s.0; memory = s.1; desk = s.2.desk; looked = is_within s.2.places }
 
--- what a function leaves that carries out a call over a script: from a state, by its result, to another
+-- The effect of a function that executes a call over a script: a state, the result, and the state after it.
 abbrev pub CarriesOut : (Regs → Spot → StateTree CallEnd) → List ℕ → CallState → Result Served AllocError → CallState → Type 0
 CarriesOut call script old result new = Fulfils (call old.0 old.2.desk.spot) script (standing old) result (standing new)

@@ -20,15 +20,20 @@ use crate::served::Served;
 use i8080::{Bus, Regs, fetch, fetch_word, word_of};
 use std::alloc::AllocError;
 
-/// Where the I/O byte stands.
+/// The address of the I/O byte.
 const IO_BYTE: u16 = 0x0003;
 
-/// CP/M 2.2.
+/// The version that function 12 returns: 2.2.
 const VERSION: u16 = 0x0022;
 
-/// Executes the call whose number is in C. If it stops or fails, the registers, the written cells and the desk
-/// stay as they were, and only cells and script offsets may have been looked at. `Err` means out of memory, which a
-/// call that writes and sends nothing never is. [Interface Guide 1979, system function summary]
+/// Executes the call whose number is in C. [Interface Guide 1979, system function summary]
+///
+/// If it stops or fails, the registers, the written cells and the desk are unchanged. It may have looked at cells and, if
+/// it stops, at offsets of the script.
+///
+/// # Errors
+///
+/// `Err` means out of memory. A call that neither writes memory nor sends bytes is never an `Err`.
 #[tactic(auto, unfolding(crate::specs::Calls::call))]
 pub fn call<B: Bus>(
     regs: &mut Regs,
@@ -63,7 +68,7 @@ pub fn call<B: Bus>(
     }
 }
 
-// Function 1, which takes a byte of the script.
+// Executes function 1, which takes a byte of the script, echoes it and returns it.
 #[tactic(auto, using(crate::proofs::Looking::until_it_failed))]
 fn console_input<B: Bus>(
     regs: &mut Regs,
@@ -87,7 +92,7 @@ fn console_input<B: Bus>(
     Ok(Served::Went)
 }
 
-// Function 6, by E.
+// Executes function 6: input if E is 0FFH, else output.
 fn direct_console<B: Bus>(
     regs: &mut Regs,
     bus: &mut B,
@@ -104,7 +109,7 @@ fn direct_console<B: Bus>(
     direct_output(regs, bus, desk)
 }
 
-// Function 6 with FFH in E, which takes a byte of the script where one is left.
+// Executes function 6 with 0FFH in E, which takes a byte of the script, or returns 0 if none is left.
 fn direct_input<B: Bus>(regs: &mut Regs, bus: &mut B, desk: &mut Desk, script: &[u8]) -> Served
     ensures { CarriesOut calls.direct_input script.now
         (regs.old, B.memory bus.old, desk.old) (Ok result) (regs.new, B.memory bus.new, desk.new) }
@@ -120,7 +125,7 @@ fn direct_input<B: Bus>(regs: &mut Regs, bus: &mut B, desk: &mut Desk, script: &
     Served::Went
 }
 
-// Function 6 with another E, which sends it.
+// Executes function 6 with another E, which sends E.
 #[tactic(auto, using(crate::proofs::Looking::until_it_failed))]
 fn direct_output<B: Bus>(
     regs: &mut Regs,
@@ -136,7 +141,7 @@ fn direct_output<B: Bus>(
     Ok(Served::Went)
 }
 
-// Function 11, which gives whether a byte of the script is left.
+// Executes function 11, which returns whether a byte of the script is left.
 fn console_status<B: Bus>(regs: &mut Regs, bus: &mut B, desk: &mut Desk, script: &[u8]) -> Served
     ensures { CarriesOut calls.console_status script.now
         (regs.old, B.memory bus.old, desk.old) (Ok result) (regs.new, B.memory bus.new, desk.new) }
@@ -148,7 +153,7 @@ fn console_status<B: Bus>(regs: &mut Regs, bus: &mut B, desk: &mut Desk, script:
     Served::Went
 }
 
-// Function 2, which prints E.
+// Executes function 2, which prints E.
 #[tactic(auto, using(crate::proofs::Looking::until_it_failed))]
 fn console_output<B: Bus>(
     regs: &mut Regs,
@@ -164,7 +169,7 @@ fn console_output<B: Bus>(
     Ok(Served::Went)
 }
 
-// Function 7, which gives the I/O byte.
+// Executes function 7, which returns the I/O byte.
 #[tactic(auto, using(crate::proofs::Looking::until_it_failed))]
 fn get_io_byte<B: Bus>(regs: &mut Regs, bus: &mut B, desk: &Desk) -> Served
     ensures { (script : List ℕ) → CarriesOut calls.get_io_byte script
@@ -176,7 +181,7 @@ fn get_io_byte<B: Bus>(regs: &mut Regs, bus: &mut B, desk: &Desk) -> Served
     Served::Went
 }
 
-// Function 8, which sets the I/O byte to E.
+// Executes function 8, which sets the I/O byte to E.
 #[tactic(auto, using(crate::proofs::Looking::until_it_failed))]
 fn set_io_byte<B: Bus>(regs: &mut Regs, bus: &mut B, desk: &Desk) -> Result<Served, AllocError>
     ensures { (script : List ℕ) → CarriesOut calls.set_io_byte script
@@ -189,7 +194,7 @@ fn set_io_byte<B: Bus>(regs: &mut Regs, bus: &mut B, desk: &Desk) -> Result<Serv
     Ok(Served::Went)
 }
 
-// Function 12, which gives the version.
+// Executes function 12, which returns the version.
 fn version_number<B: Bus>(regs: &mut Regs, bus: &mut B, desk: &Desk) -> Served
     ensures { (script : List ℕ) → CarriesOut calls.version_number script
         (regs.old, B.memory bus.old, desk.now) (Ok result) (regs.new, B.memory bus.new, desk.now) }
@@ -199,7 +204,7 @@ fn version_number<B: Bus>(regs: &mut Regs, bus: &mut B, desk: &Desk) -> Served
     Served::Went
 }
 
-// Function 9, which prints the string at DE.
+// Executes function 9, which prints the string at DE.
 #[tactic(auto, using(crate::proofs::Looking::until_it_failed))]
 fn string_output<B: Bus>(
     regs: &mut Regs,
@@ -217,7 +222,7 @@ fn string_output<B: Bus>(
     Ok(Served::Went)
 }
 
-// The script byte at a place, or that there is none.
+// Returns the script byte at an offset; `None` if the script ends before it.
 fn byte_at(script: &[u8], place: usize) -> Option<u8>
     ensures byte { result ≡ slice_get script.now place }
     ensures within { IsSome result → place < length script.now }
@@ -225,7 +230,7 @@ fn byte_at(script: &[u8], place: usize) -> Option<u8>
     script.get(place).copied()
 }
 
-// What function 11 gives where a place comes next.
+// Returns the status for function 11 with the cursor at an offset: 0FFH if the script has a byte there, else 0.
 fn console_state(script: &[u8], place: usize) -> u16
     ensures { result ≡ (if is_some (slice_get script.now place) then 0xff else 0) }
 {
@@ -236,7 +241,7 @@ fn console_state(script: &[u8], place: usize) -> u16
     }
 }
 
-// Function 10, which takes a line of the script.
+// Executes function 10, which takes a line of the script.
 #[tactic(auto, using(crate::proofs::Looking::after_the_capacity))]
 fn line_input<B: Bus>(
     regs: &mut Regs,
@@ -269,7 +274,7 @@ fn line_input<B: Bus>(
     Ok(Served::Went)
 }
 
-// Makes the cells of a line ready: the count's, and one for each byte.
+// Makes the cells of a line ready to be written: one for the count, and one for each byte.
 fn ready_line<B: Bus>(bus: &mut B, at: u16, count: u8) -> Result<(), AllocError>
     ensures count { OnOk result (IsTrue (B.is_ready bus.new (onward at 1))) }
     ensures text { OnOk result ((i : ℕ) → i < count
@@ -280,7 +285,7 @@ fn ready_line<B: Bus>(bus: &mut B, at: u16, count: u8) -> Result<(), AllocError>
     bus.ready_cells(at.wrapping_add(2), u16::from(count))
 }
 
-// Writes a line's cells, which are ready: the count's, and one for each byte.
+// Writes the cells of a line, which are ready: the count, and each byte.
 fn store_line<B: Bus>(bus: &mut B, at: u16, text: &[u8])
     requires short { length text.now ≤ 255 }
     requires count { IsTrue (B.is_ready bus.old (onward at 1)) }
@@ -295,8 +300,8 @@ fn store_line<B: Bus>(bus: &mut B, at: u16, text: &[u8])
     bus.write_cells(at.wrapping_add(2), text);
 }
 
-/// Goes back to an address with a value: HL gets it, A is L and B is H, and the return address leaves the
-/// stack. [Interface Guide 1979, operating system call conventions]
+/// Sets the registers for the return to the caller at `to`: HL gets the value, A is L and B is H, and the return
+/// address is popped. [Interface Guide 1979, operating system call conventions]
 pub fn give_back(regs: &mut Regs, value: u16, to: u16)
     ensures { regs.new ≡ at_caller value to regs.old }
 {
@@ -310,8 +315,8 @@ pub fn give_back(regs: &mut Regs, value: u16, to: u16)
     regs.pc = to;
 }
 
-// Prints the string at an address, up to its `$`, and answers whether there is one. Where there is none, and
-// on an `Err`, the desk stays.
+// Prints the string at an address, up to its `$`, and returns whether there is a `$`. If there is none, and on an
+// `Err`, the desk is unchanged.
 fn print_string<B: Bus>(bus: &mut B, desk: &mut Desk, at: u16) -> Result<bool, AllocError>
     ensures prints { Prints at (B.memory bus.old) desk.old.desk result (B.memory bus.new) desk.new.desk }
     ensures places { desk.new.places ≡ desk.old.places }
@@ -324,7 +329,8 @@ fn print_string<B: Bus>(bus: &mut B, desk: &mut Desk, at: u16) -> Result<bool, A
     found
 }
 
-// Prints the bytes from an address on up to the first `$`, and answers whether there is one.
+// Prints the bytes from an address up to the first `$`, and returns whether there is a `$`. If there is none, and on
+// an `Err`, some bytes stay printed.
 #[tactic(auto, using(crate::proofs::Scanning::byte_by_byte))]
 fn print_until_dollar<B: Bus>(bus: &mut B, desk: &mut Desk, at: u16) -> Result<bool, AllocError>
     ensures scans { Scans at (B.memory bus.old) desk.old.desk result (B.memory bus.new) desk.new.desk }

@@ -10,8 +10,8 @@ use filenames::Drive;
 use std::alloc::{AllocError, Global};
 use std::marker::Model;
 
-/// All of a desk but its text: how many script bytes were taken, the column, the buffer address of the file
-/// calls, the current drive, and where a search of the directory goes on, if there is one.
+/// All of a desk except its text: the cursor, which is the number of script bytes taken, the column, the buffer address
+/// of the file calls, the current drive, and where a search of the directory continues, if there is one.
 #[derive(Clone, Copy)]
 pub struct Spot {
     cursor: usize,
@@ -22,7 +22,7 @@ pub struct Spot {
 }
 
 impl Spot {
-    /// Returns a copy of the spot. It takes no memory, so it is never an `Err`.
+    /// Returns a copy of the spot. Allocates nothing, so it is never an `Err`.
     pub fn snapshot(&self) -> Result<Spot, AllocError>
         ensures { result ≡ Ok self.now }
     {
@@ -30,8 +30,9 @@ impl Spot {
     }
 }
 
-/// How far the console script was taken, what the console shows, and where records go; and the script places
-/// that were looked at, which are no part of a state of the machine.
+/// What the BDOS keeps besides memory and files: the cursor of the script, the text and the column of the console, the
+/// buffer address, the current drive and the search. It also has the script offsets that were looked at, which are not
+/// part of a state of the machine.
 #[derive(Drop)]
 pub struct Desk {
     spot: Spot,
@@ -59,7 +60,7 @@ impl Model for Desk {
     } };
 }
 
-/// A desk as it stood, its text by its length alone.
+/// A state to roll back to, with the length of the text in place of the text.
 #[derive(Clone, Copy)]
 pub(crate) struct Mark {
     spot: Spot,
@@ -67,8 +68,8 @@ pub(crate) struct Mark {
 }
 
 impl Desk {
-    /// A desk with nothing taken and nothing sent, the buffer in page zero, and A the current drive. It takes
-    /// no memory.
+    /// Creates a desk with nothing taken and nothing sent, the buffer in page zero, and A as the current drive. Allocates
+    /// nothing.
     pub fn new(alloc: Global) -> Desk
         ensures desk { result.desk ≡ first_desk }
         ensures places { (k : ℕ) → is_within result.places k ≡ false }
@@ -87,7 +88,7 @@ impl Desk {
         }
     }
 
-    /// The desk of a spot and its text, with no place looked at.
+    /// Creates a desk from a spot and its text, with no offset looked at.
     pub fn over(spot: Spot, text: Vec<u8>) -> Desk
         requires { IsSpotOf spot (length text.items) }
         ensures desk { result.desk ≡ record { spot = spot; text = text.items } }
@@ -100,7 +101,7 @@ impl Desk {
         Desk { spot, text, places }
     }
 
-    /// All of the desk but its text.
+    /// Returns all of the desk except its text.
     pub fn spot(&self) -> Spot
         ensures spot { result ≡ self.now.desk.spot }
         ensures within { IsSpotOf result (length self.now.desk.text) }
@@ -113,7 +114,7 @@ impl Desk {
         *spot
     }
 
-    /// The text, moved out.
+    /// Consumes the desk and returns its text.
     pub fn into_text(self) -> Vec<u8>
         ensures { result.items ≡ self.desk.text }
     {
@@ -125,7 +126,8 @@ impl Desk {
         text
     }
 
-    /// Prints a byte on the console. An `Err` changes nothing.
+    /// Prints a byte on the console. A tab becomes blanks up to the next column that is a multiple of 8. An `Err` means out
+    /// of memory and changes nothing.
     pub fn print(&mut self, byte: u8) -> Result<(), AllocError>
         ensures ok { OnOk result (Shows self.old.desk self.new.desk (λ column. printed column byte)) }
         ensures places { self.new.places ≡ self.old.places }
@@ -137,14 +139,14 @@ impl Desk {
         self.send(byte)
     }
 
-    /// All bytes sent to the console.
+    /// Returns all bytes sent to the console.
     pub fn text(&self) -> &[u8]
         ensures { result.now ≡ self.now.desk.text }
     {
         self.text.as_slice()
     }
 
-    /// A copy of the desk.
+    /// Returns a copy of the desk, or `Err` if allocation fails.
     pub fn snapshot(&self) -> Result<Desk, AllocError>
         ensures { IfOk result (λ d. d ≡ self.now) }
     {
@@ -155,14 +157,14 @@ impl Desk {
         Ok(Desk { spot, text, places })
     }
 
-    /// Returns whether the script byte at an offset was looked at, or that there is none.
+    /// Returns whether the run looked at an offset of the script: at its byte, or that there is none.
     pub fn looked(&self, at: u64) -> bool
         ensures { result ≡ is_within self.now.places at }
     {
         self.places.from as u64 <= at && at < self.places.to as u64
     }
 
-    /// The script's places that were looked at.
+    /// Returns the script offsets that were looked at.
     pub fn places(&self) -> Places
         ensures { result ≡ self.now.places }
     {
@@ -174,7 +176,7 @@ impl Desk {
         *places
     }
 
-    /// Forgets which of the script's places were looked at.
+    /// Forgets which script offsets were looked at.
     pub fn forget_looks(&mut self)
         ensures desk { self.new.desk ≡ self.old.desk }
         ensures places { (k : ℕ) → is_within self.new.places k ≡ false }
@@ -203,14 +205,14 @@ impl Desk {
         Some((to - 1) as u64)
     }
 
-    /// Where records go.
+    /// Returns the buffer address, at which records are read and written.
     pub fn buffer(&self) -> u16
         ensures { result ≡ self.now.desk.spot.buffer }
     {
         self.spot.buffer
     }
 
-    /// Sets the address where records go.
+    /// Sets the buffer address.
     pub fn set_buffer(&mut self, buffer: u16)
         ensures desk { self.new.desk
             ≡ at_spot self.old.desk (record self.old.desk.spot { buffer = buffer }) }
@@ -219,7 +221,7 @@ impl Desk {
         self.spot.buffer = buffer;
     }
 
-    /// The current drive.
+    /// Returns the current drive.
     pub fn drive(&self) -> Drive
         ensures { result ≡ self.now.desk.spot.drive }
     {
@@ -234,14 +236,14 @@ impl Desk {
         self.spot.drive = drive;
     }
 
-    /// Where a search of the directory goes on, if there is one.
+    /// Returns where a search of the directory continues, if there is one.
     pub fn search(&self) -> Option<Search>
         ensures { result ≡ self.now.desk.spot.search }
     {
         self.spot.search
     }
 
-    /// Sets where a search goes on.
+    /// Sets where a search of the directory continues.
     pub fn set_search(&mut self, search: Option<Search>)
         ensures desk { self.new.desk
             ≡ at_spot self.old.desk (record self.old.desk.spot { search = search }) }
@@ -250,12 +252,12 @@ impl Desk {
         self.spot.search = search;
     }
 
-    /// What the text's memory comes from.
+    /// Returns the allocator of the text.
     pub(crate) fn allocator(&self) -> Global {
         *self.text.allocator()
     }
 
-    /// How many script bytes were taken.
+    /// Returns the number of script bytes taken, which is the offset of the next byte.
     pub(crate) fn cursor(&self) -> usize
         ensures cursor { result ≡ self.now.desk.spot.cursor }
         ensures bound { result < 9223372036854775808 }
@@ -263,7 +265,7 @@ impl Desk {
         self.spot.cursor
     }
 
-    /// Looks at some places of the script, from the next byte's on.
+    /// Looks at `count` offsets of the script, from the cursor on.
     pub(crate) fn look(&mut self, count: usize)
         requires { self.old.desk.spot.cursor + count ≤ 9223372036854775808 }
         ensures desk { self.new.desk ≡ self.old.desk }
@@ -275,7 +277,7 @@ impl Desk {
         }
     }
 
-    /// Takes some bytes of the script, which looks at their places.
+    /// Takes `count` bytes of the script, which looks at their offsets.
     pub(crate) fn take(&mut self, count: usize)
         requires { self.old.desk.spot.cursor + count < 9223372036854775808 }
         ensures desk { self.new.desk ≡ desk_taking self.old.desk count }
@@ -288,7 +290,7 @@ impl Desk {
         self.spot.cursor = cursor;
     }
 
-    /// The desk as it stands, to be undone to.
+    /// Returns the current state, to roll back to with `undo`.
     pub(crate) fn mark(&self) -> Mark
         ensures spot { result.spot ≡ self.now.desk.spot }
         ensures length { result.length ≡ length self.now.desk.text }
@@ -300,7 +302,7 @@ impl Desk {
         }
     }
 
-    /// Takes back what was sent since the mark.
+    /// Removes what was sent since the mark.
     pub(crate) fn undo(&mut self, mark: Mark)
         requires within { mark.spot.column ≤ mark.length }
         requires earlier { mark.length ≤ length self.old.desk.text }
@@ -322,7 +324,7 @@ impl Desk {
         Ok(())
     }
 
-    /// Adds a byte to the text, and leaves the column. An `Err` changes nothing.
+    /// Appends a byte to the text and leaves the column unchanged. An `Err` means out of memory and changes nothing.
     pub(crate) fn append(&mut self, byte: u8) -> Result<(), AllocError>
         ensures ok { OnOk result (self.new.desk ≡ desk_appending self.old.desk byte) }
         ensures places { self.new.places ≡ self.old.places }
@@ -332,7 +334,7 @@ impl Desk {
         Ok(())
     }
 
-    /// Sends bytes. An `Err` changes nothing.
+    /// Sends bytes without expanding tabs. An `Err` means out of memory and changes nothing.
     pub(crate) fn send_all(&mut self, bytes: &[u8]) -> Result<(), AllocError>
         ensures ok { OnOk result (Shows self.old.desk self.new.desk (λ column. sent_all column bytes.now)) }
         ensures places { self.new.places ≡ self.old.places }
@@ -354,7 +356,8 @@ impl Desk {
         Ok(())
     }
 
-    /// Prints a byte that was typed, where it is one that shows.
+    /// Prints a byte of the script if function 1 echoes it: a byte from 20H on, a backspace, a tab, a line feed or a
+    /// carriage return. An `Err` means out of memory and changes nothing.
     pub(crate) fn echo(&mut self, byte: u8) -> Result<(), AllocError>
         ensures ok { OnOk result (Shows self.old.desk self.new.desk (λ column. echoed column byte)) }
         ensures places { self.new.places ≡ self.old.places }
@@ -368,7 +371,7 @@ impl Desk {
     }
 }
 
-// The column after a byte was sent.
+// Returns the column after a byte was sent.
 fn column_after(column: usize, byte: u8) -> usize
     requires { column + 1 < 18446744073709551616 }
     ensures column { result ≡ desk.column_after column byte }
@@ -382,7 +385,7 @@ fn column_after(column: usize, byte: u8) -> usize
     }
 }
 
-// The column after bytes were sent.
+// Returns the column after bytes were sent.
 fn column_after_all(column: usize, bytes: &[u8]) -> usize
     requires { column + length bytes.now < 18446744073709551616 }
     ensures column { result ≡ desk.column_after_all column bytes.now }

@@ -1,4 +1,4 @@
-// The calls of drives and of the buffer address. They only read, and so take no memory.
+// The calls for drives and the buffer address. They write no memory, so they never run out of memory.
 
 ghost use Rattle.std.specs.Prelude.{List, ℕ, Ok};
 ghost use Rattle.console_calls.specs.Calls as calls;
@@ -11,13 +11,13 @@ use crate::served::Served;
 use filenames::Drive;
 use i8080::{Bus, Regs, fetch_word, word_of};
 
-/// Where records go at first, in page zero.
+/// The buffer address after a reset, in page zero.
 const FIRST_BUFFER: u16 = 0x0080;
 
 /// The drives A to D, a bit for each.
 const DRIVES: u16 = 0x000f;
 
-/// Function 13, which goes back to the first drive and the first buffer.
+/// Executes function 13, which selects drive A and the buffer in page zero.
 pub fn reset_disks<B: Bus>(regs: &mut Regs, bus: &mut B, desk: &mut Desk) -> Served
     ensures { (script : List ℕ) → CarriesOut calls.reset_disks script
         (regs.old, B.memory bus.old, desk.old) (Ok result) (regs.new, B.memory bus.new, desk.new) }
@@ -29,7 +29,7 @@ pub fn reset_disks<B: Bus>(regs: &mut Regs, bus: &mut B, desk: &mut Desk) -> Ser
     Served::Went
 }
 
-/// Function 14, which sets the current drive.
+/// Executes function 14, which sets the current drive. Stops if there is no such drive.
 pub fn select_disk<B: Bus>(regs: &mut Regs, bus: &mut B, desk: &mut Desk) -> Served
     ensures { (script : List ℕ) → CarriesOut calls.select_disk script
         (regs.old, B.memory bus.old, desk.old) (Ok result) (regs.new, B.memory bus.new, desk.new) }
@@ -43,7 +43,7 @@ pub fn select_disk<B: Bus>(regs: &mut Regs, bus: &mut B, desk: &mut Desk) -> Ser
     Served::Went
 }
 
-/// Function 24, which gives a bit for each drive.
+/// Executes function 24, which returns a bit for each drive.
 pub fn login_vector<B: Bus>(regs: &mut Regs, bus: &mut B, desk: &Desk) -> Served
     ensures { (script : List ℕ) → CarriesOut calls.login_vector script
         (regs.old, B.memory bus.old, desk.now) (Ok result) (regs.new, B.memory bus.new, desk.now) }
@@ -53,7 +53,7 @@ pub fn login_vector<B: Bus>(regs: &mut Regs, bus: &mut B, desk: &Desk) -> Served
     Served::Went
 }
 
-/// Function 25, which gives the current drive.
+/// Executes function 25, which returns the current drive.
 pub fn current_disk<B: Bus>(regs: &mut Regs, bus: &mut B, desk: &Desk) -> Served
     ensures { (script : List ℕ) → CarriesOut calls.current_disk script
         (regs.old, B.memory bus.old, desk.now) (Ok result) (regs.new, B.memory bus.new, desk.now) }
@@ -63,7 +63,7 @@ pub fn current_disk<B: Bus>(regs: &mut Regs, bus: &mut B, desk: &Desk) -> Served
     Served::Went
 }
 
-/// Function 26, which sets the buffer address.
+/// Executes function 26, which sets the buffer address.
 pub fn set_buffer_address<B: Bus>(regs: &mut Regs, bus: &mut B, desk: &mut Desk) -> Served
     ensures { (script : List ℕ) → CarriesOut calls.set_buffer_address script
         (regs.old, B.memory bus.old, desk.old) (Ok result) (regs.new, B.memory bus.new, desk.new) }

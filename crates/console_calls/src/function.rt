@@ -1,43 +1,43 @@
 ghost use Rattle.std.specs.Prelude.{◌≡◌};
 ghost use Rattle.console_calls.specs.Functions.{function_of};
 
-/// A call that is carried out. [Interface Guide 1979, system function summary]
+/// A supported call. [Interface Guide 1979, system function summary]
 #[derive(Clone, Copy, Debug, PartialEq, Eq)]
 pub enum Function {
-    /// 0: the warm start.
+    /// 0: does a warm start.
     SystemReset,
-    /// 1: a byte from the console, which shows it.
+    /// 1: reads a byte from the console and echoes it.
     ConsoleInput,
-    /// 2: a byte to the console.
+    /// 2: prints a byte on the console.
     ConsoleOutput,
-    /// 6: a byte from or to the console as it stands.
+    /// 6: reads a byte from the console without an echo, or sends one to it unchanged.
     DirectConsole,
-    /// 7: gives the I/O byte.
+    /// 7: returns the I/O byte.
     GetIoByte,
-    /// 8: another I/O byte.
+    /// 8: sets the I/O byte.
     SetIoByte,
-    /// 9: a string to the console, up to its `$`.
+    /// 9: prints a string on the console, up to its `$`.
     PrintString,
-    /// 10: a line from the console.
+    /// 10: reads a line from the console.
     ReadConsoleBuffer,
-    /// 11: whether the console has a byte.
+    /// 11: returns whether the console has a byte.
     ConsoleStatus,
-    /// 12: the version of CP/M.
+    /// 12: returns the version of CP/M.
     VersionNumber,
-    /// 13: the first drive, and the buffer in page zero.
+    /// 13: selects the first drive and the buffer in page zero.
     ResetDisks,
-    /// 14: another current drive.
+    /// 14: sets the current drive.
     SelectDisk,
-    /// 24: which drives there are.
+    /// 24: returns which drives there are.
     LoginVector,
-    /// 25: the current drive.
+    /// 25: returns the current drive.
     CurrentDisk,
-    /// 26: another buffer address.
+    /// 26: sets the buffer address.
     SetBufferAddress,
 }
 
 impl Function {
-    /// The call of a number; `None` where no call of this number is carried out.
+    /// Returns the call with this number; `None` if no supported call has it.
     pub fn decode(number: u8) -> Option<Function>
         ensures { result ≡ function_of number }
     {

@@ -1,9 +1,10 @@
 //! The calls of the BDOS of CP/M 2.2 that need no files, over any memory.
 //!
 //! - `function`, `calls`: the calls by their numbers; `call`, with one function for each
-//! - `disks`: the calls of drives and of the buffer address
-//! - `desk`, `places`: the desk: sending and printing, taking bytes of the script; the places that were looked at
-//! - `line`: the line that call 10 takes from the script
+//! - `disks`: the calls for drives and the buffer address
+//! - `desk`, `places`: the desk, which sends and prints and takes bytes of the script; the script offsets that were
+//!   looked at
+//! - `line`: the line that function 10 takes from the script
 //! - `cause`, `served`: why a run stops; what a call did
 #![tactic(auto)]
 

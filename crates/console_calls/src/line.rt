@@ -5,7 +5,7 @@ ghost use Rattle.console_calls.specs.Types.{typed_of, looks_of, FitsIn, TakesLin
 use std::alloc::{AllocError, Global};
 use std::marker::Model;
 
-/// A line that is typed: the bytes that are stored, and the bytes that are sent.
+/// A line that is taken from the script: the bytes that are stored, and the bytes that are sent to the console.
 #[derive(Drop)]
 pub(crate) struct Line {
     stored: Vec<u8>,
@@ -21,10 +21,10 @@ impl Model for Line {
     ghost view = { λ l. record { stored = reverse l.stored.items; sends = l.sends.items } };
 }
 
-/// What a byte makes of a line.
+/// What a byte does to a line.
 #[derive(Clone, Copy)]
 pub(crate) enum Took {
-    /// The line goes on.
+    /// The line continues.
     Goes,
     /// The line ends.
     Ends,
@@ -32,7 +32,7 @@ pub(crate) enum Took {
     Boots,
 }
 
-/// How a line went, and how many places of the script were looked at for it.
+/// How a line ended, and the number of script offsets that were looked at for it.
 #[derive(Drop)]
 pub(crate) enum LineEnd {
     Ended(Line, usize),
@@ -41,7 +41,7 @@ pub(crate) enum LineEnd {
 }
 
 impl Line {
-    /// A line of no byte.
+    /// Creates an empty line.
     pub(crate) fn new(alloc: Global) -> Line
         ensures { result ≡ no_line }
     {
@@ -51,28 +51,28 @@ impl Line {
         }
     }
 
-    /// How many bytes are stored.
+    /// Returns the number of bytes that are stored.
     pub(crate) fn len(&self) -> usize
         ensures { result ≡ length self.now.stored }
     {
         self.stored.len()
     }
 
-    /// The bytes that are stored.
+    /// Returns the bytes that are stored.
     pub(crate) fn text(&self) -> &[u8]
         ensures { result.now ≡ reverse self.now.stored }
     {
         self.stored.as_slice()
     }
 
-    /// The bytes that are sent.
+    /// Returns the bytes that are sent.
     pub(crate) fn sends(&self) -> &[u8]
         ensures { result.now ≡ self.now.sends }
     {
         self.sends.as_slice()
     }
 
-    // Takes a byte of the script.
+    // Applies a byte of the script to the line.
     fn take(&mut self, byte: u8) -> Result<Took, AllocError>
         ensures typed { IfOk result (λ t. typed_of t self.new ≡ type_byte self.old byte) }
         ensures longer { length self.new.stored ≤ length self.old.stored + 1 }
@@ -118,7 +118,7 @@ impl Line {
         self.show(last)
     }
 
-    // Sends what a stored byte sends.
+    // Sends a stored byte, a control byte as `^` and a letter.
     fn show(&mut self, byte: u8) -> Result<(), AllocError>
         ensures ok { OnOk result (self.new ≡ record self.old { sends = self.old.sends ++ shown byte }) }
         ensures stored { self.new.stored ≡ self.old.stored }
@@ -132,7 +132,7 @@ impl Line {
     }
 }
 
-/// Takes a line of at most `capacity` bytes from a script, whose next byte is at `cursor`.
+/// Takes a line of at most `capacity` bytes from a script whose next byte is at `cursor`. `Err` means out of memory.
 pub(crate) fn take_line(
     alloc: Global,
     script: &[u8],

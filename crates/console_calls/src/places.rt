@@ -1,6 +1,6 @@
 ghost use Rattle.std.specs.Prelude.{◌≡◌, ◌↔◌, IsTrue};
 
-/// Places of the console script, counted in bytes from its start: those from `from` on that are below `to`.
+/// The offsets of the script from `from` up to, but not including, `to`.
 #[derive(Clone, Copy)]
 pub struct Places {
     pub(crate) from: usize,
@@ -8,7 +8,7 @@ pub struct Places {
 }
 
 impl Places {
-    /// Whether they begin at the same place.
+    /// Returns whether both begin at the same offset.
     #[inline(always)]
     pub fn begin_as(self, other: Places) -> bool
         ensures { IsTrue result ↔ (self.from ≡ other.from) }
@@ -16,7 +16,7 @@ impl Places {
         self.from == other.from
     }
 
-    /// Whether they end at the same place.
+    /// Returns whether both end at the same offset.
     #[inline(always)]
     pub fn end_as(self, other: Places) -> bool
         ensures { IsTrue result ↔ (self.to ≡ other.to) }

@@ -1,4 +1,4 @@
--- No question is forgotten, and at a failure none is asked that the whole call does not ask.
+-- No look is lost, and a call that fails has only looks of the whole call.
 use Rattle.std.proofs.Common.{◌≡◌, ℕ, Bool, true, false, cond, is_some, nat_lt, refl, sym, subst}
 use Rattle.std.specs.FinMap.{get}
 use Rattle.hostfiles.specs.Hosts.{Key, Host}
@@ -8,7 +8,7 @@ use Rattle.hostfiles.specs.declared.looks.Looks.{Looks}
 use Rattle.hostfiles.proofs.LookLemmas as lemmas
 pub use Rattle.hostfiles.proofs.LookLemmas.{extends_same, extends_trans, extends_by_has, extends_by_length, extends_by_record, extends_by_directory}
 
--- ---- what is asked first is among what is asked with the next
+-- ---- the first looks are among all looks
 
 pub within_has : (own : Own) (key : Key) (l m : Looks) → Extends l m → Extends l (look_has own key m)
 within_has own key l m h =
@@ -42,7 +42,7 @@ within_read host own key k l m h = by_case (has host own key) (nat_lt k (length_
   by_case true false = h
   by_case false c = h
 
--- what is asked first of a record that is read: whether the file is there, and then how long it is
+-- A read first asks whether the file is there, and then how long it is.
 pub within_read_first : (host : Host) (own : Own) (key : Key) (k : ℕ) (l m : Looks) → Extends l (look_has own key m)
     → Extends l (look_read host own key k m)
 within_read_first host own key k l m h = within_read host own key k l m (within_records host own key l m h)
@@ -53,10 +53,10 @@ within_read_length host own key k l m there h =
     within_read host own key k l m
     (subst (λ b. Extends l (cond b (look_length own key (look_has own key m)) (look_has own key m))) (sym there) h)
 
--- the second key of a renaming is asked after the first
+-- A rename asks about the second key after the first.
 pub within_second : (own : Own) (old new : Key) (l m : Looks) → Extends l (look_has own old m)
     → Extends l (look_has own new (look_has own old m))
 within_second own old new l m h = within_has own new l (look_has own old m) h
 
--- questions one after another
+-- The rules for questions one after another.
 pub ruleset asked_in_turn = (extends_same, extends_trans, within_records, within_second)

@@ -1,4 +1,4 @@
--- What a call leaves of a table. (This project's own.)
+-- The effect of a call on a table. (This project's own.)
 use Rattle.std.specs.Prelude.{◌≡◌, Bool, true, false, IfOk, OnErr}
 use Rattle.std.specs.declared.result.Result.{Result}
 use Rattle.std.specs.declared.alloc.AllocError.{AllocError}
@@ -6,19 +6,19 @@ use Rattle.hostfiles.specs.Files.{Own}
 use Rattle.hostfiles.specs.declared.looks.Looks.{Looks}
 use Rattle.cpmfiles.specs.declared.table.Table.{Table}
 
--- what was done to the files, and what was asked
+-- What was done to the files, and the looks at the host files.
 abbrev pub own_in : Table → Own
 own_in t = t.changes.now.journal.entries
 
 abbrev pub looks_in : Table → Looks
 looks_in t = t.changes.now.looks
 
--- it stands over the same host files, and has the same reference to what was done
+-- The table has the same host files and the same reference to its changes.
 pub record StandsOver (old new : Table) : Type 0 where
   pub host : new.host.now ≡ old.host.now
   pub lender : new.changes.ghost_name ≡ old.changes.ghost_name
 
--- where the answer is yes this was done; where it is no, and where memory is refused, nothing
+-- If the result is true, this change was made; if it is false or an error, nothing was changed.
 pub record DoesIf (result : Result Bool AllocError) (change old new : Own) : Type 0 where
   pub done : IfOk result (λ b. b ≡ true → new ≡ change)
   pub not_done : IfOk result (λ b. b ≡ false → new ≡ old)

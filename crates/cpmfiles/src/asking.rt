@@ -1,5 +1,5 @@
-// What a program asks of the files, of which a run did something. The questions are marked, and an `Err` has
-// marked no other.
+// The questions that a program asks about the current files. Each function marks the questions that reach the
+// host files; on `Err` it may have marked only some of them, and no others.
 
 ghost use Rattle.std.specs.Prelude.{◌≡◌, true, Ok, OnErr, slice_index};
 ghost use Rattle.std.specs.Option.{option_map};
@@ -21,7 +21,7 @@ use hostfiles::seen::SeenFile;
 use records::Record;
 use std::alloc::AllocError;
 
-/// Whether there is a file of the key.
+/// Returns whether there is a file with this key.
 pub fn has(host: &HostFiles, changes: &mut Changes, key: &Key) -> Result<bool, AllocError>
     ensures { Inquires result (λ own. has host.now own key.now)
         (λ own. look_has own key.now) changes.old changes.new }
@@ -29,7 +29,7 @@ pub fn has(host: &HostFiles, changes: &mut Changes, key: &Key) -> Result<bool, A
     SeenFile::find(host, &changes.journal, key).ask_presence(&mut changes.looks)
 }
 
-/// How many places the file of the key has, if there is one.
+/// Returns the length of the file of the key in records, holes included; `None` if there is no file.
 #[tactic(auto, using(crate::proofs::LookLaws::asked_in_turn))]
 pub fn records(
     host: &HostFiles,
@@ -46,8 +46,9 @@ pub fn records(
     Ok(Some(file.ask_length(&mut changes.looks)?))
 }
 
-/// Returns how many records an extent of the file of the key counts, if there is one: the greatest place in the
-/// extent that holds a record, plus one, counted within the extent (1 to 128), or 0 if no place does.
+/// Returns the record count of an extent of the file of the key, or `None` if there is no file. The count is the
+/// greatest record number in the extent that holds a record, plus one, counted within the extent (1 to 128); 0 if
+/// the extent holds no record.
 #[tactic(auto, using(crate::proofs::LookLaws::asked_in_turn))]
 pub fn extent(
     host: &HostFiles,
@@ -64,8 +65,8 @@ pub fn extent(
     Ok(Some(SeenFile::find(host, &changes.journal, key).count(extent)))
 }
 
-/// The record at a place of the file of the key; none where there is no file, or none that long, or a hole at
-/// the place.
+/// Reads record `k` of the file of the key. Returns `None` if there is no file, if `k` is not below its length, or
+/// if record `k` is a hole.
 #[tactic(auto, using(crate::proofs::LookLaws::asked_in_turn))]
 pub fn read(
     host: &HostFiles,
@@ -86,7 +87,7 @@ pub fn read(
     file.ask_record(&mut changes.looks, k)
 }
 
-/// Whether a file of the key may be made: the key is valid, and no file has it. A key that is not valid asks
+/// Returns whether a file with this key can be made: the key is valid and no file has it. An invalid key asks
 /// nothing, so it is never an `Err`.
 #[tactic(auto, using(crate::proofs::LookLaws::extends_same))]
 pub fn can_make(host: &HostFiles, changes: &mut Changes, key: &Key) -> Result<bool, AllocError>
@@ -100,8 +101,9 @@ pub fn can_make(host: &HostFiles, changes: &mut Changes, key: &Key) -> Result<bo
     Ok(!has(host, changes, key)?)
 }
 
-/// Whether a file may be renamed: its key has no `?` and a file has it, the new key can be said and no file
-/// has it. Both keys are asked.
+/// Returns whether a file can be renamed: the old key has no `?` and a file has it, and the new key is valid and no
+/// file has it. Asks about both keys, or about neither if the old key has a `?` or the new key is invalid; then
+/// the result is never an `Err`.
 #[tactic(auto, using(crate::proofs::LookLaws::asked_in_turn))]
 pub fn can_rename(
     host: &HostFiles,
@@ -124,9 +126,8 @@ pub fn can_rename(
     Ok(there && !taken)
 }
 
-/// The first entry of the directory that matches a pattern, after the entry given if there is one, in the
-/// files as they are now. The pattern's drive is matched exactly; its name and its `ex` byte may have a `?`.
-/// Takes no memory.
+/// Returns the first directory entry of the current files that matches a pattern, after the given entry if there
+/// is one. The pattern's drive is matched exactly; its name and its `ex` byte may contain `?`. Allocates nothing.
 #[tactic(auto, using(crate::proofs::LookLaws::extends_by_directory))]
 pub fn search(
     host: &HostFiles,
@@ -151,7 +152,7 @@ pub fn search(
     }
 }
 
-// Where the entry given last stands, if there is one.
+// Returns the position of the entry that was returned last, if there is one.
 fn position_after(drive: u8, after: Option<[u8; 32]>) -> Option<Position>
     ensures { result ≡ option_map (position_in drive) after }
 {

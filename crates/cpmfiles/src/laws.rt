@@ -1,4 +1,4 @@
-// What a deletion leaves.
+// The law of deletion.
 
 ghost use Rattle.std.specs.Prelude.{◌≡◌, ◌&&◌, List, ℕ, None, if◌then◌else◌};
 ghost use Rattle.std.specs.FinMap as finmap;
@@ -6,7 +6,7 @@ ghost use Rattle.hostfiles.specs.Hosts.{Host};
 ghost use Rattle.hostfiles.specs.Files.{Own, has, files};
 ghost use Rattle.cpmfiles.specs.Tables.{NamedAreGone, is_named};
 
-/// Carries the law that a deletion takes out of the map of all files those that are named, and no other.
+/// A deletion removes exactly the named files from the map of all files; the other files are unchanged.
 pub fn named_files_are_gone()
     ensures { (host : Host) → (own after : Own)
         → (pattern : List ℕ) → NamedAreGone host own pattern after →

@@ -1,8 +1,8 @@
-//! Files of a program: names, control blocks, host files, what a run does to them, and both joined as a table.
+//! The files that a program sees: host files together with what a run did to them, as a table.
 //!
-//! - `asking`: what a program asks of the files, each question marked
-//! - `table`, `laws`: `Table`: the files as a program reads, writes, makes, renames, deletes and searches them; the
-//!   law of a deletion
+//! - `asking`: the questions that a program asks about the files, each of which is marked
+//! - `table`: `Table`, the files as a program reads, writes, makes, renames, deletes and searches them
+//! - `laws`: the law of deletion
 #![tactic(auto)]
 
 pub mod asking;

@@ -1,4 +1,4 @@
-// Host files joined with what a run did to them.
+// Host files together with what a run did to them.
 
 ghost use Rattle.std.specs.Prelude.{◌≡◌, ◌<◌, true, false, OnOk, OnErr, IfOk, Some, Ok, slice_index};
 ghost use Rattle.hostfiles.specs.Files.{has, records, length_at, place, shapes, made, renamed, stored, wrote, wrote_filled};
@@ -18,19 +18,20 @@ use hostfiles::listed::without_matches;
 use records::Record;
 use std::alloc::AllocError;
 
-/// Host files joined with what a run did to them. Each call marks what it asks of the host files; an `Err` is
-/// want of memory, and changes no file and nothing that the run did. It may have marked some of what the
-/// whole call asks, and nothing else.
+/// Host files together with what a run did to them. Each call marks the questions that reach the host files.
+///
+/// `Err` means out of memory. It changes no file and nothing that the run did; the call may have marked some of its
+/// own questions, but no others.
 #[derive(Drop)]
 pub struct Table<'a> {
     /// The host files.
     pub host: &'a HostFiles,
-    /// What the run did to them, and what it looked at.
+    /// What the run did to them, and its looks at them.
     pub changes: &'a mut Changes,
 }
 
 impl<'a> Table<'a> {
-    /// The host files with these changes.
+    /// Creates a table of these host files with these changes.
     pub fn new(host: &'a HostFiles, changes: &'a mut Changes) -> Table<'a>
         ensures host { result.host ≡ host.entry }
         ensures changes { result.changes ≡ changes.entry }
@@ -40,7 +41,7 @@ impl<'a> Table<'a> {
 }
 
 impl Table<'_> {
-    /// Whether there is a file of the key.
+    /// Returns whether there is a file with this key.
     #[tactic(auto, using(crate::proofs::LookLaws::extends_by_has, crate::proofs::LookLaws::extends_same))]
     pub fn has(&mut self, key: &Key) -> Result<bool, AllocError>
         ensures inquires { Inquires result (λ own. has self.old.host.now own key.now)
@@ -50,7 +51,7 @@ impl Table<'_> {
         asking::has(self.host, self.changes, key)
     }
 
-    /// How many places the file of the key has, if there is one.
+    /// Returns the length of the file of the key in records, holes included; `None` if there is no file.
     #[tactic(auto, using(crate::proofs::LookLaws::asked_in_turn))]
     pub fn records(&mut self, key: &Key) -> Result<Option<u32>, AllocError>
         ensures inquires { Inquires result (λ own. records self.old.host.now own key.now)
@@ -60,8 +61,8 @@ impl Table<'_> {
         asking::records(self.host, self.changes, key)
     }
 
-    /// Reads the record at a place. `false` where there is no file, or none that long, or a hole at the
-    /// place: `bytes` then stay.
+    /// Reads record `k` of the file of the key into `bytes`. Returns `false` and leaves `bytes` unchanged if there is no
+    /// file, if `k` is not below its length, or if record `k` is a hole. An `Err` leaves `bytes` unchanged, too.
     #[tactic(auto, using(crate::proofs::LookLaws::asked_in_turn))]
     pub fn read(&mut self, key: &Key, k: u32, bytes: &mut Record) -> Result<bool, AllocError>
         ensures found { IfOk result (λ b. b ≡ true →
@@ -85,8 +86,9 @@ impl Table<'_> {
         Ok(true)
     }
 
-    /// Returns how many records an extent of the file of the key counts, if there is one: the greatest place in the
-    /// extent that holds a record, plus one, counted within the extent (1 to 128), or 0 if no place does.
+    /// Returns the record count of an extent of the file of the key, or `None` if there is no file. The count is the
+    /// greatest record number in the extent that holds a record, plus one, counted within the extent (1 to 128); 0
+    /// if the extent holds no record.
     #[tactic(auto, using(crate::proofs::LookLaws::asked_in_turn))]
     pub fn extent(&mut self, key: &Key, e: u32) -> Result<Option<u8>, AllocError>
         ensures inquires { Inquires result (λ own. extent_count self.old.host.now own key.now e)
@@ -96,7 +98,8 @@ impl Table<'_> {
         asking::extent(self.host, self.changes, key, e)
     }
 
-    /// Writes a record, if there is a file: a write past the end leaves holes between.
+    /// Writes record `k`, at most 65,535, of the file of the key and returns `true`, or returns `false` if there is no file.
+    /// A write past the end leaves holes between the end and the record.
     pub fn write(&mut self, key: &Key, k: u32, bytes: &Record) -> Result<bool, AllocError>
         requires { k < 65536 }
         ensures asks { AsksFor result (has self.old.host.now (own_in self.old) key.now)
@@ -111,7 +114,8 @@ impl Table<'_> {
         self.store(key, k, bytes, false)
     }
 
-    /// Writes a record, if there is a file: a write past the end writes zeros between.
+    /// Writes record `k`, at most 65,535, of the file of the key and returns `true`, or returns `false` if there is no file.
+    /// A write past the end writes zeros between the end and the record.
     pub fn write_filled(&mut self, key: &Key, k: u32, bytes: &Record) -> Result<bool, AllocError>
         requires { k < 65536 }
         ensures asks { AsksFor result (has self.old.host.now (own_in self.old) key.now)
@@ -126,7 +130,7 @@ impl Table<'_> {
         self.store(key, k, bytes, true)
     }
 
-    // Writes a record, if there is a file.
+    // Writes a record, if there is a file. The gap between the end and the record becomes zeros if `filled`, else holes.
     fn store(&mut self, key: &Key, k: u32, bytes: &Record, filled: bool) -> Result<bool, AllocError>
         requires { k < 65536 }
         ensures asks { AsksFor result (has self.old.host.now (own_in self.old) key.now)
@@ -145,9 +149,9 @@ impl Table<'_> {
         Ok(true)
     }
 
-    /// The first entry of the directory that matches a pattern, after the entry given if there is one, in the
-    /// files as they are now. The pattern's drive is matched exactly; its name and its `ex` byte may have a
-    /// `?`. Takes no memory, and is never an `Err`.
+    /// Returns the first directory entry of the current files that matches a pattern, after the given entry if there
+    /// is one. The pattern's drive is matched exactly; its name and its `ex` byte may contain `?`. Allocates nothing
+    /// and is never an `Err`.
     pub fn next_entry(
         &mut self,
         pattern: &Key,
@@ -164,7 +168,8 @@ impl Table<'_> {
         Ok(asking::search(self.host, self.changes, pattern, ex, after))
     }
 
-    /// Makes an empty file, where the key can be said and no file has it.
+    /// Makes an empty file and returns `true` if the key is valid and no file has it; else changes nothing and returns
+    /// `false`. An invalid key is never an `Err`.
     #[tactic(auto, using(crate::proofs::LookLaws::extends_same))]
     pub fn make(&mut self, key: &Key) -> Result<bool, AllocError>
         ensures asks { AsksFor result (can_make self.old.host.now (own_in self.old) key.now)
@@ -180,8 +185,7 @@ impl Table<'_> {
         Ok(true)
     }
 
-    /// Deletes each file whose key matches a pattern, and tells how many there were. The pattern's drive is
-    /// matched exactly.
+    /// Deletes each file whose key matches a pattern, and returns their number. The pattern's drive is matched exactly.
     #[tactic(auto, using(crate::proofs::LookLaws::extends_same))]
     pub fn delete(&mut self, pattern: &Key) -> Result<u64, AllocError>
         ensures asks { AsksFor result (count_deleted self.old.host.now (own_in self.old) pattern.now)
@@ -197,7 +201,7 @@ impl Table<'_> {
         self.delete_one(pattern)
     }
 
-    // Deletes the file of a key, if it is there.
+    // Deletes the file of a key, if there is one.
     fn delete_one(&mut self, key: &Key) -> Result<u64, AllocError>
         requires { has_wildcard key.now ≡ false }
         ensures asks { AsksFor result (count_deleted self.old.host.now (own_in self.old) key.now)
@@ -214,8 +218,8 @@ impl Table<'_> {
         Ok(1)
     }
 
-    // Deletes all files that match a pattern with `?`: what was done so far is copied first, so that an `Err`
-    // leaves it.
+    // Deletes all files that match a pattern with `?`. What the run did is copied first, so that an `Err` leaves it
+    // unchanged.
     #[tactic(auto, using(crate::proofs::LookLaws::extends_by_directory))]
     fn delete_all(&mut self, pattern: &Key) -> Result<u64, AllocError>
         requires { has_wildcard pattern.now ≡ true }
@@ -232,8 +236,9 @@ impl Table<'_> {
         Ok(count)
     }
 
-    /// Puts a file under another key, where a file has the old key, the new key can be said and no file has
-    /// it. Neither has a `?`.
+    /// Renames a file and returns `true` if the old key has no `?` and a file has it, and the new key is valid and no
+    /// file has it; else changes nothing and returns `false`. An old key with a `?`, or an invalid new key, is never an
+    /// `Err`.
     #[tactic(auto, using(crate::proofs::LookLaws::asked_in_turn))]
     pub fn rename(&mut self, old: &Key, new: &Key) -> Result<bool, AllocError>
         ensures asks { AsksFor result (can_rename self.old.host.now (own_in self.old) old.now new.now)
@@ -251,7 +256,7 @@ impl Table<'_> {
     }
 }
 
-/// Whether a key has a `?` among the bytes of its name.
+/// Returns whether a key has a `?` among the bytes of its name.
 pub fn has_wildcard(key: &Key) -> bool
     ensures { result ≡ has_wildcard key.now }
 {

@@ -1,4 +1,4 @@
--- A pattern against a key, a byte at a time.
+-- Matching a key against a pattern, byte by byte.
 use Rattle.std.proofs.Common.{◌≡◌, ℕ, zero, suc, ◌+◌, ◌<◌, ◌≤◌, true, false, List, [], ◌∷◌, refl, sym, ap, ◌∙◌, drop, length, arith}
 use Rattle.std.specs.Prelude.{◌==◌, ◌||◌, ◌&&◌, slice_index}
 use Rattle.directory.specs.Entries.{fits_name}
@@ -24,5 +24,5 @@ match_end [] ks (suc i) h = refl
 match_end (p ∷ ps) ks zero h = absurd (omega arith)
 match_end (p ∷ ps) ks (suc i) h = match_end ps ks i (omega arith)
 
--- a match, byte by byte
+-- The rules of a match, byte by byte.
 pub ruleset byte_by_byte = (match_on, match_off, match_end)

@@ -1,4 +1,4 @@
--- The first match in the directory, from one key to the next.
+-- The first match in the directory, found by a walk from key to key.
 use Rattle.std.proofs.Common.{◌≡◌, ℕ, zero, suc, ◌+◌, ◌-◌, ◌<◌, ◌≤◌, arith, Bool, true, false, cond, List, [], ◌∷◌, ◌++◌, Some, None, Option, refl, sym, ap, subst, ◌∙◌}
 use Rattle.std.proofs.Common.{rules, inl, inr}
 use Rattle.std.proofs.lemmas.Bool.{cases_lt}
@@ -27,7 +27,7 @@ pub first_append : {X : Type 0} (p : X → Bool) (xs ys : List X) → first_wher
 first_append p [] ys = refl
 first_append p (x ∷ xs) ys = elim (p x) as (λ b. cond b (Some x) (first_where p (xs ++ ys)) ≡ or_else (cond b (Some x) (first_where p xs)) (first_where p ys)) [ true ↦ refl | false ↦ first_append p xs ys ]
 
--- two tests that answer alike at each entry of a key
+-- Two tests that agree on each entry of a key.
 abbrev Alike : Key → (Entry → Bool) → (Entry → Bool) → Type 0
 Alike k p q = (n c : ℕ) → p (record { key = k; extent = n; count = c }) ≡ q (record { key = k; extent = n; count = c })
 
@@ -51,7 +51,7 @@ nowhere : {X : Type 0} (xs : List X) → first_where (λ x. false) xs ≡ None
 nowhere [] = refl
 nowhere (x ∷ xs) = nowhere xs
 
--- the entries of the file at a key, if there is one
+-- The entries of the file with a key, if there is one.
 abbrev pub chunk : Key → Option Shape → List Entry
 chunk k None = []
 chunk k (Some s) = entries_of k s
@@ -60,7 +60,7 @@ pub listed_here : (p : Entry → Bool) (k : Key) (v : Option Shape) (es : List (
 listed_here p k None es = refl
 listed_here p k (Some s) es = first_append p (entries_of k s) (listed es)
 
--- a turn of the walk over keys: k is the least key that passes, in whichever tree; the map may have no file there
+-- One turn of the walk over keys: k is the least key that passes, in either tree; there may be no file with key k.
 pub turn : (m : Shapes) (test : Entry → Bool) (p : Key → Bool) → ((x y : Key) → p x ≡ true → slice_cmp nat_cmp x y ≡ Less → p y ≡ true) → (k : Key) → p k ≡ true
     → ((x : Key) → p x ≡ true → slice_cmp nat_cmp x k ≡ Less → get m x ≡ None)
     → first_where test (listed (filter (λ e. p e.0) (entries m))) ≡ or_else (first_where test (chunk k (get m k))) (first_where test (listed (filter (λ e. is_lt (slice_cmp nat_cmp k e.0)) (entries m))))
@@ -69,12 +69,12 @@ turn m test p up k pk none =
     ∙ listed_here test k _ _
     ∙ ap (λ v. or_else (first_where test (chunk k v)) (first_where test (listed (filter (λ e. is_lt (slice_cmp nat_cmp k e.0)) (entries m))))) (sym (get-entries m k))
 
--- the end of the walk
+-- The end of the walk.
 pub past_all : (m : Shapes) (test : Entry → Bool) (p : Key → Bool) → ((x : Key) → p x ≡ true → get m x ≡ None) → first_where test (listed (filter (λ e. p e.0) (entries m))) ≡ None
 past_all m test p none =
     ap (λ es. first_where test (listed es)) (ends nat_list_cmp_total same_key p (entries m) (λ x px. sym (get-entries m x) ∙ none x px))
 
--- an entry of a later extent
+-- An entry of a later extent that matches.
 abbrev pub later : ℕ → Key → ℕ → Entry → Bool
 later n pattern ex e = nat_lt n e.extent && matches pattern ex e
 
@@ -109,7 +109,7 @@ parts d pattern ex (e ∷ es) h =
           (alike_of e.0 e.1 test (λ x. false) (λ n c. ap (λ r. (is_lt r || (is_eq r && nat_lt d.extent n)) && matches pattern ex (record { key = e.0; extent = n; count = c })) r) ∙ nowhere (entries_of e.0 e.1))
     ] refl
 
--- search next: first the later extents of the file of the entry given last, as that file is now, then the keys above it
+-- Search next: first the later extents of the current file with the last entry's key, then the keys above it.
 pub next_after : (d : Position) (pattern : Key) (ex : ℕ) (m : Shapes)
     → next_entry pattern ex (Some d) m ≡ or_else (first_where (later d.extent pattern ex) (chunk d.key (get m d.key))) (first_where (matches pattern ex) (listed (filter (λ e. is_lt (slice_cmp nat_cmp d.key e.0)) (entries m))))
 next_after d pattern ex m =
@@ -120,7 +120,7 @@ all_pass : (es : List (Key × Shape)) → filter (λ e. true) es ≡ es
 all_pass [] = refl
 all_pass (e ∷ es) = ap (λ fs. e ∷ fs) (all_pass es)
 
--- search first: all keys
+-- Search first: all keys.
 pub next_first : (pattern : Key) (ex : ℕ) (m : Shapes) → next_entry pattern ex None m ≡ first_where (matches pattern ex) (listed (filter (λ e. true) (entries m)))
 next_first pattern ex m = ap (λ es. first_where (matches pattern ex) (listed es)) (sym (all_pass (entries m)))
 
@@ -147,7 +147,7 @@ none_at k c (suc b) a h =
     ap (λ x. with_entry k a x (entries_at k c (range_with_len (a + 1) b))) (h a (omega arith) (omega arith))
     ∙ none_at k c b (a + 1) (λ e l u. h e (omega arith) (omega arith))
 
--- where no later extent has an entry
+-- If no extent from n on has an entry, the list is empty.
 pub chunk_past : (k : Key) (v : Option Shape) (n : ℕ) → ((e : ℕ) → n ≤ e → e < 512 → count_by v e ≡ None) → chunk_from k v n ≡ []
 unfolding chunk_from
 chunk_past k v n h = none_at k (count_by v) (512 - n) n (λ e l u. h e l (omega arith))
@@ -169,12 +169,12 @@ met k n pattern ex a (Some m) xs l same =
     let e : Entry = record { key = k; extent = a; count = m } in
     ap (λ b. cond (b && matches pattern ex e) (Some e) (first_where (later n pattern ex) xs)) (is_later n a l) ∙ ap (cond (matches pattern ex e) (Some e)) same
 
--- in a list that begins past the extent all are later
+-- In a list that begins past the extent, all entries are later.
 all_later : (k : Key) (c : ℕ → Option ℕ) (n : ℕ) (pattern : Key) (ex : ℕ) (a b : ℕ) → n < a → first_where (later n pattern ex) (entries_at k c (range_with_len a b)) ≡ first_where (matches pattern ex) (entries_at k c (range_with_len a b))
 all_later k c n pattern ex a zero l = refl
 all_later k c n pattern ex a (suc b) l = met k n pattern ex a (c a) (entries_at k c (range_with_len (a + 1) b)) l (all_later k c n pattern ex (a + 1) b (omega arith))
 
--- the entries of the extents after one, in a list that begins at most there
+-- The entries of the later extents, in a list that begins at the next extent or before it.
 later_in : (k : Key) (c : ℕ → Option ℕ) (n : ℕ) (pattern : Key) (ex : ℕ) (b a : ℕ) → a ≤ n + 1
     → first_where (later n pattern ex) (entries_at k c (range_with_len a b)) ≡ first_where (matches pattern ex) (entries_at k c (range_with_len (n + 1) (a + b - (n + 1))))
 later_in k c n pattern ex zero a low =
@@ -199,7 +199,7 @@ unfolding chunk_from entries_of
 chunk_later k None n pattern ex = sym (ap (first_where (matches pattern ex)) (no_entries k (range_with_len (n + 1) (512 - (n + 1)))))
 chunk_later k (Some s) n pattern ex = later_in k (count_in s) n pattern ex 512 0 (omega arith)
 
--- ---- as the code goes
+-- ---- the steps of the code
 
 no_match_at : (k : Key) (c : ℕ → Option ℕ) (pattern : Key) (ex : ℕ) → is_match pattern k ≡ false → (es : List ℕ) → first_where (matches pattern ex) (entries_at k c es) ≡ None
 no_match_at k c pattern ex differs es = alike_at k c (matches pattern ex) (λ x. false) (λ n m. ap (λ b. b && (ex == 63 || ex == n)) differs) es ∙ nowhere (entries_at k c es)
@@ -208,7 +208,7 @@ pub no_match : (k : Key) (v : Option Shape) (n : ℕ) (pattern : Key) (ex : ℕ)
 unfolding chunk_from
 no_match k v n pattern ex differs = no_match_at k (count_by v) pattern ex differs (range_with_len n (512 - n))
 
--- where each extent fits, the first match is the first entry
+-- If every extent fits, the first match is the first entry.
 first_of_any : (k : Key) (c : ℕ → Option ℕ) (pattern : Key) → is_match pattern k ≡ true → (es : List ℕ) → first_where (matches pattern 63) (entries_at k c es) ≡ slice_get (entries_at k c es) 0
 first_of_any k c pattern same es = alike_at k c (matches pattern 63) (λ x. true) (λ n m. ap (λ b. b && true) same) es ∙ first_passes (entries_at k c es)
 
@@ -218,7 +218,7 @@ any_extent k v n pattern ex same is =
     ap (λ x. first_where (matches pattern x) (entries_at k (count_by v) (range_with_len n (512 - n)))) is
     ∙ first_of_any k (count_by v) pattern same (range_with_len n (512 - n))
 
--- where one extent fits, the entry of another does not match
+-- If one extent fits, the entry of another extent does not match.
 passed_over : (k : Key) (e : ℕ) (x : Option ℕ) (pattern : Key) (ex : ℕ) (xs : List Entry) → (ex == 63) ≡ false → (ex == e) ≡ false
     → first_where (matches pattern ex) (with_entry k e x xs) ≡ first_where (matches pattern ex) xs
 passed_over k e None pattern ex xs one other = refl
@@ -228,7 +228,7 @@ passed_over k e (Some n) pattern ex xs one other =
     ∙ ap (λ b. cond (is_match pattern k && b) (Some d) (first_where (matches pattern ex) xs)) other
     ∙ elim (is_match pattern k) as (λ b. cond (b && false) (Some d) (first_where (matches pattern ex) xs) ≡ first_where (matches pattern ex) xs) [ true ↦ refl | false ↦ refl ]
 
--- and its own does
+-- The entry of this extent does.
 taken_there : (k : Key) (e : ℕ) (x : Option ℕ) (pattern : Key) (ex : ℕ) (xs : List Entry) → is_match pattern k ≡ true → (ex == 63) ≡ false → (ex == e) ≡ true
     → first_where (matches pattern ex) xs ≡ None → first_where (matches pattern ex) (with_entry k e x xs) ≡ entry_by k e x
 taken_there k e None pattern ex xs same one it none = none
@@ -276,7 +276,7 @@ first_with : (k : Key) (e : ℕ) (x : Option ℕ) (xs : List Entry) → slice_ge
 first_with k e None xs = refl
 first_with k e (Some n) xs = refl
 
--- a turn over the extents of a file
+-- One turn over the extents of a file.
 pub extent_turn : (k : Key) (v : Option Shape) (n : ℕ) → n < 512 → slice_get (chunk_from k v n) 0 ≡ or_else (entry_by k n (count_by v n)) (slice_get (chunk_from k v (n + 1)) 0)
 extent_turn k v n l = ap (λ es. slice_get es 0) (chunk_more k v n l) ∙ first_with k n (count_by v n) (chunk_from k v (n + 1))
 
@@ -303,7 +303,7 @@ search_next d pattern ex m =
     next_after d pattern ex m
     ∙ ap (λ v. or_else v (first_where (matches pattern ex) (listed (filter (λ e. is_above (Some d.key) e.0) (entries m))))) (chunk_later d.key (get m d.key) d.extent pattern ex)
 
--- ---- what is found, and what is not
+-- ---- a match that is found, and one that is not
 
 pub taken : {X : Type 0} (a : Option X) (x : X) (b : Option X) → a ≡ Some x → or_else a b ≡ Some x
 taken a x b h = ap (λ a. or_else a b) h

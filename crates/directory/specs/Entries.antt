@@ -1,5 +1,5 @@
 -- The directory, entry by entry. ([Interface Guide 1979, file control blocks and functions 17 to 19]; the order of entries,
--- what stands in the bytes 12 to 31 of an entry, and extents with holes: this project's profile.)
+-- bytes 12 to 31 of an entry, and extents with holes: this project's profile.)
 use Rattle.std.specs.Prelude.{ℕ, ◌+◌, ◌*◌, ◌/◌, ◌%◌, Bool, true, false, ◌&&◌, ◌||◌, ◌==◌, List, [], ◌∷◌, ◌++◌, Option, Some, None, nat_lt, if◌then◌else◌, take, drop, replicate, slice_index, flat_map}
 use Rattle.std.specs.Ordering.{nat_cmp, is_lt, is_eq}
 use Rattle.std.specs.List.{range_with_len}
@@ -9,87 +9,87 @@ use Rattle.filenames.specs.Names.{Key}
 use Rattle.directory.specs.declared.entry.Entry.{Entry}
 use Rattle.directory.specs.declared.entry.Position.{Position}
 
--- for each place of a file in order whether a record stands there
+-- The shape of a file: for each record number below its length whether it has a record.
 abbrev pub Shape : Type 0
 Shape = List Bool
 
--- the files of all drives, by their keys
+-- The shapes of the files of all drives, by key.
 abbrev pub Shapes : Type 0
 Shapes = FinMap (slice_cmp nat_cmp) Shape
 
--- the greatest place of an extent at which a record stands, plus one; 0 where there is none
+-- The greatest index with a record, plus one; 0 if there is no record.
 abbrev pub count_of : Shape → ℕ
 count_of [] = 0
 count_of (b ∷ bs) = if nat_lt 0 (count_of bs) then count_of bs + 1 else (if b then 1 else 0)
 
--- an extent has 128 places
+-- The same within an extent of 128 records.
 abbrev pub count_at : Shape → ℕ → ℕ
 count_at s e = count_of (take 128 (drop (128 * e) s))
 
--- the count of an extent's entry; none where it has no entry. A file with no place has one of extent 0
+-- The count of an extent's entry, or none if it has no entry. A file of length 0 has an entry for extent 0.
 abbrev pub count_in : Shape → ℕ → Option ℕ
 count_in [] e = if e == 0 then Some 0 else None
 count_in (b ∷ bs) e = if nat_lt 0 (count_at (b ∷ bs) e) then Some (count_at (b ∷ bs) e) else None
 
--- the same where there may be no file
+-- The same if there may be no file.
 abbrev pub count_by : Option Shape → ℕ → Option ℕ
 count_by None e = None
 count_by (Some s) e = count_in s e
 
--- an entry with this count before the others, if there is a count
+-- An entry with this count and then the others, or only the others without a count.
 abbrev pub with_entry : Key → ℕ → Option ℕ → List Entry → List Entry
 with_entry key e None rest = rest
 with_entry key e (Some n) rest = record { key = key; extent = e; count = n } ∷ rest
 
--- the entries of these extents
+-- The entries of these extents of a file.
 abbrev pub entries_at : Key → (ℕ → Option ℕ) → List ℕ → List Entry
 entries_at key count [] = []
 entries_at key count (e ∷ es) = with_entry key e (count e) (entries_at key count es)
 
--- the entries of a file, by extent
+-- The entries of a file, by extent.
 unfoldable pub entries_of : Key → Shape → List Entry
 entries_of key s = entries_at key (count_in s) (range_with_len 0 512)
 
--- files by their keys, in order, each with its shape
+-- Files by key, in order, each with its shape.
 abbrev pub Listing : Type 0
 Listing = List (Key × Shape)
 
--- all entries of these files, by key
+-- All entries of these files, by key.
 abbrev pub listed : Listing → List Entry
 listed files = flat_map (λ e. entries_of e.0 e.1) files
 
 abbrev pub directory : Shapes → List Entry
 directory m = listed (entries m)
 
--- the first that passes a test
+-- The first element that passes a test, if any.
 abbrev pub first_where : {X : Type 0} → (X → Bool) → List X → Option X
 first_where p [] = None
 first_where p (x ∷ xs) = if p x then Some x else first_where p xs
 
--- by the key, then by the extent
+-- Whether an entry is after a position, by key and then by extent. Every entry is after `None`.
 abbrev pub is_after : Option Position → Entry → Bool
 is_after None e = true
 is_after (Some d) e = is_lt (slice_cmp nat_cmp d.key e.key) || (is_eq (slice_cmp nat_cmp d.key e.key) && nat_lt d.extent e.extent)
 
--- 63 is `?`
+-- Whether a name matches a pattern, byte by byte; 63 is `?`.
 abbrev pub fits_name : List ℕ → List ℕ → Bool
 fits_name [] name = true
 fits_name (p ∷ ps) [] = false
 fits_name (p ∷ ps) (b ∷ bs) = (p == 63 || p == b) && fits_name ps bs
 
--- the drive exactly, and the name
+-- Whether a key matches a pattern: the same drive, and a name that matches.
 abbrev pub is_match : Key → Key → Bool
 is_match pattern key = slice_index pattern 0 == slice_index key 0 && fits_name (drop 1 pattern) (drop 1 key)
 
--- an entry of a matching key, of each extent where the byte is 63 (`?`), else of this extent
+-- Whether an entry matches: its key does, and the extent byte is its extent or 63 (`?`).
 abbrev pub matches : Key → ℕ → Entry → Bool
 matches pattern ex e = is_match pattern e.key && (ex == 63 || ex == e.extent)
 
--- the first match among entries
+-- The first match among entries.
 abbrev pub first_match : Key → ℕ → List Entry → Option Entry
 first_match pattern ex es = first_where (matches pattern ex) es
 
--- the first match after a position, if it is given
+-- The first match after a position, if there is one, among the entries of files.
 abbrev pub next_among : Key → ℕ → Option Position → Listing → Option Entry
 next_among pattern ex after files = first_where (λ e. is_after after e && matches pattern ex e) (listed files)
 
@@ -98,10 +98,10 @@ next_entry pattern ex after m = next_among pattern ex after (entries m)
 
 -- ---- entries as bytes
 
--- the 32 bytes of an entry
+-- The 32 bytes of an entry.
 abbrev pub entry_bytes : Entry → List ℕ
 entry_bytes e = 0 ∷ drop 1 e.key ++ (e.extent % 32) ∷ 0 ∷ (e.extent / 32) ∷ e.count ∷ replicate 16 0
 
--- the position that the bytes of an entry say, on a drive
+-- The position of the entry with these bytes, on a drive.
 abbrev pub position_in : ℕ → List ℕ → Position
 position_in drive bytes = record { key = drive ∷ take 11 (drop 1 bytes); extent = slice_index bytes 12 + 32 * slice_index bytes 14 }

@@ -1,5 +1,5 @@
--- Parts of the directory, as a search goes over them: the entries of one file from an extent on, those of the files above a key, and the
--- entry of one extent. (This project's own.)
+-- Parts of the directory in the order of a search: the entries of one file from an extent on, the entries of the files above
+-- a key, and the entry of one extent. (This project's own.)
 use Rattle.std.specs.Prelude.{ℕ, ◌-◌, List, Option, Some, None, flat_map}
 use Rattle.std.specs.List.{range_with_len, filter}
 use Rattle.std.specs.FinMap.{get, entries}
@@ -8,19 +8,19 @@ use Rattle.keymaps.specs.Order.{is_above}
 use Rattle.directory.specs.Entries.{Shape, Shapes, count_by, entries_at, entries_of}
 use Rattle.directory.specs.declared.entry.Entry.{Entry}
 
--- the entries of a file's extents from one on
+-- The entries of a file's extents from n on.
 unfoldable pub chunk_from : Key → Option Shape → ℕ → List Entry
 chunk_from k v n = entries_at k (count_by v) (range_with_len n (512 - n))
 
--- the entries of the extents from one on of the file of a key, if there is one
+-- The same for the file with a key, if there is one.
 abbrev pub entries_from : Shapes → Key → ℕ → List Entry
 entries_from m key n = chunk_from key (get m key) n
 
--- the entries of the files above a key
+-- The entries of the files above a key.
 unfoldable pub above : Option Key → Shapes → List Entry
 above after m = flat_map (λ e. entries_of e.0 e.1) (filter (λ e. is_above after e.0) (entries m))
 
--- the entry of an extent, if it has one
+-- The entry of an extent, if it has one.
 abbrev pub entry_by : Key → ℕ → Option ℕ → Option Entry
 entry_by key e None = None
 entry_by key e (Some n) = Some (record { key = key; extent = e; count = n })

@@ -1,24 +1,22 @@
-// Entries of the directory.
+// Directory entries.
 
 ghost use Rattle.std.specs.Prelude.{◌≡◌, ◌<◌};
 ghost use Rattle.directory.specs.Entries.{entry_bytes, position_in};
 
 use filenames::Key;
 
-/// An entry of the directory: one for each extent of a file in which a record stands, or extent 0 of a file
-/// with no place.
+/// A directory entry. A file has one for each extent with a record, or one for extent 0 if its length is 0.
 #[derive(Clone, Copy)]
 pub struct Entry {
     /// The file's key.
     pub key: Key,
     /// The extent, 0 to 511.
     pub extent: u16,
-    /// The greatest place of the extent at which a record stands, plus one: 1 to 128, or 0 where the file has
-    /// no place.
+    /// The greatest index within the extent that has a record, plus one: 1 to 128, or 0 if the length of the file is 0.
     pub count: u8,
 }
 
-/// Where an entry stands in the directory.
+/// The position of an entry in the directory.
 #[derive(Clone, Copy)]
 pub struct Position {
     /// The file's key.
@@ -27,20 +25,20 @@ pub struct Position {
     pub extent: u16,
 }
 
-/// Where a search of the directory goes on: after the entry that was given last.
+/// A directory search, which resumes after the entry that it returned last.
 #[derive(Clone, Copy)]
 pub struct Search {
-    /// What is searched for: a drive, and a name that may have a `?`.
+    /// The drive and the name that are searched for; the name may contain `?`.
     pub pattern: Key,
-    /// The extent, or 63 (`?`) for each.
+    /// The extent that is searched for, or 63 (`?`) for every extent.
     pub extent: u8,
-    /// The bytes of the entry.
+    /// The bytes of the entry that was returned last.
     pub last: [u8; 32],
 }
 
 impl Entry {
-    /// The 32 bytes of the entry: 0, the eleven bytes of the name, the extent modulo 32, 0, the extent
-    /// divided by 32, the count, and sixteen zeros.
+    /// Returns the 32 bytes of the entry: 0, the eleven bytes of the name, the extent modulo 32, 0, the extent divided by 32,
+    /// the count, and sixteen zeros.
     pub fn to_bytes(&self) -> [u8; 32]
         requires { self.now.extent < 512 }
         ensures { result ≡ entry_bytes self.now }
@@ -56,7 +54,7 @@ impl Entry {
 }
 
 impl Position {
-    /// Where the entry of 32 bytes stands, on a drive.
+    /// Returns the position of the entry with these 32 bytes, on a drive.
     pub fn of_bytes(drive: u8, bytes: &[u8; 32]) -> Position
         ensures { result ≡ position_in drive bytes.now }
     {

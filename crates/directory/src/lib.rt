@@ -1,6 +1,6 @@
-//! The directory of files, one entry after another. [Interface Guide 1979, functions 17 to 19]
+//! The directory of files, entry by entry. [Interface Guide 1979, functions 17 to 19]
 //!
-//! - `entry`, `pattern`, `search`: an entry of the directory; patterns with `?`; the next entry that matches
+//! - `entry`, `pattern`, `search`: directory entries; patterns with `?`; the search for the next matching entry
 #![tactic(auto)]
 
 pub mod entry;

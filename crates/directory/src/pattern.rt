@@ -1,19 +1,19 @@
-// Patterns of names.
+// Patterns of file names.
 
 ghost use Rattle.std.specs.Prelude.{◌≡◌, ◌==◌, ◌||◌};
 ghost use Rattle.directory.specs.Entries.{is_match};
 
 use filenames::Key;
 
-// Whether a byte matches a pattern's byte.
+// Returns whether a byte matches a pattern byte.
 fn fits(pattern: u8, byte: u8) -> bool
     ensures { result ≡ (pattern == 63 || pattern == byte) }
 {
     pattern == 63 || pattern == byte
 }
 
-/// Whether a key matches a pattern: the drives are equal, and so is each byte of the name, or the pattern's
-/// is `?`.
+/// Returns whether a key matches a pattern: the drives are equal, and so are the bytes of the names, except for each `?` of
+/// the pattern.
 #[tactic(auto, using(crate::proofs::Patterns::byte_by_byte))]
 pub fn is_match(pattern: &Key, key: &Key) -> bool
     ensures { result ≡ is_match pattern.now key.now }

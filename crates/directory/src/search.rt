@@ -1,4 +1,4 @@
-// A search in the directory.
+// Directory searches.
 
 ghost use Rattle.std.specs.Prelude.{◌≡◌, ◌<◌, ◌≤◌, ℕ, List, Option, true, false, None, Some, IfSome, IfNone};
 ghost use Rattle.std.specs.List.{slice_get};
@@ -12,19 +12,18 @@ use crate::entry::{Entry, Position};
 use crate::pattern::is_match;
 use filenames::Key;
 
-/// The file of a key, found once, as a search sees it: its places, and whether a record stands there. There
-/// may be no file.
+/// The shape of a file, as a search sees it: for each record number whether the file has a record. There may be no file.
 pub trait FileShape {
     ghost use Rattle.std.specs.Prelude.{ℕ, Option};
     ghost use Rattle.directory.specs.Entries.{Shape};
 
     ghost shape: { Self → Option Shape };
 
-    /// The count of an extent's entry, if it has one.
+    /// Returns the count of an extent's entry, or `None` if the extent has no entry.
     fn entry_count(&self, extent: u32) -> Option<u8>
         ensures { result ≡ count_by (shape self.now) extent };
 
-    /// An extent from which on the file has no entry, at most 512.
+    /// Returns an extent, at most 512, from which on the file has no entry.
     fn extents(&self) -> u32
         ensures within { result ≤ 512 }
         ensures none { (e : ℕ) → result ≤ e → e < 512 → count_by (shape self.now) e ≡ None };
@@ -35,23 +34,24 @@ pub trait FileShape {
 pub struct KeyedFile<F> {
     /// The key.
     pub key: Key,
-    /// The file of the key. There may be none.
+    /// The file with this key. There may be none.
     pub file: F,
 }
 
-/// Files by their keys, as a search sees them.
+/// Files by key, as a search sees them.
 pub trait Files {
     ghost use Rattle.std.specs.Prelude.{ℕ, List, Option};
     ghost use Rattle.directory.specs.Entries.{Shapes};
 
-    /// The file of a key, found once.
+    /// The file with a key, found by one lookup.
     type File: FileShape + Copy;
 
     ghost files: { Self → Shapes };
 
     ghost left: { Self → Option (List ℕ) → ℕ };
 
-    /// A key above the one given, if there is one, such that no file's key lies between them, with its file.
+    /// Returns a key above `after` with its file, such that no file's key is between the two, or `None` if no file's key is
+    /// above `after`. There may be no file with the returned key. Every key is above `None`.
     fn next_file(&self, after: Option<Key>) -> Option<KeyedFile<Self::File>>
         ensures above { IfSome result (λ e. is_above after e.key ≡ true) }
         ensures file { IfSome result (λ e. Self.File.shape e.file ≡ get (files self.now) e.key) }
@@ -59,12 +59,12 @@ pub trait Files {
         ensures fewer { IfSome result (λ e. left self.now (Some e.key) < left self.now after) }
         ensures none { IfNone result (EachAbove after (IsAbsent (files self.now))) };
 
-    /// Finds the file of a key.
+    /// Finds the file with a key.
     fn file(&self, key: &Key) -> Self::File
         ensures { Self.File.shape result ≡ get (files self.now) key.now };
 }
 
-// The entry of an extent, if it has one.
+// Returns the entry of an extent, if it has one.
 fn entry_at<F: FileShape>(file: &F, key: &Key, extent: u32) -> Option<Entry>
     requires { extent < 512 }
     ensures entry { result ≡ entry_by key.now extent (count_by (F.shape file.now) extent) }
@@ -78,7 +78,7 @@ fn entry_at<F: FileShape>(file: &F, key: &Key, extent: u32) -> Option<Entry>
     })
 }
 
-// The first entry of a file from an extent on.
+// Returns a file's first entry from an extent on.
 fn first_from<F: FileShape>(file: &F, key: &Key, from: u32) -> Option<Entry>
     ensures entry { result ≡ slice_get (chunk_from key.now (F.shape file.now) from) 0 }
     ensures within { IfSome result (λ e. e.extent < 512) }
@@ -91,21 +91,21 @@ fn first_from<F: FileShape>(file: &F, key: &Key, from: u32) -> Option<Entry>
     None
 }
 
-// Whether an entry of a key may match, of an extent from one on. The file is not asked.
+// Returns whether an entry of a key may match, from an extent on. The file is not read.
 fn may_match(pattern: &Key, ex: u8, key: &Key, from: u32) -> bool
     ensures yes { result ≡ true → is_match pattern.now key.now ≡ true }
     ensures reached { result ≡ true → ex < from → ex ≡ 63 }
     ensures no { result ≡ false → (s : Option Shape) →
         first_match pattern.now ex (chunk_from key.now s from) ≡ None }
 {
-    // 63 is `?`, which each extent fits.
+    // 63 is `?`, which matches every extent.
     if ex != 63 && (ex as u32) < from {
         return false;
     }
     is_match(pattern, key)
 }
 
-// The first match among a file's extents from one on, for a pattern that its key matches.
+// Returns the first match among a file's extents from one on, for a pattern that its key matches.
 fn first_extent<F: FileShape>(file: &F, key: &Key, from: u32, ex: u8) -> Option<Entry>
     requires { ex < from → ex ≡ 63 }
     ensures entry { (pattern : List ℕ) → is_match pattern key.now ≡ true →
@@ -118,7 +118,7 @@ fn first_extent<F: FileShape>(file: &F, key: &Key, from: u32, ex: u8) -> Option<
     entry_at(file, key, ex as u32)
 }
 
-// The first match among the extents from one on of the file of a key. The file is found once, and only where
+// Returns the first match among the extents from one on of the file with a key. Looks the file up at most once, and only if
 // an entry of it may match.
 fn first_further<T: Files>(files: &T, key: &Key, from: u32, pattern: &Key, ex: u8) -> Option<Entry>
     ensures entry { result ≡ first_match pattern.now ex (entries_from (T.files files.now) key.now from) }
@@ -130,7 +130,7 @@ fn first_further<T: Files>(files: &T, key: &Key, from: u32, pattern: &Key, ex: u
     first_extent(&files.file(key), key, from, ex)
 }
 
-// The first match among the files above a key. Each file is found with its key.
+// Returns the first match among the files above a key. Each file is found together with its key.
 fn first_above<T: Files>(files: &T, pattern: &Key, ex: u8, low: Option<Key>) -> Option<Entry>
     ensures entry { result ≡ first_match pattern.now ex (above low (T.files files.now)) }
     ensures within { IfSome result (λ e. e.extent < 512) }
@@ -149,9 +149,9 @@ fn first_above<T: Files>(files: &T, pattern: &Key, ex: u8, low: Option<Key>) -> 
     None
 }
 
-/// The first entry that matches, in the order of keys and then of extents, after the position given if there
-/// is one, among the files as they are now. The pattern's `ex` byte is `?` or the extent. It goes on from the
-/// position, never from the beginning.
+/// Returns the first matching entry after a position, or of the whole directory if `after` is `None`, in the order of keys
+/// and then of extents, among the current files. `ex` is the extent, or 63 (`?`) for every extent. The search resumes at the
+/// position and not from the start.
 pub fn next_entry<T: Files>(
     files: &T,
     pattern: &Key,

@@ -1,4 +1,4 @@
--- What the host files answer makes what the files as they are now answer.
+-- The answers of the host files determine the answers of the current files.
 use Rattle.std.proofs.Common.{◌≡◌}
 use Rattle.interaction_trees.specs.Tree.{result_of}
 use Rattle.hostfiles.specs.Hosts.{Host}

@@ -1,4 +1,4 @@
--- The names that a deletion takes, as a list.
+-- The keys that a deletion deletes, as a list.
 use Rattle.std.proofs.Common.{arith, ◌≡◌, ℕ, suc, Bool, true, false, cond, ◌&&◌, ◌||◌, ◌==◌, List, [], ◌∷◌, map, length, Option, Some, is_some, refl, sym, ap, ◌∙◌, slice_index, nat_lt, drop, Ok}
 use Rattle.std.specs.List.{filter, list_any}
 use Rattle.std.specs.Ordering.{nat_cmp, eq_by_cmp}
@@ -28,7 +28,7 @@ use Rattle.file_calls.specs.FileCalls.{matching, deletion}
 use Rattle.file_calls.specs.Deletes.{Deletes, without}
 use Rattle.file_calls.specs.Changes.{is_some_named}
 
--- whether a key is among some
+-- Whether a key is in a list.
 abbrev is_listed : Key → List Key → Bool
 is_listed q keys = list_any (eq_by_cmp (slice_cmp nat_cmp) q) keys
 
@@ -38,7 +38,7 @@ taken_twice true false x r = refl
 taken_twice false true x r = refl
 taken_twice false false x r = refl
 
--- what is owned of a key once some are deleted
+-- What is own of a key after the keys of a list were deleted.
 get-without : (keys : List Key) (own : Own) (q : Key) → get (without own keys) q ≡ cond (is_listed q keys) (Some nothing) (get own q)
 get-without [] own q = refl
 get-without (key ∷ keys) own q =
@@ -51,7 +51,7 @@ keys_filtered p [] = refl
 keys_filtered p (e ∷ es) = elim (p e.0) as (λ b. map (λ e. e.0) (cond b (e ∷ filter (λ e. p e.0) es) (filter (λ e. p e.0) es)) ≡ cond b (e.0 ∷ filter p (map (λ e. e.0) es)) (filter p (map (λ e. e.0) es)))
     [ true ↦ ap (λ ks. e.0 ∷ ks) (keys_filtered p es) | false ↦ keys_filtered p es ]
 
--- a test that keys of equal order answer alike
+-- A test has the same result for keys that compare as equal.
 alike : (p : Key → Bool) (q k : Key) → eq_by_cmp (slice_cmp nat_cmp) q k ≡ true → p k ≡ p q
 alike p q k e = ap p (sym (key_of same_key q k e))
 
@@ -70,7 +70,7 @@ listed_names host own pattern q =
     ∙ ap (λ b. on q && b) (sym (is_some-find (slice_cmp nat_cmp) q all) ∙ ap is_some (sym (get-entries (shapes host own) q)) ∙ there host own q))
     ∙ once (slice_index pattern 0 == slice_index q 0) (fits_name (drop 1 pattern) (drop 1 q)) (has host own q)
 
--- the count of those that match is that of their names
+-- As many entries match as there are matching keys.
 counted_on : (m on : Key → Bool) → ((k : Key) → m k ≡ true → on k ≡ true) → (es : Listing) → length (filter m (filter on (map (λ e. e.0) es))) ≡ length (filter (λ e. m e.0) es)
 counted_on m on h [] = refl
 counted_on m on h (e ∷ es) = by_case (on e.0) (m e.0) (h e.0) refl refl (counted_on m on h es) where
@@ -85,7 +85,7 @@ some_named : (ks : List Key) → nat_lt 0 (length ks) ≡ is_some_named ks
 some_named [] = refl
 some_named (k ∷ ks) = is_later 0 (length (k ∷ ks)) (omega arith)
 
--- the name alone, if it has a file
+-- The list of a single key, if there is a file with it.
 one_listed : (host : Host) (own : Own) (key q : Key) → is_listed q (cond (has host own key) (key ∷ []) []) ≡ (eq_by_cmp (slice_cmp nat_cmp) q key && has host own q)
 one_listed host own key q = by_case (eq_by_cmp (slice_cmp nat_cmp) q key) refl where
   by_there : (b : Bool) → is_listed q (cond b (key ∷ []) []) ≡ (b && eq_by_cmp (slice_cmp nat_cmp) q key)
@@ -96,7 +96,7 @@ one_listed host own key q = by_case (eq_by_cmp (slice_cmp nat_cmp) q key) refl w
   by_case true e = by_there (has host own key) ∙ ap (λ b. has host own key && b) e ∙ and-true (has host own key) ∙ ap (has host own) (sym (key_of same_key q key e))
   by_case false e = by_there (has host own key) ∙ ap (λ b. has host own key && b) e ∙ and-false (has host own key)
 
--- who owns the same of each key owns the same
+-- Two changes that own the same of each key are equal.
 same_own : (host : Host) (own after : Own) (names : List Key) (named : Key → Bool) → ((q : Key) → get after q ≡ cond (named q && has host own q) (Some nothing) (get own q))
     → ((q : Key) → is_listed q names ≡ (named q && has host own q)) → after ≡ without own names
 same_own host own after names named at listed = same_map nat_list_cmp_total same_key after (without own names) (λ q.

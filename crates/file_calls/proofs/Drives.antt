@@ -1,4 +1,4 @@
--- A search finds among the files of its drive what it finds among all.
+-- A search of the files of its drive finds what a search of all files finds.
 use Rattle.std.proofs.Common.{◌≡◌, ℕ, Bool, true, false, cond, ◌&&◌, ◌||◌, ◌==◌, List, [], ◌∷◌, ◌++◌, Option, Some, None, refl, sym, ap, ◌∙◌, slice_index, flat_map, drop}
 use Rattle.std.specs.List.{filter}
 use Rattle.std.specs.FinMap.{entries}
@@ -14,7 +14,7 @@ nowhere : (es : List Entry) → first_where (λ e. false) es ≡ None
 nowhere [] = refl
 nowhere (e ∷ es) = nowhere es
 
--- files without a match may be left out
+-- Files without a match can be left out.
 left_out : (p : Entry → Bool) (q : Key → Bool) → ((k : Key) (s : Shape) → q k ≡ false → first_where p (entries_of k s) ≡ None) → (xs : Listing)
     → first_where p (flat_map (λ x. entries_of x.0 x.1) (filter (λ x. q x.0) xs)) ≡ first_where p (flat_map (λ x. entries_of x.0 x.1) xs)
 left_out p q none [] = refl
@@ -30,7 +30,7 @@ left_out p q none (x ∷ xs) = by_case (left_out p q none xs) (q x.0) refl where
       ∙ ap (λ o. or_else o (first_where p (listed xs))) (sym (none x.0 x.1 e))
       ∙ sym (first_append p (entries_of x.0 x.1) (listed xs))
 
--- no entry of a file on another drive matches
+-- No entry of a file on another drive matches.
 elsewhere : (pattern : Key) (ex : ℕ) (after : Option Position) (k : Key) (s : Shape) → is_on (slice_index pattern 0) k ≡ false
     → first_where (λ e. is_after after e && matches pattern ex e) (entries_of k s) ≡ None
 elsewhere pattern ex after k s other = alike_of k s (λ e. is_after after e && matches pattern ex e) (λ e. false) (λ n c.

@@ -1,4 +1,4 @@
--- No question is forgotten, and at a failure none is asked that the whole tree does not ask.
+-- No look is lost, and a call that fails has only looks of the whole tree.
 use Rattle.std.proofs.Common.{List, [], ◌∷◌}
 use Rattle.hostfiles.specs.Files.{Own}
 use Rattle.hostfiles.specs.Looks.{Extends}
@@ -14,10 +14,10 @@ within_one own (ShapeOf key) l m h = within_length own key l m h
 within_one own (Content key k) l m h = within_content own key k l m h
 within_one own (FilesOn drive) l m h = within_directory drive l m h
 
--- what is asked first is among what is asked with all that follows
+-- The looks so far are among the looks after all questions that follow.
 pub within_all : (own : Own) (qs : List FileQuestion) (l m : Looks) → Extends l m → Extends l (look_for_all own qs m)
 within_all own [] l m h = h
 within_all own (q ∷ qs) l m h = within_all own qs l (look_for own q m) (within_one own q l m h)
 
--- questions one after another
+-- The rules for questions one after another.
 pub ruleset asked_in_turn = (extends_same, extends_trans, within_all)

@@ -1,4 +1,4 @@
--- The files of a drive, from the counts of records of its host files.
+-- The files of a drive, from the lengths of its host files.
 use Rattle.std.proofs.Common.{◌≡◌, ℕ, Bool, true, false, cond, ◌==◌, List, [], ◌∷◌, length, map, replicate, Option, Some, None, is_some, unwrap_or, refl, sym, ap, ◌∙◌}
 use Rattle.std.proofs.lemmas.List.{length-replicate}
 use Rattle.std.proofs.lemmas.Simd.{map-map}
@@ -28,7 +28,7 @@ find-mapped g q [] = refl
 find-mapped g q (e ∷ es) = elim (eq_by_cmp (slice_cmp nat_cmp) q e.0) as (λ b. cond b (Some (g e.1)) (find (slice_cmp nat_cmp) q (map (λ e. (e.0, g e.1)) es)) ≡ option_map g (cond b (Some e.1) (find (slice_cmp nat_cmp) q es)))
     [ true ↦ refl | false ↦ find-mapped g q es ]
 
--- keys of equal order are on one drive
+-- Keys that compare as equal are on one drive.
 pub alike : (drive : ℕ) (q x : Key) → slice_cmp nat_cmp q x ≡ Equal → is_on drive x ≡ is_on drive q
 alike drive q x e = ap (is_on drive) (sym (same_key q x e))
 
@@ -52,7 +52,7 @@ module _ (host : Host) (drive : ℕ) where
   unfolding names_on blank
   known_list = map-map of_count count_of (filter (λ e. is_on drive e.0) (entries host))
 
-  -- of its drive the names tell whether each host file is there, and how long it is
+  -- On the drive, these names say of each host file whether it is there, and how long it is.
   known_at : (q : Key) → is_on drive q ≡ true → get known q ≡ option_map blank (get host q)
   known_at q on =
       get-from_entries nat_list_cmp_total (map of_count (names_on drive host)) q

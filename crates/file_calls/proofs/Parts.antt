@@ -1,4 +1,4 @@
--- One file, from what the host files answer.
+-- One file, from the answers of the host files.
 use Rattle.std.proofs.Common.{◌≡◌, ℕ, ◌<◌, ◌≤◌, Bool, true, false, ◌&&◌, ◌||◌, List, [], length, map, Option, Some, None, is_some, unwrap_or, slice_get, nat_lt, refl, sym, ap, subst, ◌∙◌, arith, inl, inr, rules}
 use Rattle.std.proofs.lemmas.Bool.{cases_lt}
 use Rattle.std.proofs.lemmas.Option.{slice_get_past, slice_get-get_or}
@@ -22,7 +22,7 @@ there_is host key Gone = refl
 there_is host key New = refl
 there_is host key (Moved old) = refl
 
--- whether a record stands at a place of the host's
+-- A host file has a record exactly at the record numbers below its length.
 in_host : (u : List Record) (k : ℕ) → is_some (slice_get u k) ≡ nat_lt k (length u)
 in_host u k = elim (cases_lt k (length u)) [
   | inl l ↦ let within : nat_lt k (length u) ≡ true = search rules in ap is_some (slice_get-get_or u k [] l) ∙ sym within
@@ -39,11 +39,11 @@ unfolding shape_by
 shape_is host key e = sym (map-map is_some (place_of host key e) (range_with_len 0 (length_of host key e))
     ∙ ap (λ (f : ℕ → Bool). map f (range_with_len 0 (length_of host key e))) (λ i k. stands (under host key e) k (get e.records k) (is_below k e.grown) i))
 
--- the counts of records are those of the host's files
+-- The lengths are those of the host files.
 counted : (host : Host) (key : Key) → unwrap_or (option_map length (get host key)) 0 ≡ length (records_of host (Some key))
 counted host key = elim (get host key) as (λ o. unwrap_or (option_map length o) 0 ≡ length (unwrap_or o [])) [ None ↦ refl | Some f ↦ refl ]
 
--- a file that was made longer
+-- A file that was made longer.
 and_below : (a b : Bool) → (a ≡ true → b ≡ true) → (a && a) ≡ (a && b)
 and_below true b h = sym (h refl)
 and_below false b h = refl
@@ -75,7 +75,7 @@ shape_here_is host key e sound = by_grown e.grown refl ∙ shape_is host key e w
   by_grown None is = by_base e.base refl
   by_grown (Some g) is = grown_is host key e g is (subst (λ (o : Option Grown). from_of o ≤ length (under host key e)) is sound)
 
--- the record at a place
+-- The record at a record number.
 pub content_is : (host : Host) (key : Key) (k : ℕ) (e : Entry) → result_of (host_answers host) (content_part key k e.base (get e.records k) (is_below k e.grown)) ≡ place_of host key e k
 content_is host key k e = by (get e.records k) (is_below k e.grown) where
   by_base : (b : Base) → result_of (host_answers host) (host_part key k b) ≡ slice_get (records_of host (stands_on key b)) k

@@ -1,4 +1,4 @@
--- A shape has as many places as its file.
+-- The length of a shape is the length of its file.
 use Rattle.std.proofs.Common.{◌≡◌, ℕ, length, ◌∙◌, is_some, Result, Ok, Err, IfOk, OnOk, OnErr, sym, refl}
 use Rattle.std.proofs.lemmas.List.{length-map}
 use Rattle.std.proofs.lemmas.List.FromFn.{length-range_with_len}

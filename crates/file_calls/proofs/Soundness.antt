@@ -32,7 +32,7 @@ moved_sound host old new e same s = record {
   drive = λ x is. s.drive x (sym (stands_moved old new e.base) ∙ is) ∙ same;
 }
 
--- from where a file that is written at a place has grown
+-- The number from which on no record is the host file's, after a write.
 grown_from : (u n k : ℕ) (g : Option Grown) → n ≡ length_by u g → from_of g ≤ u → from_of (grown_by n k g) ≤ u
 grown_from u n k g e h = elim (nat_lt k n) as (λ b. from_of (cond b g (Some (record { from = limit_by n g; to = k + 1 }))) ≤ u) [ true ↦ h | false ↦ limit g e h ] where
   limit : (g : Option Grown) → n ≡ length_by u g → from_of g ≤ u → limit_by n g ≤ u
@@ -45,7 +45,7 @@ wrote_sound host q n k r e same s = record { grown = grown_from (length (under h
 filled_sound : (host : Host) (q : Key) (n k : ℕ) (r : Record) (e : Entry) → n ≡ length_of host q e → IsSoundEntry host q e → IsSoundEntry host q (wrote_filled_entry n k r e)
 filled_sound host q n k r e same s = record { grown = grown_from (length (under host q e)) n k e.grown same s.grown; drive = s.drive }
 
--- one entry more
+-- One more entry.
 module _ (host : Host) (own : Own) (sound : IsSound host own) (key : Key) (e : Entry) (here : IsSoundEntry host key e) where
   at_key : (q : Key) (b : Bool) → eq_by_cmp (slice_cmp nat_cmp) q key ≡ b → IsSoundEntry host q (unwrap_or (cond b (Some e) (get own q)) untouched)
   at_key q true is = subst (λ (x : Key). IsSoundEntry host x e) (sym (key_of same_key q key is)) here

@@ -1,4 +1,4 @@
--- What the files that a run sees answer, and what is asked of the host files for it. (This project's own.)
+-- The answers of the files that a run sees, and the questions that reach the host files for them. (This project's own.)
 use Rattle.std.specs.Prelude.{List, [], ◌∷◌}
 use Rattle.std.specs.Borrow.{GName}
 use Rattle.directory.specs.Entries.{Shape}
@@ -12,7 +12,7 @@ use Rattle.hostfiles.specs.declared.seen.SeenFile.{SeenFile}
 use Rattle.cpmfiles.specs.declared.table.Table.{Table}
 use Rattle.file_calls.specs.Questions.{FileQuestion, IsThere, ShapeOf, Content, FilesOn, FileAnswers, files_on}
 
--- host files, what a run did to them, what it asked of them, and the reference that lends the latter two
+-- Host files, what a run did to them, its looks at them, and the reference that lends the latter two.
 pub record Drives : Type 0 where
   pub host : Host
   pub own : Own
@@ -22,22 +22,22 @@ pub record Drives : Type 0 where
 abbrev pub drives_of : Table → Drives
 drives_of t = record { host = t.host.now; own = t.changes.now.journal.entries; looks = t.changes.now.looks; lender = t.changes.ghost_name }
 
--- for each place of the file of a key whether a record stands there
+-- The shape of the file of a key: for each record number whether there is a record.
 unfoldable pub shape_here : Host → Own → Key → Shape
 shape_here host own key = shape_of (file_of host key (entry_at own key))
 
--- the same of a file that was found
+-- The shape of a file that was found.
 abbrev pub shape_found : SeenFile → Shape
 shape_found f = shape_here f.host.now (own_of f) f.key
 
--- what they answer
+-- The answers of the current files.
 abbrev pub file_answers : Host → Own → FileAnswers
 file_answers host own (IsThere key) = has host own key
 file_answers host own (ShapeOf key) = shape_here host own key
 file_answers host own (Content key k) = place_of host key (entry_at own key) k
 file_answers host own (FilesOn drive) = files_on drive (shapes host own)
 
--- what is asked of the host files on behalf of a question
+-- The looks after a question: what is own answers without a look.
 abbrev pub look_for : Own → FileQuestion → Looks → Looks
 look_for own (IsThere key) l = look_has own key l
 look_for own (ShapeOf key) l = look_length own key l

@@ -1,9 +1,9 @@
--- That the keys of a rename are not the same. (This project's own.)
+-- That the two keys of a rename are different. (This project's own.)
 use Rattle.std.specs.Prelude.{◌≢◌}
 use Rattle.file_calls.specs.declared.finding.Finding.{Finding}
 use Rattle.file_calls.specs.declared.finding.Finding.TheVariants as finding
 
--- the keys of a rename are not the same
+-- The two keys of a rename are different; any other finding qualifies.
 abbrev pub IsApart : Finding → Type 0
 IsApart (finding.Value v) = Unit {0}
 IsApart (finding.Opened n) = Unit {0}

@@ -1,4 +1,4 @@
--- What a function leaves that asks the files, and changes none. (This project's own.)
+-- The effect of a function that asks about the files and changes none. (This project's own.)
 use Rattle.std.specs.declared.result.Result.{Result}
 use Rattle.std.specs.declared.alloc.AllocError.{AllocError}
 use Rattle.std.specs.Prelude.{Bool, true, false}
@@ -9,12 +9,12 @@ use Rattle.hostfiles.specs.declared.changes.Changes.{Changes}
 use Rattle.file_calls.specs.Questions.{FileTree}
 use Rattle.file_calls.specs.Answers.{file_answers, look_for_all}
 
--- it finds how a tree of questions ends over the files, and marks what is asked on the way
+-- The function returns the result of a tree of questions over the current files, and marks the questions on the way to it.
 abbrev pub Asks : {E : Type 0} → FileTree E → Host → Changes → Result E AllocError → Changes → Type 0
 Asks t host old result new =
     Inquires result (λ own. result_of (file_answers host own) t) (λ own. look_for_all own (asked (file_answers host own) t)) old new
 
--- whether a tree asks anything at all; what asks nothing takes no memory
+-- Whether a tree asks anything; a tree that asks nothing never runs out of memory.
 abbrev pub is_asking : {E : Type 0} → FileTree E → Bool
 is_asking (Return e) = false
 is_asking (Query q k) = true

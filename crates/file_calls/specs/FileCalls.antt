@@ -1,4 +1,4 @@
--- What each file call asks of the files, and what it finds. ([Interface Guide 1979, functions 15 to 23, 33 to 36 and 40]; the
+-- What each file call asks about the files, and what it finds. ([Interface Guide 1979, functions 15 to 23, 33 to 36 and 40]; the
 -- values of the calls, and files with holes, are this project's profile.)
 use Rattle.std.specs.Prelude.{ℕ, ◌+◌, ◌/◌, ◌==◌, ◌&&◌, Bool, true, false, not, List, [], ◌∷◌, length, filter, map, Option, Some, None, nat_lt, if◌then◌else◌, slice_index}
 use Rattle.interaction_trees.specs.Tree.{Return, Query}
@@ -19,30 +19,30 @@ use Rattle.file_calls.specs.declared.finding.Finding.{Finding}
 use Rattle.file_calls.specs.declared.finding.Finding.TheVariants as finding
 use Rattle.file_calls.specs.Questions.{FileTree, IsThere, ShapeOf, Content, FilesOn}
 
--- the key at bytes 1 to 11 of a control block, and the new key of a rename, at bytes 17 to 27
+-- The key at bytes 1 to 11 of a control block, and the new key of a rename, at bytes 17 to 27.
 abbrev pub key_of : Block → Key
 key_of b = drive_number b.drive ∷ name_at b.fcb 1
 
 abbrev pub new_key_of : Block → Key
 new_key_of b = drive_number b.drive ∷ name_at b.fcb 17
 
--- the value of a call that finds no file
+-- The value of a call that finds no file.
 abbrev pub absent : Finding
 absent = finding.Value 0xff
 
--- a call of a file that is not there gives 0FFH
+-- A call that first asks whether its file is there, and returns 0FFH if it is not.
 abbrev pub if_there : Key → FileTree Finding → FileTree Finding
 if_there key t = Query (IsThere key) (λ there. if there then t else Return absent)
 
--- function 15: the count of the extent that the control block names
+-- Function 15 finds the record count of the extent that the control block names.
 abbrev pub open_file : Block → FileTree Finding
 open_file b = if_there (key_of b) (Query (ShapeOf (key_of b)) (λ s. Return (finding.Opened (count_at s (slice_index b.fcb 12)))))
 
--- function 16 changes nothing
+-- Function 16 changes nothing.
 abbrev pub close_file : Block → FileTree Finding
 close_file b = if_there (key_of b) (Return (finding.Value 0))
 
--- an entry, and from where the search goes on
+-- An entry that was found, and where the search continues.
 abbrev pub entry_found : Key → ℕ → Option Entry → Finding
 entry_found pattern ex None = finding.NoEntry
 entry_found pattern ex (Some e) = finding.FirstEntry (record { pattern = pattern; extent = ex; last = entry_bytes e })
@@ -50,16 +50,16 @@ entry_found pattern ex (Some e) = finding.FirstEntry (record { pattern = pattern
 abbrev pub searching : Key → ℕ → Option Position → FileTree Finding
 searching pattern ex after = Query (FilesOn (slice_index pattern 0)) (λ files. Return (entry_found pattern ex (next_among pattern ex after files)))
 
--- function 17: the first entry that matches
+-- Function 17 finds the first matching entry.
 abbrev pub search_first : Block → FileTree Finding
 search_first b = searching (key_of b) (slice_index b.fcb 12) None
 
--- function 18: the first one after that given last, in the files as they are now
+-- Function 18 finds the first matching entry after the one that was returned last, in the current files.
 abbrev pub search_next : Option Search → FileTree Finding
 search_next None = Return finding.NoEntry
 search_next (Some s) = searching s.pattern s.extent (Some (position_in (slice_index s.pattern 0) s.last))
 
--- function 19: the names that are deleted; a pattern with `?` names all that match
+-- Function 19 deletes these keys; a pattern with `?` names all keys that match.
 abbrev pub matching : Key → Listing → List Key
 matching pattern files = filter (is_match pattern) (map (λ f. f.0) files)
 
@@ -68,32 +68,33 @@ deletion b =
     if has_wildcard (key_of b) then Query (FilesOn (drive_number b.drive)) (λ files. Return (matching (key_of b) files))
     else Query (IsThere (key_of b)) (λ there. Return (if there then key_of b ∷ [] else []))
 
--- the record at a place, or the value where none stands there
+-- The record that was found, or the value if there is none.
 abbrev pub record_found : ℕ → ℕ → Option Record → Finding
 record_found next value None = finding.Value value
 record_found next value (Some r) = finding.Found r next
 
--- function 20: the record at the place of the control block, and 1 where none stands there
+-- Function 20 finds the record at the sequential record number, or 1 if there is none.
 abbrev pub read_sequential : Block → FileTree Finding
 read_sequential b = if_there (key_of b) (Query (ShapeOf (key_of b)) (λ s.
     if nat_lt (place_of b.fcb) (length s) then Query (Content (key_of b) (place_of b.fcb)) (λ r. Return (record_found (place_of b.fcb + 1) 1 r))
     else Return (finding.Value 1)))
 
--- a record is to be written at a place of a file of this length, and then the control block has the next place
+-- A record to be written at a record number of the file, whose length is asked for, and the record number that the control
+-- block gets then.
 abbrev pub writing : Block → ℕ → ℕ → Bool → FileTree Finding
 writing b place next filled = Query (ShapeOf (key_of b)) (λ s. Return (finding.Write (record { key = key_of b; length = length s; place = place; next = next; filled = filled })))
 
--- function 21; a file has at most 65,536 places
+-- Function 21 finds the record to be written; a file has at most 65,536 records.
 abbrev pub write_sequential : Block → FileTree Finding
 write_sequential b = if_there (key_of b) (if nat_lt (place_of b.fcb) 65536 then writing b (place_of b.fcb) (place_of b.fcb + 1) false else Return (finding.Value 2))
 
--- function 22: a name that can be said and that no file has
+-- Function 22 finds the key, if it is valid and no file has it.
 abbrev pub make_file : Block → FileTree Finding
 make_file b =
     if is_sayable (key_of b) then Query (IsThere (key_of b)) (λ there. Return (if there then absent else finding.Make (key_of b)))
     else Return absent
 
--- function 23: both keys are asked, whatever the first answers
+-- Function 23 asks about both keys, whatever the first answers.
 abbrev pub rename_file : Block → FileTree Finding
 rename_file b =
     if is_rename (key_of b) (new_key_of b)
@@ -101,33 +102,33 @@ rename_file b =
     Return (if there && not taken then finding.Rename (key_of b) (new_key_of b) else absent)))
     else Return absent
 
--- a random place that holds no record: 1 where its extent holds one, else 4
+-- The value for a random record number without a record: 1 if its extent holds a record, else 4.
 abbrev pub missing : Shape → ℕ → ℕ
 missing s place = if count_at s (place / 128) == 0 then 4 else 1
 
--- a random place past 65,535 gives 6
+-- A call that returns 6 for a random record number past 65,535.
 abbrev pub if_in_range : Block → FileTree Finding → FileTree Finding
 if_in_range b t = if_there (key_of b) (if slice_index b.fcb 35 == 0 then t else Return (finding.Value 6))
 
--- function 33
+-- Function 33 finds the record at the random record number.
 abbrev pub read_random : Block → FileTree Finding
 read_random b = if_in_range b (Query (ShapeOf (key_of b)) (λ s.
     if nat_lt (random_of b.fcb) (length s) then Query (Content (key_of b) (random_of b.fcb)) (λ r. Return (record_found (random_of b.fcb) (missing s (random_of b.fcb)) r))
     else Return (finding.Value (missing s (random_of b.fcb)))))
 
--- functions 34 and 40, of which the second fills the places up to the record with zeros
+-- Functions 34 and 40 find the record to be written; function 40 writes zeros in the gap before it.
 abbrev pub write_random : Bool → Block → FileTree Finding
 write_random filled b = if_in_range b (writing b (random_of b.fcb) (random_of b.fcb) filled)
 
--- function 35: the length
+-- Function 35 finds the length.
 abbrev pub file_size : Block → FileTree Finding
 file_size b = Query (IsThere (key_of b)) (λ there. if there then Query (ShapeOf (key_of b)) (λ s. Return (finding.Length (length s))) else Return finding.NoLength)
 
--- function 36 asks for no file
+-- Function 36 asks about no file.
 abbrev pub set_random : Block → FileTree Finding
 set_random b = Return (finding.RandomPlace (place_of b.fcb))
 
--- what each call asks and finds
+-- What each call asks and finds.
 abbrev pub found : FileFunction → Block → FileTree Finding
 found Open b = open_file b
 found Close b = close_file b
@@ -142,7 +143,7 @@ found FileSize b = file_size b
 found SetRandomRecord b = set_random b
 found WriteRandomZeroFill b = write_random true b
 
--- how many bytes of its control block a call reads: 36 where it has a random place
+-- The number of bytes of its control block that a call reads: 36 if it has a random record number, else 33.
 abbrev pub block_length : FileFunction → ℕ
 block_length Open = 33
 block_length Close = 33

@@ -1,5 +1,5 @@
--- Which of the questions about files is passed on to the host files, and how the host's answers make those of the files as they are
--- now. (This project's profile.)
+-- Which questions about files are passed on to the host files, and how the answers of the host files determine the answers of the
+-- current files. (This project's profile.)
 use Rattle.std.specs.Prelude.{◌≡◌, ℕ, ◌≤◌, Bool, true, false, ◌&&◌, ◌||◌, List, length, map, filter, replicate, Option, Some, None, is_some, unwrap_or, option_map, slice_get, slice_index, nat_lt}
 use Rattle.std.specs.List.{range_with_len}
 use Rattle.std.specs.FinMap.{get, contains_key, entries, from_entries}
@@ -17,8 +17,8 @@ use Rattle.hostfiles.specs.declared.looks.Ask.TheVariants.{Has, Length, Rec, Dir
 use Rattle.file_calls.specs.Changes.{FileChange, Unchanged, Made, Deleted, Renamed, Stored}
 use Rattle.file_calls.specs.Questions.{FileQuestion, FileAnswer, IsThere, ShapeOf, Content, FilesOn, is_on, files_on}
 
--- whether there is a host file; how many records it has, if it is there; a record, if it has one; the host files of a drive with
--- their counts of records
+-- The answer of the host files: whether there is a host file; its length in records, if it is there; a record, if it has it; the
+-- host files of a drive with their lengths.
 abbrev pub HostAnswer : Ask → Type 0
 HostAnswer (Has key) = Bool
 HostAnswer (Length key) = Option ℕ
@@ -31,28 +31,29 @@ HostTree E = Tree Ask HostAnswer E
 unfoldable pub names_on : ℕ → Host → List (Key × ℕ)
 names_on drive host = map (λ e. (e.0, length e.1)) (filter (λ e. is_on drive e.0) (entries host))
 
--- what host files answer
+-- The answers of host files.
 abbrev pub host_answers : Host → (q : Ask) → HostAnswer q
 host_answers host (Has key) = contains_key host key
 host_answers host (Length key) = option_map length (get host key)
 host_answers host (Rec key k) = slice_get (records_of host (Some key)) k
 host_answers host (Directory drive) = names_on drive host
 
--- a file that was made, deleted or renamed answers itself whether it is there
+-- A file that was made, deleted or renamed needs no question whether it is there.
 abbrev pub there_part : Key → Base → HostTree Bool
 there_part key Same = Query (Has key) (λ there. Return there)
 there_part key Gone = Return false
 there_part key New = Return true
 there_part key (Moved old) = Return true
 
--- whether a record stands at a place: a written one, or one of the host's n
+-- Whether a file has a record at a record number: a written one, or one of the n records of its host file.
 abbrev pub stands_at : ℕ → Entry → ℕ → Bool
 stands_at n e k = is_some (get e.records k) || (is_below k e.grown && nat_lt k n)
 
 unfoldable pub shape_by : ℕ → Entry → Shape
 shape_by n e = map (stands_at n e) (range_with_len 0 (length_by n e.grown))
 
--- a file that was made longer knows how many records of the host's it has; a renamed one stands on its host file still
+-- The shape of a file. A file that was made longer knows how many records of its host file it has; any other file asks for the
+-- length of its host file, if it has one. A renamed file has the host file of its old key.
 abbrev pub shape_part : Key → Base → Option Grown → Entry → HostTree Shape
 shape_part key base (Some g) e = Return (shape_by g.from e)
 shape_part key Same None e = Query (Length key) (λ n. Return (shape_by (unwrap_or n 0) e))
@@ -66,30 +67,30 @@ host_part key k Gone = Return None
 host_part key k New = Return None
 host_part key k (Moved old) = Query (Rec old k) (λ r. Return r)
 
--- a place that was written answers itself, and so does a hole that a write past the end left
+-- The record at a record number: a written record, or a hole that a write past the end left, needs no question.
 abbrev pub content_part : Key → ℕ → Base → Option Record → Bool → HostTree (Option Record)
 content_part key k base (Some r) below = Return (Some r)
 content_part key k base None true = host_part key k base
 content_part key k base None false = Return None
 
--- host files with these counts of records
+-- Host files with these lengths, of zeros.
 abbrev pub hosts_with : List (Key × ℕ) → Host
 hosts_with names = from_entries (map (λ p. (p.0, replicate p.1 zeros)) names)
 
--- what is asked of the host files on behalf of a question about the files, of which a run did this to them
+-- The questions to the host files, and the answer that they make, for a question about the files after a run did this.
 abbrev pub part : Own → (q : FileQuestion) → HostTree (FileAnswer q)
 part own (IsThere key) = there_part key (entry_at own key).base
 part own (ShapeOf key) = shape_part key (entry_at own key).base (entry_at own key).grown (entry_at own key)
 part own (Content key k) = content_part key k (entry_at own key).base (get (entry_at own key).records k) (is_below k (entry_at own key).grown)
 part own (FilesOn drive) = Query (Directory drive) (λ names. Return (files_on drive (shapes (hosts_with names) own)))
 
--- from where no record is the host's, in a file that was made longer
+-- In a file that was made longer, the number from which on no record is the host file's; 0 for any other file.
 abbrev pub from_of : Option Grown → ℕ
 from_of None = 0
 from_of (Some g) = g.from
 
--- a file that was made longer was so from within its host file, or from its end; and the host file on which a file stands is one of its
--- drive
+-- In a file that was made longer, the number from which on no record is the host file's is at most the host file's length; and a
+-- file and its host file are on the same drive.
 pub record IsSoundEntry (host : Host) (key : Key) (e : Entry) : Type 0 where
   pub grown : from_of e.grown ≤ length (under host key e)
   pub drive : (old : Key) → stands_on key e.base ≡ Some old → slice_index old 0 ≡ slice_index key 0
@@ -97,7 +98,7 @@ pub record IsSoundEntry (host : Host) (key : Key) (e : Entry) : Type 0 where
 pub record IsSound (host : Host) (own : Own) : Type 0 where
   pub at : (key : Key) → IsSoundEntry host key (entry_at own key)
 
--- a change that leaves it so: a rename stays on its drive, and a record is written into a file of its length
+-- A change that keeps what a run did sound: a rename stays on its drive, and a write has the length of its file.
 abbrev pub IsFitting : Host → Own → FileChange → Type 0
 IsFitting host own Unchanged = Unit {0}
 IsFitting host own (Made key) = Unit {0}

@@ -1,4 +1,4 @@
--- What a file call asks of the files, and what it then asks of the host files. (This project's own.)
+-- The questions of a file call about the files, with their answers. (This project's own.)
 use Rattle.std.specs.Prelude.{ℕ, ◌==◌, Bool, Option, slice_index}
 use Rattle.std.specs.List.{filter}
 use Rattle.std.specs.FinMap.{entries}
@@ -6,8 +6,8 @@ use Rattle.interaction_trees.specs.Tree.{Tree}
 use Rattle.directory.specs.Entries.{Shape, Shapes, Listing}
 use Rattle.hostfiles.specs.Hosts.{Key, Record}
 
--- whether there is a file of the key; for each of its places whether a record stands there; the record at a place, which a hole
--- lacks; and the files of a drive
+-- Whether there is a file with this key; the shape of a file, which says for each record number whether there is a record; the
+-- record at a record number, `None` for a hole; the files of a drive.
 pub data FileQuestion : Type 0 where
   IsThere : Key → FileQuestion
   ShapeOf : Key → FileQuestion
@@ -26,7 +26,7 @@ FileAnswers = (q : FileQuestion) → FileAnswer q
 abbrev pub FileTree : Type 0 → Type 0
 FileTree E = Tree FileQuestion FileAnswer E
 
--- the files of a drive, which is the first byte of a key
+-- Whether a key is on a drive, which is its first byte.
 abbrev pub is_on : ℕ → Key → Bool
 is_on drive key = drive == slice_index key 0
 

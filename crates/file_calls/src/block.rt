@@ -4,7 +4,7 @@ ghost use Rattle.file_calls.specs.FileCalls.{key_of, new_key_of};
 
 use filenames::{Drive, Fcb, Key};
 
-/// A file control block on its drive.
+/// A file control block with the drive that it is for.
 #[derive(Clone, Copy)]
 pub struct Block {
     /// The drive that the control block names.
@@ -14,14 +14,14 @@ pub struct Block {
 }
 
 impl Block {
-    /// The key of the file that the control block names, at its bytes 1 to 11.
+    /// Returns the key of the file that the control block names, at its bytes 1 to 11.
     pub fn key(&self) -> Key
         ensures { result ≡ key_of self.now }
     {
         on_drive(self.drive, self.fcb.key())
     }
 
-    /// The new key of a rename, at bytes 17 to 27.
+    /// Returns the new key of a rename, at bytes 17 to 27.
     pub fn new_key(&self) -> Key
         ensures { result ≡ new_key_of self.now }
     {
@@ -29,7 +29,7 @@ impl Block {
     }
 }
 
-// A name on a drive.
+// Returns the key of a name on a drive.
 fn on_drive(drive: Drive, name: [u8; 11]) -> Key
     ensures { result ≡ drive_number drive ∷ name }
 {

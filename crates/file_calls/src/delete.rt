@@ -6,8 +6,8 @@ use crate::block::Block;
 use cpmfiles::Table;
 use std::alloc::AllocError;
 
-/// Function 19: deletes the files that the control block names, and tells whether there were some. A pattern
-/// with `?` names all that match. An `Err` changes no file.
+/// Deletes the files that the control block names, and returns whether there were any (function 19). A pattern with
+/// `?` names all files that match it. An `Err` means out of memory and changes no file.
 pub fn delete_files(table: &mut Table<'_>, block: &Block) -> Result<bool, AllocError>
     ensures { Deletes (deletion block.now) (drives_of table.old) result (drives_of table.new) }
 {

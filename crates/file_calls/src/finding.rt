@@ -1,44 +1,44 @@
 use cpmfiles::{Key, Record};
 use directory::Search;
 
-/// What a file call finds, which says what it is to do.
+/// What a file call found, which says what it is to do.
 #[derive(Clone, Copy)]
 pub enum Finding {
-    /// Nothing is done, and this is the value.
+    /// The value that the call returns; it changes nothing.
     Value(u8),
-    /// A file is opened at an extent of this count.
+    /// The record count of the extent of a file that is opened.
     Opened(u8),
-    /// An entry of the directory, and from where the search goes on.
+    /// A matching entry of the directory, and where the search continues.
     FirstEntry(Search),
-    /// No entry matches.
+    /// No matching entry.
     NoEntry,
-    /// A record is read, and the control block gets this place.
+    /// A record that was read, and the record number that the control block gets.
     Found(Record, u32),
-    /// A record is to be written.
+    /// A record to be written.
     Write(Write),
-    /// An empty file of this key is to be made.
+    /// The key of an empty file to be made.
     Make(Key),
-    /// The file of the first key is to get the second.
+    /// The old and the new key of a file to be renamed.
     Rename(Key, Key),
-    /// The file has so many places.
+    /// The length of the file, in records.
     Length(u32),
-    /// There is no file whose length could be told.
+    /// No file, and so no length.
     NoLength,
-    /// The random place of the control block becomes this place.
+    /// The random record number that the control block gets.
     RandomPlace(u32),
 }
 
-/// A record that is to be written.
+/// A record to be written.
 #[derive(Clone, Copy)]
 pub struct Write {
-    /// Of which file.
+    /// The key of the file.
     pub key: Key,
-    /// How many places the file has.
+    /// The length of the file, in records.
     pub length: u32,
-    /// The record's place.
+    /// The record number.
     pub place: u16,
-    /// The place that the control block gets, at most 65,536.
+    /// The record number that the control block gets, at most 65,536.
     pub next: u32,
-    /// Whether places between the end and the record become zeros; else they become holes.
+    /// Whether the gap between the end of the file and the record becomes zeros; otherwise it becomes holes.
     pub filled: bool,
 }

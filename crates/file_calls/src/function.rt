@@ -12,38 +12,38 @@ use crate::inquiry::{
 use cpmfiles::{Changes, HostFiles};
 use std::alloc::AllocError;
 
-/// A call that names a file by a control block, but for a deletion.
+/// A call that names a file by a control block, except deletion.
 /// [Interface Guide 1979, functions 15 to 17, 20 to 23, 33 to 36 and 40]
 #[derive(Clone, Copy, Debug, PartialEq, Eq)]
 pub enum FileFunction {
-    /// 15: an extent of a file.
+    /// 15: opens an extent of a file.
     Open,
-    /// 16: a file that is no longer used.
+    /// 16: closes a file.
     Close,
-    /// 17: the first entry of the directory that matches.
+    /// 17: returns the first matching entry of the directory.
     SearchFirst,
-    /// 20: the record at the place of the control block.
+    /// 20: reads the record at the sequential record number.
     ReadSequential,
-    /// 21: a record to that place.
+    /// 21: writes the record at the sequential record number.
     WriteSequential,
-    /// 22: a new file.
+    /// 22: makes a file.
     Make,
-    /// 23: another name for a file.
+    /// 23: renames a file.
     Rename,
-    /// 33: the record at the random place.
+    /// 33: reads the record at the random record number.
     ReadRandom,
-    /// 34: a record to that place.
+    /// 34: writes the record at the random record number.
     WriteRandom,
-    /// 35: how long a file is.
+    /// 35: returns the length of a file.
     FileSize,
-    /// 36: the place of the control block as the random one.
+    /// 36: sets the random record number to the sequential one.
     SetRandomRecord,
-    /// 40: a record to the random place, with zeros before it.
+    /// 40: writes the record at the random record number, and zeros in a gap before it.
     WriteRandomZeroFill,
 }
 
 impl FileFunction {
-    /// Whether the call reads the random place of its control block, and so 36 bytes of it; else it reads 33.
+    /// Returns whether the call reads the random record number, and so 36 bytes of its control block; else it reads 33.
     pub fn has_random_place(self) -> bool
         ensures { block_length self ≡ (if result then 36 else 33) }
     {
@@ -57,7 +57,8 @@ impl FileFunction {
         }
     }
 
-    /// Returns what the call finds. A call that asks nothing is never an `Err`, which means out of memory.
+    /// Asks the call's questions about the files, and returns what it finds. `Err` means out of memory; a call that asks
+    /// nothing is never an `Err`.
     #[inline(never)]
     pub fn inquire(
         self,

@@ -1,4 +1,5 @@
-// What each file call asks and finds.
+// The questions of each file call, and what it finds. A call that needs its file finds the value 0FFH if there is none;
+// function 35 finds that there is no length. `Err` means out of memory.
 
 ghost use Rattle.std.specs.Prelude.{◌≡◌, slice_index, length, true, IfOk, OnErr, Ok};
 ghost use Rattle.std.specs.Option.{option_map};
@@ -19,7 +20,7 @@ use directory::Search;
 use hostfiles::SeenFile;
 use std::alloc::AllocError;
 
-// How many places a file has.
+// Returns the length of a file in records, holes included.
 #[tactic(auto, using(crate::proofs::Shapes::places))]
 fn length(file: &SeenFile<'_>, looks: &mut Looks) -> Result<u32, AllocError>
     ensures { AsksFor result (length (shape_found file.now))
@@ -28,7 +29,7 @@ fn length(file: &SeenFile<'_>, looks: &mut Looks) -> Result<u32, AllocError>
     file.ask_length(looks)
 }
 
-// The count of an extent.
+// Returns the record count of an extent.
 #[tactic(auto, using(crate::proofs::Shapes::counted))]
 fn count(file: &SeenFile<'_>, extent: u32) -> u8
     ensures { result ≡ count_at (shape_found file.now) extent }
@@ -36,7 +37,7 @@ fn count(file: &SeenFile<'_>, extent: u32) -> u8
     file.count(extent)
 }
 
-/// Function 15: the count of the extent that the control block names.
+/// Finds the record count of the extent that the control block names (function 15).
 #[tactic(auto, using(crate::proofs::Extending::asked_in_turn))]
 pub fn open_file(
     host: &HostFiles,
@@ -55,7 +56,7 @@ pub fn open_file(
     Ok(Finding::Opened(count(&file, block.fcb.ex() as u32)))
 }
 
-/// Function 16: whether the file is there.
+/// Finds whether the file is there: the value 0 if it is (function 16).
 #[tactic(auto, using(crate::proofs::Extending::asked_in_turn))]
 pub fn close_file(
     host: &HostFiles,
@@ -71,7 +72,7 @@ pub fn close_file(
     Ok(Finding::Value(0))
 }
 
-/// Function 17: the first entry of the directory that matches. It takes no memory.
+/// Finds the first matching entry of the directory (function 17). Allocates nothing.
 pub fn search_first(host: &HostFiles, changes: &mut Changes, block: &Block) -> Finding
     ensures asks { Asks (calls.search_first block.now) host.now changes.old (Ok result) changes.new }
     ensures apart { IsApart result }
@@ -79,8 +80,8 @@ pub fn search_first(host: &HostFiles, changes: &mut Changes, block: &Block) -> F
     search(host, changes, &block.key(), block.fcb.ex(), None)
 }
 
-/// Function 18: the first entry that matches after the one given last, in the files as they are now. Without
-/// a search it asks nothing. It takes no memory.
+/// Finds the first matching entry after the one that was returned last, in the current files (function 18). Without a
+/// search it asks nothing and finds no entry. Allocates nothing.
 #[tactic(auto, using(crate::proofs::Extending::extends_same))]
 #[inline(always)]
 pub fn search_next(host: &HostFiles, changes: &mut Changes, last: Option<Search>) -> Finding
@@ -93,7 +94,7 @@ pub fn search_next(host: &HostFiles, changes: &mut Changes, last: Option<Search>
     }
 }
 
-// The first entry that matches, after one if it is given.
+// Finds the first matching entry, after the given entry if there is one.
 #[tactic(auto, using(crate::proofs::Drives::same_entry))]
 #[inline(always)]
 fn search(
@@ -117,7 +118,7 @@ fn search(
     }
 }
 
-/// Function 20: the record at the place of the control block.
+/// Finds the record at the sequential record number, or the value 1 if there is no record (function 20).
 #[tactic(auto, using(crate::proofs::Extending::asked_in_turn))]
 pub fn read_sequential(
     host: &HostFiles,
@@ -142,7 +143,7 @@ pub fn read_sequential(
     }
 }
 
-/// Function 21: a record to be written at the place of the control block.
+/// Finds the record to be written at the sequential record number, or the value 2 if that is past 65,535 (function 21).
 #[tactic(auto, using(crate::proofs::Extending::asked_in_turn))]
 pub fn write_sequential(
     host: &HostFiles,
@@ -170,7 +171,7 @@ pub fn write_sequential(
     }))
 }
 
-/// Function 22: a file to be made, where the name can be said and no file has it.
+/// Finds the file to be made, or the value 0FFH if its key is invalid or a file has it (function 22).
 #[tactic(auto, using(crate::proofs::Extending::asked_in_turn))]
 pub fn make_file(
     host: &HostFiles,
@@ -188,7 +189,7 @@ pub fn make_file(
     Ok(Finding::Make(key))
 }
 
-/// Function 23: a file to be renamed.
+/// Finds the file to be renamed, or the value 0FFH if it cannot be (function 23).
 #[tactic(auto, using(crate::proofs::Extending::asked_in_turn))]
 pub fn rename_file(
     host: &HostFiles,
@@ -206,7 +207,8 @@ pub fn rename_file(
     Ok(Finding::Rename(old, new))
 }
 
-/// Function 33: the record at the random place.
+/// Finds the record at the random record number, or a value: 6 if the number is past 65,535, else 1 or 4 if there is no
+/// record (function 33).
 #[tactic(auto, using(crate::proofs::Extending::asked_in_turn))]
 pub fn read_random(
     host: &HostFiles,
@@ -234,7 +236,7 @@ pub fn read_random(
     }
 }
 
-// The value of a random place that holds no record.
+// Returns the value for a random record number without a record: 4 if its extent holds no record, else 1.
 fn missing(file: &SeenFile<'_>, place: u32) -> u8
     ensures { result ≡ missing (shape_found file.now) place }
 {
@@ -245,7 +247,8 @@ fn missing(file: &SeenFile<'_>, place: u32) -> u8
     }
 }
 
-/// Functions 34 and 40: a record to be written at the random place; 40 fills the places before it.
+/// Finds the record to be written at the random record number, or the value 6 if that is past 65,535 (functions 34 and
+/// 40). Function 40 is `filled`: it writes zeros in a gap before the record.
 #[tactic(auto, using(crate::proofs::Extending::asked_in_turn))]
 pub fn write_random(
     host: &HostFiles,
@@ -274,7 +277,7 @@ pub fn write_random(
     }))
 }
 
-/// Function 35: how many places the file has.
+/// Finds the length of the file, or that there is no file (function 35).
 #[tactic(auto, using(crate::proofs::Extending::asked_in_turn, crate::proofs::Shapes::places))]
 pub fn file_size(
     host: &HostFiles,
@@ -290,7 +293,7 @@ pub fn file_size(
     }
 }
 
-/// Function 36: the sequential place as a random one. It asks nothing, and takes no memory.
+/// Finds the random record number: the sequential one (function 36). Asks nothing and allocates nothing.
 #[tactic(auto, using(crate::proofs::Extending::extends_same))]
 pub fn set_random(host: &HostFiles, changes: &mut Changes, block: &Block) -> Finding
     ensures asks { Asks (calls.set_random block.now) host.now changes.old (Ok result) changes.new }

@@ -1,4 +1,4 @@
-// What the host files answer on behalf of a call.
+// The laws of questions that are passed on to the host files.
 
 ghost use Rattle.std.specs.Prelude.{◌≡◌};
 ghost use Rattle.std.specs.FinMap as finmap;
@@ -11,14 +11,13 @@ ghost use Rattle.file_calls.specs.Passing.{IsSound, IsFitting, part, host_answer
 ghost use Rattle.file_calls.specs.Changes.{FileChange};
 ghost use Rattle.file_calls.specs.Deletes.{own_with};
 
-/// Carries the law that the answers of the host files make those of the files as they are now.
+/// The answers of the host files determine the answers of the current files.
 pub fn host_files_answer()
     ensures { (host : Host) (own : Own) → IsSound host own → (q : FileQuestion) →
         result_of (host_answers host) (part own q) ≡ file_answers host own q }
 {}
 
-/// Carries the law that what a run did is sound: with nothing done it is, and each change that a call makes
-/// leaves it so.
+/// What a run did is sound: this is so when nothing was done, and each fitting change keeps it so.
 pub fn what_was_done_is_sound()
     ensures start { (host : Host) → IsSound host finmap.empty }
     ensures change { (host : Host) (own : Own) (change : FileChange) → IsFitting host own change →

@@ -1,11 +1,13 @@
-//! What the file calls of CP/M 2.2 ask of the files, what they find, and which of their questions are passed
+//! What the file calls of CP/M 2.2 ask about the files, what they find, and which of their questions are passed
 //! on to the host files.
 //!
 //! - `block`: a file control block on its drive, and the keys that it names
-//! - `finding`, `inquiry`: what a call finds, which says what it is to do; what each call asks, with one function for
-//!   each
-//! - `function`, `delete`: the calls that find something, by name; files deleted
-//! - `laws`: the laws that the host files' answers tell the files as they are, and that what a run did stays sound
+//! - `finding`: what a call found, which says what it is to do
+//! - `inquiry`: what each call asks and finds, with one function for each
+//! - `function`: the calls that find something, by name
+//! - `delete`: the deletion of files
+//! - `laws`: the laws that the answers of the host files determine those of the current files, and that what a run did
+//!   stays sound
 #![tactic(auto)]
 
 mod block;

@@ -1,4 +1,4 @@
--- What host files answer once one of them is exchanged.
+-- The answers of host files after one of them is replaced.
 use Rattle.std.proofs.Common.{◌≡◌, ℕ, Bool, true, false, cond, ◌⊎◌, inl, inr, List, [], ◌∷◌, length, map, Option, Some, None, is_some, refl, sym, ap, subst, ◌∙◌}
 use Rattle.std.specs.Prelude.{T, ◌&&◌}
 use Rattle.std.specs.List.{filter}
@@ -18,7 +18,7 @@ use Rattle.file_calls.specs.Passing.{names_on, host_answers}
 use Rattle.file_steps.specs.Touch.{record_of}
 use Rattle.file_steps.specs.Setting.{with_file}
 
--- ---- the names of a drive, with their counts of records
+-- ---- the names of a drive, with their lengths
 
 found_count : (q : Key) (es : List (Key × List Record)) → find (slice_cmp nat_cmp) q (map (λ e. (e.0, length e.1)) es) ≡ option_map length (find (slice_cmp nat_cmp) q es)
 found_count q [] = refl
@@ -35,7 +35,7 @@ sorted_counts (e ∷ es) =
     ap (λ b. b && is_sorted (slice_cmp nat_cmp) (map (λ e. (e.0, length e.1)) es)) (below_counts e.0 es)
     ∙ ap (λ b. below_all (slice_cmp nat_cmp) e.0 es && b) (sorted_counts es)
 
--- keys of equal order are on one drive
+-- Keys that compare as equal are on one drive.
 alike : (drive : ℕ) (q x : Key) → slice_cmp nat_cmp q x ≡ Equal → is_on drive x ≡ is_on drive q
 alike drive q x e = ap (is_on drive) (sym (same_key q x e))
 
@@ -54,17 +54,17 @@ module _ (drive : ℕ) where
   same_at f g true h = h refl
   same_at f g false h = refl
 
-  -- host files with the same counts on a drive answer its directory alike
+  -- Host files with the same lengths on a drive give the same answer for its directory.
   pub same_names : (old new : Host) → ((q : Key) → is_on drive q ≡ true → option_map length (get old q) ≡ option_map length (get new q)) → names_on drive old ≡ names_on drive new
   same_names old new h = same_entries (slice_cmp nat_cmp) nat_list_cmp_total same_key (names_on drive old) (names_on drive new) (names_sorted old) (names_sorted new)
       (λ q. name_at old q ∙ same_at (get old q) (get new q) (is_on drive q) (h q) ∙ sym (name_at new q))
 
-  -- and only they
+  -- Host files with the same answer for a drive's directory have the same lengths on the drive.
   pub names_tell : (old new : Host) (q : Key) → is_on drive q ≡ true → names_on drive old ≡ names_on drive new → option_map length (get old q) ≡ option_map length (get new q)
   names_tell old new q on e =
       ap (λ b. option_map length (cond b (get old q) None)) (sym on) ∙ sym (name_at old q) ∙ ap (find (slice_cmp nat_cmp) q) e ∙ name_at new q ∙ ap (λ b. option_map length (cond b (get new q) None)) on
 
--- ---- one file exchanged
+-- ---- one file replaced
 
 module _ (host : Host) (key : Key) where
   at_with : (file : Option (List Record)) (q : Key) → get (with_file host key file) q ≡ cond (eq_by_cmp (slice_cmp nat_cmp) q key) file (get host q)
@@ -81,7 +81,7 @@ pub cases_key : (q key : Key) → (q ≡ key) ⊎ (eq_by_cmp (slice_cmp nat_cmp)
 cases_key q key = elim (eq_by_cmp (slice_cmp nat_cmp) q key) as (λ b. eq_by_cmp (slice_cmp nat_cmp) q key ≡ b → (q ≡ key) ⊎ (b ≡ false))
     [ true ↦ λ e. inl (key_of same_key q key e) | false ↦ λ e. inr refl ] refl
 
--- a question of another key, or of another drive
+-- A question about another key, or about another drive.
 abbrev pub IsApart : Key → Ask → Type 0
 IsApart key (Has q) = eq_by_cmp (slice_cmp nat_cmp) q key ≡ false
 IsApart key (Length q) = eq_by_cmp (slice_cmp nat_cmp) q key ≡ false
@@ -94,14 +94,14 @@ off_drive drive key q off on = elim (cases_key q key) [
   | inr e ↦ e
 ]
 
--- such a question has the answer that it had
+-- Such a question keeps its answer.
 pub answers_apart : (host : Host) (key : Key) (file : Option (List Record)) (q : Ask) → IsApart key q → host_answers host q ≡ host_answers (with_file host key file) q
 answers_apart host key file (Has q) e = ap is_some (file_apart host key file q e)
 answers_apart host key file (Length q) e = ap (option_map length) (file_apart host key file q e)
 answers_apart host key file (Rec q k) e = ap (λ f. record_of f k) (file_apart host key file q e)
 answers_apart host key file (Directory drive) e = same_names drive host (with_file host key file) (λ q on. ap (option_map length) (file_apart host key file q (off_drive drive key q e on)))
 
--- the directory of the key's drive, where the file is as long as it was, or both are not there
+-- The directory of the key's drive, if the file keeps its length, or is not there before and after.
 pub directory_same : (host : Host) (key : Key) (file : Option (List Record)) (drive : ℕ) → option_map length (get host key) ≡ option_map length file → names_on drive host ≡ names_on drive (with_file host key file)
 directory_same host key file drive e = same_names drive host (with_file host key file) (λ q on. elim (cases_key q key) [
   | inl is ↦ ap (λ x. option_map length (get host x)) is ∙ e ∙ ap (option_map length) (sym (file_here host key file)) ∙ ap (λ x. option_map length (get (with_file host key file) x)) (sym is)

@@ -1,4 +1,4 @@
--- The least step that an exchanged file touches.
+-- The first step that a replaced file touches.
 use Rattle.std.proofs.Common.{◌≡◌, ◌<◌, ◌≤◌, ◌+◌, max, ◌⊎◌, inl, inr, ℕ, Bool, true, false, cond, List, [], length, Option, Some, None, is_some, get_or, nat_lt, refl, sym, ap, subst, ◌∙◌, eqb-true, eq-eqb, arith}
 use Rattle.std.specs.Prelude.{IsTrue, ◌↔◌, slice_index, unwrap_or}
 use Rattle.std.proofs.lemmas.Bool.{cases_lt}
@@ -24,7 +24,7 @@ use Rattle.file_steps.proofs.AnswerLemmas.{file_here, cases_key, answers_apart, 
 
 -- ---- one question
 
--- t is the lesser of a question's step and another, but the other where the answer is the same
+-- t is the lesser of a question's step and `least`, but `least` if the answer is the same.
 pub record IsLesser (is_same : Bool) (step : Option ℕ) (least t : ℕ) : Type 0 where
   pub within : t ≤ least
   pub below : (m : ℕ) → step ≡ Some m → m < t → is_same ≡ true
@@ -43,7 +43,7 @@ lesser_by b step least t e = subst (IsLesser b step least) (sym e) (lesser_is b 
 
 -- ---- the records of a file
 
--- the same, of the places below one
+-- A touch among the record numbers below n.
 pub record IsTouchUpTo (n : ℕ) (old new : Option (List Record)) (steps : Option Steps) (least touch : ℕ) : Type 0 where
   pub within : touch ≤ least
   pub below : (k m : ℕ) → k < n → step_within steps k ≡ Some m → m < touch → record_of old k ≡ record_of new k
@@ -69,7 +69,7 @@ module _ (old new : Option (List Record)) (steps : Option Steps) (least : ℕ) w
     ];
   }
 
-  -- where no place from here on has an earlier step of another record
+  -- From n on, no record that is different has a step before the touch.
   abbrev pub IsRestPast : ℕ → ℕ → Type 0
   IsRestPast n touch = (k m : ℕ) → n ≤ k → step_within steps k ≡ Some m → m < touch → record_of old k ≡ record_of new k
 
@@ -82,12 +82,13 @@ module _ (old new : Option (List Record)) (steps : Option Steps) (least : ℕ) w
         here = elim so.here [ inl e ↦ inl e | inr h ↦ inr (h.0, same h.0 ∙ h.1, h.2) ];
       }
 
--- where no record of the file has a step
+-- No record of the file has a step.
 pub touch_of_no_step : (key : Key) (old new : Option (List Record)) (all : FileSteps) (least : ℕ) → steps_of all.records.files key ≡ None → IsPlaceTouch key old new all least least
 touch_of_no_step key old new all least none =
     touch_of_all old new None least key all none 0 least (touch_of_none old new None least) (λ k m h e l. cc)
 
--- past both files there is no record, past the last place no step, and none is earlier past a place that is the earliest
+-- Past both files there is no record; past the last index with a step there is no step; past an index with the earliest step, no
+-- step is earlier.
 pub past_both : (old new : Option (List Record)) (steps : Option Steps) (least n touch : ℕ) → max (count_of old) (count_of new) ≤ n → IsRestPast old new steps least n touch
 past_both old new steps least n touch h = λ k m high e l. slice_get_past (unwrap_or old []) k (omega arith) ∙ sym (slice_get_past (unwrap_or new []) k (omega arith))
 
@@ -119,7 +120,7 @@ module _ (host : Host) (key : Key) (file : Option (List Record)) (steps : FileSt
   module _ (is_has is_length : Bool) (one : IsTrue is_has ↔ (is_some (get host key) ≡ is_some file)) (two : IsTrue is_length ↔ (option_map length (get host key) ≡ option_map length file))
       (least has lengths directory touch : ℕ) (first : IsLesser is_has (get steps.has key) least has) (second : IsLesser is_length (get steps.lengths key) has lengths)
       (third : IsLesser is_length (get_or steps.directories (slice_index key 0) None) lengths directory) (last : IsPlaceTouch key (get host key) file steps directory touch) where
-    -- a drive's directory: of another drive, or of the key's
+    -- The directory of a drive: another drive, or the drive of the key.
     at_drive : (drive m : ℕ) → get_or steps.directories drive None ≡ Some m → m < directory → host_answers host (Directory drive) ≡ host_answers then (Directory drive)
     at_drive drive m e l = elim (is_on drive key) as (λ b. is_on drive key ≡ b → host_answers host (Directory drive) ≡ host_answers then (Directory drive)) [
       | true ↦ λ on. (let is = eqb-true drive (slice_index key 0) on in
@@ -187,7 +188,7 @@ module _ (host : Host) (key : Key) (file : Option (List Record)) (steps : FileSt
       here = touch_here;
     }
 
--- the same, of the file that stood there by another name
+-- The touch of a file, with an equal file before the change.
 pub file_touch_by : (host : Host) (key : Key) (before file : Option (List Record)) (steps : FileSteps) → before ≡ get host key
     → (is_has is_length : Bool) → (IsTrue is_has ↔ (is_some before ≡ is_some file)) → (IsTrue is_length ↔ (option_map length before ≡ option_map length file))
     → (least has lengths directory touch : ℕ) → IsLesser is_has (get steps.has key) least has → IsLesser is_length (get steps.lengths key) has lengths

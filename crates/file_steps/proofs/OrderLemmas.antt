@@ -7,7 +7,7 @@ use Rattle.file_steps.specs.declared.first_steps.Look.{Look}
 use Rattle.file_steps.specs.Noting.{erased}
 use Rattle.file_steps.specs.FirstSteps.{IsInOrder, HasLook, Rise, latest_of, step_at, step_or_none}
 
--- ---- one look more, or the last one less
+-- ---- one more look, or one less
 
 has_more : (xs : List Look) (c : Look) (place step : ℕ) → HasLook xs place step → HasLook (xs ++ c ∷ []) place step
 has_more [] c place step h = absurd h
@@ -50,7 +50,7 @@ rise_less (x ∷ y ∷ ys) c r =
     let h : x.step ≤ y.step = r.0 in
     ((h, less), omega arith)
 
--- a list ends in its last item
+-- A list ends in its last item.
 pub taken_last : {X : Type 0} (xs : List X) (c : X) → slice_get xs (length xs - 1) ≡ Some c → xs ≡ take (length xs - 1) xs ++ c ∷ []
 taken_last [] c e = cc
 taken_last (x ∷ []) c e = let same : x ≡ c = cc in rw same refl
@@ -61,14 +61,14 @@ taken_last (x ∷ (y ∷ ys)) c e =
     let rest = taken_last (y ∷ ys) c (rw one there) in
     rw two (ap (λ zs. x ∷ zs) (rest ∙ rw one refl))
 
--- the last look is the latest
+-- The last look is the latest.
 pub last_latest : (xs : List Look) (c : Look) → Rise xs → slice_get xs (length xs - 1) ≡ Some c → latest_of xs ≤ c.step
 last_latest xs c r last =
     let split : xs ≡ take (length xs - 1) xs ++ c ∷ [] = taken_last xs c last in
     let below = (rise_less (take (length xs - 1) xs) c (subst Rise split r)).1 in
     subst (λ ys. latest_of ys ≤ c.step) (sym split) (latest_more (take (length xs - 1) xs) c c.step below (omega arith))
 
--- ---- the steps with their looks
+-- ---- the steps and their looks
 
 pub set_here : (steps : List ℕ) (place step : ℕ) → place < length steps → step < 4294967295 → step_at (slice_set steps place step) place ≡ Some step
 set_here steps place step inside held =
@@ -103,7 +103,7 @@ kept_below from (Some n) m e = elim (cases_lt n from) [
   | inr high ↦ absurd (grind (arith, nat_tests))
 ]
 
--- the last look is taken, and its place erased
+-- The last look is removed, and its index erased.
 pub in_order_less : (steps steps' : List ℕ) (looks : List Look) (c : Look) (from : ℕ) → IsInOrder steps (looks ++ c ∷ []) → from ≤ c.step
     → ((k : ℕ) → step_at steps' k ≡ (if k == c.place then erased from (step_at steps k) else step_at steps k)) → IsInOrder steps' looks
 in_order_less steps steps' looks c from order late entries = record { noted = noted; rise = (rise_less looks c order.rise).0 }
@@ -122,7 +122,7 @@ in_order_less steps steps' looks c from order late entries = record { noted = no
           ]
     ]
 
--- what is left of each entry stays the same
+-- The erased entries stay the same.
 pub still_erased : (steps old steps' : List ℕ) (place from : ℕ) → ((k : ℕ) → erased from (step_at steps k) ≡ erased from (step_at old k))
     → ((k : ℕ) → step_at steps' k ≡ (if k == place then erased from (step_at steps k) else step_at steps k)) → (k : ℕ) → erased from (step_at steps' k) ≡ erased from (step_at old k)
 still_erased steps old steps' place from same entries k = elim (cases_Bool (k == place)) [
@@ -134,7 +134,7 @@ still_erased steps old steps' place from same entries k = elim (cases_Bool (k ==
     twice None = refl
     twice (Some n) = elim (cases_lt n from) [ inl low ↦ grind (arith, nat_tests) | inr high ↦ grind (arith, nat_tests) ]
 
--- where no look is as late, no entry is
+-- If no look is as late as `from`, no entry is.
 pub none_as_late : (steps : List ℕ) (looks : List Look) (from : ℕ) → IsInOrder steps looks → (looks ≡ []) ⊎ (latest_of looks < from) → (k : ℕ) → step_at steps k ≡ erased from (step_at steps k)
 none_as_late steps looks from order early k = by_entry (step_at steps k) refl
   where

@@ -1,4 +1,4 @@
--- The first steps of the records of files, as one is noted and as they are erased.
+-- The first steps of the records of files, when one is noted and when they are erased.
 use Rattle.std.proofs.Common.{◌≡◌, ℕ, ◌≤◌, Bool, true, false, cond, List, [], ◌∷◌, Option, Some, None, refl, ap, subst, ◌∙◌, arith}
 use Rattle.std.specs.Prelude.{◌&&◌, ◌==◌}
 use Rattle.std.specs.Ordering.{nat_cmp, eq_by_cmp}
@@ -20,7 +20,7 @@ no_mark (Some m) n = refl
 -- ---- a file with other steps
 
 module _ (old new : List (Key × Steps)) (key : Key) (steps : Steps) (put : (q : Key) → steps_of new q ≡ cond (is_at (slice_cmp nat_cmp key) q) (Some steps) (steps_of old q)) where
-  -- what holds of the file of the key, and of the others as they were, holds of each
+  -- What is true of the file of the key, and of the unchanged other files, is true of each file.
   each_file : (P : Key → Bool → Option Steps → Type 0) → P key true (Some steps) → ((q : Key) → P q false (steps_of old q)) → (q : Key) → P q (eq_by_cmp (slice_cmp nat_cmp) q key) (steps_of new q)
   each_file P here others q =
       elim (is_at (slice_cmp nat_cmp key) q) as (λ b. is_at (slice_cmp nat_cmp key) q ≡ b → P q (eq_by_cmp (slice_cmp nat_cmp) q key) (steps_of new q)) [
@@ -51,7 +51,7 @@ within_more m n files h all = λ q s e. let l = all q s e in omega arith
 
 -- ---- erasures
 
--- the steps of one file once those from one on are erased
+-- The steps of one file after those from `from` on are erased.
 abbrev pub ErasesIn : ℕ → Steps → Steps → Type 0
 ErasesIn from v w = ((k : ℕ) → step_in w.entries k ≡ erased from (step_in v.entries k)) × ((w.latest ≤ v.latest) × (w.latest ≤ from))
 

@@ -61,7 +61,7 @@ same_ask_is (Directory c) (Directory d) e = ap Directory (eqb-true c d e)
 pub noted_still : (s : FileSteps) (ask : Ask) (step m : ℕ) → step_of_ask s ask ≡ Some m → NotedAs s s ask step
 noted_still s ask step m there = λ q. noted_already s ask step m there q (is_same_ask q ask) (same_ask_is q ask)
 
--- what an insertion at a key that has no step answers
+-- The steps after an insertion at a key that has no step.
 module _ {K : Type 0} {R : K → K → Ordering} where
   entered : IsTotalOrder R → IsAntisymmetric R → (m : FinMap R ℕ) (k : K) (step : ℕ) → get m k ≡ None → (q : K) → get (insert m k step) q ≡ or_else (get m q) (mark (eq_by_cmp R q k) step)
   entered o same m k step none q = get-insert o m k step q ∙ marked (eq_by_cmp R q k) (get m q) step (λ e. ap (get m) (key_of same q k e) ∙ none)
@@ -78,21 +78,21 @@ noted_length s key step none (Length a) = entered nat_list_cmp_total same_key s.
 noted_length s key step none (Rec a k) = unmarked (step_of_record s.records a k) step
 noted_length s key step none (Directory d) = unmarked (get_or s.directories d None) step
 
--- a record that is noted among the records
+-- A record that is noted among the records.
 pub noted_record : (s : FileSteps) (records : RecordNotes) (key : Key) (place step : ℕ) → NotesRecord s.records key place step records → NotedAs s (record s { records = records }) (Rec key place) step
 noted_record s records key place step notes (Has a) = unmarked (get s.has a) step
 noted_record s records key place step notes (Length a) = unmarked (get s.lengths a) step
 noted_record s records key place step notes (Rec a k) = notes a k
 noted_record s records key place step notes (Directory d) = unmarked (get_or s.directories d None) step
 
--- the same records
+-- The same records.
 pub same_records : (s : FileSteps) (records : RecordNotes) → SameRecords s.records records → SameSteps s (record s { records = records })
 same_records s records same (Has a) = refl
 same_records s records same (Length a) = refl
 same_records s records same (Rec a k) = same a k
 same_records s records same (Directory d) = refl
 
--- the same, of a question that is one of these
+-- A note for each kind of question.
 module _ (s : FileSteps) (ask : Ask) (key : Key) (step : ℕ) (none : step_of_ask s ask ≡ None) where
   pub entered_has : (m : FinMap (slice_cmp nat_cmp) ℕ) → ask ≡ Has key → m ≡ insert s.has key step → NotedAs s (record s { has = m }) ask step
   entered_has m is e =
@@ -114,7 +114,7 @@ read_twice [] i d = refl
 read_twice (x ∷ xs) zero d = refl
 read_twice (x ∷ xs) (suc i) d = read_twice xs i d
 
--- one step more
+-- One more step.
 pub erased_more : (ds es : List (Option ℕ)) (from i : ℕ) (x : Option ℕ) → i < length ds → es ≡ map (erased from) (take i ds) ++ drop i ds → x ≡ erased from (get_or es i None)
     → slice_set es i x ≡ map (erased from) (take (i + 1) ds) ++ drop (i + 1) ds
 erased_more ds es from i x low so is = ap (slice_set es i) is ∙ map_over_more (erased from) ds es i (get_or es i None) low so (sym (read_twice es i None))

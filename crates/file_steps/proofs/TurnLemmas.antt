@@ -1,4 +1,4 @@
--- The steps of places that are looked at one after the other, and of the others.
+-- The steps of indexes that are looked at in ascending order, and of the others.
 use Rattle.std.proofs.Common.{◌≡◌, ℕ, zero, suc, ◌+◌, ◌-◌, ◌<◌, ◌≤◌, true, false, List, [], ◌∷◌, ◌++◌, length, take, drop, map, max, Option, Some, None, is_some, inl, inr, refl, ap, sym, ◌∙◌, arith, eqb-true, eq-eqb}
 use Rattle.std.specs.Prelude.{◌==◌, slice_index}
 use Rattle.std.specs.List.Sorted.{IsNonDecreasing}
@@ -9,7 +9,7 @@ use Rattle.file_steps.specs.Noting.{or_else, mark, erased}
 use Rattle.file_steps.specs.FirstSteps.{step_in}
 use Rattle.file_steps.specs.PlaceSteps.{AreInTurn, IsEarliestFrom, joined, last_step}
 
--- ---- the step of one place
+-- ---- the step of one index
 
 module _ (xs : List ℕ) (ys : List (Option ℕ)) where
   pub in_turn_at : (k : ℕ) → k < length xs → step_in (joined xs ys) k ≡ Some (slice_index xs k)
@@ -26,7 +26,7 @@ module _ (xs : List ℕ) (ys : List (Option ℕ)) where
   pub length-joined : length (joined xs ys) ≡ max (length xs) (length ys)
   length-joined = simp (length-append, length-map, length-drop) (omega arith)
 
--- where none of the others has a step behind the places in turn, no place behind one of these has an earlier one
+-- If no other index past the ones in order has a step, no index past one of these has an earlier step.
 pub earliest : (xs : List ℕ) (ys : List (Option ℕ)) → AreInTurn xs ys → length ys ≤ length xs → (place : ℕ) → place < length xs → IsEarliestFrom (joined xs ys) place
 earliest xs ys turn short place h = (slice_index xs place, in_turn_at xs ys place h, later)
   where
@@ -57,10 +57,10 @@ not_here k place step ne = elim (cases_Bool (k == place)) [
   | inr other ↦ rw other refl
 ]
 
--- ---- a step more
+-- ---- one more step
 
 module _ (xs : List ℕ) (ys : List (Option ℕ)) (step : ℕ) where
-  -- a place in turn has its step, and keeps it
+  -- An index in order has its step, and keeps it.
   pub kept_in_turn : (place : ℕ) → place < length xs → (k : ℕ) → step_in (joined xs ys) k ≡ or_else (step_in (joined xs ys) k) (mark (k == place) step)
   kept_in_turn place h k = elim (cases_lt k (length xs)) [
     | inl inside ↦ rw (in_turn_at xs ys k inside) refl
@@ -96,7 +96,7 @@ module _ (xs : List ℕ) (ys : List (Option ℕ)) (step : ℕ) where
       ];
     }
 
-  -- another place gets a step
+  -- Another index gets a step.
   module _ (ys' : List (Option ℕ)) (place : ℕ) (past : length xs ≤ place) (noted : (k : ℕ) → step_in ys' k ≡ or_else (step_in ys k) (mark (k == place) step)) where
     pub noted_at : (k : ℕ) → step_in (joined xs ys') k ≡ or_else (step_in (joined xs ys) k) (mark (k == place) step)
     noted_at k = elim (cases_lt k (length xs)) [
@@ -142,7 +142,7 @@ module _ (xs : List ℕ) (ys ys' : List (Option ℕ)) (i from : ℕ) (turn : Are
         ]
   ]
 
--- the last step of those that are left
+-- The last of the steps that are left.
 pub last_left : (xs : List ℕ) (i from : ℕ) → IsNonDecreasing xs → i ≤ length xs → ((k : ℕ) → k < i → slice_index xs k < from)
     → (last_step (take i xs) ≤ last_step xs) × (last_step (take i xs) ≤ from)
 last_left xs zero from rise within below = (omega arith, omega arith)

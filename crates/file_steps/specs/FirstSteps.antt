@@ -1,40 +1,40 @@
--- The first steps that looked at the places of one kind. (This project's own.)
+-- The first steps that looked at the indexes of one kind. (This project's own.)
 use Rattle.std.specs.Prelude.{◌≡◌, ℕ, ◌≤◌, ◌⊎◌, ◌==◌, max, List, [], ◌∷◌, Option, Some, None, if◌then◌else◌, slice_index_or}
 use Rattle.file_steps.specs.declared.first_steps.Look.{Look}
 
--- a step for each place, or none, and one that none of them is past
+-- For each index its step, if it has one; and an upper bound of these steps.
 pub record Steps : Type 0 where
   pub entries : List (Option ℕ)
   pub latest : ℕ
 
--- a step as 32 bits hold it, the greatest of them for none
+-- A step in 32 bits; the greatest number means "no step".
 abbrev pub step_or_none : ℕ → Option ℕ
 step_or_none n = if n == 4294967295 then None else Some n
 
 abbrev pub step_at : List ℕ → ℕ → Option ℕ
 step_at steps place = step_or_none (slice_index_or steps place 4294967295)
 
--- the step of a place, and none past the last
+-- The step of an index; none past the last index.
 abbrev pub step_in : List (Option ℕ) → ℕ → Option ℕ
 step_in entries place = slice_index_or entries place None
 
--- the greatest step
+-- The latest step, or 0.
 abbrev pub latest_of : List Look → ℕ
 latest_of [] = 0
 latest_of (x ∷ xs) = max x.step (latest_of xs)
 
--- one of them is of this place and this step
+-- There is a look at this index by this step.
 abbrev pub HasLook : List Look → ℕ → ℕ → Type 0
 HasLook [] place step = ⊥
 HasLook (x ∷ xs) place step = ((x.place ≡ place) × (x.step ≡ step)) ⊎ HasLook xs place step
 
--- the steps do not fall
+-- The steps never decrease.
 abbrev pub Rise : List Look → Type 0
 Rise [] = Unit {0}
 Rise (x ∷ []) = Unit {0}
 Rise (x ∷ y ∷ ys) = (x.step ≤ y.step) × Rise (y ∷ ys)
 
--- each place that has a step stands among the looks with it, and these are in the order of their steps
+-- For each index with a step there is a look by this step, and the looks are in the order of their steps.
 pub record IsInOrder (steps : List ℕ) (looks : List Look) : Type 0 where
   pub noted : (place step : ℕ) → step_at steps place ≡ Some step → HasLook looks place step
   pub rise : Rise looks

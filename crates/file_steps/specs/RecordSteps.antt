@@ -1,4 +1,4 @@
--- For each record of a file the first step that asked it. (This project's own.)
+-- For each record of a file, the first step that asked for it. (This project's own.)
 use Rattle.std.specs.Prelude.{◌≡◌, refl, ℕ, ◌≤◌, ◌&&◌, ◌==◌, List, Option, Some, None}
 use Rattle.std.specs.Ordering.{nat_cmp, eq_by_cmp}
 use Rattle.std.specs.Cmp.Lexicographic.{slice_cmp}
@@ -9,45 +9,45 @@ use Rattle.hostfiles.specs.Hosts.{Key}
 use Rattle.file_steps.specs.Noting.{or_else, mark, erased}
 use Rattle.file_steps.specs.FirstSteps.{Steps, step_in}
 
--- the steps of the records of each file that has one, and a step that none of them is past
+-- The steps of the records of each file that has one, and an upper bound of these steps.
 pub record RecordNotes : Type 0 where
   pub files : List (Key × Steps)
   pub latest : ℕ
 
--- the steps of the records of a file
+-- The steps of the records of a file.
 abbrev pub steps_of : List (Key × Steps) → Key → Option Steps
 steps_of files key = lookup (is_at (slice_cmp nat_cmp key)) files
 
--- the step of a place, where there are steps
+-- The step at a record number, if there are steps.
 abbrev pub step_within : Option Steps → ℕ → Option ℕ
 step_within None place = None
 step_within (Some steps) place = step_in steps.entries place
 
--- the step of a record
+-- The step of a record.
 abbrev pub step_of_record : RecordNotes → Key → ℕ → Option ℕ
 step_of_record notes key place = step_within (steps_of notes.files key) place
 
--- no step is past this one
+-- No step is later than this one.
 abbrev pub AreWithin : ℕ → List (Key × Steps) → Type 0
 AreWithin n files = (key : Key) (steps : Steps) → steps_of files key ≡ Some steps → steps.latest ≤ n
 
--- a record has a step, unless it had one before, and those of all others stay
+-- A record has this step, unless it had one before, and all other steps are unchanged.
 abbrev pub NotesRecord : RecordNotes → Key → ℕ → ℕ → RecordNotes → Type 0
 NotesRecord old key place step new =
     (q : Key) (k : ℕ) → step_of_record new q k ≡ or_else (step_of_record old q k) (mark (eq_by_cmp (slice_cmp nat_cmp) q key && (k == place)) step)
 
--- the same steps
+-- The steps are the same.
 abbrev pub SameRecords : RecordNotes → RecordNotes → Type 0
 SameRecords old new = (q : Key) (k : ℕ) → step_of_record new q k ≡ step_of_record old q k
 
--- the steps from this one on are taken away
+-- The steps from `from` on are erased.
 abbrev pub ErasesRecords : ℕ → RecordNotes → RecordNotes → Type 0
 ErasesRecords from old new = (q : Key) (k : ℕ) → step_of_record new q k ≡ erased from (step_of_record old q k)
 
 abbrev pub steps_code : Coded Steps
 steps_code = code_by (List (Option ℕ) × ℕ) (coded× (coded_list (coded_option coded_ℕ)) coded_ℕ) (λ s. (s.entries, s.latest)) (λ p. record { entries = p.0; latest = p.1 }) (λ _. refl)
 
--- how they are stored
+-- How the steps are stored.
 abbrev pub record_notes_code : Coded RecordNotes
 record_notes_code = code_by (List (Key × Steps) × ℕ) (coded× (coded_list (coded× (coded_list coded_ℕ) steps_code)) coded_ℕ)
     (λ s. (s.files, s.latest)) (λ p. record { files = p.0; latest = p.1 }) (λ _. refl)

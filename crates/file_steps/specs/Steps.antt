@@ -1,4 +1,4 @@
--- For each question that was asked of the host files the first step that asked it. (This project's own.)
+-- For each question to the host files, the first step that asked it. (This project's own.)
 use Rattle.std.specs.Prelude.{◌≡◌, ℕ, List, Option, Some, None, nat_lt, if◌then◌else◌, get_or}
 use Rattle.std.specs.FinMap.{get}
 use Rattle.hostfiles.specs.declared.looks.Ask.{Ask}
@@ -8,35 +8,35 @@ pub use Rattle.file_steps.specs.Noting.{or_else, mark, erased}
 use Rattle.file_steps.specs.RecordSteps.{step_of_record}
 use Rattle.file_steps.specs.declared.steps.FileSteps.{FileSteps}
 
--- the lesser of two steps, the first of which may not be there
+-- The lesser of two steps, if there is a first one.
 abbrev pub lesser : Option ℕ → ℕ → ℕ
 lesser None n = n
 lesser (Some m) n = if nat_lt m n then m else n
 
--- the step of a drive; a number that is no drive's has none
+-- The step of a drive; a number that is no drive's has none.
 abbrev pub step_of_drive : List (Option ℕ) → ℕ → Option ℕ
 step_of_drive directories drive = get_or directories drive None
 
--- of each drive the step is taken away, if it is this one or a later one
+-- For each drive the step is erased if it is `from` or later.
 abbrev pub ErasesSteps : ℕ → List (Option ℕ) → List (Option ℕ) → Type 0
 ErasesSteps from old new = (drive : ℕ) → step_of_drive new drive ≡ erased from (step_of_drive old drive)
 
--- the step of a question
+-- The step of a question.
 abbrev pub step_of_ask : FileSteps → Ask → Option ℕ
 step_of_ask s (Has key) = get s.has key
 step_of_ask s (Length key) = get s.lengths key
 step_of_ask s (Rec key k) = step_of_record s.records key k
 step_of_ask s (Directory drive) = step_of_drive s.directories drive
 
--- a question has a step, unless it had one before, and those of all others stay
+-- A question has this step, unless it had one before, and all other steps are unchanged.
 abbrev pub NotesStep : FileSteps → Ask → ℕ → FileSteps → Type 0
 NotesStep old ask step new = (q : Ask) → step_of_ask new q ≡ or_else (step_of_ask old q) (mark (is_same_ask q ask) step)
 
--- each question has the step that it had
+-- Each question has the step that it had.
 abbrev pub SameSteps : FileSteps → FileSteps → Type 0
 SameSteps old new = (q : Ask) → step_of_ask new q ≡ step_of_ask old q
 
--- a note of this question takes memory: it has no step, and is not about a drive
+-- A note for this question allocates: it has no step, and is not about a directory.
 abbrev pub TakesMemory : FileSteps → Ask → Type 0
 TakesMemory s (Has key) = get s.has key ≡ None
 TakesMemory s (Length key) = get s.lengths key ≡ None

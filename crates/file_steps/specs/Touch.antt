@@ -7,25 +7,25 @@ use Rattle.file_steps.specs.declared.steps.FileSteps.{FileSteps}
 use Rattle.file_steps.specs.RecordSteps.{step_of_record}
 use Rattle.file_steps.specs.Steps.{step_of_ask}
 
--- the least step of a question that the new host files answer in another way, or `least`
+-- The first step of a question that the new host files answer differently, or `least`.
 pub record IsFileTouch (old new : Host) (steps : FileSteps) (least touch : ℕ) : Type 0 where
   pub within : touch ≤ least
   pub below : (q : Ask) (m : ℕ) → step_of_ask steps q ≡ Some m → m < touch → host_answers old q ≡ host_answers new q
   pub here : (touch ≡ least) ⊎ ((q : Ask) × (step_of_ask steps q ≡ Some touch) × (host_answers old q ≡ host_answers new q → ⊥))
 
--- how many records a file has, if it is there
+-- The length of a file in records, if it is there.
 abbrev pub length_of : Option (List Record) → Option ℕ
 length_of file = option_map length file
 
--- how many records a file has; one that is not there has none
+-- The length of a file in records; 0 if it is not there.
 abbrev pub count_of : Option (List Record) → ℕ
 count_of file = length (unwrap_or file [])
 
--- a file that is not there has no record
+-- The record at a record number; a file that is not there has none.
 abbrev pub record_of : Option (List Record) → ℕ → Option Record
 record_of file k = slice_get (unwrap_or file []) k
 
--- the least step of a record of the key that two files have not alike, or `least`
+-- The first step of a record of the key that is different in the two files, or `least`.
 pub record IsPlaceTouch (key : Key) (old new : Option (List Record)) (steps : FileSteps) (least touch : ℕ) : Type 0 where
   pub within : touch ≤ least
   pub below : (k m : ℕ) → step_of_record steps.records key k ≡ Some m → m < touch → record_of old k ≡ record_of new k

@@ -5,18 +5,19 @@ ghost use Rattle.file_steps.specs.FirstSteps.{IsInOrder, latest_of, step_at, ste
 use std::alloc::{AllocError, Global};
 use std::marker::Model;
 
-/// What stands for no step: no run comes so far.
+/// Marks "no step". No run gets this far.
 const NO_STEP: u32 = u32::MAX;
 
-/// A place, and the first step that looked at it.
+/// An index, and the first step that looked at it.
 #[derive(Clone, Copy)]
 pub struct Look {
     pub place: usize,
     pub step: u32,
 }
 
-/// For each place the first step that looked at it, or none. The places that have a step also stand in the order of their
-/// steps, so that the last of them are found without going over the others.
+/// For each index the first step that looked at it, if there is one. An index is the address of a cell, an offset of
+/// the script or a record number. The indexes with a step are also stored in the order of their steps, so that the
+/// latest are found without a search.
 #[derive(Drop)]
 pub struct FirstSteps {
     steps: Vec<u32>,
@@ -38,7 +39,7 @@ impl Model for FirstSteps {
 }
 
 impl FirstSteps {
-    /// No place was looked at. It takes no memory.
+    /// Creates first steps with no step noted. Allocates nothing.
     pub fn new(alloc: Global) -> FirstSteps
         ensures { result ≡ record { entries = []; latest = 0 } }
     {
@@ -48,7 +49,7 @@ impl FirstSteps {
         }
     }
 
-    /// The first step that looked at a place.
+    /// Returns the first step that looked at an index, if there is one.
     #[tactic(auto, using(crate::proofs::EntryLemmas::entry_at))]
     pub fn of(&self, place: usize) -> Option<u64>
         ensures { result ≡ step_in self.now.entries place }
@@ -59,15 +60,19 @@ impl FirstSteps {
         }
     }
 
-    /// No place from this one on has a step.
+    /// Returns an index from which on no index has a step.
     pub fn end(&self) -> usize
         ensures { result ≡ length self.now.entries }
     {
         self.steps.len()
     }
 
-    /// Notes a step, which none that is noted is past, at a place that has none. `Err` where memory is refused: every place
-    /// then keeps its step.
+    /// Notes a step at an index; an index that has a step keeps it. The step is below 4,294,967,295, and no step that was
+    /// noted before is later.
+    ///
+    /// # Errors
+    ///
+    /// `Err` means out of memory; every index keeps its step.
     #[tactic(auto, using(crate::proofs::EntryLemmas::entry_at))]
     pub fn note(&mut self, place: usize, step: u64) -> Result<(), AllocError>
         requires held { step < 4294967295 }
@@ -80,7 +85,7 @@ impl FirstSteps {
         enter(&mut self.steps, &mut self.looks, place, step as u32)
     }
 
-    /// Erases every step from this one on, and looks only at those. It takes no memory.
+    /// Erases every step from `from` on. Visits only the erased steps and allocates nothing.
     #[tactic(auto, using(crate::proofs::EntryLemmas::entry_at))]
     pub fn erase_from(&mut self, from: u64)
         ensures entries { (k : ℕ) → step_in self.new.entries k
@@ -91,7 +96,7 @@ impl FirstSteps {
     }
 }
 
-// Notes a step at a place that has none.
+// Notes a step at an index that has none.
 fn enter(
     steps: &mut Vec<u32>,
     looks: &mut Vec<Look>,
@@ -115,7 +120,7 @@ fn enter(
     Ok(())
 }
 
-// Makes room for a step at a place, with no step there that was not.
+// Makes room for the step of an index, and changes no step.
 fn grow_past(steps: &mut Vec<u32>, place: usize) -> Result<(), AllocError>
     ensures room { OnOk result (place < vec_len steps.new) }
     ensures same { (k : ℕ) → step_at steps.new.items k ≡ step_at steps.old.items k }
@@ -126,7 +131,7 @@ fn grow_past(steps: &mut Vec<u32>, place: usize) -> Result<(), AllocError>
     Ok(())
 }
 
-// Erases every step from this one on.
+// Erases every step from `from` on.
 fn erase_from(steps: &mut Vec<u32>, looks: &mut Vec<Look>, from: u64)
     requires { IsInOrder steps.old.items looks.old.items }
     ensures entries { (k : ℕ) → step_at steps.new.items k ≡ erased from (step_at steps.old.items k) }
@@ -144,7 +149,7 @@ fn erase_from(steps: &mut Vec<u32>, looks: &mut Vec<Look>, from: u64)
     }
 }
 
-// Erases the step of a place, where that is this one or a later one.
+// Erases the step of an index if it is `from` or later.
 fn erase_at(steps: &mut Vec<u32>, place: usize, from: u64)
     ensures { (k : ℕ) → step_at steps.new.items k
         ≡ (if k == place then erased from (step_at steps.old.items k) else step_at steps.old.items k) }

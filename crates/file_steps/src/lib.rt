@@ -1,9 +1,9 @@
-//! For each question that was asked of the host files the first step that asked it; and first steps of places.
+//! The first step that asked each question to the host files, and the first step that looked at each index.
 //!
-//! - `first_steps`, `place_steps`: the first step that looked at each place of one kind; the same where places are
-//!   mostly looked at in turn
-//! - `record_steps`, `steps`: the first steps of the records of files, and of each question of the host files
-//! - `touch`: the least of these that the change of a file touches
+//! - `first_steps`: the first step that looked at each index of one kind
+//! - `place_steps`: the same, in less memory, for indexes that are mostly looked at in ascending order
+//! - `record_steps`, `steps`: the first steps of the records of files, and of each question to the host files
+//! - `touch`: the first of these steps that the change of a file touches
 #![tactic(auto)]
 
 pub mod first_steps;

@@ -8,9 +8,8 @@ use crate::first_steps::FirstSteps;
 use std::alloc::{AllocError, Global};
 use std::marker::Model;
 
-/// For each place the first step that looked at it, or none. Of places that are looked at one after the other,
-/// from the first on, the steps stand alone, in 32 bits each, and never fall. Those that are looked at out of turn
-/// stand apart.
+/// For each index the first step that looked at it, if there is one. Indexes that are looked at in ascending order,
+/// from 0 on, need 32 bits each; their steps never decrease. An index that is looked at out of order is stored apart.
 #[derive(Drop)]
 pub struct PlaceSteps {
     in_turn: Vec<u32>,
@@ -33,7 +32,7 @@ impl Model for PlaceSteps {
 }
 
 impl PlaceSteps {
-    /// No place was looked at. It takes no memory.
+    /// Creates first steps with no step noted. Allocates nothing.
     pub fn new(alloc: Global) -> PlaceSteps
         ensures { result ≡ record { entries = []; latest = 0 } }
     {
@@ -43,7 +42,7 @@ impl PlaceSteps {
         }
     }
 
-    /// The first step that looked at a place.
+    /// Returns the first step that looked at an index, if there is one.
     pub fn of(&self, place: usize) -> Option<u64>
         ensures { result ≡ step_in self.now.entries place }
     {
@@ -53,15 +52,15 @@ impl PlaceSteps {
         }
     }
 
-    /// No place from this one on has a step.
+    /// Returns an index from which on no index has a step.
     pub fn end(&self) -> usize
         ensures { result ≡ length self.now.entries }
     {
         self.in_turn.len().max(self.others.end())
     }
 
-    /// Whether this place has a step, and no place behind it has an earlier one; told only where no place was looked
-    /// at out of turn, else `false`.
+    /// Returns whether an index has a step and no later index has an earlier one. It may also return `false` if an index
+    /// was looked at out of order.
     pub fn is_earliest_from(&self, place: usize) -> bool
         ensures { result ≡ true → IsEarliestFrom self.now.entries place }
     {
@@ -69,8 +68,12 @@ impl PlaceSteps {
         place < next && self.others.end() <= next
     }
 
-    /// Notes a step, which none that is noted is past, at a place that has none. `Err` where memory is refused:
-    /// every place then keeps its step.
+    /// Notes a step at an index; an index that has a step keeps it. The step is below 4,294,967,295, and no step that was
+    /// noted before is later.
+    ///
+    /// # Errors
+    ///
+    /// `Err` means out of memory; every index keeps its step.
     pub fn note(&mut self, place: usize, step: u64) -> Result<(), AllocError>
         requires held { step < 4294967295 }
         requires latest { self.old.latest ≤ step }
@@ -90,7 +93,8 @@ impl PlaceSteps {
         self.others.note(place, step)
     }
 
-    /// Erases every step from this one on. It takes no memory, and finds the first of them in turn by halves.
+    /// Erases every step from `from` on. Allocates nothing. The first of the indexes in ascending order is found by binary
+    /// search.
     pub fn erase_from(&mut self, from: u64)
         ensures entries { (k : ℕ) → step_in self.new.entries k
             ≡ erased from (step_in self.old.entries k) }
@@ -102,7 +106,7 @@ impl PlaceSteps {
     }
 }
 
-// How many steps, of some that do not fall, lie below this one.
+// Returns the number of steps below `from`, of steps that never decrease.
 fn count_below(steps: &[u32], from: u64) -> usize
     requires { IsNonDecreasing steps.now }
     ensures count { result ≤ length steps.now }

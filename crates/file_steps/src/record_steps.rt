@@ -9,7 +9,7 @@ use std::alloc::{AllocError, Global};
 use std::collections::BTreeMap;
 use std::marker::Model;
 
-/// For each record of a file that was asked the first step that asked it.
+/// For each record of a file that was asked for, the first step that asked for it.
 #[derive(Drop)]
 pub struct RecordSteps {
     files: BTreeMap<Key, PlaceSteps>,
@@ -33,7 +33,7 @@ impl Model for RecordSteps {
 }
 
 impl RecordSteps {
-    /// No record has a step. Takes no memory.
+    /// Creates record steps with no step noted. Allocates nothing.
     pub fn new(alloc: Global) -> Self
         ensures { result ≡ record { files = []; latest = 0 } }
     {
@@ -44,14 +44,14 @@ impl RecordSteps {
         }
     }
 
-    /// The steps of the records of a file, where one was noted.
+    /// Returns the steps of the records of a file, if one was noted.
     pub fn file(&self, key: &Key) -> Option<&PlaceSteps>
         ensures { option_copied result ≡ steps_of self.now.files key.now }
     {
         self.files.get(key)
     }
 
-    /// The step of a record, if it has one.
+    /// Returns the step of a record, if it has one.
     pub fn of(&self, key: &Key, place: u32) -> Option<u64>
         ensures { result ≡ step_of_record self.now key.now place }
     {
@@ -61,8 +61,12 @@ impl RecordSteps {
         }
     }
 
-    /// Gives a record a step, which none that is noted is past, unless it has one. `Err` where memory is refused:
-    /// every record then keeps its step.
+    /// Notes a step for a record; a record that has a step keeps it. The step is below 4,294,967,295, and no step that was
+    /// noted before is later.
+    ///
+    /// # Errors
+    ///
+    /// `Err` means out of memory; every record keeps its step.
     pub fn note(&mut self, key: &Key, place: u32, step: u64) -> Result<(), AllocError>
         requires held { step < 4294967295 }
         requires latest { self.old.latest ≤ step }
@@ -80,7 +84,7 @@ impl RecordSteps {
         Ok(())
     }
 
-    /// Takes away every step from this one on. Takes no memory.
+    /// Erases every step from `from` on. Allocates nothing.
     pub fn erase_from(&mut self, from: u64)
         ensures entries { ErasesRecords from self.old self.new }
         ensures latest { (self.new.latest ≤ self.old.latest) × (self.new.latest ≤ from) }

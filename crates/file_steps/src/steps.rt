@@ -1,4 +1,4 @@
-// The first steps.
+// The first steps of the questions to the host files.
 
 ghost use Rattle.std.specs.Prelude.{◌≡◌, ◌<◌, ◌≤◌, OnOk, OnErr, None};
 ghost use Rattle.hostfiles.specs.declared.looks.Ask.{Ask as HostAsk};
@@ -9,21 +9,21 @@ use hostfiles::Ask;
 use keymaps::KeyMap;
 use std::alloc::{AllocError, Global};
 
-/// For each question that was asked of the host files the first step that asked it.
+/// For each question to the host files that was asked, the first step that asked it.
 #[derive(Drop)]
 pub struct FileSteps {
-    /// For keys whose presence was asked.
+    /// The steps of the keys whose presence was asked for.
     pub has: KeyMap<u64>,
-    /// For keys whose lengths were asked.
+    /// The steps of the keys whose lengths were asked for.
     pub lengths: KeyMap<u64>,
-    /// For records that were asked.
+    /// The steps of the records that were asked for.
     pub records: RecordSteps,
-    /// For each drive, where its directory was asked.
+    /// For each drive whose directory was asked for, the step.
     pub directories: [Option<u64>; 256],
 }
 
 impl FileSteps {
-    /// No question has a step. Takes no memory.
+    /// Creates first steps with no step noted. Allocates nothing.
     pub fn new(alloc: Global) -> Self
         ensures steps { (q : HostAsk) → step_of_ask result q ≡ None }
         ensures latest { result.records.latest ≡ 0 }
@@ -36,7 +36,7 @@ impl FileSteps {
         }
     }
 
-    /// The step of a question, if it has one.
+    /// Returns the step of a question, if it has one.
     pub fn of(&self, ask: &Ask) -> Option<u64>
         ensures { result ≡ step_of_ask self.now ask.now }
     {
@@ -48,8 +48,13 @@ impl FileSteps {
         }
     }
 
-    /// Gives a question a step, which no step of a record is past, unless it has one. An `Err` leaves each
-    /// question its step, and comes only where the note takes memory.
+    /// Notes a step for a question; a question that has a step keeps it. The step is below 4,294,967,295, and no step of a
+    /// record is later.
+    ///
+    /// # Errors
+    ///
+    /// `Err` means out of memory; each question keeps its step. A question that has a step or is about a directory is never
+    /// an `Err`.
     pub fn note(&mut self, ask: &Ask, step: u64) -> Result<(), AllocError>
         requires held { step < 4294967295 }
         requires latest { self.old.records.latest ≤ step }
@@ -64,7 +69,7 @@ impl FileSteps {
         self.enter(ask, step)
     }
 
-    // Gives a step to a question that has none.
+    // Notes a step for a question that has none.
     fn enter(&mut self, ask: &Ask, step: u64) -> Result<(), AllocError>
         requires held { step < 4294967295 }
         requires latest { self.old.records.latest ≤ step }
@@ -85,7 +90,7 @@ impl FileSteps {
         }
     }
 
-    /// Takes away every step from this one on. Takes no memory.
+    /// Erases every step from `from` on. Allocates nothing.
     pub fn erase_from(&mut self, from: u64)
         ensures steps { (q : HostAsk) → step_of_ask self.new q ≡ erased from (step_of_ask self.old q) }
         ensures latest { (self.new.records.latest ≤ self.old.records.latest)
@@ -98,7 +103,7 @@ impl FileSteps {
     }
 }
 
-// Takes away every step of a drive from this one on.
+// Erases every step of a drive from `from` on.
 fn erase_drives(directories: &mut [Option<u64>], from: u64)
     ensures { ErasesSteps from directories.old directories.new }
 {
@@ -107,7 +112,7 @@ fn erase_drives(directories: &mut [Option<u64>], from: u64)
     }
 }
 
-// What is left of a step.
+// Returns the step if it is below `from`.
 fn erased(step: Option<u64>, from: u64) -> Option<u64>
     ensures { result ≡ erased from step }
 {

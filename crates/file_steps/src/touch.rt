@@ -1,4 +1,4 @@
-// The first step that a change of a host file touches.
+// The first step that the change of a host file touches.
 
 ghost use Rattle.std.specs.Prelude.{◌≡◌, ◌↔◌, IsTrue, is_some, option_copied, if◌then◌else◌, max};
 ghost use Rattle.file_steps.specs.Steps.{lesser};
@@ -9,8 +9,8 @@ use crate::steps::FileSteps;
 use hostfiles::{Ask, HostFile, HostFiles, Key, Record};
 
 impl FileSteps {
-    /// The least noted step of a question that has another answer once the host file of a key is set to this
-    /// one, or removed where there is none; or `least`. Answers are compared by value.
+    /// Returns the first noted step of a question whose answer changes when the host file of `key` is set to `new`, or is
+    /// removed if `new` is `None`. Returns `least` if there is no such step below `least`. Answers are compared by value.
     pub fn touch_of_change(
         &self,
         least: u64,
@@ -30,7 +30,7 @@ impl FileSteps {
         self.touch_of_records(directory, key, before, new)
     }
 
-    // The least noted step of a record of a key that two files have not alike, or `least`.
+    // Returns the first noted step of a record of `key` that is different in the two files, if it is below `least`, else `least`.
     fn touch_of_records(
         &self,
         least: u64,
@@ -60,14 +60,14 @@ impl FileSteps {
     }
 }
 
-// How many records the longer of two files has; a file that is not there has none.
+// Returns the length of the longer of two files, in records; a file that is not there has length 0.
 fn longer(old: Option<&HostFile>, new: Option<&HostFile>) -> u32
     ensures { result ≡ max (count_of (option_copied old.entry)) (count_of (option_copied new.entry)) }
 {
     count_of(old).max(count_of(new))
 }
 
-// How many records a file has; one that is not there has none.
+// Returns the length of a file, in records; 0 if it is not there.
 fn count_of(file: Option<&HostFile>) -> u32
     ensures { result ≡ count_of (option_copied file.entry) }
 {
@@ -77,14 +77,14 @@ fn count_of(file: Option<&HostFile>) -> u32
     }
 }
 
-// Whether two files are both there, or both not.
+// Returns whether two files are both there, or both not there.
 fn is_same_presence(old: Option<&HostFile>, new: Option<&HostFile>) -> bool
     ensures { IsTrue result ↔ (is_some (option_copied old.entry) ≡ is_some (option_copied new.entry)) }
 {
     old.is_some() == new.is_some()
 }
 
-// Whether two files have as many records, or are both not there.
+// Returns whether two files have the same length, or are both not there.
 fn is_same_length(old: Option<&HostFile>, new: Option<&HostFile>) -> bool
     ensures { IsTrue result
         ↔ (length_of (option_copied old.entry) ≡ length_of (option_copied new.entry)) }
@@ -92,7 +92,7 @@ fn is_same_length(old: Option<&HostFile>, new: Option<&HostFile>) -> bool
     length_of(old) == length_of(new)
 }
 
-// How many records a file has, if it is there.
+// Returns the length of a file in records, if it is there.
 fn length_of(file: Option<&HostFile>) -> Option<u32>
     ensures { result ≡ length_of (option_copied file.entry) }
 {
@@ -102,7 +102,7 @@ fn length_of(file: Option<&HostFile>) -> Option<u32>
     }
 }
 
-// Whether two files have the same record at a place, or both none.
+// Returns whether two files have the same record at a record number, or both have none.
 fn is_same_record(old: Option<&HostFile>, new: Option<&HostFile>, place: u32) -> bool
     ensures { IsTrue result
         ↔ (record_of (option_copied old.entry) place ≡ record_of (option_copied new.entry) place) }
@@ -110,7 +110,7 @@ fn is_same_record(old: Option<&HostFile>, new: Option<&HostFile>, place: u32) ->
     record_of(old, place) == record_of(new, place)
 }
 
-// The record of a file at a place, if it is there and has that many.
+// Returns the record of a file at a record number, if there is one.
 fn record_of(file: Option<&HostFile>, place: u32) -> Option<&Record>
     ensures { option_copied result ≡ record_of (option_copied file.entry) place }
 {
@@ -120,7 +120,7 @@ fn record_of(file: Option<&HostFile>, place: u32) -> Option<&Record>
     }
 }
 
-// The lesser of two steps, the first of which may not be there; the second where the answer is the same.
+// Returns the lesser of `step` and `least`; `least` if there is no step or the answer is the same.
 fn lesser_unless(is_same: bool, step: Option<u64>, least: u64) -> u64
     ensures { result ≡ (if is_same then least else lesser step least) }
 {

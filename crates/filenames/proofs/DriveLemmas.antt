@@ -11,7 +11,7 @@ number_below B = lit< tt
 number_below C = lit< tt
 number_below D = lit< tt
 
--- the drive of a number has it
+-- The drive at a number has this number.
 pub number_at : (n : ℕ) (d : Drive) → Some d ≡ drive_at n → drive_number d ≡ n
 number_at zero d e = let same : d ≡ A = cc in ap drive_number same
 number_at (suc zero) d e = let same : d ≡ B = cc in ap drive_number same

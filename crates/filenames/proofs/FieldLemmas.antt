@@ -17,11 +17,11 @@ written_at f (x ∷ xs) [] i h l = absurd (omega arith)
 written_at f (x ∷ xs) (y ∷ ys) zero h l = refl
 written_at f (x ∷ xs) (y ∷ ys) (suc i) h l = ap (λ zs. f x ∷ zs) (written_at f xs ys i (omega arith) (omega arith))
 
--- one byte more is written
+-- One more byte is written.
 pub written_more : (f : ℕ → ℕ) (xs ys : List ℕ) (i : ℕ) → i < length xs → length xs ≤ length ys → set (map f (take i xs) ++ drop i ys) i (f (get_or xs i 0)) ≡ map f (take (i + 1) xs) ++ drop (i + 1) ys
 written_more f xs ys i h l = let one : suc i ≡ i + 1 = omega arith in written_at f xs ys i h l ∙ ap (λ n. map f (take n xs) ++ drop n ys) one
 
--- of a list that is not at its end, the first element and the rest
+-- The first element and the rest of a list from an index within it.
 rest_at : (xs : List ℕ) (i : ℕ) → i < length xs → drop i xs ≡ get_or xs i 0 ∷ drop (suc i) xs
 rest_at [] i h = absurd (omega arith)
 rest_at (x ∷ xs) zero h = refl
@@ -47,6 +47,6 @@ field_ascii (b ∷ bs) h = elim (is_allowed b) as (λ t. is_allowed b ≡ t → 
   | false ↦ λ t r. blanks_ascii (b ∷ bs) r
 ] refl h
 
--- the bytes of a field are text
+-- The bytes of a field are valid UTF-8.
 pub field_is_text : (n : ℕ) (bs : List ℕ) → is_field bs ≡ true → IsUtf8 (take n bs)
 field_is_text n bs h = IsUtf8-from_ascii (take n bs) (IsAscii-take bs n (field_ascii bs h))

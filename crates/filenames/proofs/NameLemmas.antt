@@ -21,14 +21,14 @@ padded_length n text h =
     let all : length text + (n - length text) ≡ n = omega arith in
     length-append text (blanks (n - length text)) ∙ ap (λ k. length text + k) (length-replicate (n - length text) 32) ∙ all
 
--- a field of n blanks into which a text is written
+-- A text written into a field of n blanks is the padded text.
 written : (n : ℕ) (text : List ℕ) → map to_ascii_uppercase text ++ drop (length text) (blanks n) ≡ padded n (map to_ascii_uppercase text)
 written n text = ap (λ rest. map to_ascii_uppercase text ++ rest) (drop-replicate (length text) n 32 ∙ ap (λ k. blanks (n - k)) (sym (raised_length text)))
 
 raised_padded : (n : ℕ) (text : List ℕ) → length text ≤ n → length (padded n (map to_ascii_uppercase text)) ≡ n
 raised_padded n text h = let same = raised_length text in padded_length n (map to_ascii_uppercase text) (omega arith)
 
--- both fields behind the drive
+-- Both fields, after the drive.
 pub key_made : (drive : ℕ) (name kind first second : List ℕ) → length name ≤ 8 → length kind ≤ 3
     → first ≡ map to_ascii_uppercase name ++ drop (length name) (blanks 8)
     → second ≡ map to_ascii_uppercase kind ++ drop (length kind) (take 3 (drop 8 (first ++ 32 ∷ 32 ∷ 32 ∷ [])))
@@ -55,14 +55,14 @@ only_blanks : (k : ℕ) → is_field (blanks k) ≡ true
 only_blanks zero = refl
 only_blanks (suc k) = blank_field k
 
--- bytes of a name and blanks are a field
+-- Bytes of a name and then blanks are a field.
 field_of : (text : List ℕ) (k : ℕ) → list_all is_allowed text ≡ true → is_field (text ++ blanks k) ≡ true
 field_of [] k h = only_blanks k
 field_of (b ∷ bs) k h =
     let p = both (is_allowed b) (list_all is_allowed bs) h in
     ap (λ x. cond x (is_field (bs ++ blanks k)) (list_all is_blank (b ∷ (bs ++ blanks k)))) p.0 ∙ field_of bs k p.1
 
--- the key of a name is one
+-- The key of a name is valid.
 pub key_is_sayable : (drive : ℕ) (name kind : List ℕ) → drive < 4 → 0 < length name → length name ≤ 8 → length kind ≤ 3 → is_valid name ≡ true → is_valid kind ≡ true
     → is_sayable (key_of drive name kind) ≡ true
 unfolding is_sayable
@@ -79,7 +79,7 @@ key_is_sayable drive (b ∷ bs) kind d h n k v w =
     (ap is_field (take_at p8 p3 8 l8) ∙ field_of (map to_ascii_uppercase name) (8 - length (map to_ascii_uppercase name)) v)
     (ap (λ x. is_field (take 3 x)) (drop_at p8 p3 8 l8) ∙ ap is_field (take_all 3 p3 (let e = l3 in omega arith)) ∙ field_of (map to_ascii_uppercase kind) (3 - length (map to_ascii_uppercase kind)) w)
 
--- what is known of a sayable key
+-- The facts about a valid key.
 pub record Sayable (key : Key) : Type 0 where
   pub drive : nat_lt (slice_index key 0) 4 ≡ true
   pub first : is_allowed (slice_index key 1) ≡ true
@@ -100,7 +100,7 @@ drive_below drive h = grind (arith, nat_tests)
 below_four : (drive : ℕ) → drive < 4 → nat_lt drive 4 ≡ true
 below_four drive d = grind (arith, nat_tests)
 
--- a name on another drive is a name
+-- A name on another drive is a name.
 pub moved_is_sayable : (key : Key) (drive : ℕ) → length key ≡ 12 → drive < 4 → is_sayable key ≡ true → is_sayable (slice_set key 0 drive) ≡ true
 unfolding is_sayable
 moved_is_sayable [] drive n d s = absurd (omega arith)
@@ -109,7 +109,7 @@ moved_is_sayable (k ∷ ks) drive n d s =
     all_four (nat_lt drive 4) (is_allowed (slice_index (drive ∷ ks) 1)) (is_field (name_field (drive ∷ ks))) (is_field (type_field (drive ∷ ks)))
     (below_four drive d) parts.first parts.name parts.kind
 
--- the pieces of a printed name, one after another
+-- The pieces of a printed name, in order.
 pub printed_pieces : (key drive name dot kind : List ℕ) → drive ≡ drive_text (slice_index key 0) → name ≡ before_first is_blank (name_field key) → kind ≡ before_first is_blank (type_field key) → dot ++ kind ≡ type_text kind
     → ((drive ++ name) ++ dot) ++ kind ≡ printed key
 unfolding printed

@@ -1,4 +1,4 @@
--- A printed name says its key.
+-- A printed name is parsed as its key.
 use Rattle.std.proofs.Common.{◌≡◌, ◌<◌, ◌≤◌, ◌-◌, ◌+◌, ◌==◌, ℕ, zero, suc, Bool, true, false, cond, List, [], ◌∷◌, ◌++◌, length, map, take, drop, replicate, ◌&&◌, ◌||◌, not, nat_lt, slice_index, refl, ap, sym, subst, ◌∙◌, arith, rules}
 use Rattle.std.specs.Prelude.{Ok, Err}
 use Rattle.std.specs.List.{list_all, before_first, after_first, position_or_len}
@@ -22,7 +22,7 @@ allowed_no_dot b h = grind (arith, nat_tests)
 allowed_no_colon : (b : ℕ) → is_allowed b ≡ true → (b == 58) ≡ false
 allowed_no_colon b h = grind (arith, nat_tests)
 
--- ---- what stands before and behind the first element that passes
+-- ---- the elements before and after the first one that passes
 
 count_end : (p : ℕ → Bool) → ((b : ℕ) → is_allowed b ≡ true → p b ≡ false) → (xs : List ℕ) → list_all is_allowed xs ≡ true → position_or_len p xs ≡ length xs
 count_end p no_p [] h = refl
@@ -55,7 +55,7 @@ only_blanks (b ∷ bs) h =
     let parts = both (is_blank b) (list_all is_blank bs) h in
     ap (λ x. x ∷ bs) (is_32 b parts.0) ∙ ap (λ xs. 32 ∷ xs) (only_blanks bs parts.1)
 
--- the text of a field, and the field from its text
+-- A field is its text, padded with blanks.
 record FieldText (xs : List ℕ) (text : List ℕ) : Type 0 where
   allowed : list_all is_allowed text ≡ true
   short : length text ≤ length xs
@@ -91,7 +91,7 @@ raised_again (b ∷ bs) h =
     let parts = both (is_allowed b) (list_all is_allowed bs) h in
     ap (λ x. x ∷ map to_ascii_uppercase bs) (allowed_is_raised b parts.0) ∙ ap (λ xs. b ∷ xs) (raised_again bs parts.1)
 
--- a name and its type, with the `.` between them where there is a type
+-- Name and type are separated at the `.`, if there is one.
 cut_name : (name kind : List ℕ) → list_all is_allowed name ≡ true → before_first is_dot (name ++ type_text kind) ≡ name
 cut_name name [] n = ap (λ t. take (position_or_len is_dot t) t) (append-nil name) ∙ ap (λ c. take c name) (count_end is_dot allowed_no_dot name n) ∙ take-length name
 cut_name name (b ∷ bs) n = ap (λ c. take c (name ++ (46 ∷ b ∷ bs))) (count_at is_dot allowed_no_dot name 46 (b ∷ bs) n refl) ∙ take_at name (46 ∷ b ∷ bs) (length name) refl
@@ -102,7 +102,7 @@ cut_kind name [] n =
     ap (λ t. drop (position_or_len is_dot t + 1) t) (append-nil name) ∙ ap (λ c. drop (c + 1) name) (count_end is_dot allowed_no_dot name n) ∙ drop_all (length name + 1) name past
 cut_kind name (b ∷ bs) n = ap (λ c. drop (c + 1) (name ++ (46 ∷ b ∷ bs))) (count_at is_dot allowed_no_dot name 46 (b ∷ bs) n refl) ∙ rest_at name 46 (b ∷ bs)
 
--- what is told of the fields of a name
+-- The facts about the fields of a name.
 record Fields (name kind first second : List ℕ) : Type 0 where
   some : 0 < length name
   name_allowed : list_all is_allowed name ≡ true
@@ -167,7 +167,7 @@ some_before b bs h =
     let count = ap length here in
     omega arith
 
--- the fields of a sayable key
+-- A valid key is the key of its printed text.
 said_key : (drive b : ℕ) (bs : List ℕ) → length bs ≡ 10 → is_sayable (drive ∷ b ∷ bs) ≡ true → name_of (printed (drive ∷ b ∷ bs)) ≡ Ok (drive ∷ b ∷ bs)
 unfolding printed
 said_key drive b bs count h =

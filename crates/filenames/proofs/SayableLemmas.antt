@@ -1,4 +1,4 @@
--- The key of a name is sayable.
+-- The key of a name is valid.
 use Rattle.std.proofs.Common.{◌≡◌, ◌<◌, ◌≤◌, ◌-◌, ◌+◌, ◌==◌, ℕ, zero, suc, Bool, true, false, cond, List, [], ◌∷◌, ◌++◌, length, map, take, drop, ◌&&◌, ◌||◌, nat_lt, nat_le, slice_index, Option, Some, None, refl, ap, sym, ◌∙◌, arith, rules}
 use Rattle.std.specs.Prelude.{Result, Ok, Err}
 use Rattle.std.specs.List.{before_first, after_first}
@@ -9,11 +9,11 @@ use Rattle.filenames.proofs.FieldLemmas.{both}
 use Rattle.filenames.proofs.NameLemmas.{key_is_sayable, padded_length, raised_length}
 use Rattle.filenames.specs.Names.{Key, is_dot, is_valid, padded, key_of, named, plain_name, drive_of, on_drive, has_drive, name_of, is_sayable}
 
--- what holds of the key of a name
+-- The facts about the key of a name.
 abbrev IsKey : Key → Type 0
 IsKey key = (length key ≡ 12) × (is_sayable key ≡ true)
 
--- the two lengths that a name and its type are tested for
+-- The two tests of lengths, of a name and of its type.
 not_long : (a b : ℕ) → (nat_lt 8 a || nat_lt 3 b) ≡ false → (a ≤ 8) × (b ≤ 3)
 not_long a b h = (grind (arith, nat_tests), grind (arith, nat_tests))
 
@@ -35,7 +35,7 @@ key_is drive name kind d some long valid =
     let parts = both (is_valid name) (is_valid kind) valid in
     (key_length drive name kind fits.0 fits.1, key_is_sayable drive name kind d (some_bytes (length name) some) fits.0 fits.1 parts.0 parts.1)
 
--- by the tests, in their order
+-- The tests, in their order.
 tested : (empty long valid : Bool) (made key : Key) → (empty ≡ false → long ≡ false → valid ≡ true → IsKey made) → cond {A = Result Key ℕ} empty (Err 1) (cond {A = Result Key ℕ} long (Err 2) (cond {A = Result Key ℕ} valid (Ok made) (Err 3))) ≡ Ok key → IsKey key
 tested true long valid made key is e = cc
 tested false true valid made key is e = cc
@@ -47,7 +47,7 @@ unfolding named
 named_is_key drive name kind key d e =
     tested (length name == 0) (nat_lt 8 (length name) || nat_lt 3 (length kind)) (is_valid name && is_valid kind) (key_of drive name kind) key (key_is drive name kind d) e
 
--- the drive of a letter
+-- A letter's drive is below 4.
 letter_of : (is : Bool) (raised : ℕ) (drive : ℕ) → (is ≡ true → raised - 65 < 4) → cond is (Some (raised - 65)) None ≡ Some drive → drive < 4
 letter_of false raised drive low e = cc
 letter_of true raised drive low e = let same : raised - 65 ≡ drive = cc in let h = low refl in omega arith

@@ -1,4 +1,4 @@
--- The drives A to D, counted from 0. ([Interface Guide 1979, functions 14 and 25]; that there are these four: this project's
+-- The drives A to D, numbered from 0. ([Interface Guide 1979, functions 14 and 25]; that there are these four: this project's
 -- profile.)
 use Rattle.std.specs.Prelude.{ℕ, List, [], ◌∷◌, Option, slice_get}
 use Rattle.filenames.specs.declared.drive.Drive.{Drive}
@@ -7,7 +7,7 @@ use Rattle.filenames.specs.declared.drive.Drive.TheVariants.{A, B, C, D}
 abbrev pub drives : List Drive
 drives = A ∷ B ∷ C ∷ D ∷ []
 
--- the drive of a number, if there is one
+-- The drive with this number, if there is one.
 abbrev pub drive_at : ℕ → Option Drive
 drive_at number = slice_get drives number
 

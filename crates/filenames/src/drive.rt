@@ -1,15 +1,15 @@
 // The drives.
 
-/// One of the four drives.
+/// One of the drives A to D.
 #[derive(Clone, Copy, Debug, PartialEq, Eq)]
 pub enum Drive {
-    /// The first.
+    /// The first drive.
     A,
-    /// The second.
+    /// The second drive.
     B,
-    /// The third.
+    /// The third drive.
     C,
-    /// The fourth.
+    /// The fourth drive.
     D,
 }
 
@@ -20,7 +20,7 @@ impl Drive {
     /// All drives, in the order of their numbers.
     pub const ALL: [Drive; 4] = [Drive::A, Drive::B, Drive::C, Drive::D];
 
-    /// The number of the drive: 0 to 3 for A to D.
+    /// Returns the number of the drive, 0 to 3 for A to D.
     pub fn number(self) -> u8
         ensures number { result ≡ drive_number self }
         ensures within { result < 4 }
@@ -33,7 +33,7 @@ impl Drive {
         }
     }
 
-    /// The drive of this number, if there is one.
+    /// Returns the drive with this number, or `None` if the number exceeds 3.
     pub fn from_number(number: u8) -> Option<Drive>
         ensures { result ≡ drive_at number }
     {

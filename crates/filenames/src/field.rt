@@ -1,11 +1,11 @@
-// A field of a name: its bytes, and blanks up to its end.
+// Fields of names: bytes of a name, padded with blanks.
 
 ghost use Rattle.std.specs.Prelude.{◌≡◌, ◌≤◌, ◌++◌, ◌==◌, true, length, map, drop};
 ghost use Rattle.std.specs.List.{list_all, before_first, after_first, position_or_len};
 ghost use Rattle.std.specs.Char.{to_ascii_uppercase};
 ghost use Rattle.filenames.specs.Names.{is_allowed, is_dot, is_blank, is_field};
 
-/// The place of the first such byte in a text, or the text's length where there is none.
+/// Returns the index of the first such byte in a text, or the text's length if there is none.
 pub fn first(text: &[u8], byte: u8) -> usize
     ensures place { result ≡ position_or_len (λ b. b == byte) text.now }
     ensures within { result ≤ length text.now }
@@ -18,7 +18,7 @@ pub fn first(text: &[u8], byte: u8) -> usize
     text.len()
 }
 
-/// What stands before the first `.`, and what stands behind it.
+/// Returns the text before the first `.`, and the text after it.
 pub fn halves(text: &[u8]) -> (&[u8], &[u8])
     ensures name { result.0.now ≡ before_first is_dot text.now }
     ensures kind { result.1.now ≡ after_first is_dot text.now }
@@ -30,18 +30,18 @@ pub fn halves(text: &[u8]) -> (&[u8], &[u8])
     (text, &text[end..])
 }
 
-/// Whether a byte may stand in a name, once letters are raised.
+/// Returns whether a byte may be in a name in upper case: A to Z, 0 to 9, `$`, `#`, `@`, `-` or `_`.
 pub fn is_allowed(byte: u8) -> bool
     ensures { result ≡ is_allowed byte }
 {
-    // most bytes of names are letters, and these are told by two comparisons
+    // Most bytes of names are letters, which take two comparisons.
     if byte >= b'A' {
         return byte <= b'Z' || byte == b'_';
     }
     byte.is_ascii_digit() || byte == b'$' || byte == b'#' || byte == b'@' || byte == b'-'
 }
 
-/// Whether all bytes of a text may stand in a name, once its letters are raised.
+/// Returns whether all bytes of a text may be in a name, after its letters are converted to upper case.
 pub fn all_allowed(text: &[u8]) -> bool
     ensures { result ≡ list_all is_allowed (map to_ascii_uppercase text.now) }
 {
@@ -53,7 +53,7 @@ pub fn all_allowed(text: &[u8]) -> bool
     true
 }
 
-/// Writes a text, its letters raised, into the beginning of a field.
+/// Copies a text to the start of a field, with its letters in upper case.
 pub fn fill(field: &mut [u8], text: &[u8])
     requires { length text.now ≤ length field.old }
     ensures { field.new ≡ map to_ascii_uppercase text.now ++ drop (length text.now) field.old }
@@ -63,7 +63,7 @@ pub fn fill(field: &mut [u8], text: &[u8])
     }
 }
 
-/// Whether a field has bytes of a name and blanks behind them.
+/// Returns whether a field is bytes of a name followed only by blanks.
 pub fn is_field(field: &[u8]) -> bool
     ensures { result ≡ is_field field.now }
 {
@@ -75,7 +75,7 @@ pub fn is_field(field: &[u8]) -> bool
     true
 }
 
-/// The bytes of a field before its blanks.
+/// Returns the bytes of a field before its blanks.
 pub fn field_text(field: &[u8]) -> &str
     requires { is_field field.now ≡ true }
     ensures { result.now ≡ before_first is_blank field.now }
@@ -84,7 +84,7 @@ pub fn field_text(field: &[u8]) -> &str
     str::from_utf8(&field[..end]).unwrap()
 }
 
-// Whether all bytes are blanks.
+// Returns whether all bytes are blanks.
 fn all_blank(text: &[u8]) -> bool
     ensures { result ≡ list_all is_blank text.now }
 {

@@ -1,8 +1,7 @@
-//! Names of files and file control blocks, with drives A to D.
-//! [Interface Guide 1979, file names and file control blocks]
+//! File names and file control blocks, with drives A to D. [Interface Guide 1979, file names and file control blocks]
 //!
-//! - `drive`: the drives A to D, by their numbers
-//! - `name`, `field`, `control_block`: names on drives A to D, with their fields; file control blocks
+//! - `drive`: the drives A to D, by number
+//! - `name`, `field`, `control_block`: names on drives A to D, and their fields; file control blocks
 #![tactic(auto)]
 
 pub mod control_block;

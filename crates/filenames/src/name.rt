@@ -13,8 +13,8 @@ use std::fmt;
 use std::marker::Model;
 use thiserror::Error;
 
-/// The number of a file's drive, 0 to 3 for A to D, and the eleven bytes of its name: 8 of the name and 3 of the type,
-/// each filled up with blanks.
+/// The key of a file: the number of its drive, 0 to 3 for A to D, and the eleven bytes of its name, 8 for the name and 3 for
+/// the type, each padded with blanks.
 pub type Key = [u8; 12];
 
 /// The name of a file on one of the drives A to D.
@@ -36,32 +36,32 @@ impl Model for Name {
     ghost inverse = { λ key. record { key = key } };
 }
 
-/// The pieces of which a name is printed, one after another.
+/// The pieces of a printed name, in order.
 #[derive(Clone, Copy)]
 pub struct Pieces<'a> {
-    /// The letter of drive B to D and `:`; empty for drive A.
+    /// The letter and `:` of drives B to D; empty for drive A.
     pub drive: &'a str,
     /// The name without its type.
     pub name: &'a str,
-    /// A `.` before a type; empty where there is none.
+    /// The `.` before a type; empty if there is no type.
     pub dot: &'a str,
-    /// The type; empty where there is none.
+    /// The type; empty if there is none.
     pub kind: &'a str,
 }
 
-/// Why a text is no name.
+/// The reason why a text is not a name.
 #[derive(Clone, Copy, Debug, PartialEq, Eq, Error)]
 pub enum NameError {
-    /// There is no byte before the first `.`.
+    /// No byte before the first `.`.
     #[error("the name is empty")]
     Empty,
-    /// There are more than 8 bytes before the first `.`, or more than 3 behind it.
+    /// More than 8 bytes before the first `.`, or more than 3 after it.
     #[error("the name or its type is too long")]
     TooLong,
-    /// A byte is none of A to Z, 0 to 9, `$`, `#`, `@`, `-` and `_`, where a to z count as A to Z.
+    /// A byte other than A to Z, a to z, 0 to 9, `$`, `#`, `@`, `-` and `_`.
     #[error("the name has a byte that no name may have")]
     BadByte,
-    /// The second byte is `:`, and the first is none of A to D and a to d.
+    /// A `:` as the second byte, after a byte other than A to D and a to d.
     #[error("the drive is none of A to D")]
     BadLetter,
 }
@@ -69,7 +69,7 @@ pub enum NameError {
 impl NameError {
     ghost use Rattle.filenames.specs.NameError.{number_of};
 
-    /// The refusal's number: 1 to 4.
+    /// Returns the number of the refusal, 1 to 4.
     pub fn number(self) -> u8
         ensures { result ≡ number_of self }
     {
@@ -85,9 +85,12 @@ impl NameError {
 impl Name {
     ghost use Rattle.filenames.specs.NameError.{NamedAs};
 
-    /// The name that a text says: 1 to 8 bytes, and behind a `.` up to 3 of a type, with a letter A to D and
-    /// `:` before it or on drive A. Letters are raised. Else the refusal: of the letter, else the first of
-    /// the others that fits.
+    /// Parses a name: 1 to 8 bytes, optionally followed by `.` and a type of up to 3 bytes. A letter A to D and `:` before it
+    /// select the drive, which is A without them. Letters are converted to upper case.
+    ///
+    /// # Errors
+    ///
+    /// `BadLetter` if it applies, otherwise the first of `Empty`, `TooLong` and `BadByte` that applies.
     #[tactic(auto, unfolding(crate::specs::Names::name_of))]
     pub fn parse(text: &str) -> Result<Name, NameError>
         ensures { NamedAs (name_of text.now) result }
@@ -102,7 +105,7 @@ impl Name {
         Name::on_drive(Drive::A, bytes)
     }
 
-    // The name that a text without a letter says on a drive.
+    // Parses a text without a drive letter as a name on a drive.
     fn on_drive(drive: Drive, text: &[u8]) -> Result<Name, NameError>
         ensures { NamedAs (plain_name (drive_number drive) text.now) result }
     {
@@ -110,7 +113,7 @@ impl Name {
         Name::named(drive, name, kind)
     }
 
-    // The name of a name and a type on a drive.
+    // Creates the name with this name and type on a drive.
     #[tactic(auto, unfolding(crate::specs::Names::named))]
     fn named(drive: Drive, name: &[u8], kind: &[u8]) -> Result<Name, NameError>
         ensures { NamedAs (named (drive_number drive) name.now kind.now) result }
@@ -135,7 +138,7 @@ impl Name {
         })
     }
 
-    /// The number of the drive and the eleven bytes of the name.
+    /// Returns the number of the drive and the eleven bytes of the name.
     pub fn key(&self) -> Key
         ensures key { result ≡ self.now }
         ensures sayable { is_sayable result ≡ true }
@@ -143,7 +146,7 @@ impl Name {
         self.key
     }
 
-    /// The name of a key that is one of a name.
+    /// Creates a name from a valid key.
     pub fn of_key(key: &Key) -> Name
         requires { is_sayable key.now ≡ true }
         ensures { result ≡ key.now }
@@ -151,14 +154,14 @@ impl Name {
         Name { key: *key }
     }
 
-    /// The drive.
+    /// Returns the drive.
     pub fn drive(&self) -> Drive
         ensures { drive_number result ≡ slice_index self.now 0 }
     {
         Drive::from_number(self.key[0]).unwrap()
     }
 
-    /// The same name on a drive.
+    /// Returns the same name on another drive.
     pub fn moved_to(&self, drive: Drive) -> Name
         ensures moved { result ≡ slice_set self.now 0 (drive_number drive) }
         ensures drive { slice_index result 0 ≡ drive_number drive }
@@ -168,7 +171,7 @@ impl Name {
         Name { key }
     }
 
-    /// Returns the pieces of the name as it is printed.
+    /// Returns the pieces of the printed name.
     pub fn pieces(&self) -> Pieces<'_>
         ensures drive { result.drive.now ≡ drive_text (slice_index self.now 0) }
         ensures name { result.name.now ≡ before_first is_blank (name_field self.now) }
@@ -186,8 +189,9 @@ impl Name {
         }
     }
 
-    /// The name of a key: where its first byte is 0 to 3, and at least one byte of a name and then blanks
-    /// fill the next eight, and bytes of a name and then blanks the last three.
+    /// Creates a name from a key, or returns `None` if the key is not valid. A key is valid if its first byte is 0 to 3, its
+    /// next eight bytes are at least one byte of a name and then blanks, and its last three are bytes of a name and then
+    /// blanks.
     pub fn from_key(key: &Key) -> Option<Name>
         ensures some { IfSome result (λ name. name ≡ key.now) }
         ensures exactly { IsSome result ↔ (is_sayable key.now ≡ true) }
@@ -216,7 +220,7 @@ impl fmt::Display for Name {
     }
 }
 
-/// Whether a key is that of a name.
+/// Returns whether a key is valid, that is, the key of a name.
 #[tactic(auto, unfolding(crate::specs::Names::is_sayable))]
 pub fn is_sayable(key: &Key) -> bool
     ensures { result ≡ is_sayable key.now }
@@ -233,7 +237,7 @@ pub fn is_sayable(key: &Key) -> bool
     is_field(&key[9..12])
 }
 
-// The letter and `:` of a drive; none of drive A.
+// Returns the letter and `:` of a drive, or an empty text for drive A.
 fn drive_text(drive: Drive) -> &'static str
     ensures { result.now ≡ drive_text (drive_number drive) }
 {
@@ -245,7 +249,7 @@ fn drive_text(drive: Drive) -> &'static str
     }
 }
 
-// What is printed between a name and its type.
+// Returns the text that is printed between a name and its type.
 fn dot_before(kind: &str) -> &'static str
     ensures dot { result.now ≡ dot_text kind.now }
     ensures printed { result.now ++ kind.now ≡ type_text kind.now }
@@ -253,7 +257,7 @@ fn dot_before(kind: &str) -> &'static str
     if kind.is_empty() { "" } else { "." }
 }
 
-// The drive that a letter names.
+// Returns the drive with this letter, in either case.
 fn drive_of(letter: u8) -> Option<Drive>
     ensures { option_map drive_number result ≡ drive_of letter }
 {
@@ -266,7 +270,7 @@ fn drive_of(letter: u8) -> Option<Drive>
     }
 }
 
-// The key of a name and a type that fit.
+// Returns the key of a name and a type that fit.
 fn key_of(drive: Drive, name: &[u8], kind: &[u8]) -> Key
     requires name { length name.now ≤ 8 }
     requires kind { length kind.now ≤ 3 }
@@ -279,8 +283,8 @@ fn key_of(drive: Drive, name: &[u8], kind: &[u8]) -> Key
     key
 }
 
-/// Two laws: a valid key is the key of its printed text, and the key of every text that is a name is valid. So the
-/// valid keys are exactly the keys of names.
+/// A valid key is the key of its printed text, and the key of every text that is a name is valid. So the valid keys are
+/// exactly the keys of names.
 pub fn names_say_their_keys()
     ensures printed { SaidAsPrinted }
     ensures valid { NamesAreSayable }

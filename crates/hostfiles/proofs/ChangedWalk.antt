@@ -15,12 +15,12 @@ use Rattle.hostfiles.specs.Files.{Own}
 use Rattle.hostfiles.specs.Changed.{is_changed_name, changed_names}
 use Rattle.hostfiles.proofs.Differences.{untouched_file}
 
--- what lies above one bound lies above the other, and what lies between them is no changed name
+-- All keys above the bound `low` are above the bound `after`, and no changed name is between the two.
 pub record Passed (host : Host) (own : Own) (after low : Option Key) : Type 0 where
   pub up : (x : Key) → is_above low x ≡ true → is_above after x ≡ true
   pub none : (x : Key) → is_above after x ≡ true → is_above low x ≡ false → is_changed_name host own x ≡ false
 
--- nothing was done to a file between a bound and a key
+-- Nothing was done to any file between a bound and a key.
 abbrev pub NoneBetween : Own → Option Key → Key → Type 0
 NoneBetween own low k = (x : Key) → is_above low x ≡ true → slice_cmp nat_cmp x k ≡ Less → get own x ≡ None
 
@@ -30,7 +30,7 @@ unchanged host own x h = ap (λ b. b && is_sayable x) (untouched_file host own x
 pub passed_none : (host : Host) (own : Own) (after : Option Key) → Passed host own after after
 passed_none host own after = record { up = λ x h. h; none = λ x h n. cc }
 
--- below the least key above the bound no name is changed
+-- No changed name is below the least key above the bound.
 pub below_least : (host : Host) (own : Own) (after low : Option Key) (k : Key) → Passed host own after low → NoneBetween own low k
     → (x : Key) → is_above after x ≡ true → slice_cmp nat_cmp x k ≡ Less → is_changed_name host own x ≡ false
 below_least host own after low k p none x a l = elim (is_above low x) as (λ b. is_above low x ≡ b → is_changed_name host own x ≡ false) [
@@ -52,7 +52,7 @@ passed_more host own after low k p up none here = record {
   ] refl n;
 }
 
--- nothing was done to a file above the bound
+-- Nothing was done to any file above the bound.
 pub changed_end : (host : Host) (own : Own) (after low : Option Key) → Passed host own after low → ((x : Key) → is_above low x ≡ true → get own x ≡ None)
     → (x : Key) → is_above after x ≡ true → is_changed_name host own x ≡ false
 changed_end host own after low p none x a = elim (is_above low x) as (λ b. is_above low x ≡ b → is_changed_name host own x ≡ false) [
@@ -77,7 +77,7 @@ all_changed host own key = elim (is_changed_name host own key) as (λ b. is_chan
   | false ↦ λ b. ap is_some (get_changed host own key ∙ ap (λ b. cond b (get own key) None) b)
 ] refl
 
--- the keys above a bound
+-- The keys above a bound.
 abbrev pub keys_above : {X : Type 0} → FinMap (slice_cmp nat_cmp) X → Option Key → List Key
 keys_above m after = map (λ e. e.0) (filter (λ e. is_above after e.0) (entries m))
 
@@ -92,7 +92,7 @@ head_of : {X : Type 0} (k : Key) (v : Option X) (es : List (Key × X)) → is_so
 head_of k None es h = cc
 head_of k (Some v) es h = refl
 
--- they begin at the least one
+-- They begin at the least one.
 pub keys_above_least : {X : Type 0} (m : FinMap (slice_cmp nat_cmp) X) (after : Option Key) (k : Key) → is_above after k ≡ true → is_some (get m k) ≡ true
     → ((x : Key) → is_above after x ≡ true → slice_cmp nat_cmp x k ≡ Less → get m x ≡ None) → keys_above m after ≡ k ∷ keys_above m (Some k)
 keys_above_least m after k up there none =
@@ -105,7 +105,7 @@ keys_above_end m after none = ap (λ es. map (λ e. e.0) es) (ends nat_list_cmp_
 lacks : (host : Host) (own : Own) (key : Key) → is_changed_name host own key ≡ false → get (changed_names host own) key ≡ None
 lacks host own key h = get_changed host own key ∙ ap (λ b. cond b (get own key) None) h
 
--- the changed keys above a bound begin at the least changed name there
+-- The changed keys above a bound begin at the least changed name above it.
 pub changed_next : (host : Host) (own : Own) (after : Option Key) (k : Key) → is_above after k ≡ true → is_changed_name host own k ≡ true
     → ((x : Key) → is_above after x ≡ true → slice_cmp nat_cmp x k ≡ Less → is_changed_name host own x ≡ false)
     → keys_above (changed_names host own) after ≡ k ∷ keys_above (changed_names host own) (Some k)

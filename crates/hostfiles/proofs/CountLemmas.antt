@@ -10,13 +10,13 @@ use Rattle.hostfiles.specs.Hosts.{Key, Host}
 use Rattle.hostfiles.specs.Files.{Own, has, length_at, place_of, entry_at, file_of, shape_at}
 use Rattle.hostfiles.specs.File.{shape_of}
 
--- no record
+-- Without a record the count is 0.
 pub count_none : (xs : Shape) → ((k : ℕ) → get_or xs k false ≡ false) → count_of xs ≡ 0
 count_none [] h = refl
 count_none (b ∷ bs) h =
     ap (λ n. cond (nat_lt 0 n) (n + 1) (cond b 1 0)) (count_none bs (λ k. h (suc k))) ∙ ap (λ c. cond c 1 0) (h 0)
 
--- a record, and none behind it
+-- If a record is the last one, the count is its index plus one.
 pub count_some : (xs : Shape) (i : ℕ) → get_or xs i false ≡ true → ((k : ℕ) → i < k → get_or xs k false ≡ false) → count_of xs ≡ i + 1
 count_some [] i h none = cc
 count_some (b ∷ bs) zero h none =
@@ -36,14 +36,14 @@ mapped : {X Y : Type 0} (f : X → Y) (xs : List X) → length (map f xs) ≡ le
 mapped f [] = refl
 mapped f (x ∷ xs) = ap suc (mapped f xs)
 
--- whether a record stands at a place of an extent
+-- Whether there is a record at an index of an extent.
 pub in_extent : (s : Shape) (e i : ℕ) → i < 128 → get_or (take 128 (drop (128 * e) s)) i false ≡ get_or s (128 * e + i) false
 in_extent s e i h = get_or-take 128 (drop (128 * e) s) i false h ∙ get_or-drop (128 * e) s i false
 
 pub past_extent : (s : Shape) (e i : ℕ) → 128 ≤ i → get_or (take 128 (drop (128 * e) s)) i false ≡ false
 past_extent s e i h = get_or_past (take 128 (drop (128 * e) s)) i false (let l = short 128 (drop (128 * e) s) in omega arith)
 
--- as a search from the extent's end goes
+-- A turn of the search from the extent's end.
 pub none_behind : (s : Shape) (e i : ℕ) → i < 128 → get_or s (128 * e + i) false ≡ false → ((k : ℕ) → i + 1 ≤ k → get_or (take 128 (drop (128 * e) s)) k false ≡ false)
     → (k : ℕ) → i ≤ k → get_or (take 128 (drop (128 * e) s)) k false ≡ false
 none_behind s e i h here behind k l = elim (cases_lt i k) [
@@ -57,14 +57,14 @@ count_found s e i h here behind = count_some (take 128 (drop (128 * e) s)) i (in
 pub count_empty : (s : Shape) (e : ℕ) → ((k : ℕ) → 0 ≤ k → get_or (take 128 (drop (128 * e) s)) k false ≡ false) → count_at s e ≡ 0
 count_empty s e none = count_none (take 128 (drop (128 * e) s)) (λ k. none k (omega arith))
 
--- whether a record stands at a place of a file of n places
+-- Whether a file of length n has a record at a number below n.
 pub place_shape : (f : ℕ → Option (List ℕ)) (n p : ℕ) → p < n → get_or (map is_some (map f (range_with_len 0 n))) p false ≡ is_some (f p)
 place_shape f n p h =
     let count = length-map-range_with_len f 0 n in
     let at : 0 + p ≡ p = omega arith in
     get_or-map is_some (map f (range_with_len 0 n)) p None false (omega arith) ∙ ap is_some (get_or-map-range_with_len f 0 n p p None h at)
 
--- whether there is a record, or a reference to one
+-- A reference to a record is present if and only if the record is.
 pub some_copied : (r : Option (Bor (List ℕ))) (o : Option (List ℕ)) → option_copied r ≡ o → is_some r ≡ is_some o
 some_copied None o e = ap is_some e
 some_copied (Some r) o e = ap is_some e
@@ -75,7 +75,7 @@ past_shape f n p h =
     let count = length-map-range_with_len f 0 n in
     get_or_past (map is_some (map f (range_with_len 0 n))) p false (omega arith)
 
--- no record stands at a place of an extent that is past the end of a file of n places
+-- An extent of a file of length n has no record past the end of the file.
 pub none_past : (f : ℕ → Option (List ℕ)) (n e i : ℕ) → ((k : ℕ) → i ≤ k → k < 128 → n ≤ 128 * e + k)
     → (k : ℕ) → i ≤ k → get_or (take 128 (drop (128 * e) (map is_some (map f (range_with_len 0 n))))) k false ≡ false
 none_past f n e i past k l = elim (cases_lt k 128) [
@@ -87,7 +87,7 @@ no_entry : (s : Shape) (e : ℕ) → 1 ≤ e → count_at s e ≡ 0 → count_in
 no_entry [] e one h = let other : (e == 0) ≡ false = search rules in ap (λ b. cond b (Some 0) None) other
 no_entry (b ∷ bs) e one h = ap (λ n. cond (nat_lt 0 n) (Some n) None) h
 
--- an extent past the end of a file has no entry
+-- An extent past the end of a file has no entry.
 pub past_entries : (host : Host) (own : Own) (key : Key) (e : ℕ) → 1 ≤ e → length_at host own key ≤ 128 * e → count_by (shape_at host own key) e ≡ None
 past_entries host own key e one past =
     let s : Shape = shape_of (file_of host key (entry_at own key)) in

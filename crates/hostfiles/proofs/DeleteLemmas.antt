@@ -1,4 +1,4 @@
--- The files that match a pattern, deleted one after another.
+-- Deleting the files that match a pattern, one after another.
 use Rattle.std.proofs.Common.{◌≡◌, ◌≢◌, ◌+◌, ℕ, suc, Bool, true, false, cond, ◌&&◌, not, is_some, List, [], ◌∷◌, ◌++◌, length, Option, Some, None, refl, sym, ap, ◌∙◌, arith}
 use Rattle.std.specs.declared.cmp.Ordering.TheVariants.{Less, Equal, Greater}
 use Rattle.std.specs.Cmp.{eq_by_cmp_equiv}
@@ -21,19 +21,19 @@ use Rattle.hostfiles.proofs.FileLemmas.{get-shapes, no_file, nothing_listed}
 abbrev pub is_passed : Option Key → Key → Bool
 is_passed after q = not (is_above after q)
 
--- the files of the keys up to one are gone, where they match
+-- All matching files with keys up to `after` are deleted, and nothing else is changed.
 abbrev pub DeletedTo : Host → Own → Key → Option Key → Own → Type 0
 DeletedTo host own pattern after left = (q : Key) → get left q ≡ cond (is_match pattern q && has host own q && is_passed after q) (Some nothing) (get own q)
 
 abbrev pub matched : Key → List (Key × Shape) → ℕ
 matched pattern es = length (filter (λ e. is_match pattern e.0) es)
 
--- these are counted, and the others are left
+-- They are counted, and the others are still to be counted.
 abbrev pub CountedTo : Host → Own → Key → Option Key → ℕ → Type 0
 CountedTo host own pattern after count =
     count + matched pattern (filter (λ e. is_above after e.0) (entries (shapes host own))) ≡ matched pattern (entries (shapes host own))
 
--- there is no file of a key that neither map has
+-- There is no file with a key that neither map has.
 pub not_there : (host : Host) (own : Own) (q : Key) → (get host q ≡ None) × (get own q ≡ None) → has host own q ≡ false
 not_there host own q h = absent (has host own q) (no_file host own q h.0 h.1) where
   absent : (b : Bool) → cond b (Some (file_of host q (entry_at own q))) None ≡ None → b ≡ false
@@ -57,12 +57,12 @@ counted_start host own pattern =
     let zero_on : 0 + matched pattern (filter (λ e. true) (entries (shapes host own))) ≡ matched pattern (filter (λ e. true) (entries (shapes host own))) = omega arith in
     zero_on ∙ ap (matched pattern) (all_pass (entries (shapes host own)))
 
--- ---- one key on
+-- ---- the next key
 
 abbrev pub NoneBetween : Host → Own → Option Key → Key → Type 0
 NoneBetween host own after k = (x : Key) → is_above after x ≡ true → slice_cmp nat_cmp x k ≡ Less → (get host x ≡ None) × (get own x ≡ None)
 
--- a key above k was above before; one below k that was above has no file
+-- A key above k was above the bound before; a key below k that was above that bound has no file.
 passed_on : (host : Host) (own : Own) (after : Option Key) (k q : Key) → is_above after k ≡ true → NoneBetween host own after k → slice_cmp nat_cmp k q ≢ Equal
     → (has host own q && is_passed (Some k) q) ≡ (has host own q && is_passed after q)
 passed_on host own after k q up none apart =
@@ -96,7 +96,7 @@ apart_of k q h e =
     let yes : eq_by_cmp (slice_cmp nat_cmp) q k ≡ true = ap (λ x. eq_by_cmp (slice_cmp nat_cmp) q x) same ∙ same_as_itself q in
     cc
 
--- the key has no file that matches
+-- If the key has no file that matches, nothing changes.
 pub deleted_past : (host : Host) (own : Own) (pattern : Key) (after : Option Key) (k : Key) (left : Own) → is_above after k ≡ true → NoneBetween host own after k → (is_match pattern k && has host own k) ≡ false
     → DeletedTo host own pattern after left → DeletedTo host own pattern (Some k) left
 deleted_past host own pattern after k left up none unmatched h q =
@@ -116,7 +116,7 @@ not_above_itself k =
       | Greater ↦ λ r. refl
     ] refl
 
--- the key's file is deleted
+-- If it has one, the file is deleted.
 pub deleted_here : (host : Host) (own : Own) (pattern : Key) (after : Option Key) (k : Key) (left m : Own) → is_above after k ≡ true → NoneBetween host own after k → (is_match pattern k && has host own k) ≡ true
     → DeletedTo host own pattern after left → m ≡ deleted left k → DeletedTo host own pattern (Some k) m
 deleted_here host own pattern after k left m up none matched h e q =

@@ -1,4 +1,4 @@
--- A file as it is told, beside the host file.
+-- The contents of a file, compared with its host file.
 use Rattle.std.proofs.Common.{◌≡◌, ◌≢◌, ◌<◌, ◌+◌, ℕ, Bool, true, false, true≢false, cond, not, is_some, List, [], length, get_or, Option, Some, None, Decides, refl, sym, ap, ◌∙◌, arith, unwrap_or}
 use Rattle.std.specs.Option.{option_map}
 use Rattle.std.specs.List.{slice_get}
@@ -21,7 +21,7 @@ use Rattle.hostfiles.specs.File.{is_same}
 pub records_decide : (a b : List Record) → Decides (pointwise bytes_eq a b) (a ≡ b)
 records_decide = pointwise_decides bytes_decides
 
--- ---- a file as it is told
+-- ---- the contents of a file
 
 pub length_told : (host : Host) (key : Key) (e : Entry) → length (told_records (file_of host key e)) ≡ length_of host key e
 length_told host key e = length-map (file_of host key e) (λ place. unwrap_or place zeros) ∙ length-map-range_with_len (place_of host key e) 0 (length_of host key e)
@@ -57,14 +57,14 @@ true_of : (t : Bool) → not t ≡ false → t ≡ true
 true_of true h = refl
 true_of false h = sym h
 
--- both have the same records
+-- Both have the same records.
 pub same_file : (f g : List Record) → f ≡ g → not (pointwise bytes_eq f g) ≡ false
 same_file f g h = not_true (pointwise bytes_eq f g) ((records_decide f g).1 h)
 
 pub other_file : (f g : List Record) → (f ≡ g → ⊥) → not (pointwise bytes_eq f g) ≡ true
 other_file f g h = not_false (pointwise bytes_eq f g) (λ e. h ((records_decide f g).0 e))
 
--- each record is the host file's
+-- If each record is the host file's, so are the contents.
 pub same_told : (host : Host) (key : Key) (e : Entry) (f : List Record) → length_of host key e ≡ length f
     → ((k : ℕ) → k < length f → unwrap_or (place_of host key e k) zeros ≡ get_or f k zeros) → told_records (file_of host key e) ≡ f
 same_told host key e f long each =
@@ -77,7 +77,7 @@ pub same_records : (host : Host) (key : Key) (e : Entry) (f : List Record) → l
     → ((k : ℕ) → k < length f → unwrap_or (place_of host key e k) zeros ≡ get_or f k zeros) → false ≡ not (pointwise bytes_eq (told_records (file_of host key e)) f)
 same_records host key e f long each = sym (same_file (told_records (file_of host key e)) f (same_told host key e f long each))
 
--- a record is not the host file's
+-- If one record is not the host file's, the contents are not.
 pub other_record : (host : Host) (key : Key) (e : Entry) (f : List Record) (k : ℕ) → length_of host key e ≡ length f → k < length f
     → not (bytes_eq (unwrap_or (place_of host key e k) zeros) (get_or f k zeros)) ≡ true → true ≡ not (pointwise bytes_eq (told_records (file_of host key e)) f)
 other_record host key e f k long h differs = sym (other_file (told_records (file_of host key e)) f (λ same.
@@ -86,13 +86,13 @@ other_record host key e f k long h differs = sym (other_file (told_records (file
     let told : bytes_eq (unwrap_or (place_of host key e k) zeros) (get_or f k zeros) ≡ true = (bytes_decides (unwrap_or (place_of host key e k) zeros) (get_or f k zeros)).1 one in
     true≢false (sym told ∙ false_of _ differs)))
 
--- the record at a place is the host file's
+-- The record with this number is the host file's.
 pub equal_record : (a b : Record) → not (bytes_eq a b) ≡ false → a ≡ b
 equal_record a b h = (bytes_decides a b).0 (true_of (bytes_eq a b) h)
 
 -- ---- a file to which nothing was done
 
--- a record that was not written, of a file that stands on its own host file
+-- An unwritten record of a file that comes from its own host file and has not grown.
 pub own_record : (host : Host) (key : Key) (e : Entry) (f : List Record) (k : ℕ) → e.base ≡ Same → e.grown ≡ None → get e.records k ≡ None → get host key ≡ Some f → k < length f
     → unwrap_or (place_of host key e k) zeros ≡ get_or f k zeros
 own_record host key e f k base grown none here h =
@@ -116,7 +116,7 @@ untouched_by host own key (Some f) here none =
 pub untouched_file : (host : Host) (own : Own) (key : Key) → get own key ≡ None → is_changed host own key ≡ false
 untouched_file host own key none = untouched_by host own key (get host key) refl none
 
--- a file of another length
+-- A file of another length is changed.
 pub other_length : (host : Host) (own : Own) (key : Key) (f : List Record) → has host own key ≡ true → get host key ≡ Some f → length_at host own key ≢ length f → is_changed host own key ≡ true
 other_length host own key f there here long =
     changed_by host own key true (Some f) there here
@@ -135,7 +135,7 @@ changed_other host own key =
     let decides = same_option (told host own key) (get host key) in
     ((λ h. decides.0 (true_of (is_same (told host own key) (get host key)) h)), λ h. not_true (is_same (told host own key) (get host key)) (decides.1 h))
 
--- ---- in the code's words
+-- ---- the same for the steps of the code
 
 pub unwritten_same : (host : Host) (own : Own) (key : Key) (e : Entry) (f : List Record) (k : ℕ) → entry_at own key ≡ e → e.base ≡ Same → e.grown ≡ None → get e.records k ≡ None
     → get host key ≡ Some f → k < length f → false ≡ not (bytes_eq (unwrap_or (place_of host key (entry_at own key) k) zeros) (get_or f k zeros))

@@ -1,4 +1,4 @@
--- No record stands past the end of a file.
+-- No file has a record past its end.
 use Rattle.std.proofs.Common.{◌≡◌, ℕ, zero, suc, ◌+◌, ◌-◌, ◌≤◌, Bool, true, false, cond, eqb, nat_lt, List, [], length, Option, Some, None, refl, sym, ap, subst, ◌∙◌, arith, inl, inr, rules, unwrap_or}
 use Rattle.std.proofs.lemmas.Bool.{cases_lt}
 use Rattle.std.proofs.lemmas.Bool.Decides.{eqb_tells}
@@ -55,7 +55,7 @@ gap_past n k m p h = elim (cases_lt n k) [
   | inr l ↦ let no_gap : nat_lt n k ≡ false = search rules in ap (λ b. get (cond b (zeros_at m n (k - n)) m) p) no_gap
 ]
 
--- an entry with the gap filled
+-- An entry with its gap filled with zeros.
 abbrev with_gap : ℕ → ℕ → Entry → Entry
 with_gap n k e = record { base = e.base; grown = e.grown; records = filled_gap n k e.records }
 

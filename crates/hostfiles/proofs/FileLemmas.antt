@@ -1,4 +1,4 @@
--- What the map of all files has at a key, and how it changes.
+-- The file that the map of all files has at a key, and how the map changes.
 use Rattle.std.proofs.Common.{◌≡◌, Bool, true, false, cond, is_some, List, [], ◌∷◌, ◌++◌, ◌||◌, Some, None, Option, refl, ap, sym, ◌∙◌, unwrap_or}
 use Rattle.std.specs.Option.{option_map}
 use Rattle.std.specs.List.{list_any}
@@ -26,7 +26,7 @@ module _ {X : Type 0} where
   step m k q (Some x) g a same h = get-insert nat_list_cmp_total m k x q ∙ pick (eq_by_cmp (slice_cmp nat_cmp) q k) a x g (get m q) same h
   step m k q None g a same h = miss (eq_by_cmp (slice_cmp nat_cmp) q k) a g (get m q) same h
 
-  -- what f has, at each key of the list
+  -- The value of f at each key of the list.
   get-among : (f : Key → Option X) (ks : List Key) (q : Key) → get (among f ks) q ≡ cond (list_any (eq_by_cmp (slice_cmp nat_cmp) q) ks) (f q) None
   get-among f [] q = get-empty (slice_cmp nat_cmp) q
   get-among f (k ∷ ks) q =
@@ -46,7 +46,7 @@ any_append : {X : Type 0} (p : X → Bool) (xs ys : List X) → list_any p (xs +
 any_append p [] ys = refl
 any_append p (x ∷ xs) ys = grouped (p x) (list_any p (xs ++ ys)) (list_any p xs) (list_any p ys) (any_append p xs ys)
 
--- what f has at each key, if it has nothing where neither map has the key
+-- The value of f at each key, if f has no value at a key that neither map has.
 pub get-over : {X : Type 0} (host : Host) (own : Own) (f : Key → Option X) → ((q : Key) → get host q ≡ None → get own q ≡ None → f q ≡ None)
     → (q : Key) → get (among f (keys host ++ keys own)) q ≡ f q
 get-over host own f h q =
@@ -54,7 +54,7 @@ get-over host own f h q =
     ∙ whole (list_any (eq_by_cmp (slice_cmp nat_cmp) q) (keys host)) (list_any (eq_by_cmp (slice_cmp nat_cmp) q) (keys own)) (f q)
     (λ d e. h q (absent_of (get host q) (contains_key-keys host q ∙ d)) (absent_of (get own q) (contains_key-keys own q ∙ e)))
 
--- there is no file of a key that neither map has
+-- There is no file with a key that neither map has.
 pub no_file : (host : Host) (own : Own) (q : Key) → get host q ≡ None → get own q ≡ None → file_at host own q ≡ None
 no_file host own q d e =
     ap (λ x. cond (is_there host q (unwrap_or x untouched).base) (Some (file_of host q (unwrap_or x untouched))) None) e
@@ -75,7 +75,7 @@ made_at : (host : Host) (q : Key) (b : Bool) (x : Option Entry) → cond (is_the
 made_at host q true x = refl
 made_at host q false x = refl
 
--- a file that is made is empty, and the others stay
+-- A file that is made is empty, and the others are unchanged.
 pub files-made : (host : Host) (own : Own) (key : Key) → files host (made own key) ≡ insert (files host own) key []
 files-made host own key = same_map nat_list_cmp_total same_key _ _ (λ q.
     get-files host (made own key) q
@@ -88,7 +88,7 @@ gone_at : (host : Host) (q : Key) (b : Bool) (x : Option Entry) → cond (is_the
 gone_at host q true x = refl
 gone_at host q false x = refl
 
--- a file that is deleted is gone, and the others stay
+-- A file that is deleted is gone, and the others are unchanged.
 pub files-deleted : (host : Host) (own : Own) (key : Key) → files host (deleted own key) ≡ remove (files host own) key
 files-deleted host own key = same_map nat_list_cmp_total same_key _ _ (λ q.
     get-files host (deleted own key) q
@@ -99,6 +99,6 @@ files-deleted host own key = same_map nat_list_cmp_total same_key _ _ (λ q.
 
 -- ---- a walk over keys
 
--- no file has a key that neither map has
+-- There is no shape at a key that neither map has.
 pub nothing_listed : (host : Host) (own : Own) (x : Key) → (get host x ≡ None) × (get own x ≡ None) → get (shapes host own) x ≡ None
 nothing_listed host own x h = get-shapes host own x ∙ no_shape host own x h.0 h.1

@@ -1,4 +1,4 @@
--- A file after a write that fills the gap.
+-- A file after a write that fills the gap with zeros.
 use Rattle.std.proofs.Common.{◌≡◌, ℕ, zero, suc, ◌+◌, ◌-◌, ◌<◌, ◌≤◌, true, false, cond, eqb, nat_lt, List, ◌∷◌, map, Option, Some, None, refl, sym, ap, ◌∙◌, arith, inl, inr}
 use Rattle.std.proofs.lemmas.Bool.{cases_lt}
 use Rattle.std.proofs.lemmas.Bool.Decides.{eqb_tells}
@@ -34,7 +34,7 @@ zeros_in m from (suc c) p low high =
       | inr other ↦ ap (λ b. cond b (Some zeros) (get (zeros_at m from c) p)) other.0 ∙ zeros_in m from c p low (let apart = other.1 in omega arith)
     ]
 
--- the places of the file, and zeros behind them
+-- The records of the file, and zeros after them.
 abbrev with_zeros : (ℕ → Option Record) → ℕ → ℕ → Option Record
 with_zeros P n p = cond (nat_lt p n) (P p) (Some zeros)
 

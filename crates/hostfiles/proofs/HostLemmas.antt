@@ -53,13 +53,13 @@ host_set m k v few h s room = record {
   short = λ q f e. set_short (eq_by_cmp (slice_cmp nat_cmp) q k) v (get m q) few (h.short q) f (sym (get-insert nat_list_cmp_total m k v q) ∙ e);
 }
 
--- the records of as many bytes
+-- At most 8,388,608 bytes make at most 65,536 records.
 pub records_few : (bytes : List ℕ) (f : List Record) → f ≡ records_in bytes → length bytes ≤ 8388608 → length f ≤ 65536
 records_few bytes f e few =
     let count = ap length e ∙ length-map-range_with_len (record_in bytes) 0 ((length bytes + 127) / 128) in
     omega arith
 
--- whether the file was put in or refused
+-- Host files stay within their limits, whether the file was set or not.
 pub host_either : {E : Type 0} (m n : Host) (k : Key) (v : List Record) (r : Result (Unit {0}) E) → length v ≤ 65536 → OnOk r (n ≡ insert m k v) → OnErr r (n ≡ m) → IsHost m → is_sayable k ≡ true → has_room m k ≡ true → IsHost n
 host_either m n k v (Ok x) few ok err h s room = subst IsHost (sym ok) (host_set m k v few h s room)
 host_either m n k v (Err e) few ok err h s room = subst IsHost (sym err) h

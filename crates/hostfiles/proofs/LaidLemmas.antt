@@ -1,4 +1,4 @@
--- How the map of all files changes by what a run does.
+-- How the map of all files changes by the operations of a run.
 use Rattle.std.proofs.Common.{◌≡◌, ℕ, ◌+◌, ◌-◌, ◌<◌, ◌≤◌, Bool, true, false, cond, eqb, nat_lt, List, ◌++◌, length, map, replicate, set, get_or, Option, Some, None, refl, sym, ap, ◌∙◌, arith, inl, inr, rules, unwrap_or}
 use Rattle.std.proofs.lemmas.Bool.{cases_lt}
 use Rattle.std.proofs.lemmas.List.{same_lists, length-append, length-replicate, get_or-append_right, get_or-replicate, get_or_past}
@@ -30,7 +30,7 @@ below p n h = search rules
 pub not_below : (p n : ℕ) → n ≤ p → nat_lt p n ≡ false
 not_below p n h = search rules
 
--- where no host record stands past the end, it does not matter that no place there is the host's
+-- If there is no record when the host file's records count, it does not matter whether they count.
 past_end : (u : List Record) (p : ℕ) (o : Option Record) → place_by u p o true ≡ None → place_by u p o false ≡ place_by u p o true
 past_end u p None h = sym h
 past_end u p (Some r) h = refl
@@ -54,7 +54,7 @@ pub taken : (b : Bool) (u : List Record) (p : ℕ) (r : Record) (o : Option Reco
 taken true u p r o c = refl
 taken false u p r o c = refl
 
--- each place after a write
+-- Each record number after a write.
 pub place_wrote : (host : Host) (key : Key) (e : Entry) (n k : ℕ) (r : Record) (p : ℕ) → (n ≤ p → place_of host key e p ≡ None)
     → place_of host key (wrote_entry n k r e) p ≡ cond (eqb p k) (Some r) (place_of host key e p)
 place_wrote host key e n k r p h =
@@ -62,7 +62,7 @@ place_wrote host key e n k r p h =
     ∙ taken (eqb p k) (under host key e) p r (get e.records p) (is_below p (grown_by n k e.grown))
     ∙ ap (cond (eqb p k) (Some r)) (grown_kept (under host key e) n k p (get e.records p) e.grown h)
 
--- the length after a write
+-- The length after a write.
 pub length_wrote : (host : Host) (key : Key) (e : Entry) (k : ℕ) (r : Record) → length_of host key (wrote_entry (length_of host key e) k r e) ≡ cond (nat_lt k (length_of host key e)) (length_of host key e) (k + 1)
 length_wrote host key e k r = elim (nat_lt k (length_of host key e)) as (λ b. length_by (length (under host key e)) (cond b e.grown (Some (record { from = limit_by (length_of host key e) e.grown; to = k + 1 }))) ≡ cond b (length_of host key e) (k + 1)) [
   | true ↦ refl
@@ -75,7 +75,7 @@ longer N k = elim (cases_lt k N) [
   | inr l ↦ let same : k + 1 ≡ N + (k + 1 - N) = omega arith in ap (λ b. cond b N (k + 1)) (not_below k N l) ∙ same
 ]
 
--- a list of places, made longer by others, with a record written into it
+-- A list of records, made longer by others, with one record written.
 module _ (P : ℕ → Option Record) (N k : ℕ) (r : Record) (z : Option Record) (past : (p : ℕ) → N ≤ p → P p ≡ z) where
   abbrev places : File
   places = map P (range_with_len 0 N)
@@ -114,7 +114,7 @@ module _ (P : ℕ → Option Record) (N k : ℕ) (r : Record) (z : Option Record
       get_or-map-range_with_len Q 0 M i i d inside at ∙ q i within ∙ ap (cond (eqb i k) (Some r)) (sym (in_room i d within))
       ∙ sym (set_read room k (Some r) d (omega arith) i))
 
--- the file after a write
+-- The file after a write.
 pub file_wrote : (host : Host) (key : Key) (e : Entry) (k : ℕ) (r : Record) → ((p : ℕ) → length_of host key e ≤ p → place_of host key e p ≡ None)
     → file_of host key (wrote_entry (length_of host key e) k r e) ≡ written k r (file_of host key e)
 file_wrote host key e k r past =
@@ -123,7 +123,7 @@ file_wrote host key e k r past =
 
 -- ---- the map of all files
 
--- the file of a key with an entry
+-- The file with a key and this entry.
 abbrev pub entry_file : Host → Key → Option Entry → Option File
 entry_file host q x = cond (is_there host q (unwrap_or x untouched).base) (Some (file_of host q (unwrap_or x untouched))) None
 
@@ -131,7 +131,7 @@ pub some_cond : (b : Bool) (x f : File) → cond b (Some x) None ≡ Some f → 
 some_cond true x f h = (refl, (let inner : Some x ≡ Some f = h in cc))
 some_cond false x f h = cc
 
--- another entry at one key
+-- Another entry at one key.
 pub files-insert : (host : Host) (own : Own) (key : Key) (e : Entry) (f : File) → entry_file host key (Some e) ≡ Some f → files host (insert own key e) ≡ insert (files host own) key f
 files-insert host own key e f h = same_map nat_list_cmp_total same_key _ _ (λ q.
     get-files host (insert own key e) q
@@ -167,7 +167,7 @@ there_moved host old new (Moved x) h = refl
 unfoldable file_over : List Record → Entry → File
 file_over u e = map (λ k. place_by u k (get e.records k) (is_below k e.grown)) (range_with_len 0 (length_by (length u) e.grown))
 
--- a renamed file still stands on its host file
+-- A renamed file still comes from its host file.
 file_moved : (host : Host) (old new : Key) (e : Entry) → file_of host new (moved old e) ≡ file_of host old e
 unfolding file_over
 file_moved host old new e = ap (λ s. file_over (records_of host s) e) (stands_moved old new e.base)
@@ -180,7 +180,7 @@ files-renamed host own old new f h =
     (ap (λ b. cond b (Some (file_of host new (moved old e))) None) (there_moved host old new e.base there.0) ∙ ap (λ x. Some x) (file_moved host old new e ∙ there.1))
     ∙ ap (λ m. insert m new f) (files-deleted host own old)
 
--- ---- what is told of a file
+-- ---- the contents of a file
 
 counted_by : (b : Bool) (P : ℕ → Option Record) (N : ℕ) → cond b (Some N) None ≡ option_map length (cond b (Some (map P (range_with_len 0 N))) None)
 counted_by true P N = ap (λ n. Some n) (sym (length-map-range_with_len P 0 N))

@@ -1,4 +1,4 @@
--- No question is forgotten.
+-- Looks are never removed.
 use Rattle.std.proofs.Common.{◌≡◌, ℕ, true, false, is_some, ◌==◌, ◌&&◌, arith, Option, Some, None, sym, ap, subst, ◌∙◌}
 use Rattle.std.specs.Cmp.{nat_cmp_total}
 use Rattle.std.specs.Cmp.Lexicographic.{nat_list_cmp_total}
@@ -101,7 +101,7 @@ with_directory l drive (Directory d) h = there_still nat_cmp_total nat_cmp-IsAnt
 pub extends_by_directory : (drive : ℕ) (l m : Looks) → m ≡ look_directory drive l → Extends l m
 extends_by_directory drive l m e = record { kept = subst (Keeps l) (sym e) (with_directory l drive) }
 
--- a question was marked, or answered itself
+-- The question was marked, or needed no look.
 pub ruleset noted_has = (extends_by_has, extends_same)
 
 pub ruleset noted_length = (extends_by_length, extends_same)

@@ -12,7 +12,7 @@ use Rattle.hostfiles.specs.Hosts.{Key, Host}
 use Rattle.hostfiles.specs.Files.{Own, has, is_listed}
 use Rattle.hostfiles.proofs.DeleteLemmas.{NoneBetween, not_there}
 
--- what lies above one bound lies above the other, and what lies between them is not listed
+-- All keys above the bound `low` are above the bound `after`, and no listed name is between the two.
 pub record Passed (host : Host) (own : Own) (after low : Option Key) : Type 0 where
   pub up : (x : Key) → is_above low x ≡ true → is_above after x ≡ true
   pub none : (x : Key) → is_above after x ≡ true → is_above low x ≡ false → is_listed host own x ≡ false
@@ -23,7 +23,7 @@ unlisted host own x h = ap (λ b. b && is_sayable x) h
 pub passed_none : (host : Host) (own : Own) (after : Option Key) → Passed host own after after
 passed_none host own after = record { up = λ x h. h; none = λ x h n. cc }
 
--- below the least key above the bound nothing is listed
+-- No listed name is below the least key above the bound.
 pub below_least : (host : Host) (own : Own) (after low : Option Key) (k : Key) → Passed host own after low → NoneBetween host own low k
     → (x : Key) → is_above after x ≡ true → slice_cmp nat_cmp x k ≡ Less → is_listed host own x ≡ false
 below_least host own after low k p none x a l = elim (is_above low x) as (λ b. is_above low x ≡ b → is_listed host own x ≡ false) [
@@ -45,7 +45,7 @@ passed_more host own after low k p up none here = record {
   ] refl n;
 }
 
--- above the bound there is no key
+-- There is no key above the bound.
 pub listed_end : (host : Host) (own : Own) (after low : Option Key) → Passed host own after low → ((x : Key) → is_above low x ≡ true → (get host x ≡ None) × (get own x ≡ None))
     → (x : Key) → is_above after x ≡ true → is_listed host own x ≡ false
 listed_end host own after low p none x a = elim (is_above low x) as (λ b. is_above low x ≡ b → is_listed host own x ≡ false) [

@@ -1,4 +1,4 @@
--- What is said of all keys that a walk passes over. (This project's own.)
+-- Facts about all keys that a walk passes. (This project's own.)
 use Rattle.std.specs.Prelude.{◌≡◌, true, Option}
 use Rattle.std.specs.Ordering.{nat_cmp}
 use Rattle.std.specs.Cmp.Lexicographic.{slice_cmp}
@@ -6,10 +6,10 @@ use Rattle.std.specs.declared.cmp.Ordering.TheVariants.{Less}
 use Rattle.keymaps.specs.Order.{is_above}
 use Rattle.hostfiles.specs.Hosts.{Key}
 
--- of each key above the one given, if there is one
+-- P holds for each key above `after`. Every key is above `None`.
 abbrev pub AllAbove : Option Key → (Key → Type 0) → Type 0
 AllAbove after P = (x : Key) → is_above after x ≡ true → P x
 
--- of each of these that is below a key
+-- P holds for each key above `after` and below k.
 abbrev pub AllBetween : Option Key → Key → (Key → Type 0) → Type 0
 AllBetween after k P = (x : Key) → is_above after x ≡ true → slice_cmp nat_cmp x k ≡ Less → P x

@@ -1,5 +1,5 @@
--- Which files a run left otherwise than the host files have them: this project's profile. Records alone are compared: where a file was
--- deleted and made again with the same records, it is not changed.
+-- Which files a run left different from the host files: this project's profile. Only records are compared: a file that was
+-- deleted and made again with the same records is not changed.
 use Rattle.std.specs.Prelude.{◌≡◌, Bool, false, not, ◌&&◌, List}
 use Rattle.std.specs.Ordering.{nat_cmp}
 use Rattle.std.specs.Cmp.Lexicographic.{slice_cmp}
@@ -10,26 +10,26 @@ use Rattle.hostfiles.specs.Files.{Own, told}
 use Rattle.hostfiles.specs.declared.journal.Entry.{Entry}
 use Rattle.hostfiles.specs.File.{is_same}
 
--- whether the file of a key is told otherwise than the host files have it
+-- Whether the contents of a file differ from its host file's.
 abbrev pub is_changed : Host → Own → Key → Bool
 is_changed host own key = not (is_same (told host own key) (get host key))
 
--- whether a key is that of a name, and its file is changed
+-- Whether a file is changed and its key is valid.
 abbrev pub is_changed_name : Host → Own → Key → Bool
 is_changed_name host own key = is_changed host own key && is_sayable key
 
--- the files to which something was done and that are changed, by the keys of their names
+-- The changed files to which something was done, by key, if their keys are valid.
 abbrev pub changed_names : Host → Own → FinMap (slice_cmp nat_cmp) Entry
 changed_names host own = retain_keys own (is_changed_name host own)
 
--- the keys of the changed names, in order
+-- The keys of the changed names, in order.
 abbrev pub changed_keys : Host → Own → List Key
 changed_keys host own = keys (changed_names host own)
 
--- these are all of them: a file to which nothing was done is not changed
+-- These are all changed names: a file to which nothing was done is not changed.
 abbrev pub AreAllChanged : Type 0
 AreAllChanged = (host : Host) (own : Own) (key : Key) → contains_key (changed_names host own) key ≡ is_changed_name host own key
 
--- a file is changed exactly where it is told otherwise than the host files have it
+-- A file is unchanged if and only if its contents are its host file's.
 abbrev pub ChangedIsOther : Type 0
 ChangedIsOther = (host : Host) (own : Own) (key : Key) → (is_changed host own key ≡ false → told host own key ≡ get host key) × (told host own key ≡ get host key → is_changed host own key ≡ false)

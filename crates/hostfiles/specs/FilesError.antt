@@ -1,15 +1,15 @@
--- Why a host file is not set. (This project's own.)
+-- The reasons why a host file is not set. (This project's own.)
 use Rattle.std.specs.Prelude.{◌≡◌, ℕ, Option, Some, None, Result, Ok, Err}
 use Rattle.hostfiles.specs.declared.host.FilesError.{FilesError}
 use Rattle.hostfiles.specs.declared.host.FilesError.TheVariants.{FileTooLong, TooManyFiles, OutOfMemory}
 
--- the number that tells a refusal
+-- The number of a refusal.
 abbrev pub number_of : FilesError → ℕ
 number_of FileTooLong = 1
 number_of TooManyFiles = 2
 number_of OutOfMemory = 3
 
--- refused by the number that is wanted; where none is, for want of memory alone
+-- The result is a refusal with the wanted number. If no number is wanted, it is `Ok` or out of memory.
 abbrev pub RefusedAs : Option ℕ → Result (Unit {0}) FilesError → Type 0
 RefusedAs None (Ok x) = Unit {0}
 RefusedAs None (Err e) = e ≡ OutOfMemory

@@ -1,6 +1,5 @@
 -- Host files. ([Interface Guide 1979, operating system call conventions]: a record has 128 bytes, a file at most 65,536
--- records, and 1AH ends a text; that 1AH fills up the last record, and that there are at most 512 files: this project's
--- profile.)
+-- records, and 1AH ends a text; that 1AH pads the last record, and that there are at most 512 files: this project's profile.)
 pub use Rattle.filenames.specs.Names.{Key}
 use Rattle.filenames.specs.Names.{is_sayable}
 use Rattle.std.specs.Prelude.{◌≡◌, ◌≤◌, ℕ, ◌+◌, ◌-◌, ◌*◌, ◌/◌, Bool, true, ◌||◌, List, ◌++◌, length, map, take, drop, replicate, nat_lt, if◌then◌else◌, Option, Some, None}
@@ -12,33 +11,33 @@ use Rattle.std.specs.FinMap.{FinMap, get, contains_key, len}
 abbrev pub Record : Type 0
 Record = List ℕ
 
--- the records of each host file, by the file's key
+-- The records of each host file, by key.
 abbrev pub Host : Type 0
 Host = FinMap (slice_cmp nat_cmp) (List Record)
 
 abbrev pub filled_up : List ℕ → Record
 filled_up piece = piece ++ replicate (128 - length piece) 26
 
--- a record of bytes
+-- The record with number i of a file with these bytes.
 abbrev pub record_in : List ℕ → ℕ → Record
 record_in bytes i = filled_up (take 128 (drop (128 * i) bytes))
 
--- all of them
+-- All records of a file with these bytes.
 abbrev pub records_in : List ℕ → List Record
 records_in bytes = map (record_in bytes) (range_with_len 0 ((length bytes + 127) / 128))
 
--- whether a file of the key may be set: it is there, or there are fewer than 512
+-- Whether a file with this key can be set: there is one already, or there are fewer than 512 files.
 abbrev pub has_room : Host → Key → Bool
 has_room host key = contains_key host key || nat_lt (len host) 512
 
--- the number of the refusal of a file that is to be set, if one fits
+-- The number of the refusal of a file that is to be set, if it is refused.
 abbrev pub refusal_of : Host → Key → List ℕ → Option ℕ
 refusal_of host key bytes =
     if nat_lt 8388608 (length bytes) then Some 1
     else if has_room host key then None
     else Some 2
 
--- names that can be said, at most 512, each with at most 65,536 records
+-- At most 512 files with valid keys, each with at most 65,536 records.
 pub record IsHost (host : Host) : Type 0 where
   pub few : len host ≤ 512
   pub sayable : (q : Key) → contains_key host q ≡ true → is_sayable q ≡ true

@@ -1,4 +1,4 @@
--- How the map of all files changes by what a run does. (This project's profile.)
+-- How the map of all files changes by the operations of a run. (This project's profile.)
 use Rattle.std.specs.Prelude.{◌≡◌, ℕ, ◌≤◌, [], length, get_or, Some, None}
 use Rattle.std.specs.Option.{option_map, option_and_then}
 use Rattle.std.specs.FinMap.{insert, remove, empty, get}
@@ -6,11 +6,12 @@ use Rattle.hostfiles.specs.Hosts.{Key, Record, Host}
 use Rattle.hostfiles.specs.Files.{Own, entry_at, place_of, length_at, file_at, records, place, files, made, deleted, renamed, wrote, wrote_filled}
 use Rattle.hostfiles.specs.File.{File, written, written_filled}
 
--- no record stands at or past the end of the file of a key
+-- The file with this key has no record at or past its end.
 abbrev pub Ends : Host → Own → Key → Type 0
 Ends host own key = (p : ℕ) → length_at host own key ≤ p → place_of host key (entry_at own key) p ≡ None
 
--- what a run did, laid over the host files, is the map of all files: each thing that it does changes the map at the keys that it names
+-- Laid over the host files, what a run did is the map of all files, and each operation changes this map only at the keys that
+-- it names.
 pub record FilesAreLaid (host : Host) (own : Own) : Type 0 where
   pub at : (key : Key) → get (files host own) key ≡ file_at host own key
   pub counted : (key : Key) → records host own key ≡ option_map length (get (files host own) key)
@@ -24,7 +25,7 @@ pub record FilesAreLaid (host : Host) (own : Own) : Type 0 where
   pub renamed_one : (old new : Key) (f : File) → get (files host own) old ≡ Some f
       → files host (renamed own old new) ≡ insert (remove (files host own) old) new f
 
--- no record stands at or past the end of any file: so it is with nothing done, and so it stays by each thing that a run does
+-- No file has a record at or past its end: this holds if nothing was done, and each operation of a run keeps it.
 pub record FilesEnd (host : Host) : Type 0 where
   pub start : (q : Key) → Ends host empty q
   pub made_one : (own : Own) → ((q : Key) → Ends host own q) → (key q : Key) → Ends host (made own key) q

@@ -1,4 +1,4 @@
--- The questions that a run asks of the host files, and those that what it did answers. (This project's profile.)
+-- The questions that a run asks the host files; its own changes answer all others. (This project's profile.)
 use Rattle.std.specs.Prelude.{◌≡◌, ℕ, ◌==◌, ◌&&◌, Bool, true, false, Option, Some, None, is_some, nat_lt, if◌then◌else◌}
 use Rattle.std.specs.Ordering.{nat_cmp, eq_by_cmp}
 use Rattle.std.specs.Cmp.Lexicographic.{slice_cmp}
@@ -15,21 +15,21 @@ use Rattle.hostfiles.specs.declared.looks.Ask.TheVariants.{Has, Length, Rec, Dir
 abbrev pub no_looks : Looks
 no_looks = record { has = empty; lengths = empty; records = empty; directories = empty }
 
--- whether a question was asked
+-- Whether a question was asked.
 abbrev pub is_looked : Looks → Ask → Bool
 is_looked l (Has key) = contains_key l.has key
 is_looked l (Length key) = contains_key l.lengths key
 is_looked l (Rec key k) = contains_key l.records (key, k)
 is_looked l (Directory drive) = contains_key l.directories drive
 
--- whether no question was asked
+-- Whether no question was asked.
 abbrev pub asks_nothing : Looks → Bool
 asks_nothing l = len l.has == 0 && len l.lengths == 0 && len l.records == 0 && len l.directories == 0
 
 abbrev pub IsUnasked : Looks → Type 0
 IsUnasked l = (q : Ask) → is_looked l q ≡ false
 
--- whether two questions are the same
+-- Whether two questions are the same.
 abbrev pub is_same_ask : Ask → Ask → Bool
 is_same_ask (Has key) (Has other) = eq_by_cmp (slice_cmp nat_cmp) key other
 is_same_ask (Length key) (Length other) = eq_by_cmp (slice_cmp nat_cmp) key other
@@ -37,14 +37,15 @@ is_same_ask (Rec key k) (Rec other j) = eq_by_cmp (slice_cmp nat_cmp) key other 
 is_same_ask (Directory drive) (Directory other) = drive == other
 is_same_ask ask other = false
 
--- without a question
+-- The looks without a question.
 abbrev pub forgot : Ask → Looks → Looks
 forgot (Has key) l = record l { has = remove l.has key }
 forgot (Length key) l = record l { lengths = remove l.lengths key }
 forgot (Rec key k) l = record l { records = remove l.records (key, k) }
 forgot (Directory drive) l = record l { directories = remove l.directories drive }
 
--- ---- one question of a program, by what was done to the file; a file that was made, deleted or renamed answers whether it is there
+-- ---- one question of a program, by what was done to the file: whether it is there needs no look if it was made, deleted or
+-- renamed
 
 abbrev pub look_has_by : Base → Key → Looks → Looks
 look_has_by Same key l = record l { has = insert l.has key tt }
@@ -52,7 +53,7 @@ look_has_by Gone key l = l
 look_has_by New key l = l
 look_has_by (Moved old) key l = l
 
--- a file that was made, or made longer, answers its length
+-- The length of a file that was made or made longer needs no look.
 abbrev pub look_length_by : Base → Option Grown → Key → Looks → Looks
 look_length_by base (Some g) key l = l
 look_length_by Same None key l = record l { lengths = insert l.lengths key tt }
@@ -68,35 +69,35 @@ look_record_by (Moved old) key k l = record l { records = insert l.records (old,
 
 -- ---- the questions of a program
 
--- whether there is a file
+-- Whether there is a file.
 abbrev pub look_has : Own → Key → Looks → Looks
 look_has own key l = look_has_by (entry_at own key).base key l
 
 abbrev pub look_length : Own → Key → Looks → Looks
 look_length own key l = look_length_by (entry_at own key).base (entry_at own key).grown key l
 
--- whether there is a file, and how long it is
+-- Whether there is a file, and its length.
 abbrev pub look_records : Host → Own → Key → Looks → Looks
 look_records host own key l = if has host own key then look_length own key (look_has own key l) else look_has own key l
 
--- the record at a place below the length: a place that was written, or that a write past the end left, answers itself
+-- The record with a number below the length. A written record, and a hole that a write past the end left, need no look.
 abbrev pub look_content : Own → Key → ℕ → Looks → Looks
 look_content own key k l =
     if is_some (get (entry_at own key).records k) then l
     else if is_below k (entry_at own key).grown then look_record_by (entry_at own key).base key k l
     else l
 
--- whether there is a file, how long it is, and its record at a place
+-- Whether there is a file, its length, and its record with this number.
 abbrev pub look_read : Host → Own → Key → ℕ → Looks → Looks
 look_read host own key k l =
     if has host own key
     then (if nat_lt k (length_at host own key) then look_content own key k (look_records host own key l) else look_records host own key l)
     else look_records host own key l
 
--- the files of a drive, always
+-- The files of a drive, which always need a look.
 abbrev pub look_directory : ℕ → Looks → Looks
 look_directory drive l = record l { directories = insert l.directories drive tt }
 
--- no question of the first is forgotten in the second
+-- Each question of the first is in the second.
 pub record Extends (l m : Looks) : Type 0 where
   pub kept : (q : Ask) → is_looked l q ≡ true → is_looked m q ≡ true

@@ -1,4 +1,4 @@
--- What contracts say of the file of a key that was found. (This project's own.)
+-- What contracts see of a file that was found. (This project's own.)
 use Rattle.std.specs.Prelude.{ℕ, Bool, Option}
 use Rattle.directory.specs.Entries.{Shape}
 use Rattle.hostfiles.specs.Hosts.{Record}
@@ -7,14 +7,14 @@ use Rattle.hostfiles.specs.File.{shape_of}
 use Rattle.hostfiles.specs.declared.journal.Entry.{Entry}
 use Rattle.hostfiles.specs.declared.seen.SeenFile.{SeenFile}
 
--- what was done to the files, and to this one
+-- What was done to all files, and to this one.
 abbrev pub own_of : SeenFile → Own
 own_of f = f.journal.now.entries
 
 abbrev pub entry_of : SeenFile → Entry
 entry_of f = entry_at (own_of f) f.key
 
--- whether there is a file, how many places it has, the record at a place below that, and for each place whether a record stands there
+-- Whether there is a file, its length, the record with a number below the length, and its shape.
 abbrev pub is_seen : SeenFile → Bool
 is_seen f = has f.host.now (own_of f) f.key
 

@@ -1,4 +1,4 @@
-// Whether the file of a key is changed.
+// Comparison of files with their host files.
 
 ghost use Rattle.std.specs.Prelude.{◌≡◌, ◌<◌, true, Some, None, not, get_or, length, unwrap_or};
 ghost use Rattle.std.specs.FinMap as finmap;
@@ -15,9 +15,8 @@ use crate::journal::{Base, Entry, Journal};
 use crate::told::told_content;
 use filenames::Key;
 
-/// Whether the file of a key is told otherwise than the host files have it: it is there in one of them alone,
-/// or has another length, or another record at some place, where a hole counts as zeros. The comparison ends
-/// at the first difference.
+/// Returns whether the run left this file different from its host file: only one of them exists, their lengths differ, or
+/// some of their records differ, with zeros for a hole. The comparison ends at the first difference.
 pub fn is_changed(host: &HostFiles, journal: &Journal, key: &Key) -> bool
     ensures { result ≡ is_changed host.now journal.now.entries key.now }
 {
@@ -36,7 +35,7 @@ pub fn is_changed(host: &HostFiles, journal: &Journal, key: &Key) -> bool
     has_other_record(host, journal, key, entry, file)
 }
 
-// Whether a record differs, of a file that is as long as the host file.
+// Returns whether a record differs, for a file as long as its host file.
 fn has_other_record(
     host: &HostFiles,
     journal: &Journal,
@@ -58,8 +57,8 @@ fn has_other_record(
     false
 }
 
-// Whether the record at a place of a host file differs. Where the file stands on that host file and was not
-// made longer, this is asked only of a record that was written.
+// Returns whether the record with a number below the host file's length differs from the host file's. If the file comes from
+// this host file and has not grown, only written records are compared.
 fn is_other_record(
     host: &HostFiles,
     journal: &Journal,
@@ -84,7 +83,7 @@ fn is_other_record(
     }
 }
 
-// Whether the record at a place is that of the key's own host file, as nothing else can be.
+// Returns `true` only if the record with this number comes unchanged from the host file with the same key.
 fn is_unwritten(entry: &Entry, place: u32) -> bool
     ensures base { result ≡ true → entry.now.base ≡ Base.Same }
     ensures grown { result ≡ true → entry.now.grown ≡ None }
@@ -102,7 +101,7 @@ fn is_unwritten(entry: &Entry, place: u32) -> bool
     }
 }
 
-/// Carries the law that a file is changed exactly where it is told otherwise than the host files have it.
+/// A file is changed if and only if its contents differ from its host file's.
 pub fn changed_is_other()
     ensures { ChangedIsOther }
 {}

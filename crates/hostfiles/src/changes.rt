@@ -1,4 +1,4 @@
-// What a run did to the files and looked at.
+// What a run did to files, and its questions to the host files.
 
 ghost use Rattle.std.specs.Prelude.{◌≡◌, true, false, IfOk, IfSome, IfNone};
 ghost use Rattle.std.specs.FinMap as finmap;
@@ -8,17 +8,17 @@ use crate::journal::Journal;
 use crate::looks::{Ask, Looks};
 use std::alloc::{AllocError, Global};
 
-/// What a run did to the files and looked at.
+/// What a run did to files, and its questions to the host files.
 #[derive(Drop)]
 pub struct Changes {
-    /// What was done.
+    /// What the run did to files.
     pub journal: Journal,
-    /// The questions that were asked of the host files.
+    /// The questions that the run asked the host files.
     pub looks: Looks,
 }
 
 impl Changes {
-    /// Nothing done, and no question asked. Takes no memory.
+    /// Creates changes with nothing done and no question asked. Allocates nothing.
     pub fn new(alloc: Global) -> Changes
         ensures own { result.journal.entries ≡ finmap.empty }
         ensures looks { result.looks ≡ no_looks }
@@ -29,7 +29,7 @@ impl Changes {
         }
     }
 
-    /// The same changes and questions, at the cost of a reference for each extent that was written.
+    /// Returns a copy, which costs a reference for each written extent. `Err` means out of memory.
     pub fn snapshot(&self) -> Result<Changes, AllocError>
         ensures { IfOk result (λ c. c ≡ self.now) }
     {
@@ -39,14 +39,14 @@ impl Changes {
         })
     }
 
-    /// Whether a question was asked.
+    /// Returns whether a question was asked.
     pub fn looked(&self, ask: &Ask) -> bool
         ensures { result ≡ is_looked self.now.looks ask.now }
     {
         self.looks.looked(ask)
     }
 
-    /// Whether no question was asked.
+    /// Returns whether no question was asked.
     pub fn asks_nothing(&self) -> bool
         ensures value { result ≡ asks_nothing self.now.looks }
         ensures none { result ≡ true → IsUnasked self.now.looks }
@@ -54,7 +54,7 @@ impl Changes {
         self.looks.is_empty()
     }
 
-    /// Forgets every question that was asked. Takes no memory.
+    /// Removes all questions. Allocates nothing.
     pub fn forget_looks(&mut self)
         ensures looks { self.new.looks ≡ no_looks }
         ensures stays { self.new.journal ≡ self.old.journal }
@@ -62,7 +62,7 @@ impl Changes {
         self.looks.clear();
     }
 
-    /// Gives one of the questions that were asked and forgets it; none where there is none. Takes no memory.
+    /// Removes and returns one of the questions, or `None` if there are none. Allocates nothing.
     pub fn take_look(&mut self) -> Option<Ask>
         ensures there { IfSome result (λ q. is_looked self.old.looks q ≡ true) }
         ensures some { IfSome result (λ q. self.new.looks ≡ forgot q self.old.looks) }

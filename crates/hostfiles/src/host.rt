@@ -20,10 +20,10 @@ use std::alloc::{AllocError, Global};
 use std::marker::Model;
 use thiserror::Error;
 
-/// The most bytes of a file: 65,536 records.
+/// The maximum number of bytes in a file: 65,536 records.
 pub const FILE_LIMIT: usize = 8_388_608;
 
-/// The most host files, over all drives.
+/// The maximum number of host files, on all drives together.
 pub const COUNT_LIMIT: usize = 512;
 
 /// The records of a host file, in order.
@@ -46,8 +46,8 @@ impl Model for HostFile {
 }
 
 impl HostFile {
-    /// The records of these bytes, at most 8,388,608, the last filled up with 1AH to 128 bytes. No bytes give
-    /// no record. `Err` where memory is refused.
+    /// Creates a host file from at most 8,388,608 bytes, with its last record padded to 128 bytes with 1AH. Without bytes it
+    /// has no records. `Err` means out of memory.
     pub fn new(alloc: Global, bytes: &[u8]) -> Result<HostFile, AllocError>
         requires { length bytes.now ≤ 8388608 }
         ensures { IfOk result (λ file. file ≡ records_in bytes.now) }
@@ -60,14 +60,14 @@ impl HostFile {
         Ok(HostFile { records })
     }
 
-    /// The record at a place, if the file has that many.
+    /// Returns the record with this number, or `None` past the end of the file.
     pub fn get(&self, place: u32) -> Option<&Record>
         ensures { option_copied result ≡ slice_get self.now place }
     {
         self.records.get(place as usize)
     }
 
-    /// How many records there are, at most 65,536.
+    /// Returns the number of records, at most 65,536.
     pub fn len(&self) -> u32
         ensures { result ≡ length self.now }
     {
@@ -75,7 +75,7 @@ impl HostFile {
     }
 }
 
-// A record of bytes, filled up with 1AH.
+// Returns the record with this number, padded with 1AH.
 fn record_at(bytes: &[u8], i: usize) -> Record
     requires { 128 * i < length bytes.now }
     ensures { result ≡ record_in bytes.now i }
@@ -87,7 +87,7 @@ fn record_at(bytes: &[u8], i: usize) -> Record
     filled_up(&bytes[start..])
 }
 
-// Up to 128 bytes, filled up with 1AH.
+// Returns up to 128 bytes, padded with 1AH.
 fn filled_up(piece: &[u8]) -> Record
     requires { length piece.now ≤ 128 }
     ensures { result ≡ filled_up piece.now }
@@ -97,7 +97,7 @@ fn filled_up(piece: &[u8]) -> Record
     record
 }
 
-/// Host files by their names, at most 512 on all drives.
+/// Host files by name, at most 512 on all drives together.
 #[derive(Drop)]
 pub struct HostFiles {
     files: KeyMap<HostFile>,
@@ -121,16 +121,16 @@ impl Model for HostFiles {
     ghost invariant = { λ a. IsHost a.files };
 }
 
-/// Why a host file is not set.
+/// The reason why a host file is not set.
 #[derive(Clone, Copy, Debug, PartialEq, Eq, Error)]
 pub enum FilesError {
-    /// The file has more than 8,388,608 bytes.
+    /// A file of more than 8,388,608 bytes.
     #[error("the file is too long")]
     FileTooLong,
-    /// There are 512 files, and this would be one more.
+    /// One file more than the limit of 512.
     #[error("there are too many files")]
     TooManyFiles,
-    /// A growth was refused.
+    /// A failed allocation.
     #[error("out of memory")]
     OutOfMemory,
 }
@@ -138,7 +138,7 @@ pub enum FilesError {
 impl FilesError {
     ghost use Rattle.hostfiles.specs.FilesError.{number_of};
 
-    /// The refusal's number: 1, 2 or 3.
+    /// Returns the number of the refusal: 1, 2 or 3.
     pub fn number(self) -> u8
         ensures { result ≡ number_of self }
     {
@@ -164,7 +164,7 @@ impl From<AllocError> for FilesError {
 impl HostFiles {
     ghost use Rattle.hostfiles.specs.FilesError.{RefusedAs};
 
-    /// No file. Takes no memory.
+    /// Creates an empty set of host files. Allocates nothing.
     pub fn new(alloc: Global) -> HostFiles
         ensures { result ≡ finmap.empty }
     {
@@ -174,7 +174,12 @@ impl HostFiles {
         }
     }
 
-    /// Sets or exchanges a file: its bytes, filled up with 1AH to whole records. A refusal changes nothing.
+    /// Sets or replaces a file with these bytes, padded with 1AH to whole records.
+    ///
+    /// # Errors
+    ///
+    /// `FileTooLong` if there are more than 8,388,608 bytes, otherwise `TooManyFiles` if there are 512 files and none has
+    /// this name, otherwise `OutOfMemory` if an allocation fails. On error, nothing changes.
     ///
     /// # Example
     ///
@@ -202,7 +207,7 @@ impl HostFiles {
         Ok(())
     }
 
-    /// Whether a file of the key may be set: it is there, or there are fewer than 512.
+    /// Returns whether a file with this key can be set: there is one already, or there are fewer than 512 files.
     pub fn has_room(&self, key: &Key) -> bool
         ensures { result ≡ has_room self.now key.now }
     {
@@ -212,7 +217,7 @@ impl HostFiles {
         self.files.len() < COUNT_LIMIT
     }
 
-    /// Sets or exchanges a file for which there is room. `Err` where memory is refused: nothing changes.
+    /// Sets or replaces a file for which there is room. On `Err`, which means out of memory, nothing changes.
     pub fn put(&mut self, name: Name, file: HostFile) -> Result<(), AllocError>
         requires { has_room self.old name ≡ true }
         ensures ok { OnOk result (self.new ≡ finmap.insert self.old name file) }
@@ -223,7 +228,7 @@ impl HostFiles {
         self.files.insert(name.key(), file)
     }
 
-    /// How many files there are.
+    /// Returns the number of files.
     pub fn len(&self) -> usize
         ensures len { result ≡ finmap.len self.now }
         ensures limits { IsHost self.now }
@@ -231,7 +236,7 @@ impl HostFiles {
         self.files.len()
     }
 
-    /// Takes a file out, and says whether it was there. Takes no memory.
+    /// Removes a file and returns whether there was one. Allocates nothing.
     pub fn remove(&mut self, name: &Name) -> bool
         ensures there { result ≡ finmap.contains_key self.old name.now }
         ensures removed { self.new ≡ finmap.remove self.old name.now }
@@ -240,7 +245,7 @@ impl HostFiles {
         self.files.remove(&name.key()).is_some()
     }
 
-    /// How many records a file has, if it is there.
+    /// Returns the number of records of a file, or `None` if there is no such file.
     pub fn records(&self, name: &Name) -> Option<u32>
         ensures { result ≡ option_map length (finmap.get self.now name.now) }
     {
@@ -250,7 +255,7 @@ impl HostFiles {
         }
     }
 
-    /// A record of a file; none where the file is not there or has fewer.
+    /// Returns a record of a file, or `None` if there is no such file or it is too short.
     pub fn record(&self, name: &Name, place: u32) -> Option<Record>
         ensures { result ≡ option_and_then (λ file. slice_get file place) (finmap.get self.now name.now) }
     {
@@ -260,7 +265,7 @@ impl HostFiles {
         }
     }
 
-    /// The least name by key, after the one given if there is one.
+    /// Returns the least name above `after`, by key, or `None` if there is none. Every name is above `None`.
     pub fn next(&self, after: Option<&Name>) -> Option<Name>
         ensures above { IfSome result (λ k. is_above (option_copied after.entry) k ≡ true) }
         ensures there { IfSome result (λ k. finmap.contains_key self.now k ≡ true) }
@@ -278,15 +283,15 @@ impl HostFiles {
         }
     }
 
-    /// How many records a file has after these changes, if it is there. No look is marked.
+    /// Returns the number of records of a file after these changes, or `None` if there is no such file. Marks no look.
     pub fn records_with(&self, changes: &Changes, name: &Name) -> Option<u32>
         ensures { result ≡ option_map length (told self.now changes.now.journal.entries name.now) }
     {
         told_count(self, &changes.journal, &name.key())
     }
 
-    /// A record of a file after these changes, zeros in a hole; none where the file is not there or has
-    /// fewer. No look is marked.
+    /// Returns a record of a file after these changes, with zeros in a hole, or `None` if there is no such file or it is too
+    /// short. Marks no look.
     pub fn record_with(&self, changes: &Changes, name: &Name, place: u32) -> Option<Record>
         ensures { let seen = told self.now changes.now.journal.entries name.now in
             result ≡ option_and_then (λ records. slice_get records place) seen }
@@ -294,8 +299,8 @@ impl HostFiles {
         told_record(self, &changes.journal, &name.key(), place)
     }
 
-    /// The least name of a file after these changes, by key, after the one given if there is one. No look is
-    /// marked.
+    /// Returns the least name above `after`, by key, of a file after these changes, or `None` if there is none. Every name is
+    /// above `None`. Marks no look.
     pub fn next_with(&self, changes: &Changes, after: Option<&Name>) -> Option<Name>
         ensures above { IfSome result (λ k. is_above (option_copied after.entry) k ≡ true) }
         ensures there { IfSome result (λ k. is_listed self.now changes.now.journal.entries k ≡ true) }
@@ -307,21 +312,21 @@ impl HostFiles {
         next_name(self, &changes.journal, key_if_any(after))
     }
 
-    /// The file of a key.
+    /// Returns the file with a key.
     pub fn file(&self, key: &Key) -> Option<&HostFile>
         ensures { option_copied result ≡ finmap.get self.now key.now }
     {
         self.files.get(key)
     }
 
-    /// Whether there is a file of the key.
+    /// Returns whether there is a file with a key.
     pub fn has(&self, key: &Key) -> bool
         ensures { result ≡ finmap.contains_key self.now key.now }
     {
         self.files.contains_key(key)
     }
 
-    /// All files by their keys.
+    /// Returns all files by key.
     pub fn files(&self) -> &KeyMap<HostFile>
         ensures { result.now ≡ self.now }
     {

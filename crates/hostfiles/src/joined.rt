@@ -1,5 +1,5 @@
-// The files that a program sees, each asked for one thing by its key. Nothing here is a look. Who asks for
-// more finds the file once, as a `SeenFile`.
+// Single questions about the files that a program sees. None of them is a look. To ask more about one file, find it once as a
+// `SeenFile`.
 
 ghost use Rattle.std.specs.Prelude.{◌≡◌};
 ghost use Rattle.hostfiles.specs.Files.{has, length_at};
@@ -9,14 +9,14 @@ use crate::journal::Journal;
 use crate::seen::SeenFile;
 use filenames::Key;
 
-/// Whether there is a file of the key.
+/// Returns whether there is a file with this key.
 pub fn has(host: &HostFiles, journal: &Journal, key: &Key) -> bool
     ensures { result ≡ has host.now journal.now.entries key.now }
 {
     SeenFile::find(host, journal, key).is_there()
 }
 
-/// The length of the file of a key.
+/// Returns the length of the file with this key, in records.
 pub fn length(host: &HostFiles, journal: &Journal, key: &Key) -> u32
     ensures { result ≡ length_at host.now journal.now.entries key.now }
 {

@@ -1,4 +1,4 @@
-// What a run did to the files.
+// What a run did to files.
 
 ghost use Rattle.std.specs.Prelude.{◌≡◌, ◌≢◌, ◌<◌, ℕ, true, IfOk, OnOk, OnErr};
 ghost use Rattle.std.specs.FinMap as finmap;
@@ -10,43 +10,43 @@ use keymaps::KeyMap;
 use records::{Record, Records};
 use std::alloc::{AllocError, Global};
 
-/// What the file of a key stands on.
+/// Where the unwritten records of a file come from.
 #[derive(Clone, Copy)]
 pub enum Base {
-    /// The host file of the key itself, if there is one.
+    /// The host file with the same key, if there is one.
     Same,
-    /// There is no file.
+    /// Nowhere: there is no file.
     Gone,
-    /// Nothing: the file was made.
+    /// Nowhere: the file was made.
     New,
-    /// The host file of another key, from which it was renamed.
+    /// The host file with another key, from which the file was renamed.
     Moved(Key),
 }
 
-/// A file that was made, or made longer.
+/// The growth of a file that was made or made longer.
 #[derive(Clone, Copy)]
 pub struct Grown {
-    /// The place from which on no record is the host file's.
+    /// The record number from which on no unwritten record is the host file's.
     pub from: u32,
-    /// The length.
+    /// The length of the file, in records.
     pub to: u32,
 }
 
 /// What a run did to one file.
 #[derive(Drop)]
 pub struct Entry {
-    /// What the file stands on.
+    /// Where the unwritten records of the file come from.
     pub base: Base,
-    /// How it has grown, where it was made or made longer.
+    /// The growth of the file, if it was made or made longer.
     pub grown: Option<Grown>,
-    /// The records that were written, zeros that fill a gap included.
+    /// The written records, including zeros that fill a gap.
     pub records: Records,
 }
 
-/// What a run did to the files, by their keys.
+/// What a run did to files, by key.
 #[derive(Drop)]
 pub struct Journal {
-    /// What was done to each file.
+    /// What the run did to each file.
     pub entries: KeyMap<Entry>,
     alloc: Global,
 }
@@ -64,7 +64,7 @@ impl Clone for Entry {
 }
 
 impl Entry {
-    /// Nothing was done to the file.
+    /// Creates the entry of a file to which nothing was done.
     pub fn untouched(alloc: Global) -> Self
         ensures { result ≡ untouched }
     {
@@ -75,7 +75,7 @@ impl Entry {
         }
     }
 
-    /// The file is gone.
+    /// Creates the entry of a file that is gone.
     pub fn nothing(alloc: Global) -> Self
         ensures { result ≡ nothing }
     {
@@ -86,7 +86,7 @@ impl Entry {
         }
     }
 
-    /// The file was made, and is empty.
+    /// Creates the entry of a file that was made and is empty.
     pub fn fresh(alloc: Global) -> Self
         ensures { result ≡ fresh }
     {
@@ -97,8 +97,8 @@ impl Entry {
         }
     }
 
-    /// Writes a record of a file of `n` places. Between its end and the record it leaves holes, or fills the
-    /// places with zeros. An `Err` changes nothing.
+    /// Writes record `k` of a file of length `n`. If `k` is past the end, the record numbers from `n` to `k - 1` become
+    /// holes, or records of zeros if `filled` is set. On `Err`, which means out of memory, nothing changes.
     pub fn write(&mut self, n: u32, k: u32, bytes: &Record, filled: bool) -> Result<(), AllocError>
         requires { k < 65536 }
         ensures ok { OnOk result (self.new ≡ written_entry filled n k bytes.now self.old) }
@@ -115,7 +115,7 @@ impl Entry {
         Ok(())
     }
 
-    // The length after a write at a place of a file of `n` places.
+    // Sets the growth after record `k` of a file of length `n` is written.
     fn grow(&mut self, n: u32, k: u32)
         requires { k < 65536 }
         ensures { self.new ≡ record self.old { grown = grown_by n k self.old.grown } }
@@ -129,7 +129,7 @@ impl Entry {
         }
     }
 
-    /// The file as it stands under another key.
+    /// Returns the entry of the file under another key, after a rename from `key`.
     pub fn moved(self, key: &Key) -> Self
         ensures { result ≡ moved key.now self }
     {
@@ -146,7 +146,7 @@ impl Entry {
 }
 
 impl Journal {
-    /// Nothing done. Takes no memory.
+    /// Creates an empty journal. Allocates nothing.
     pub fn new(alloc: Global) -> Self
         ensures { result.entries ≡ finmap.empty }
     {
@@ -156,7 +156,7 @@ impl Journal {
         }
     }
 
-    /// What was done so far, at the cost of a reference for each extent.
+    /// Returns a copy, which costs a reference for each written extent. `Err` means out of memory.
     pub fn snapshot(&self) -> Result<Journal, AllocError>
         ensures { IfOk result (λ j. j ≡ self.now) }
     {
@@ -166,7 +166,7 @@ impl Journal {
         })
     }
 
-    /// Makes an empty file. An `Err` changes nothing.
+    /// Makes an empty file. On `Err`, which means out of memory, nothing changes.
     pub fn make(&mut self, key: &Key) -> Result<(), AllocError>
         ensures ok { OnOk result (self.new.entries ≡ made self.old.entries key.now) }
         ensures err { OnErr result (self.new.entries ≡ self.old.entries) }
@@ -174,7 +174,7 @@ impl Journal {
         self.entries.insert(*key, Entry::fresh(self.alloc))
     }
 
-    /// Deletes a file. An `Err` changes nothing.
+    /// Deletes a file. On `Err`, which means out of memory, nothing changes.
     pub fn delete(&mut self, key: &Key) -> Result<(), AllocError>
         ensures ok { OnOk result (self.new.entries ≡ deleted self.old.entries key.now) }
         ensures err { OnErr result (self.new.entries ≡ self.old.entries) }
@@ -182,8 +182,8 @@ impl Journal {
         self.entries.insert(*key, Entry::nothing(self.alloc))
     }
 
-    /// Writes a record of a file of `n` places. Between its end and the record it leaves holes, or fills the
-    /// places with zeros. An `Err` changes nothing.
+    /// Writes record `k` of a file of length `n`. If `k` is past the end, the record numbers from `n` to `k - 1` become
+    /// holes, or records of zeros if `filled` is set. On `Err`, which means out of memory, nothing changes.
     pub fn write(
         &mut self,
         key: &Key,
@@ -207,7 +207,7 @@ impl Journal {
         self.entries.insert(*key, entry)
     }
 
-    /// Puts a file under another key. An `Err` changes nothing.
+    /// Renames a file. On `Err`, which means out of memory, nothing changes.
     pub fn rename(&mut self, old: &Key, new: &Key) -> Result<(), AllocError>
         requires { old.now ≢ new.now }
         ensures ok { OnOk result (self.new.entries ≡ renamed self.old.entries old.now new.now) }
@@ -224,7 +224,7 @@ impl Journal {
         Ok(())
     }
 
-    // The same, where the new key has an entry.
+    // Renames a file to a key that has an entry.
     fn rename_onto(&mut self, old: &Key, new: &Key) -> Result<(), AllocError>
         requires apart { old.now ≢ new.now }
         requires entry { finmap.contains_key self.old.entries new.now ≡ true }

@@ -1,12 +1,12 @@
-//! Host files, what a run does to them and asks of them, the files that both give, and which of them a run changed.
+//! Host files, what a run does to them and asks of them, the files that a program then sees, and which of them a run changed.
 //!
-//! - `host`, `journal`, `looks`, `changes`: host files; what a run did to files; what it asked of host files; both
+//! - `host`, `journal`, `looks`, `changes`: host files; what a run did to files; its questions to the host files; both
 //!   together
-//! - `seen`: `SeenFile`: the file of a key as a program sees it, found once, with what it is asked
-//! - `joined`, `listed`, `laid`: one thing of the file of a key; the directory; the laws of what was done, laid over
-//!   host files
-//! - `told`, `changed`, `names`: a file as it is told, with zeros in its holes; whether a file is changed; the
-//!   changed names in order
+//! - `seen`: `SeenFile`: the file with a key as a program sees it, found once, and the questions about it
+//! - `joined`, `listed`, `laid`: single questions about a file; the directory; the laws of what was done, laid over host
+//!   files
+//! - `told`, `changed`, `names`: the contents of a file, with zeros in its holes; whether a file is changed; the changed
+//!   names in order
 #![tactic(auto)]
 
 pub mod changed;

@@ -1,4 +1,4 @@
-// The directory of host files with what was done to them.
+// The directory of host files and what was done to them.
 
 ghost use Rattle.std.specs.Prelude.{◌≡◌, ◌<◌, ◌≤◌, ◌&&◌, ℕ, List, true, false, None, Some, filter, length};
 ghost use Rattle.std.specs.Prelude.{if◌then◌else◌, IfOk, IfSome, IfNone};
@@ -18,7 +18,7 @@ use keymaps::next_of_both;
 use records::EXTENT_RECORDS;
 use std::alloc::AllocError;
 
-/// Host files with what was done to them, as a search of the directory sees them.
+/// Host files and what was done to them, as a directory search sees them.
 #[derive(Clone, Copy)]
 pub struct Listed<'a> {
     /// The host files.
@@ -69,7 +69,7 @@ impl FileShape for SeenFile<'_> {
         Some(count)
     }
 
-    // The extent behind the file's last place, and 1 where it has none.
+    // Returns the extent after the one with the file's last record number, at most 512, or 1 if the length is 0.
     fn extents(&self) -> u32 {
         let n = self.length();
         if n == 0 {
@@ -83,8 +83,8 @@ impl FileShape for SeenFile<'_> {
     }
 }
 
-/// The least name of a file by key, after the key given if there is one. A file whose key is that of no name
-/// is passed over.
+/// Returns the least name above `after`, by key, of a file, or `None` if there is none. Every key is above `None`. Skips
+/// files whose keys are not valid.
 pub fn next_name(host: &HostFiles, journal: &Journal, after: Option<Key>) -> Option<Name>
     ensures above { IfSome result (λ k. is_above after k ≡ true) }
     ensures there { IfSome result (λ k. is_listed host.now journal.now.entries k ≡ true) }
@@ -103,7 +103,7 @@ pub fn next_name(host: &HostFiles, journal: &Journal, after: Option<Key>) -> Opt
     None
 }
 
-// The name of a file, where it is there and its key is that of a name.
+// Returns the name of a file, if the file exists and its key is valid.
 fn name_of(file: &SeenFile<'_>) -> Option<Name>
     ensures name { IfSome result (λ name. name ≡ file.now.key) }
     ensures some { IfSome result (λ name.
@@ -117,8 +117,8 @@ fn name_of(file: &SeenFile<'_>) -> Option<Name>
     Some(name)
 }
 
-/// What was done to the files, and beside it each file whose key matches a pattern deleted; and how many
-/// these are.
+/// Returns the journal with each file deleted whose key matches a pattern, and the number of these files. `Err` means out of
+/// memory.
 pub fn without_matches(
     host: &HostFiles,
     journal: &Journal,
@@ -131,7 +131,7 @@ pub fn without_matches(
         length (filter (λ e. is_match pattern.now e.0)
         (finmap.entries (shapes host.now journal.now.entries)))) }
 {
-    // This bounds the count, which is at most the count of all keys.
+    // Bounds the count, which is at most the number of all keys.
     let most = host.files().len() + journal.entries.len();
     let mut left = journal.snapshot()?;
     let mut count: u64 = 0;
@@ -147,7 +147,7 @@ pub fn without_matches(
     Ok((left, count))
 }
 
-// Whether a file is there, and its key matches a pattern.
+// Returns whether a file exists and its key matches a pattern.
 fn is_deleted(file: &SeenFile<'_>, pattern: &Key) -> bool
     ensures { result ≡ (is_match pattern.now file.now.key && is_seen file.now) }
 {

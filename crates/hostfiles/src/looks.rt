@@ -1,4 +1,4 @@
-// The questions that a run asked of the host files.
+// The questions that a run asks the host files.
 
 ghost use Rattle.std.specs.Prelude.{◌≡◌, true, OnOk, OnErr, IfOk, IfSome, IfNone};
 ghost use Rattle.hostfiles.specs.Looks.{is_looked, asks_nothing, no_looks, forgot, IsUnasked};
@@ -9,34 +9,34 @@ use filenames::Key;
 use keymaps::{DriveSet, KeySet, PlaceSet};
 use std::alloc::{AllocError, Global};
 
-/// A question that a run asks of the host files.
+/// A question that a run asks the host files.
 #[derive(Clone, Copy)]
 pub enum Ask {
-    /// Whether there is a file of the key.
+    /// Whether there is a file with this key.
     Has(Key),
-    /// How many records the file of the key has.
+    /// The number of records of the file with this key.
     Length(Key),
-    /// What a record of the file of the key holds.
+    /// The contents of a record of the file with this key.
     Rec(Key, u32),
-    /// Which files there are on a drive, and how many records each has.
+    /// The files on a drive, and the number of records of each.
     Directory(u8),
 }
 
-/// The questions that a run asked of the host files, each once.
+/// The questions that a run asked the host files, each once.
 #[derive(Drop)]
 pub struct Looks {
-    /// The keys whose presence was asked.
+    /// The keys of the files whose presence was asked.
     pub has: KeySet,
-    /// The keys whose lengths were asked.
+    /// The keys of the files whose lengths were asked.
     pub lengths: KeySet,
-    /// The records that were asked.
+    /// The records whose contents were asked.
     pub records: PlaceSet,
     /// The drives whose directories were asked.
     pub directories: DriveSet,
 }
 
 impl Looks {
-    /// No question. Takes no memory.
+    /// Creates a set with no questions. Allocates nothing.
     pub fn new(alloc: Global) -> Self
         ensures { result ≡ no_looks }
     {
@@ -48,7 +48,7 @@ impl Looks {
         }
     }
 
-    /// Whether a question was asked.
+    /// Returns whether a question was asked.
     pub fn looked(&self, ask: &Ask) -> bool
         ensures { result ≡ is_looked self.now ask.now }
     {
@@ -60,7 +60,7 @@ impl Looks {
         }
     }
 
-    /// Whether no question was asked.
+    /// Returns whether no question was asked.
     pub fn is_empty(&self) -> bool
         ensures { result ≡ asks_nothing self.now }
     {
@@ -70,8 +70,8 @@ impl Looks {
             && self.directories.len() == 0
     }
 
-    /// Whether there is a file of the key: a question where the file stands on its own host file. An `Err`
-    /// changes nothing.
+    /// Marks the question whether there is a file with this key, if the file comes from its own host file. On `Err`, which
+    /// means out of memory, nothing changes.
     pub fn mark_has(&mut self, base: Base, key: &Key) -> Result<(), AllocError>
         ensures ok { OnOk result (self.new ≡ look_has_by base key.now self.old) }
         ensures err { OnErr result (self.new ≡ self.old) }
@@ -84,8 +84,8 @@ impl Looks {
         }
     }
 
-    /// The length of a file: a question where it stands on a host file and was not made longer. An `Err`
-    /// changes nothing.
+    /// Marks the question for the length of a file, if the file comes from a host file and has not grown. On `Err`, which
+    /// means out of memory, nothing changes.
     pub fn mark_length(
         &mut self,
         base: Base,
@@ -106,7 +106,8 @@ impl Looks {
         }
     }
 
-    /// A record of a file: a question where the file stands on a host file. An `Err` changes nothing.
+    /// Marks the question for a record, if the file comes from a host file. On `Err`, which means out of memory, nothing
+    /// changes.
     pub fn mark_record(&mut self, base: Base, key: &Key, k: u32) -> Result<(), AllocError>
         ensures ok { OnOk result (self.new ≡ look_record_by base key.now k self.old) }
         ensures err { OnErr result (self.new ≡ self.old) }
@@ -119,14 +120,14 @@ impl Looks {
         }
     }
 
-    /// The directory of a drive. Takes no memory.
+    /// Marks the question for the directory of a drive. Allocates nothing.
     pub fn mark_directory(&mut self, drive: u8)
         ensures { self.new ≡ look_directory drive self.old }
     {
         self.directories.insert(drive);
     }
 
-    /// The same questions.
+    /// Returns a copy of the set. `Err` means out of memory.
     pub fn snapshot(&self) -> Result<Looks, AllocError>
         ensures { IfOk result (λ l. l ≡ self.now) }
     {
@@ -138,7 +139,7 @@ impl Looks {
         })
     }
 
-    /// Forgets every question. Takes no memory.
+    /// Removes all questions. Allocates nothing.
     pub fn clear(&mut self)
         ensures { self.new ≡ no_looks }
     {
@@ -148,7 +149,7 @@ impl Looks {
         self.directories.clear();
     }
 
-    /// Gives one of the questions and forgets it; none where there is none. Takes no memory.
+    /// Removes and returns one of the questions, or `None` if there are none. Allocates nothing.
     pub fn take(&mut self) -> Option<Ask>
         ensures there { IfSome result (λ q. is_looked self.old q ≡ true) }
         ensures some { IfSome result (λ q. self.new ≡ forgot q self.old) }

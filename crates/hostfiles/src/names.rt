@@ -10,8 +10,8 @@ use crate::host::HostFiles;
 use crate::journal::Journal;
 use filenames::{Key, Name};
 
-/// The least name of a changed file by key, after the one given if there is one. Only files are looked at to
-/// which something was done. A file whose key is that of no name is passed over.
+/// Returns the least name above `after`, by key, of a changed file, or `None` if there is none. Every name is above `None`.
+/// Compares only files to which something was done, and skips files whose keys are not valid.
 pub fn next_changed(host: &HostFiles, journal: &Journal, after: Option<&Name>) -> Option<Name>
     ensures above { IfSome result (λ k. is_above (option_copied after.entry) k ≡ true) }
     ensures changed { IfSome result (λ k. is_changed_name host.now journal.now.entries k ≡ true) }
@@ -23,7 +23,7 @@ pub fn next_changed(host: &HostFiles, journal: &Journal, after: Option<&Name>) -
     next_above(host, journal, key_if_any(after))
 }
 
-// The key of a name, if there is one.
+// Returns the key of a name, if there is one.
 pub(crate) fn key_if_any(name: Option<&Name>) -> Option<Key>
     ensures { result ≡ option_copied name.entry }
 {
@@ -33,7 +33,7 @@ pub(crate) fn key_if_any(name: Option<&Name>) -> Option<Key>
     }
 }
 
-// The same after a key.
+// Does the same for a key.
 fn next_above(host: &HostFiles, journal: &Journal, after: Option<Key>) -> Option<Name>
     ensures above { IfSome result (λ k. is_above after k ≡ true) }
     ensures changed { IfSome result (λ k. is_changed_name host.now journal.now.entries k ≡ true) }
@@ -52,7 +52,7 @@ fn next_above(host: &HostFiles, journal: &Journal, after: Option<Key>) -> Option
     None
 }
 
-// The name of a key, where its file is changed.
+// Returns the name with this key, if the key is valid and its file is changed.
 fn changed_name(host: &HostFiles, journal: &Journal, key: &Key) -> Option<Name>
     ensures name { IfSome result (λ name. name ≡ key.now) }
     ensures some { IfSome result (λ name. is_changed_name host.now journal.now.entries key.now ≡ true) }
@@ -65,7 +65,7 @@ fn changed_name(host: &HostFiles, journal: &Journal, key: &Key) -> Option<Name>
     Some(name)
 }
 
-/// Carries the law that each changed name is that of a file to which something was done.
+/// Each changed name is the name of a file to which something was done.
 pub fn changed_names_are_all()
     ensures { AreAllChanged }
 {}

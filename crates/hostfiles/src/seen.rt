@@ -1,4 +1,4 @@
-// The file of a key, found once.
+// The file with a key, found once.
 
 ghost use Rattle.std.specs.Prelude.{◌≡◌, ◌<◌, ◌≤◌, ◌+◌, ◌*◌, not, ℕ, length, get_or, None, true, false};
 ghost use Rattle.std.specs.Prelude.{option_copied, unwrap_or};
@@ -16,19 +16,19 @@ use keymaps::KeyOfBoth;
 use records::{EXTENT_RECORDS, Record};
 use std::alloc::AllocError;
 
-/// The file of a key as a program sees it: what the run did to it, and the host file that it stands on, both
-/// found already. What is read of it here is no look, but for what is asked with `Looks`.
+/// The file with a key, as a program sees it: what the run did to it and the host file that it comes from, both already
+/// found. Reading it is no look, except by the functions that take `Looks`.
 #[derive(Clone, Copy)]
 pub struct SeenFile<'a> {
     /// The host files.
     pub host: &'a HostFiles,
     /// What was done to them.
     pub journal: &'a Journal,
-    /// The file's key.
+    /// The key of the file.
     pub key: Key,
-    /// What was done to the file, if anything was.
+    /// What was done to the file, if anything.
     pub entry: Option<&'a Entry>,
-    /// The host file that the file stands on, if there is one.
+    /// The host file that the file comes from, if there is one.
     pub beneath: Option<&'a HostFile>,
     pub ghost own: { option_copied entry ≡ finmap.get journal.now.entries key },
     pub ghost stands: { option_copied beneath ≡
@@ -36,8 +36,8 @@ pub struct SeenFile<'a> {
 }
 
 impl<'a> SeenFile<'a> {
-    /// Finds the file of a key: one search of what was done, and one of the host files where the file may
-    /// stand on one.
+    /// Finds the file with a key, by one search of the journal and, if the file may come from a host file, one of the host
+    /// files.
     #[inline(always)]
     pub fn find(host: &'a HostFiles, journal: &'a Journal, key: &Key) -> SeenFile<'a>
         ensures host { result.host ≡ host.entry }
@@ -54,8 +54,8 @@ impl<'a> SeenFile<'a> {
         }
     }
 
-    /// The file of a key at which the host files and what was done were searched already. Only where the file
-    /// was renamed are the host files searched again.
+    /// Creates the file with a key for which the host files and the journal were already searched. Searches the host files
+    /// again only if the file was renamed.
     pub fn found(
         host: &'a HostFiles,
         journal: &'a Journal,
@@ -81,7 +81,7 @@ impl<'a> SeenFile<'a> {
     }
 }
 
-// What a file stands on, of which this was done.
+// Returns where the unwritten records of a file with this entry come from.
 fn base_of(entry: Option<&Entry>) -> Base
     ensures { result ≡ (unwrap_or (option_copied entry.entry) untouched).base }
 {
@@ -91,7 +91,7 @@ fn base_of(entry: Option<&Entry>) -> Base
     }
 }
 
-// The host file on which the file of a key stands.
+// Returns the host file that the file with this key comes from.
 fn beneath<'a>(host: &'a HostFiles, key: &Key, base: Base) -> Option<&'a HostFile>
     ensures { option_copied result ≡ host_file host.entry.now (stands_on key.now base) }
 {
@@ -106,14 +106,14 @@ fn beneath<'a>(host: &'a HostFiles, key: &Key, base: Base) -> Option<&'a HostFil
 impl SeenFile<'_> {
     ghost use Rattle.hostfiles.specs.Seen.{own_of, entry_of, is_seen, length_seen, record_seen, shape_seen};
 
-    /// What the file stands on.
+    /// Returns where the unwritten records of the file come from.
     pub fn base(&self) -> Base
         ensures { result ≡ (entry_of self.now).base }
     {
         base_of(self.entry)
     }
 
-    /// How the file has grown.
+    /// Returns the growth of the file, if it was made or made longer.
     pub fn grown(&self) -> Option<Grown>
         ensures { result ≡ (entry_of self.now).grown }
     {
@@ -123,7 +123,7 @@ impl SeenFile<'_> {
         }
     }
 
-    // The record that was written at a place.
+    // Returns the record that was written at a number, if one was.
     fn written(&self, k: u32) -> Option<&Record>
         ensures { option_copied result ≡ finmap.get (entry_of self.now).records k }
     {
@@ -133,7 +133,7 @@ impl SeenFile<'_> {
         }
     }
 
-    /// Whether there is a file.
+    /// Returns whether there is a file.
     pub fn is_there(&self) -> bool
         ensures { result ≡ is_seen self.now }
     {
@@ -145,7 +145,7 @@ impl SeenFile<'_> {
         }
     }
 
-    /// How many places the file has; 0 where there is none.
+    /// Returns the length of the file in records, holes included, or 0 if there is no file.
     pub fn length(&self) -> u32
         ensures { result ≡ length_seen self.now }
     {
@@ -158,7 +158,7 @@ impl SeenFile<'_> {
         }
     }
 
-    /// How many places the file has, if it is there.
+    /// Returns the length of the file in records, holes included, or `None` if there is no file.
     pub fn records(&self) -> Option<u32>
         ensures { result ≡ records self.now.host.now (own_of self.now) self.now.key }
     {
@@ -168,7 +168,7 @@ impl SeenFile<'_> {
         Some(self.length())
     }
 
-    /// The record at a place below the length; none in a hole.
+    /// Returns the record with a number below the length, or `None` in a hole.
     pub fn record(&self, k: u32) -> Option<&Record>
         ensures { option_copied result ≡ record_seen self.now k }
     {
@@ -181,7 +181,7 @@ impl SeenFile<'_> {
         self.record_beneath(k)
     }
 
-    /// Whether a record stands at a place.
+    /// Returns whether the file has a record with this number.
     pub fn is_written(&self, place: u64) -> bool
         ensures { result ≡ get_or (shape_seen self.now) place false }
     {
@@ -191,7 +191,7 @@ impl SeenFile<'_> {
         self.record(place as u32).is_some()
     }
 
-    /// The greatest place of an extent that holds a record, plus one; 0 where none does.
+    /// Returns the greatest index within an extent that has a record, plus one, or 0 if none has.
     pub fn count(&self, extent: u32) -> u8
         ensures value { result ≡ count_at (shape_seen self.now) extent }
         ensures within { result ≤ 128 }
@@ -206,7 +206,8 @@ impl SeenFile<'_> {
         0
     }
 
-    /// Asks whether there is a file. An `Err` has asked nothing else.
+    /// Returns whether there is a file, and marks this question in `looks`. On `Err`, which means out of memory, no other
+    /// question is marked.
     #[tactic(auto, using(crate::proofs::LookLemmas::noted_has))]
     pub fn ask_presence(&self, looks: &mut Looks) -> Result<bool, AllocError>
         ensures { AsksFor result (is_seen self.now)
@@ -216,7 +217,8 @@ impl SeenFile<'_> {
         Ok(self.is_there())
     }
 
-    /// Asks how many places the file has; 0 where there is none. An `Err` has asked nothing else.
+    /// Returns the length of the file, or 0 if there is no file, and marks this question in `looks`. On `Err`, which means
+    /// out of memory, no other question is marked.
     #[tactic(auto, using(crate::proofs::LookLemmas::noted_length))]
     pub fn ask_length(&self, looks: &mut Looks) -> Result<u32, AllocError>
         ensures { AsksFor result (length_seen self.now)
@@ -226,7 +228,8 @@ impl SeenFile<'_> {
         Ok(self.length())
     }
 
-    /// Asks for the record at a place below the length; none in a hole. An `Err` has asked nothing else.
+    /// Returns the record with a number below the length, or `None` in a hole, and marks this question in `looks`. On `Err`,
+    /// which means out of memory, no other question is marked.
     #[tactic(auto, using(crate::proofs::LookLemmas::noted_record))]
     pub fn ask_record(&self, looks: &mut Looks, k: u32) -> Result<Option<Record>, AllocError>
         ensures { AsksFor result (record_seen self.now k)
@@ -242,7 +245,7 @@ impl SeenFile<'_> {
         Ok(self.record_beneath(k).copied())
     }
 
-    // Whether a place lies where a write past the end left holes, but for records that were written there.
+    // Returns whether a write past the end left a hole at this record number, unless a record was written there.
     fn is_hole(&self, k: u32) -> bool
         ensures { result ≡ not (is_below k (entry_of self.now).grown) }
     {
@@ -252,7 +255,7 @@ impl SeenFile<'_> {
         }
     }
 
-    // The record of the host file at a place.
+    // Returns the host file's record with this number.
     fn record_beneath(&self, k: u32) -> Option<&Record>
         requires own { finmap.get (entry_of self.now).records k ≡ None }
         requires beneath { is_below k (entry_of self.now).grown ≡ true }
@@ -265,7 +268,7 @@ impl SeenFile<'_> {
     }
 }
 
-// How many places of an extent a file of `n` places has.
+// Returns how many record numbers of an extent are below the length `n`.
 fn places_in(n: u32, extent: u32) -> u8
     ensures within { result ≤ 128 }
     ensures past { (i : ℕ) → result ≤ i → i < 128 → n ≤ 128 * extent + i }

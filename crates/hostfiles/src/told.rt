@@ -1,4 +1,4 @@
-// Files as they are told: a hole is read as zeros.
+// The contents of files, with zeros in their holes.
 
 ghost use Rattle.std.specs.Prelude.{◌≡◌, length, option_copied, slice_get, unwrap_or};
 ghost use Rattle.std.specs.Option.{option_map, option_and_then};
@@ -12,18 +12,18 @@ use crate::seen::SeenFile;
 use filenames::Key;
 use records::{RECORD_BYTES, Record};
 
-/// What a hole is told as.
+/// The contents of a hole.
 static ZEROS: Record = [0; RECORD_BYTES];
 
-/// How many records the file of a key is told with, if there is one.
+/// Returns the number of records of the file with this key, holes included, or `None` if there is no file.
 pub fn told_count(host: &HostFiles, journal: &Journal, key: &Key) -> Option<u32>
     ensures { result ≡ option_map length (told host.now journal.now.entries key.now) }
 {
     SeenFile::find(host, journal, key).told_count()
 }
 
-/// A record of the file of a key as it is told, zeros in a hole; none where there is no such file or it has
-/// fewer. Who wants several of a file finds it once, as a `SeenFile`.
+/// Returns a record of the file with this key, with zeros in a hole, or `None` if there is no file or it is too short. To
+/// read more records of one file, find it once as a `SeenFile`.
 pub fn told_record(host: &HostFiles, journal: &Journal, key: &Key, place: u32) -> Option<Record>
     ensures { let seen = told host.now journal.now.entries key.now in
         result ≡ option_and_then (λ records. slice_get records place) seen }
@@ -34,7 +34,7 @@ pub fn told_record(host: &HostFiles, journal: &Journal, key: &Key, place: u32) -
 }
 
 impl SeenFile<'_> {
-    /// How many records the file is told with, if it is there.
+    /// Returns the number of records of the file, holes included, or `None` if there is no file.
     #[tactic(auto, using(crate::proofs::ToldLemmas::told_length))]
     pub fn told_count(&self) -> Option<u32>
         ensures { result ≡ option_map length (told self.now.host.now (own_of self.now) self.now.key) }
@@ -42,7 +42,7 @@ impl SeenFile<'_> {
         self.records()
     }
 
-    /// A record of the file as it is told, zeros in a hole; none where there is no file or it has fewer.
+    /// Returns a record of the file, with zeros in a hole, or `None` if there is no file or it is too short.
     pub fn told_record(&self, place: u32) -> Option<&Record>
         ensures { let seen = told self.now.host.now (own_of self.now) self.now.key in
             option_copied result ≡ option_and_then (λ records. slice_get records place) seen }
@@ -56,7 +56,7 @@ impl SeenFile<'_> {
         Some(self.content(place))
     }
 
-    // The record at a place below the length, zeros in a hole.
+    // Returns the record with a number below the length, with zeros in a hole.
     fn content(&self, place: u32) -> &Record
         ensures { result.now ≡ unwrap_or (record_seen self.now place) zeros }
     {
@@ -67,7 +67,7 @@ impl SeenFile<'_> {
     }
 }
 
-// The record at a place below the length of the file of a key, zeros in a hole.
+// Returns the record with a number below the length of the file with a key, with zeros in a hole.
 pub(crate) fn told_content(host: &HostFiles, journal: &Journal, key: &Key, place: u32) -> Record
     ensures { result ≡ unwrap_or
         (place_of host.now key.now (entry_at journal.now.entries key.now) place) zeros }

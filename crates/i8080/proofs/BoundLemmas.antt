@@ -1,4 +1,4 @@
--- Looks up to a failure, and the looks of the whole.
+-- The looks of the whole instruction extend the looks up to a failure.
 use Rattle.std.proofs.Common.{◌≡◌, ℕ, List, refl, sym, subst}
 use Rattle.i8080.specs.Memory.{Own, Looks, Extends, look, look_all}
 use Rattle.i8080.proofs.LookLemmas.{extends_twice}

@@ -1,4 +1,4 @@
--- `decoded` finds each instruction by its opcode, and so no opcode stands for two.
+-- `decoded` finds each instruction by its opcode, so that no two instructions have the same opcode.
 use Rattle.std.proofs.Common.{MatchOption, ◌≡◌, ◌≢◌, ◌<◌, ◌+◌, ◌==◌, ◌&&◌, not, ℕ, Bool, true, false, Option, Some, None, get_or, refl, sym, ◌∙◌, subst, arith, inl, inr}
 use Rattle.std.specs.List.{list_all, range_with_len}
 use Rattle.std.proofs.lemmas.Bool.{and_parts}
@@ -28,7 +28,7 @@ use Rattle.i8080.specs.declared.opcode.Rotation.TheVariants.{Rlc}
 use Rattle.i8080.specs.declared.opcode.Restart.{Restart}
 use Rattle.i8080.specs.declared.opcode.Restart.TheVariants.{Rst0}
 
--- what is claimed of an instruction
+-- `decoded` finds an instruction by its opcode.
 abbrev Found : Op → Type 0
 Found op = decoded (opcode_of op) ≡ Some op
 
@@ -249,15 +249,15 @@ found (Push x) = push_found x
 found (Pop x) = pop_found x
 found _ = refl
 
--- the instruction of an opcode is the one that is decoded
+-- If an instruction has this opcode, it is the one that is decoded.
 pub decoded_some : (op : Op) (byte : ℕ) → opcode_of op ≡ byte → decoded byte ≡ Some op
 decoded_some op byte e = let P : ℕ → Type 0 = λ b. decoded b ≡ Some op in subst P e (found op)
 
--- where nothing is decoded, no instruction has the opcode
+-- If nothing is decoded, no instruction has this opcode.
 pub decoded_none : (byte : ℕ) → decoded byte ≡ None → (op : Op) → opcode_of op ≢ byte
 decoded_none byte e op h = let f = decoded_some op byte h in cc
 
--- what a part of the decoder says of its byte
+-- What a part of the decoder guarantees for its byte.
 abbrev pub Decodes : ℕ → Option Op → Type 0
 Decodes byte r = MatchOption r (decoded byte ≡ None) (λ op. opcode_of op ≡ byte)
 
@@ -269,11 +269,12 @@ pub decodes_opcode : (byte : ℕ) (r : Option Op) → Decodes byte r → MatchOp
 decodes_opcode byte None h = decoded_none byte h
 decodes_opcode byte (Some op) h = h
 
--- no two instructions have one opcode
+-- No two instructions have the same opcode.
 pub same_opcode : (p q : Op) → opcode_of p ≡ opcode_of q → p ≡ q
 same_opcode p q e = let f : decoded (opcode_of q) ≡ Some p = decoded_some p _ e in let g : decoded (opcode_of q) ≡ Some q = found q in cc
 
--- a byte that decodes has this opcode, and one that does not is of the twelve
+-- A byte that decodes is the opcode of the result and is not one of the twelve; a byte that does not decode is one of the
+-- twelve.
 abbrev agrees : ℕ → Option Op → Bool
 agrees byte None = is_undefined byte
 agrees byte (Some op) = opcode_of op == byte && not (is_undefined byte)
@@ -297,14 +298,14 @@ same_number a b h = elim (eqb_tells a b) [
   | inr other ↦ cc
 ]
 
--- each of the twelve bytes stands for no instruction
+-- Each of the twelve bytes is the opcode of no instruction.
 pub none_has : (byte : ℕ) → byte < 256 → is_undefined byte ≡ true → NoneHas byte
 none_has byte h u = pick (decoded byte) refl (agreed byte h) where
   pick : (o : Option Op) → decoded byte ≡ o → agrees byte o ≡ true → NoneHas byte
   pick None e a = decoded_none byte e
   pick (Some op) e a = let f = (and_parts (opcode_of op == byte) (not (is_undefined byte)) a).1 in cc
 
--- each other byte stands for one
+-- Each other byte is the opcode of exactly one.
 pub one_has : (byte : ℕ) → byte < 256 → is_undefined byte ≡ false → OneHas byte
 one_has byte h u = pick (decoded byte) refl (agreed byte h) where
   pick : (o : Option Op) → decoded byte ≡ o → agrees byte o ≡ true → OneHas byte

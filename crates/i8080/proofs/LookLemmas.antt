@@ -5,7 +5,7 @@ use Rattle.std.proofs.lemmas.List.{append-nil}
 use Rattle.std.proofs.Math.Bool.{or_assoc}
 use Rattle.i8080.specs.Memory.{Own, Looks, Extends, is_among, look, look_all}
 
--- an address is among two lists' addresses where it is among either's
+-- An address is in the concatenation of two lists if and only if it is in one of them.
 pub is_among-append : (q : ℕ) (xs ys : List ℕ) → is_among q (xs ++ ys) ≡ (is_among q xs || is_among q ys)
 is_among-append q [] ys = refl
 is_among-append q (x ∷ xs) ys = ap (λ b. eqb q x || b) (is_among-append q xs ys) ∙ sym (or_assoc (eqb q x) _ _)
@@ -19,7 +19,7 @@ longer a b e = (drop (length a) b, sym (take-append-drop (length a) b) ∙ ap (�
 begun : (a b : List ℕ) → Longer a b → Extends a b
 begun a b p = rw p.1 (take-append_seam a p.0)
 
--- a look extends the looks
+-- A look extends the looks.
 look_longer : (own : Own) (looks : Looks) (a : ℕ) → Longer looks (look own looks a)
 unfolding look
 look_longer own looks a = by_case (is_some (own a) || is_among a looks)
@@ -36,7 +36,7 @@ looks_longer own [] looks = ([], sym (append-nil looks))
 looks_longer own (x ∷ xs) looks =
     longer_twice looks (look own looks x) (look_all own xs (look own looks x)) (look_longer own looks x) (looks_longer own xs (look own looks x))
 
--- what extends the looks after some reads extends those before
+-- A list that extends the looks after some reads also extends the looks before them.
 pub extends_past : (own : Own) (xs : List ℕ) (looks now new : Looks) → now ≡ look_all own xs looks → Extends now new → Extends looks new
 extends_past own xs looks now new e h = begun looks new (longer_twice looks now new (rw e (looks_longer own xs looks)) (longer now new h))
 

@@ -1,4 +1,4 @@
--- What the functions leave that carry out an instruction, by its opcode or by its byte. (This project's own.)
+-- The results and effects of functions that execute an instruction, by its opcode or by its byte. (This project's own.)
 use Rattle.std.specs.Prelude.{ℕ}
 use Rattle.std.specs.declared.result.Result.{Result}
 use Rattle.std.specs.declared.alloc.AllocError.{AllocError}
@@ -10,10 +10,10 @@ use Rattle.i8080.specs.Performs.{Performs}
 use Rattle.i8080.specs.Opcodes.{decoded}
 use Rattle.i8080.specs.Instruction.{operation, decided}
 
--- what a call leaves that carries out an instruction
+-- The result and the effects of executing an instruction.
 abbrev pub Executes : Op → Regs → memory.Memory → Result Did AllocError → Regs → memory.Memory → Type 0
 Executes op r m result r' m' = Performs (operation op r) r m result r' m'
 
--- what a call leaves that carries out the instruction of a byte that was read
+-- The result and the effects of executing the instruction whose first byte was read.
 abbrev pub ExecutesByte : ℕ → Regs → memory.Memory → Result Did AllocError → Regs → memory.Memory → Type 0
 ExecutesByte byte r m result r' m' = Performs (decided byte (decoded byte) r) r m result r' m'

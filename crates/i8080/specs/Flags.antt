@@ -6,7 +6,7 @@ abbrev pub bit : Bool → ℕ
 bit true = 1
 bit false = 0
 
--- S Z 0 AC 0 P 1 CY, from bit 7 down
+-- The flag byte: S Z 0 AC 0 P 1 CY, from bit 7 down.
 abbrev pub byte_of : Flags → ℕ
 byte_of f = 128 * bit f.s + 64 * bit f.z + 16 * bit f.ac + 4 * bit f.p + 2 + bit f.cy
 
@@ -19,7 +19,8 @@ flags_in byte = record {
   cy = byte % 2 == 1;
 }
 
--- the sign is bit 7 of the result, zero is set for a result of 0, and parity for an even count of ones; the carries are given
+-- The flags for a result and two given carries: the sign is bit 7 of the result, zero is set for a result of 0, and parity is
+-- set for an even number of ones.
 abbrev pub flags_after : ℕ → Bool → Bool → Flags
 flags_after value ac cy = record {
   s = nat_le 128 value;

@@ -1,5 +1,5 @@
--- What each instruction reads, and what it then does. ([8080 manual 1975, chapter 4, instruction set]; where something else
--- takes its place, the definition says so.)
+-- What each instruction reads, and what it then does. ([8080 manual 1975, chapter 4, instruction set]; a definition that is
+-- not from there says so.)
 use Rattle.std.specs.Prelude.{ℕ, ◌+◌, ◌-◌, ◌*◌, ◌/◌, ◌%◌, ◌^◌, ◌==◌, ◌||◌, not, nat_le, nat_lt, if◌then◌else◌, Bool, true, false, bit_and, bit_or, bit_xor, List, [], ◌∷◌, Option, Some, None}
 use Rattle.i8080.specs.declared.registers.Regs.{Regs}
 use Rattle.i8080.specs.declared.flags.Flags.{Flags}
@@ -23,14 +23,14 @@ use Rattle.i8080.specs.Reading.{Reading, Done, Cell}
 use Rattle.i8080.specs.End.{End, Went, Halt, Undefined}
 use Rattle.i8080.specs.Opcodes.{decoded, restart_code}
 
--- ADD, ADC, ADI, ACI: the carries out of bit 3 and bit 7 of the sum with this carry in
+-- ADD, ADC, ADI, ACI: the sum with this carry in; AC and CY are its carries out of bit 3 and bit 7.
 abbrev pub sum_into : ℕ → ℕ → Regs → Regs
 sum_into x carry r =
     let whole = r.a + x + carry in
     record r { a = whole % 256; flags = flags_after (whole % 256) (nat_le 16 (r.a % 16 + x % 16 + carry)) (nat_le 256 whole) }
 
--- SUB, SBB, SUI, SBI, CMP, CPI: the sum with the complement, with this borrow in. CY is the borrow, AC the carry out of
--- bit 3 of that sum, which is 1 exactly where the low four bits need no borrow
+-- SUB, SBB, SUI, SBI, CMP, CPI: the sum with the complement, with this borrow in. CY is the borrow; AC is the carry out of
+-- bit 3 of the sum, which is 1 if and only if the low four bits need no borrow.
 abbrev pub whole_difference : ℕ → ℕ → ℕ → ℕ
 whole_difference a x borrow = a + (255 - x) + (1 - borrow)
 
@@ -43,11 +43,11 @@ abbrev pub difference_into : ℕ → ℕ → Regs → Regs
 difference_into x borrow r =
     record r { a = whole_difference r.a x borrow % 256; flags = difference_flags r.a x borrow }
 
--- ANA, XRA, ORA and their immediates clear CY; AC is given
+-- ANA, XRA, ORA and their immediate forms: CY is cleared, and AC is a parameter.
 abbrev pub logic_into : ℕ → Bool → Regs → Regs
 logic_into v ac r = record r { a = v; flags = flags_after v ac false }
 
--- XRA and ORA clear AC. AC of ANA and ANI is the OR of bit 3 of both operands, beyond the manual
+-- XRA and ORA clear AC. Not from the manual: AC after ANA and ANI is the OR of bit 3 of the two operands.
 abbrev pub accumulate : Arithmetic → ℕ → Regs → Regs
 accumulate Add x r = sum_into x 0 r
 accumulate Adc x r = sum_into x (bit r.flags.cy) r
@@ -58,40 +58,40 @@ accumulate Xra x r = logic_into (bit_xor r.a x) false r
 accumulate Ora x r = logic_into (bit_or r.a x) false r
 accumulate Cmp x r = record r { flags = difference_flags r.a x 0 }
 
--- INR: one more; AC is the carry out of bit 3, and CY stays
+-- INR: plus one, modulo 256. AC is the carry out of bit 3; CY is unchanged.
 abbrev pub incremented : ℕ → ℕ
 incremented v = (v + 1) % 256
 
 abbrev pub incremented_flags : ℕ → Flags → Flags
 incremented_flags v f = flags_after (incremented v) (v % 16 == 15) f.cy
 
--- DCR: one less; AC is 0 exactly where the low four bits were 0, and CY stays
+-- DCR: minus one, modulo 256. AC is 0 if and only if the low four bits were 0; CY is unchanged.
 abbrev pub decremented : ℕ → ℕ
 decremented v = (v + 255) % 256
 
 abbrev pub decremented_flags : ℕ → Flags → Flags
 decremented_flags v f = flags_after (decremented v) (not (v % 16 == 0)) f.cy
 
--- DAD: HL and a register pair added; CY is the carry out of bit 15, and the other flags stay
+-- DAD: the sum of HL and a register pair. CY is the carry out of bit 15; the other flags are unchanged.
 abbrev pub double_added : ℕ → Regs → Regs
 double_added x r =
     let whole = pair_of Hl r + x in
     let f = r.flags in
     with_pair Hl (whole % 2 ^ 16) (record r { flags = record f { cy = nat_le 65536 whole } })
 
--- the accumulator rotated, with the bit moved out as CY
+-- The accumulator after a rotation, with the bit that was moved out as CY.
 abbrev pub rotated_to : ℕ → Bool → Regs → Regs
 rotated_to v cy r = let f = r.flags in record r { a = v; flags = record f { cy = cy } }
 
--- RLC, RRC: bit 7 and bit 0 joined. RAL, RAR: CY between bit 7 and bit 0
+-- RLC, RRC: bit 7 and bit 0 are joined. RAL, RAR: CY is between bit 7 and bit 0.
 abbrev pub rotate : Rotation → Regs → Regs
 rotate Rlc r = rotated_to (2 * r.a % 256 + r.a / 128) (r.a / 128 == 1) r
 rotate Rrc r = rotated_to (r.a / 2 + 128 * (r.a % 2)) (r.a % 2 == 1) r
 rotate Ral r = rotated_to (2 * r.a % 256 + bit r.flags.cy) (r.a / 128 == 1) r
 rotate Rar r = rotated_to (r.a / 2 + 128 * bit r.flags.cy) (r.a % 2 == 1) r
 
--- DAA: 6 is added where the low four bits exceed 9 or AC is set, and AC is the carry out of bit 3 of that addition.
--- Then 60H is added where CY was set or the sum so far is at least 160, and CY is set exactly there
+-- DAA: adds 6 if the low four bits exceed 9 or AC is set; AC is the carry out of bit 3 of this addition. Then adds 60H and
+-- sets CY if CY was set or the sum so far is at least 160, and clears CY otherwise.
 abbrev pub decimal_adjusted : Regs → Regs
 decimal_adjusted r =
     let six = if nat_lt 9 (r.a % 16) || r.flags.ac then 6 else 0 in
@@ -99,11 +99,11 @@ decimal_adjusted r =
     let v = (r.a + six + 96 * bit cy) % 256 in
     record r { a = v; flags = flags_after v (nat_le 16 (r.a % 16 + six)) cy }
 
--- STC, CMC
+-- STC, CMC: the registers with this carry.
 abbrev pub with_carry : Bool → Regs → Regs
 with_carry cy r = let f = r.flags in record r { flags = record f { cy = cy } }
 
--- the condition of a jump, a call or a return
+-- Whether the condition of a jump, a call or a return is met.
 abbrev pub is_met : Condition → Flags → Bool
 is_met NotZero f = not f.z
 is_met Zero f = f.z
@@ -114,29 +114,29 @@ is_met ParityEven f = f.p
 is_met Plus f = not f.s
 is_met Minus f = f.s
 
--- a write of one byte, and of a word
+-- The write of one byte, and the writes of a word.
 abbrev pub one_byte : ℕ → ℕ → List (ℕ × ℕ)
 one_byte a v = (a, v) ∷ []
 
 abbrev pub one_word : ℕ → ℕ → List (ℕ × ℕ)
 one_word a w = (a, low w) ∷ (onward a 1, high w) ∷ []
 
--- the end of an instruction that writes nothing, and of one that writes
+-- The end of an instruction that writes nothing, and of one that writes.
 abbrev pub went : Regs → Reading End
 went r = Done (Went r [])
 
 abbrev pub storing : List (ℕ × ℕ) → Regs → Reading End
 storing writes r = Done (Went r writes)
 
--- a word stands low byte first
+-- A read of a word, low byte first.
 abbrev pub word_at : {E : Type 0} → ℕ → (ℕ → Reading E) → Reading E
 word_at a k = Cell a (λ v. Cell (onward a 1) (λ w. k (word v w)))
 
--- the word that follows the opcode
+-- A read of the word after the opcode.
 abbrev pub operand_word : {E : Type 0} → Regs → (ℕ → Reading E) → Reading E
 operand_word r k = word_at (onward r.pc 1) k
 
--- a register, or the cell at HL, read or written
+-- A read, and a write, of a register or of the cell at HL.
 abbrev pub from_place : {E : Type 0} → Place → Regs → (ℕ → Reading E) → Reading E
 from_place (InRegister x) r k = k (value_of x r)
 from_place Memory r k = Cell (pair_of Hl r) k
@@ -145,12 +145,12 @@ abbrev pub to_place : Place → ℕ → Regs → Reading End
 to_place (InRegister x) v r = went (with_value x v r)
 to_place Memory v r = storing (one_byte (pair_of Hl r) v) r
 
--- the address of LDAX and STAX
+-- The address for LDAX and STAX.
 abbrev pub base_of : Base → Regs → ℕ
 base_of InBc r = pair_of Bc r
 base_of InDe r = pair_of De r
 
--- the high byte of a pushed word stands at SP-1 and the low byte at SP-2, and SP falls by two; addition is modulo 65,536
+-- A push writes the high byte of the word at SP-1 and the low byte at SP-2, and decreases SP by two, modulo 65,536.
 abbrev pub pushing : ℕ → Regs → Reading End
 pushing v r = let top = onward r.sp 65534 in storing (one_word top v) (record r { sp = top })
 
@@ -160,7 +160,7 @@ popped r = record r { sp = onward r.sp 2 }
 abbrev pub jumped : ℕ → Regs → Regs
 jumped to r = record r { pc = to }
 
--- an instruction, from the registers before it. Beyond the manual, IN gives 0FFH, and OUT, DI and EI do nothing
+-- An instruction, from the registers before it. Not from the manual: IN reads 0FFH, and OUT, DI and EI do nothing.
 abbrev pub operation : Op → Regs → Reading End
 operation Nop r = went (advance 1 r)
 operation Hlt r = Done Halt
@@ -204,11 +204,11 @@ operation Out r = Cell (onward r.pc 1) (λ port. went (advance 2 r))
 operation Di r = went (advance 1 r)
 operation Ei r = went (advance 1 r)
 
--- the instruction whose opcode was read
+-- The instruction whose opcode was read.
 abbrev pub decided : ℕ → Option Op → Regs → Reading End
 decided byte None r = Done (Undefined byte)
 decided byte (Some op) r = operation op r
 
--- the instruction at PC
+-- The instruction at PC.
 unfoldable pub instruction : Regs → Reading End
 instruction r = Cell r.pc (λ byte. decided byte (decoded byte) r)

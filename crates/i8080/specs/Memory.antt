@@ -1,13 +1,13 @@
--- Memory as an instruction sees it: bytes by address; and what counts as a look. ([8080 manual 1975, chapter 4, memory]; what
+-- Memory as an instruction sees it, bytes by address, and what counts as a look. ([8080 manual 1975, chapter 4, memory]; what
 -- counts as a look: this project's own.)
 use Rattle.std.specs.Prelude.{◌≡◌, ◌==◌, ◌||◌, if◌then◌else◌, ℕ, Bool, false, List, [], ◌∷◌, ◌++◌, length, take, Option, Some, is_some, unwrap_or}
 use Rattle.std.specs.Borrow.{GName}
 
--- what was written at each address, if anything was
+-- The byte that was written at each address, if any.
 abbrev pub Own : Type 0
 Own = ℕ → Option ℕ
 
--- the addresses that were looked at, each once, in the order of their first looks
+-- The addresses that were looked at, each once, in the order of their first looks.
 abbrev pub Looks : Type 0
 Looks = List ℕ
 
@@ -15,37 +15,37 @@ abbrev pub is_among : ℕ → List ℕ → Bool
 is_among a [] = false
 is_among a (x ∷ xs) = a == x || is_among a xs
 
--- what was written, the bytes beneath it, what was looked at, and the reference that lends it all
+-- The written bytes, the bytes beneath them, the looks, and the reference that lends all of this.
 pub record Memory : Type 0 where
   pub own : Own
   pub beneath : ℕ → ℕ
   pub looks : Looks
   pub lender : Option GName
 
--- the byte at each address: what was written there, else what lies beneath
+-- The byte at each address: the written one if there is one, otherwise the one beneath.
 abbrev pub over : Own → (ℕ → ℕ) → ℕ → ℕ
 over own beneath = λ q. unwrap_or (own q) (beneath q)
 
 abbrev pub bytes : Memory → ℕ → ℕ
 bytes m = over m.own m.beneath
 
--- a read looks at its cell, unless that cell was written; a second look adds nothing
+-- A read is a look at its cell, unless the cell was written. Looks at the same cell count once.
 unfoldable pub look : Own → Looks → ℕ → Looks
 look own looks a = if is_some (own a) || is_among a looks then looks else looks ++ a ∷ []
 
 unfoldable pub write : Own → ℕ → ℕ → Own
 write own a v = λ q. if q == a then Some v else own q
 
--- several reads
+-- The looks after several reads.
 abbrev pub look_all : Own → List ℕ → Looks → Looks
 look_all own [] looks = looks
 look_all own (a ∷ rest) looks = look_all own rest (look own looks a)
 
--- more addresses after these
+-- The new list begins with the old one.
 abbrev pub Extends : List ℕ → List ℕ → Type 0
 Extends old new = take (length old) new ≡ old
 
--- several writes, in order
+-- The written bytes after several writes, in order.
 abbrev pub write_all : Own → List (ℕ × ℕ) → Own
 write_all own [] = own
 write_all own (w ∷ rest) = write_all (write own w.0 w.1) rest

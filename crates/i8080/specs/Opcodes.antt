@@ -1,4 +1,4 @@
--- Each instruction's first byte. [8080 manual 1975, chapter 4, instruction set]
+-- The opcode of each instruction, its first byte. [8080 manual 1975, chapter 4, instruction set]
 use Rattle.std.specs.Prelude.{ℕ, ◌+◌, ◌*◌, ◌≡◌, ◌≢◌, Bool, Option, find, ◌==◌, List, [], ◌∷◌, ◌++◌, map, flat_map}
 use Rattle.std.specs.List.{list_any}
 use Rattle.i8080.specs.declared.opcode.Op.{Op}
@@ -23,7 +23,7 @@ use Rattle.i8080.specs.declared.opcode.Rotation.TheVariants.{Rlc, Rrc, Ral, Rar}
 use Rattle.i8080.specs.declared.opcode.Restart.{Restart}
 use Rattle.i8080.specs.declared.opcode.Restart.TheVariants.{Rst0, Rst1, Rst2, Rst3, Rst4, Rst5, Rst6, Rst7}
 
--- the codes of the operands in a first byte
+-- The codes of operands in an opcode.
 abbrev pub register_code : Register → ℕ
 register_code B = 0
 register_code C = 1
@@ -89,7 +89,7 @@ restart_code Rst5 = 5
 restart_code Rst6 = 6
 restart_code Rst7 = 7
 
--- the byte that stands for an instruction
+-- The opcode of an instruction.
 abbrev pub opcode_of : Op → ℕ
 opcode_of Nop = 0x00
 opcode_of Hlt = 0x76
@@ -133,7 +133,7 @@ opcode_of Out = 0xD3
 opcode_of Di = 0xF3
 opcode_of Ei = 0xFB
 
--- all instructions
+-- All instructions, from lists of all operands.
 abbrev pub registers : List Register
 registers = B ∷ C ∷ D ∷ E ∷ H ∷ L ∷ A ∷ []
 
@@ -166,18 +166,18 @@ instructions = Nop ∷ Hlt ∷ Lda ∷ Sta ∷ Lhld ∷ Shld ∷ Xchg ∷ Daa �
     ++ flat_map (λ to. map (λ from. Mov to from) places) registers
     ++ flat_map (λ f. Accumulate f Immediate ∷ map (λ from. Accumulate f (At from)) places) arithmetic_operations)
 
--- the instruction that a byte stands for
+-- The instruction with this opcode, if there is one.
 unfoldable pub decoded : ℕ → Option Op
 decoded byte = find (λ op. opcode_of op == byte) instructions
 
--- the twelve bytes that stand for no instruction: those to which [8080 manual 1975, chapter 4, instruction set] gives none
+-- The twelve undefined bytes, which [8080 manual 1975, chapter 4, instruction set] assigns to no instruction.
 abbrev pub undefined_bytes : List ℕ
 undefined_bytes = 0x08 ∷ 0x10 ∷ 0x18 ∷ 0x20 ∷ 0x28 ∷ 0x30 ∷ 0x38 ∷ 0xCB ∷ 0xD9 ∷ 0xDD ∷ 0xED ∷ 0xFD ∷ []
 
 abbrev pub is_undefined : ℕ → Bool
 is_undefined byte = list_any (λ b. b == byte) undefined_bytes
 
--- no instruction, and exactly one, has this opcode
+-- No instruction has this opcode; exactly one instruction has it.
 abbrev pub NoneHas : ℕ → Type 0
 NoneHas byte = (op : Op) → opcode_of op ≢ byte
 

@@ -1,4 +1,4 @@
--- What a function leaves that carries out an instruction, or a part of one. (This project's own.)
+-- The results and effects of functions that execute an instruction or a part of one. (This project's own.)
 use Rattle.std.specs.Prelude.{ℕ, ◌≡◌, List, [], ◌∷◌, IfOk, OnOk, OnErr}
 use Rattle.std.specs.declared.result.Result.{Result}
 use Rattle.std.specs.declared.alloc.AllocError.{AllocError}
@@ -9,7 +9,7 @@ use Rattle.i8080.specs.Memory.{Own, Memory, Looks, bytes, look_all, write_all}
 use Rattle.i8080.specs.Reading.{Reading, end_of, asked}
 use Rattle.i8080.specs.End.{End, Went, Halt, Undefined}
 
--- the looks after it
+-- The looks after a tree of reads.
 abbrev pub looks_after : {E : Type 0} → Reading E → Memory → Looks
 looks_after t m = look_all m.own (asked t (bytes m)) m.looks
 
@@ -28,15 +28,15 @@ own_after (Went r writes) own = write_all own writes
 own_after Halt own = own
 own_after (Undefined byte) own = own
 
--- it ends with a write
+-- The instruction ends with at least one write.
 abbrev pub IsWriting : End → Type 0
 IsWriting (Went r []) = ⊥
 IsWriting (Went r (w ∷ rest)) = Unit {0}
 IsWriting Halt = ⊥
 IsWriting (Undefined byte) = ⊥
 
--- what a call leaves that carries out a tree of reads and its end: memory may be refused only where something is to be written,
--- and then all was read
+-- The result and the effects of a call that executes a tree of reads and its end. An allocation fails only if the end writes,
+-- and only after all the reads.
 pub record Performs (t : Reading End) (r : Regs) (m : Memory) (result : Result Did AllocError) (r' : Regs) (m' : Memory) : Type 0 where
   pub did : IfOk result (λ did. did ≡ did_of (end_of t (bytes m)))
   pub regs : OnOk result (r' ≡ regs_after (end_of t (bytes m)) r)
@@ -48,7 +48,7 @@ pub record Performs (t : Reading End) (r : Regs) (m : Memory) (result : Result D
   pub beneath : m'.beneath ≡ m.beneath
   pub lender : m'.lender ≡ m.lender
 
--- what a call leaves that only reads, and gives a value
+-- The result and the effects of a call that only reads and returns a value.
 pub record Reads {E : Type 0} (t : Reading E) (m : Memory) (result : E) (m' : Memory) : Type 0 where
   pub value : result ≡ end_of t (bytes m)
   pub looks : m'.looks ≡ looks_after t m
@@ -56,7 +56,7 @@ pub record Reads {E : Type 0} (t : Reading E) (m : Memory) (result : E) (m' : Me
   pub beneath : m'.beneath ≡ m.beneath
   pub lender : m'.lender ≡ m.lender
 
--- what a call leaves that only writes
+-- The result and the effects of a call that only writes.
 pub record Writes (writes : List (ℕ × ℕ)) (m : Memory) (result : Result (Unit {0}) AllocError) (m' : Memory) : Type 0 where
   pub own : OnOk result (m'.own ≡ write_all m.own writes)
   pub err_own : OnErr result (m'.own ≡ m.own)

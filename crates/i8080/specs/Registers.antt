@@ -9,11 +9,11 @@ use Rattle.i8080.specs.declared.opcode.Saved.{Saved}
 use Rattle.i8080.specs.declared.opcode.Saved.TheVariants.{BcPair, DePair, HlPair, Psw}
 use Rattle.i8080.specs.Flags.{byte_of, flags_in}
 
--- an address some cells on, modulo 65,536
+-- The address n cells further on, modulo 65,536.
 abbrev pub onward : ℕ → ℕ → ℕ
 onward a n = (a + n) % 2 ^ 16
 
--- the word of two bytes, and a word's bytes
+-- The word with two given bytes, and the bytes of a word.
 abbrev pub word : ℕ → ℕ → ℕ
 word low high = low + 256 * high
 
@@ -23,7 +23,7 @@ low w = w % 256
 abbrev pub high : ℕ → ℕ
 high w = w / 256
 
--- a register of 8 bits
+-- The byte in an 8-bit register.
 abbrev pub value_of : Register → Regs → ℕ
 value_of B r = r.b
 value_of C r = r.c
@@ -42,7 +42,7 @@ with_value H v r = record r { h = v }
 with_value L v r = record r { l = v }
 with_value A v r = record r { a = v }
 
--- a register pair, whose first register is the high byte
+-- The word in a register pair. The first register of a pair is the high byte.
 abbrev pub pair_of : Pair → Regs → ℕ
 pair_of Bc r = word r.c r.b
 pair_of De r = word r.e r.d
@@ -55,7 +55,7 @@ with_pair De v r = record r { d = high v; e = low v }
 with_pair Hl v r = record r { h = high v; l = low v }
 with_pair Sp v r = record r { sp = v }
 
--- what PUSH and POP move; the word PSW is A and the flag byte, A high
+-- The word that PUSH and POP move. PSW is A as the high byte and the flag byte as the low byte.
 abbrev pub saved_of : Saved → Regs → ℕ
 saved_of BcPair r = pair_of Bc r
 saved_of DePair r = pair_of De r
@@ -68,6 +68,6 @@ with_saved DePair v r = with_pair De v r
 with_saved HlPair v r = with_pair Hl v r
 with_saved Psw v r = record r { a = high v; flags = flags_in (low v) }
 
--- the registers with PC moved on
+-- The registers with PC advanced.
 abbrev pub advance : ℕ → Regs → Regs
 advance n r = record r { pc = onward r.pc n }

@@ -9,22 +9,26 @@ ghost use Rattle.i8080.specs.Performs.{Reads};
 use crate::registers::word_of;
 use std::alloc::AllocError;
 
-/// A memory that may have to make a cell ready before it is written.
+/// A memory in which a cell may have to be made ready before it is written.
 pub trait Bus {
-    /// What was written, the bytes beneath it, and what was looked at.
+    /// The written bytes, the bytes beneath them and the looks.
     ghost memory: { Self → Memory };
 
     /// Whether a cell may be written.
     ghost is_ready: { Self → ℕ → Bool };
 
-    /// Makes a cell ready. At `Err` the same cells are ready as before.
+    /// Makes a cell ready to be written. No byte changes.
+    ///
+    /// # Errors
+    ///
+    /// An allocation failed. The same cells are ready as before.
     fn ready(&mut self, a: u16) -> Result<(), AllocError>
         ensures ready { OnOk result (IsTrue (is_ready self.new a)) }
         ensures err { OnErr result (is_ready self.new ≡ is_ready self.old) }
         ensures kept { (q : ℕ) → IsTrue (is_ready self.old q) → IsTrue (is_ready self.new q) }
         ensures memory { memory self.new ≡ memory self.old };
 
-    /// The byte of a cell. That is a look, unless the cell was written.
+    /// Returns the byte of a cell. This is a look, unless the cell was written.
     fn read(&mut self, a: u16) -> u8
         ensures value { result ≡ bytes (memory self.old) a }
         ensures kept { (q : ℕ) → IsTrue (is_ready self.old q) → IsTrue (is_ready self.new q) }
@@ -42,8 +46,11 @@ pub trait Bus {
         ensures beneath { (memory self.new).beneath ≡ (memory self.old).beneath }
         ensures lender { (memory self.new).lender ≡ (memory self.old).lender };
 
-    /// Makes `count` cells ready, from an address on; the cell after 0FFFFH is 0000H. No byte changes, and cells that were ready stay
-    /// so, at `Err` too.
+    /// Makes `count` cells ready, starting at `at`; the cell after 0FFFFH is 0000H. No byte changes.
+    ///
+    /// # Errors
+    ///
+    /// An allocation failed. Cells that were ready stay ready, and some of the others may be ready too.
     fn ready_cells(&mut self, at: u16, count: u16) -> Result<(), AllocError>
         ensures ready { OnOk result ((i : ℕ) → i < count → IsTrue (is_ready self.new (onward at i))) }
         ensures kept { (q : ℕ) → IsTrue (is_ready self.old q) → IsTrue (is_ready self.new q) }
@@ -55,7 +62,7 @@ pub trait Bus {
         Ok(())
     }
 
-    /// Writes bytes into cells that are ready, from an address on; the cell after 0FFFFH is 0000H. It takes no memory.
+    /// Writes bytes to ready cells, starting at `at`; the cell after 0FFFFH is 0000H. Allocates nothing.
     fn write_cells(&mut self, at: u16, values: &[u8])
         requires ready { (i : ℕ) → i < length values.now → IsTrue (is_ready self.old (onward at i)) }
         ensures kept { (q : ℕ) → IsTrue (is_ready self.old q) → IsTrue (is_ready self.new q) }
@@ -71,8 +78,8 @@ pub trait Bus {
         }
     }
 
-    /// Copies the bytes of cells from an address on, where the memory can do so at once and reading them is no look; the cell after
-    /// 0FFFFH is 0000H. `false` says nothing of the cells: they are to be read one by one.
+    /// Copies the bytes of cells, starting at `at`, and returns `true`, if the memory can do this at once and without a look;
+    /// the cell after 0FFFFH is 0000H. On `false`, the bytes in `cells` are unspecified: read the cells one by one.
     fn known_cells(&self, at: u16, cells: &mut [u8]) -> bool
         ensures length { length cells.new ≡ length cells.old }
         ensures value { result ≡ true → (i : ℕ) → i < length cells.old
@@ -84,8 +91,8 @@ pub trait Bus {
         false
     }
 
-    /// The word at an address, its low byte there and its high byte in the next cell, where the memory has both at hand and reading them
-    /// is no look; the cell after 0FFFFH is 0000H. `None` says nothing of the cells: they are to be read one by one.
+    /// Returns the word at an address, with its low byte in the addressed cell and its high byte in the next one, if the
+    /// memory can read both at once and without a look; the cell after 0FFFFH is 0000H. On `None`, read the cells one by one.
     fn known_word(&self, a: u16) -> Option<u16>
         ensures value { IfSome result (λ w. w
             ≡ word (bytes (memory self.now) a) (bytes (memory self.now) (onward a 1))) }
@@ -99,7 +106,7 @@ pub trait Bus {
     }
 }
 
-/// The byte of a cell.
+/// Reads the byte of a cell.
 #[inline(always)]
 pub fn fetch<B: Bus>(bus: &mut B, a: u16) -> u8
     ensures { Reads (Cell a Done) (B.memory bus.old) result (B.memory bus.new) }
@@ -107,8 +114,8 @@ pub fn fetch<B: Bus>(bus: &mut B, a: u16) -> u8
     bus.read(a)
 }
 
-/// The word at an address: its low byte there, its high byte in the next cell. The cell after 0FFFFH is
-/// 0000H.
+/// Reads the word at an address, with its low byte in the addressed cell and its high byte in the next one. The cell after
+/// 0FFFFH is 0000H.
 #[inline(always)]
 pub fn fetch_word<B: Bus>(bus: &mut B, a: u16) -> u16
     ensures { Reads (word_at a Done) (B.memory bus.old) result (B.memory bus.new) }
@@ -118,7 +125,7 @@ pub fn fetch_word<B: Bus>(bus: &mut B, a: u16) -> u16
     word_of(low, high)
 }
 
-/// The word at the address behind an opcode, as `fetch_word` gives it. Mostly it was looked at before, and then it is read at once.
+/// Reads an operand word, as `fetch_word` does. Tries `known_word` first, which is faster and returns most operands.
 #[inline(always)]
 pub fn fetch_operand<B: Bus>(bus: &mut B, a: u16) -> u16
     ensures { Reads (word_at a Done) (B.memory bus.old) result (B.memory bus.new) }
@@ -129,7 +136,7 @@ pub fn fetch_operand<B: Bus>(bus: &mut B, a: u16) -> u16
     }
 }
 
-// The same, cell by cell, away from the path of most operands.
+// Reads a word cell by cell. Out of line, because `known_word` returns most operands.
 #[inline(never)]
 fn fetch_word_apart<B: Bus>(bus: &mut B, a: u16) -> u16
     ensures { Reads (word_at a Done) (B.memory bus.old) result (B.memory bus.new) }

@@ -66,7 +66,7 @@ fn condition(code: u8) -> Condition
     }
 }
 
-// 00H to 3FH.
+// Decodes 00H to 3FH.
 #[tactic(auto, unfolding(crate::specs::Opcodes::decoded))]
 fn first_quarter(byte: u8) -> Option<Op>
     requires { byte / 64 ≡ 0 }
@@ -109,7 +109,7 @@ fn first_quarter(byte: u8) -> Option<Op>
     })
 }
 
-// 0C0H to 0FFH.
+// Decodes 0C0H to 0FFH.
 #[tactic(auto, unfolding(crate::specs::Opcodes::decoded))]
 fn last_quarter(byte: u8) -> Option<Op>
     requires { byte / 64 ≡ 3 }
@@ -163,7 +163,7 @@ fn last_quarter(byte: u8) -> Option<Op>
     })
 }
 
-/// The instruction that a byte stands for, if there is one.
+/// Returns the instruction with this opcode, or `None` if the byte is undefined.
 #[tactic(auto, using(crate::proofs::Decoding::decoded_some))]
 pub fn decode(byte: u8) -> Option<Op>
     ensures decoded { result ≡ decoded byte }
@@ -181,12 +181,13 @@ pub fn decode(byte: u8) -> Option<Op>
     }
 }
 
-/// No two instructions have one opcode.
+/// No two instructions have the same opcode.
 pub fn opcodes_differ()
     ensures { (p q : Op) → opcode_of p ≡ opcode_of q → p ≡ q }
 {}
 
-/// Each of the twelve undefined bytes stands for no instruction, and each of the other 244 for exactly one.
+/// Each of the twelve undefined bytes is the opcode of no instruction, and each of the other 244 bytes is the opcode of
+/// exactly one.
 pub fn bytes_have_one_instruction()
     ensures undefined { (byte : ℕ) → byte < 256 → is_undefined byte ≡ true → NoneHas byte }
     ensures defined { (byte : ℕ) → byte < 256 → is_undefined byte ≡ false → OneHas byte }

@@ -1,5 +1,5 @@
-// One instruction: the opcode at PC, then its work. Each byte is an arm of its own, so that its
-// operands are constants and it takes few machine instructions.
+// Fetches the opcode at PC and executes its instruction. Each byte has a match arm of its own, so that its operands are
+// constants and it compiles to few machine instructions.
 
 ghost use Rattle.std.specs.Prelude.{◌≡◌, ◌/◌};
 ghost use Rattle.i8080.specs.Performs.{Performs};
@@ -17,15 +17,18 @@ use crate::outcome::Did;
 use crate::registers::Regs;
 use std::alloc::AllocError;
 
-/// Carries out the instruction at PC. `Halt`, `Undefined` and `Err` leave the registers and the
-/// memory's bytes as they were.
+/// Executes the instruction at PC. On `Halt`, `Undefined` and `Err`, the registers and the bytes of memory are unchanged.
+///
+/// # Errors
+///
+/// An allocation failed, which is only possible if the instruction writes.
 #[tactic(auto, unfolding(crate::specs::Instruction::instruction))]
 #[inline(always)]
 pub fn execute<B: Bus>(regs: &mut Regs, bus: &mut B) -> Result<Did, AllocError>
     ensures { Performs (instruction regs.old) regs.old (B.memory bus.old) result regs.new (B.memory bus.new) }
 {
     let byte = fetch(bus, regs.pc);
-    // tests in place of a jump by the part, and each part has a jump of its own by the byte
+    // Comparisons select the part, and a jump table in the part selects the instruction.
     if byte < 0x80 {
         if byte < 0x40 {
             if byte < 0x20 {
@@ -51,7 +54,7 @@ pub fn execute<B: Bus>(regs: &mut Regs, bus: &mut B) -> Result<Did, AllocError>
     }
 }
 
-// `part_0` to `part_7` have 32 opcodes each, in order.
+// `part_0` to `part_7` execute 32 opcodes each, in order.
 #[tactic(auto, unfolding(crate::specs::Opcodes::decoded))]
 #[inline(always)]
 fn part_0<B: Bus>(regs: &mut Regs, bus: &mut B, byte: u8) -> Result<Did, AllocError>

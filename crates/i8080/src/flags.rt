@@ -15,7 +15,7 @@ pub struct Flags {
 }
 
 impl Flags {
-    /// The flag byte, `S Z 0 AC 0 P 1 CY` from bit 7 down.
+    /// Returns the flag byte, `S Z 0 AC 0 P 1 CY` from bit 7 down.
     #[inline(always)]
     pub fn byte(self) -> u8
         ensures { result ≡ byte_of self }
@@ -24,7 +24,7 @@ impl Flags {
         high + u8::from(self.p) * 4 + 2 + u8::from(self.cy)
     }
 
-    /// The five flags of a byte, whose other bits are passed over.
+    /// Returns the five flags of a flag byte. The other three bits are ignored.
     #[inline(always)]
     pub fn from_byte(byte: u8) -> Flags
         ensures { result ≡ flags_in byte }
@@ -38,7 +38,7 @@ impl Flags {
         }
     }
 
-    // The flags after a result, with these two carries.
+    // Returns the flags after a result, with the given carries.
     #[inline(always)]
     pub(crate) fn after(value: u8, ac: bool, cy: bool) -> Flags
         ensures { result ≡ flags_after value ac cy }
@@ -54,7 +54,7 @@ impl Flags {
 }
 
 impl Condition {
-    // Whether the flags meet the condition.
+    // Returns whether the flags meet the condition.
     #[inline(always)]
     pub(crate) fn is_met(self, flags: Flags) -> bool
         ensures { result ≡ is_met self flags }

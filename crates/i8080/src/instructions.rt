@@ -1,5 +1,5 @@
-// The instructions. Each reads first, then makes cells ready and writes them, and sets the
-// registers last, so that a want of memory changes nothing.
+// The instructions. Each reads first, then makes cells ready and writes them, and sets the registers last, so that the
+// registers and the bytes of memory are unchanged if an allocation fails.
 
 ghost use Rattle.std.specs.Prelude.{◌≡◌, Ok};
 ghost use Rattle.i8080.specs.Reading.{Done};
@@ -17,14 +17,14 @@ use crate::outcome::Did;
 use crate::registers::{Regs, word_of};
 use std::alloc::AllocError;
 
-// How an instruction ended, or that memory ran out.
+// How an instruction ended, or `Err` for out of memory.
 type Ended = Result<Did, AllocError>;
 
-// What is rare and long stands apart, in functions that end in `_apart`, so that the rest fits into one piece
-// of a step. Each is called by a function that lends it a copy of the registers and takes its answer out of
-// memory, so that the registers and the answers of all others need not lie in memory.
+// Rare and long code is in functions whose names end in `_apart`, so that the code of all other instructions fits into one
+// function. Each caller passes a copy of the registers and matches on the result, so that the registers and the results of
+// all other instructions need not be in memory.
 
-// The byte in a register, or in the cell at HL.
+// Reads a register, or the cell at HL.
 #[inline(always)]
 fn operand<B: Bus>(regs: &Regs, bus: &mut B, place: Place) -> u8
     ensures { Reads (from_place place regs.now Done) (B.memory bus.old) result (B.memory bus.new) }
@@ -35,7 +35,7 @@ fn operand<B: Bus>(regs: &Regs, bus: &mut B, place: Place) -> u8
     }
 }
 
-// Writes a byte.
+// Writes a byte, after making its cell ready.
 #[inline(always)]
 fn store<B: Bus>(bus: &mut B, a: u16, value: u8) -> Result<(), AllocError>
     ensures { Writes (one_byte a value) (B.memory bus.old) result (B.memory bus.new) }
@@ -45,7 +45,7 @@ fn store<B: Bus>(bus: &mut B, a: u16, value: u8) -> Result<(), AllocError>
     Ok(())
 }
 
-// Writes a word, once both of its cells are ready.
+// Writes a word, after making both cells ready.
 #[inline(always)]
 fn store_word<B: Bus>(bus: &mut B, a: u16, value: u16) -> Result<(), AllocError>
     ensures { Writes (one_word a value) (B.memory bus.old) result (B.memory bus.new) }
@@ -83,7 +83,7 @@ fn push_word<B: Bus>(regs: &mut Regs, bus: &mut B, value: u16) -> Ended
     Ok(Did::Went)
 }
 
-// Ends an instruction of this length.
+// Ends an instruction of this length: moves PC past it.
 #[inline(always)]
 fn advance(regs: &mut Regs, length: u16) -> Ended
     ensures did { result ≡ Ok Did.Went }
@@ -103,7 +103,7 @@ fn address(regs: &Regs, base: Base) -> u16
     }
 }
 
-// NOP, and DI and EI, which do nothing here.
+// Executes NOP, DI or EI; DI and EI do nothing here.
 #[inline(always)]
 pub fn nop<B: Bus>(regs: &mut Regs, _bus: &mut B) -> Ended
     ensures { Executes Nop regs.old (B.memory _bus.old) result regs.new (B.memory _bus.new) }

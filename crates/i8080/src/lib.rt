@@ -1,11 +1,11 @@
-//! The Intel 8080's registers, flags and instructions, over any memory.
+//! The registers, flags and instructions of the Intel 8080, over any memory.
 //!
-//! - `registers`, `flags`: the registers, the pairs, and what an operation leaves in the accumulator; the five flags,
-//!   and the conditions on them
-//! - `opcode`, `decoder`: the instructions without the bytes that follow the opcode; the instruction of a byte
-//! - `bus`: `Bus`, a memory behind whatever keeps it; reads and writes of more than one cell
+//! - `registers`, `flags`: the registers, the register pairs and the operations on the accumulator; the five flags and the
+//!   conditions on them
+//! - `opcode`, `decoder`: the instructions, without the bytes that follow the opcode; decoding of a byte
+//! - `bus`: `Bus`, the trait of a memory, and reads and writes of more than one cell
 //! - `instructions`: one function for each kind of instruction
-//! - `execution`, `outcome`: `execute`: the opcode at PC, and then its instruction; how it ended
+//! - `execution`, `outcome`: `execute`, which reads and executes the instruction at PC; how an instruction ended
 #![tactic(auto)]
 
 mod bus;

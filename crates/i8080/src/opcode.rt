@@ -35,7 +35,7 @@ pub enum Saved {
     Psw,
 }
 
-/// Where an operation on the accumulator finds its operand.
+/// The operand of an operation on the accumulator: a register, the cell at HL, or the byte after the opcode.
 #[derive(Clone, Copy, Debug, PartialEq, Eq)]
 pub enum Source {
     At(Place),
@@ -68,7 +68,7 @@ pub enum Condition {
     Minus,
 }
 
-/// The register pair with the address of STAX and LDAX.
+/// The register pair with the address for LDAX and STAX.
 #[derive(Clone, Copy, Debug, PartialEq, Eq)]
 pub enum Base {
     InBc,
@@ -97,8 +97,8 @@ pub enum Restart {
     Rst7,
 }
 
-/// An instruction, by its mnemonic. `Accumulate` is ADD to CMP and ADI to CPI, `Rotate` is RLC to RAR, and
-/// `JumpIf`, `CallIf` and `RetIf` are the conditional JMP, CALL and RET.
+/// An instruction, by its mnemonic. `Accumulate` is ADD to CMP and ADI to CPI, `Rotate` is RLC to RAR, and `JumpIf`, `CallIf`
+/// and `RetIf` are the conditional forms of JMP, CALL and RET.
 #[derive(Clone, Copy, Debug, PartialEq, Eq)]
 pub enum Op {
     Nop,

@@ -1,4 +1,4 @@
-/// How an instruction ended: it went through, it was HLT, or the byte at PC stands for no instruction.
+/// How an instruction ended: it was executed, it was HLT, or the byte at PC is the opcode of no instruction.
 #[derive(Clone, Copy, Debug, PartialEq, Eq)]
 pub enum Did {
     Went,

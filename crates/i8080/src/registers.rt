@@ -5,7 +5,7 @@ ghost use Rattle.i8080.specs.Registers.{value_of, with_value, pair_of, with_pair
 use crate::flags::Flags;
 use crate::opcode::{Arithmetic, Pair, Register};
 
-/// The registers `a` to `l` of 8 bits, the stack pointer `sp`, the program counter `pc` and the flags.
+/// The 8-bit registers `a` to `l`, the stack pointer `sp`, the program counter `pc` and the flags.
 #[derive(Clone, Copy, Debug, PartialEq, Eq, Default)]
 pub struct Regs {
     pub a: u8,
@@ -20,7 +20,7 @@ pub struct Regs {
     pub flags: Flags,
 }
 
-/// The word of two bytes.
+/// Returns the word with these two bytes.
 #[inline(always)]
 pub fn word_of(low: u8, high: u8) -> u16
     ensures { result ≡ word low high }
@@ -29,7 +29,7 @@ pub fn word_of(low: u8, high: u8) -> u16
 }
 
 impl Regs {
-    // The byte in a register.
+    // Returns the byte in a register.
     #[inline(always)]
     pub(crate) fn get(self, register: Register) -> u8
         ensures { result ≡ value_of register self }
@@ -61,7 +61,7 @@ impl Regs {
         }
     }
 
-    /// The word in a register pair.
+    /// Returns the word in a register pair.
     #[inline(always)]
     pub fn pair(self, pair: Pair) -> u16
         ensures { result ≡ pair_of pair self }
@@ -89,7 +89,7 @@ impl Regs {
         }
     }
 
-    // Adds, with a carry of at most 1.
+    // Adds a byte and a carry of 0 or 1 to the accumulator, and sets the flags.
     #[inline(always)]
     fn add(&mut self, value: u8, carry: u8)
         requires { carry ≤ 1 }
@@ -101,7 +101,7 @@ impl Regs {
         self.flags = Flags::after(self.a, ac, whole >= 256);
     }
 
-    // Subtracts, with a borrow of at most 1: a sum with the complement.
+    // Subtracts a byte and a borrow of 0 or 1 from the accumulator, by adding the complement, and sets the flags.
     #[inline(always)]
     fn subtract(&mut self, value: u8, borrow: u8)
         requires { borrow ≤ 1 }
@@ -119,7 +119,7 @@ impl Regs {
         self.flags = Flags::after(value, ac, false);
     }
 
-    // Carries out an operation on the accumulator.
+    // Applies an operation to the accumulator and the flags.
     #[inline(always)]
     pub(crate) fn accumulate(&mut self, function: Arithmetic, value: u8)
         ensures { self.new ≡ accumulate function value self.old }

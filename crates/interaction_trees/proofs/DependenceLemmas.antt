@@ -1,4 +1,4 @@
--- What no step looks at has no influence, whatever the machine.
+-- On any machine, what no step looks at has no influence.
 use Rattle.std.proofs.Common.{◌≡◌, ℕ, zero, suc, ◌<◌, List, [], ◌∷◌, ◌++◌, refl, ap, sym, ◌∙◌, arith, Option, Some, None}
 use Rattle.interaction_trees.specs.Tree.{Tree, Return, Query, result_of, asked, AgreeOn, returning}
 use Rattle.interaction_trees.specs.Outcome.{Outcome}
@@ -6,17 +6,17 @@ use Rattle.interaction_trees.specs.Dependence.{state_of, laid, passed_on}
 use Rattle.interaction_trees.specs.Dependence as dependence
 
 module _ {S : Type 0} {B : S → Type 0} where
-  -- answers that agree where a tree asks lead to the same result
+  -- Answers that agree on the questions that a tree asks lead to the same result.
   pub same_result : {E : Type 0} (f g : (s : S) → B s) (t : Tree S B E) → AgreeOn (asked f t) f g → result_of g t ≡ result_of f t
   same_result f g (Return e) h = refl
   same_result f g (Query q k) h = rw (← h.0) (same_result f g (k (f q)) h.1)
 
-  -- by the same questions
+  -- They also lead to the same questions.
   pub same_asked : {E : Type 0} (f g : (s : S) → B s) (t : Tree S B E) → AgreeOn (asked f t) f g → asked g t ≡ asked f t
   same_asked f g (Return e) h = refl
   same_asked f g (Query q k) h = rw (← h.0) (ap (λ qs. q ∷ qs) (same_asked f g (k (f q)) h.1))
 
-  -- answers that agree everywhere lead to the same result
+  -- Answers that agree everywhere lead to the same result.
   pub same_everywhere : {E : Type 0} (f g : (s : S) → B s) (t : Tree S B E) → ((s : S) → f s ≡ g s) → result_of f t ≡ result_of g t
   same_everywhere f g (Return e) h = refl
   same_everywhere f g (Query q k) h = rw (h q) (same_everywhere f g (k (g q)) h)
@@ -38,7 +38,7 @@ module _ {S : Type 0} {B : S → Type 0} where
   agree_right f g (x ∷ xs) ys h = agree_right f g xs ys h.1
 
 module _ {S : Type 0} {B : S → Type 0} {Q : Type 0} {A : Q → Type 0} {W : Type 0} (part : W → (q : Q) → Tree S B (A q)) where
-  -- where the sessions agree on what is passed on to them, the states agree
+  -- If two sessions agree on the questions that reach them, the states agree.
   pub laid_agree : (w : W) (f g : (s : S) → B s) (qs : List Q) → AgreeOn (passed_on part w f qs) f g → AgreeOn qs (laid part w f) (laid part w g)
   laid_agree w f g [] h = tt
   laid_agree w f g (q ∷ qs) h =
@@ -96,7 +96,7 @@ module _ {S : Type 0} {B : S → Type 0} {Q : Type 0} {A : Q → Type 0} {W St R
   unfolding dependence.looks
   same_looks f g n h k = rw (same_after f g n h) (same_looks_of f g (after f n) k)
 
-  -- the theorem
+  -- The theorem.
   pub prefix_dependence : dependence.PrefixDependence part own next made start
   prefix_dependence f g n h =
       (same_after f g n h, λ i k. same_looks f g i (λ j m. h j (omega arith)) (h i k))

@@ -1,19 +1,20 @@
--- A machine over two families of questions: what a step asks of the state, and what the state asks of the session. (This
+-- A machine with two families of questions: those of a step to the state, and those of the state to the session. (This
 -- project's own.)
 --
--- S, B: the session's questions and their answers. Q, A: the state's. W: what a run wrote. St: a state. R: what a step
--- makes of its answers. X: why a run stops.
+-- S, B: the session's questions and their answers. Q, A: the state's questions and their answers. W: what a run wrote. St: a
+-- state. R: the result of a step's tree of questions. X: the cause of a stop.
 use Rattle.std.specs.Prelude.{◌≡◌, ℕ, zero, suc, ◌<◌, List, [], ◌∷◌, ◌++◌, Option, Some, None}
 use Rattle.interaction_trees.specs.Outcome.{Outcome, Step, Stop}
 use Rattle.interaction_trees.specs.Tree.{Tree, result_of, asked, AgreeOn}
 
--- The state answers each question by a small tree over the session: of what it wrote itself it asks nothing.
+-- The state answers each question by a small tree over the session. About what the run wrote itself it asks the session
+-- nothing.
 module _ {S : Type 0} {B : S → Type 0} {Q : Type 0} {A : Q → Type 0} {W : Type 0} (part : W → (q : Q) → Tree S B (A q)) where
-  -- the answers of a state that owns w, over a session that answers f
+  -- The answers of a state with own w, over a session that answers by f.
   abbrev pub laid : W → ((s : S) → B s) → (q : Q) → A q
   laid w f q = result_of f (part w q)
 
-  -- what is asked of the session on behalf of these questions of the state
+  -- The questions that the session is asked in order to answer these questions of the state.
   abbrev pub passed_on : W → ((s : S) → B s) → List Q → List S
   passed_on w f [] = []
   passed_on w f (q ∷ qs) = asked f (part w q) ++ passed_on w f qs
@@ -24,11 +25,11 @@ state_of (Stop x) = None
 
 module _ {S : Type 0} {B : S → Type 0} {Q : Type 0} {A : Q → Type 0} {W St R X : Type 0}
     (part : W → (q : Q) → Tree S B (A q)) (own : St → W) (next : St → Tree Q A R) (made : St → R → Outcome St X) (start : St) where
-  -- what follows a state
+  -- The outcome at a state.
   unfoldable pub outcome : ((s : S) → B s) → St → Outcome St X
   outcome f st = made st (result_of (laid part (own st) f) (next st))
 
-  -- what is asked of the session there, where a stop follows too
+  -- The questions that the session is asked at a state, also if the outcome is a stop.
   unfoldable pub looks_at : ((s : S) → B s) → St → List S
   looks_at f st = passed_on part (own st) f (asked (laid part (own st) f) (next st))
 
@@ -36,7 +37,7 @@ module _ {S : Type 0} {B : S → Type 0} {Q : Type 0} {A : Q → Type 0} {W St R
   then_step f None = None
   then_step f (Some st) = state_of (outcome f st)
 
-  -- the state after n steps; none where a stop comes before
+  -- The state after n steps, or none if the run stops earlier.
   unfoldable pub after : ((s : S) → B s) → ℕ → Option St
   after f zero = Some start
   after f (suc n) = then_step f (after f n)
@@ -45,11 +46,12 @@ module _ {S : Type 0} {B : S → Type 0} {Q : Type 0} {A : Q → Type 0} {W St R
   looks_of f None = []
   looks_of f (Some st) = looks_at f st
 
-  -- what is asked of the session at the state after n steps
+  -- The questions that the session is asked at the state after n steps, if there is one.
   unfoldable pub looks : ((s : S) → B s) → ℕ → List S
   looks f n = looks_of f (after f n)
 
-  -- What no step below n looks at has no influence on the state after n steps.
+  -- Prefix dependence: what no step below n looks at has no influence on the state after n steps, nor on the looks of these
+  -- steps.
   abbrev pub PrefixDependence : Type 0
   PrefixDependence = (f g : (s : S) → B s) (n : ℕ) → ((i : ℕ) → i < n → AgreeOn (looks f i) f g)
       → (after g n ≡ after f n) × ((i : ℕ) → i < n → looks g i ≡ looks f i)

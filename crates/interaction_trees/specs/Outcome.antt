@@ -1,6 +1,6 @@
--- What follows a state of any machine. (This project's own.)
+-- The outcome at a state of any machine. (This project's own.)
 
--- a step to another state, or a stop
+-- A step to another state, or a stop.
 pub data Outcome (St X : Type 0) : Type 0 where
   Step : St → Outcome St X
   Stop : X → Outcome St X

@@ -1,4 +1,4 @@
-//! Interaction trees over any family of questions, and the theorem that what a run does not ask has no influence on it.
+//! Interaction trees over any family of questions, and the theorem that what a run does not ask cannot influence it.
 //!
-//! The crate holds definitions and their proofs alone; the crates above cite them.
+//! This crate contains only definitions and proofs, which the crates above it use.
 #![tactic(auto)]

@@ -16,7 +16,7 @@ below : (limit : ℕ) (r : Option ℕ) → option_filter (λ n. nat_lt n limit) 
 below limit None = refl
 below limit (Some n) = refl
 
--- what the map of the entries below a limit answers
+-- The value of a key in the map of the entries below a limit.
 pub get_below : {K : Type 0} {R : K → K → Ordering} → IsTotalOrder R → (limit : ℕ) (es fs : List (K × ℕ)) (m : FinMap R ℕ) → from_entries {R = R} es ≡ m → IsStrictlySortedBy R (keys_of es) → fs ≡ filter (λ e. nat_lt e.1 limit) es
     → (q : K) → get (from_entries {R = R} fs) q ≡ if_below limit (get m q)
 get_below {R = R} o limit es fs m v sorted is q =

@@ -1,4 +1,4 @@
--- A set of which one element stands apart is the set of all its elements.
+-- A set with one element apart is the set of all its elements.
 use Rattle.std.proofs.Common.{◌≡◌, ◌≢◌, ℕ, ◌+◌, ◌&&◌, nat_eq, Result, Ok, Err, Bool, true, false, cond, is_some, Some, None, Option, refl, sym, ap, subst, ◌∙◌}
 use Rattle.std.specs.declared.cmp.Ordering.{Ordering}
 use Rattle.std.specs.Ordering.{eq_by_cmp}
@@ -48,7 +48,7 @@ module _ {K : Type 0} {R : K → K → Ordering} (o : IsTotalOrder R) (same : Is
     at false = none
 
   module _ (rest set : FinMap R (Unit {0})) (first : Option K) (view : with_first first rest ≡ set) where
-    -- ---- with no element apart
+    -- ---- without an element apart
 
     module _ (none : first ≡ None) where
       alone : rest ≡ set
@@ -67,7 +67,7 @@ module _ {K : Type 0} {R : K → K → Ordering} (o : IsTotalOrder R) (same : Is
         pub new_apart : (k : K) → IsAbsent rest k
         new_apart k = ap (λ m. get m k) nothing ∙ get-empty R k
 
-    -- ---- with one
+    -- ---- with an element apart
 
     module _ (k : K) (some : first ≡ Some k) where
       inserted : insert rest k tt ≡ set
@@ -97,7 +97,7 @@ module _ {K : Type 0} {R : K → K → Ordering} (o : IsTotalOrder R) (same : Is
         more_apart (Ok x) others q h ok err = subst (λ f. IsApart f others) (sym some) (ap (λ m. get m k) ok ∙ get_apart o same rest q tt k h ∙ absent)
         more_apart (Err x) others q h ok err = subst (IsApart first) (sym err) apart
 
-  -- ---- where one of the others is taken
+  -- ---- if one of the others is removed
 
   pub fewer_apart : (rest : FinMap R (Unit {0})) (first : Option K) (key : K) → contains_key rest key ≡ true → IsApart first rest → IsApart first (remove rest key)
   fewer_apart rest None key there apart = let h : true ≡ false = sym there ∙ ap (λ m. contains_key m key) apart ∙ ap is_some (get-empty R key) in cc
@@ -114,7 +114,7 @@ module _ {K : Type 0} {R : K → K → Ordering} (o : IsTotalOrder R) (same : Is
       ∙ ap is_some (get_apart o same rest k tt key (λ e. absent_apart rest k key apart there (sym e)))
       ∙ there
 
-  -- ---- where the element apart is taken, the last
+  -- ---- if the element apart is removed, as the last one
 
   pub none_left : (rest : FinMap R (Unit {0})) → ((q : K) → IsAbsent rest q) → rest ≡ empty
   none_left rest none = same_map o same _ _ (λ q. none q ∙ sym (get-empty R q))
@@ -127,7 +127,7 @@ module _ {K : Type 0} {R : K → K → Ordering} (o : IsTotalOrder R) (same : Is
   without_last rest set None view apart = tt
   without_last rest set (Some k) view apart = sym (remove_back o same rest k tt apart) ∙ ap (λ m. remove m k) view
 
--- ---- whether two places are the same
+-- ---- whether two records are the same
 
 both_told : {P Q : Type 0} (a b : Bool) → Decides a P → Decides b Q → Decides (a && b) (P × Q)
 both_told true b p q = (λ h. (p.0 refl, q.0 h), λ h. q.1 h.1)

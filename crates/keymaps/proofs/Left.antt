@@ -1,4 +1,4 @@
--- How many keys lie above one.
+-- The number of keys above a bound.
 use Rattle.std.proofs.Common.{◌≡◌, ◌+◌, ◌<◌, ◌≤◌, arith, Bool, true, false, cond, is_some, List, [], ◌∷◌, ◌++◌, Some, None, Option, refl, sym, ap, ◌∙◌, length}
 use Rattle.std.specs.declared.cmp.Ordering.{Ordering}
 use Rattle.std.specs.declared.cmp.Ordering.TheVariants.{Less, Equal, Greater}
@@ -19,7 +19,7 @@ is_less Less h = refl
 is_less Equal h = cc
 is_less Greater h = cc
 
--- what lies above a key that lies above a bound lies above the bound
+-- A key above a key that is above a bound is above the bound.
 pub rises : (after : Option Key) (x y : Key) → is_above after x ≡ true → slice_cmp nat_cmp x y ≡ Less → is_above after y ≡ true
 rises None x y h l = refl
 rises (Some k) x y h l = ap is_lt (nat_list_cmp_total.trans k x y (is_less (slice_cmp nat_cmp k x) h) l)
@@ -28,7 +28,7 @@ one : {K X : Type 0} (k : K) (v : Option X) → is_some v ≡ true → (es : Lis
 one k None h es = cc
 one k (Some v) h es = omega arith
 
--- past the least key above a bound there are fewer
+-- There are fewer keys above the least key above a bound than above the bound.
 pub fewer : {X : Type 0} (m : FinMap (slice_cmp nat_cmp) X) (after : Option Key) (k : Key) → is_above after k ≡ true → is_some (get m k) ≡ true
     → ((x : Key) → is_above after x ≡ true → slice_cmp nat_cmp x k ≡ Less → get m x ≡ None) → left m (Some k) < left m after
 unfolding left
@@ -45,28 +45,28 @@ filter_fewer p q h (x ∷ xs) =
       | false ↦ λ e. elim (q x) as (λ b. length (filter p xs) ≤ length (cond b (x ∷ filter q xs) (filter q xs))) [ true ↦ omega (arith, rest) | false ↦ rest ]
     ] refl
 
--- there are no more past any key above it
+-- There are no more keys above a key above a bound than above the bound.
 pub no_more : {X : Type 0} (m : FinMap (slice_cmp nat_cmp) X) (after : Option Key) (k : Key) → is_above after k ≡ true → left m (Some k) ≤ left m after
 unfolding left
 no_more m after k pk = filter_fewer (λ e. is_above (Some k) e.0) (λ e. is_above after e.0) (λ e h. rises after k e.0 pk (is_less (slice_cmp nat_cmp k e.0) h)) (entries m)
 
--- ---- of two maps
+-- ---- two maps
 
--- past a key above a bound there are fewer in both together, where there are fewer in the first
+-- If there are fewer keys of the first map past a key above a bound, there are fewer of both together.
 pub fewer_by_first : {X Y : Type 0} (m : FinMap (slice_cmp nat_cmp) X) (n : FinMap (slice_cmp nat_cmp) Y) (after : Option Key) (k : Key) → is_above after k ≡ true
     → left m (Some k) < left m after → left m (Some k) + left n (Some k) < left m after + left n after
 fewer_by_first m n after k above fewer = let more = no_more n after k above in omega (arith, more, fewer)
 
--- and where there are fewer in the second
+-- The same for the second map.
 pub fewer_by_second : {X Y : Type 0} (m : FinMap (slice_cmp nat_cmp) X) (n : FinMap (slice_cmp nat_cmp) Y) (after : Option Key) (k : Key) → is_above after k ≡ true
     → left n (Some k) < left n after → left m (Some k) + left n (Some k) < left m after + left n after
 fewer_by_second m n after k above fewer = let more = no_more m after k above in omega (arith, more, fewer)
 
--- a key that another is above lies below that other
+-- If x is above y, y is below x.
 pub turned : (x y : Key) → slice_cmp nat_cmp x y ≡ Greater → slice_cmp nat_cmp y x ≡ Less
 turned x y greater = nat_list_cmp_total.antisymm y x ∙ ap ordering_reverse greater
 
--- above no bound lies every key
+-- Without a bound, every key counts as above it.
 pub every : {X : Type 0} (r : Option (Bor Key × X)) → IfSome r (λ e. is_above None e.0.now ≡ true)
 every None = tt
 every (Some e) = refl
@@ -80,7 +80,7 @@ all_pass : {X : Type 0} (es : List (Key × X)) → filter (λ e. true) es ≡ es
 all_pass [] = refl
 all_pass (e ∷ es) = ap (λ fs. e ∷ fs) (all_pass es)
 
--- above no bound lie all keys
+-- Without a bound, all keys are counted.
 pub left_all : {X : Type 0} (m : FinMap (slice_cmp nat_cmp) X) → left m None ≡ len m
 unfolding left
 left_all m = ap length (all_pass (entries m)) ∙ sym (len-entries m)

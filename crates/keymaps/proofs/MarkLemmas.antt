@@ -1,4 +1,4 @@
--- A set of drives answers as its marks do.
+-- A set of drives agrees with its marks.
 use Rattle.std.proofs.Common.{◌≡◌, ℕ, zero, suc, ◌+◌, ◌<◌, ◌≤◌, ◌==◌, Bool, true, false, cond, is_some, List, [], ◌∷◌, length, ◌-◌, get_or, slice_set, replicate, get_or-set_same, get_or-set_other, Option, Some, None, inl, inr, refl, sym, ap, ◌∙◌, arith}
 use Rattle.std.proofs.lemmas.Bool.Decides.{eqb_tells}
 use Rattle.std.specs.Ordering.{nat_cmp, eq_by_cmp}
@@ -6,7 +6,7 @@ use Rattle.std.specs.Cmp.{nat_cmp_total, unsigned_tied}
 use Rattle.std.specs.FinMap.{FinMap, find, from_entries, empty_of_len, get, contains_key, insert, remove, empty, len, get-empty, get-from_entries, get-insert, get-remove, nat_cmp-IsAntisymmetric, same_map, len-empty, len-insert, len-remove}
 use Rattle.keymaps.specs.Marks.{marked_from, marked}
 
--- what a mark tells of its number
+-- The value of a number with this mark.
 abbrev mark_at : Bool → Option (Unit {0})
 mark_at true = Some tt
 mark_at false = None
@@ -21,7 +21,7 @@ here q n e = unsigned_tied q n ∙ elim (eqb_tells q n) [ inl same ↦ same.0 | 
 apart : (q n : ℕ) → (q ≡ n → ⊥) → eq_by_cmp nat_cmp q n ≡ false
 apart q n h = unsigned_tied q n ∙ elim (eqb_tells q n) [ inl same ↦ absurd (h same.1) | inr other ↦ other.0 ]
 
--- a number before the first place has no mark
+-- A number before the first one has no mark.
 before : (n q : ℕ) (marks : List Bool) → q < n → find nat_cmp q (marked_from n marks) ≡ None
 before n q [] h = refl
 before n q (true ∷ marks) h = ap (λ b. cond b (Some tt) (find nat_cmp q (marked_from (suc n) marks))) (apart q n (λ e. omega arith)) ∙ before (suc n) q marks (omega arith)
@@ -70,7 +70,7 @@ marked_remove marks d low = same_map nat_cmp_total nat_cmp-IsAntisymmetric _ _ (
         | inr other ↦ rw other.0 (ap mark_at (get_or-set_other marks d q false false other.1) ∙ sym (get_marked marks q))
       ]
 
--- ---- how many there are
+-- ---- the number of marks that are set
 
 len_entries : (es : List (ℕ × Unit {0})) → len (from_entries {R = nat_cmp} es) ≤ length es
 len_entries [] = let none = len-empty nat_cmp (Unit {0}) in omega (arith, none)
@@ -84,12 +84,12 @@ length_marked n [] = omega arith
 length_marked n (true ∷ marks) = let rest = length_marked (suc n) marks in omega (arith, rest)
 length_marked n (false ∷ marks) = let rest = length_marked (suc n) marks in omega (arith, rest)
 
--- no more than the marks
+-- It is at most the number of marks.
 pub len_marked : (marks : List Bool) → len (marked marks) ≤ length marks
 unfolding marked
 len_marked marks = let some = len_entries (marked_from 0 marks) in let all = length_marked 0 marks in omega (arith, some, all)
 
--- with no number left, each is absent
+-- If the count is 0, every number is absent.
 pub none_left : (m : FinMap nat_cmp (Unit {0})) → len m ≡ 0 → (q : ℕ) → get m q ≡ None
 none_left m e q = ap (λ x. get x q) (empty_of_len m e) ∙ get-empty nat_cmp q
 
@@ -101,7 +101,7 @@ unmarked (suc n) (suc q) = unmarked n q
 pub none_marked : (n : ℕ) → marked (replicate n false) ≡ empty
 none_marked n = marked_none (replicate n false) (unmarked n)
 
--- ---- the count, as a mark is set or taken
+-- ---- the count, when a mark is set or cleared
 
 pub few : (marks : List Bool) (count : ℕ) → length marks ≡ 256 → count ≡ len (marked marks) → count ≤ 256
 few marks count whole counted = let all = len_marked marks in omega (arith, counted, all, whole)

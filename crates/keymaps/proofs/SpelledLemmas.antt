@@ -1,4 +1,4 @@
--- Lists of bytes compare as the numbers that they spell.
+-- Lists of bytes compare as the numbers that they represent.
 use Rattle.std.proofs.Common.{◌≡◌, ℕ, ◌+◌, ◌*◌, ◌<◌, suc, nat_eq, List, [], ◌∷◌, length, refl, sym, ap, ◌∙◌, arith, slice_index}
 use Rattle.std.specs.declared.cmp.Ordering.{Ordering}
 use Rattle.std.specs.declared.cmp.Ordering.TheVariants.{Less, Equal, Greater}
@@ -12,7 +12,7 @@ then_assoc Less b c = refl
 then_assoc Equal b c = refl
 then_assoc Greater b c = refl
 
--- one more byte
+-- One more byte.
 next_cmp : (a b u v : ℕ) → u < 256 → v < 256 → nat_cmp (a * 256 + u) (b * 256 + v) ≡ ordering_then (nat_cmp a b) (nat_cmp u v)
 next_cmp a b u v p q = sym (nat_cmp_is _ _ _ (by (nat_cmp a b) (nat_cmp u v) (ranks a b) (ranks u v)))
   where
@@ -36,7 +36,7 @@ then_equal Greater = refl
 abbrev AreBytes : List ℕ → Type 0
 AreBytes us = (i : ℕ) → slice_index us i < 256
 
--- where two numbers are the same, the bytes after them decide
+-- If two numbers are equal, the bytes after them decide.
 after_cmp : (a b : ℕ) (us vs : List ℕ) → length us ≡ length vs → AreBytes us → AreBytes vs
     → nat_cmp (big_endian a us) (big_endian b vs) ≡ ordering_then (nat_cmp a b) (slice_cmp nat_cmp us vs)
 after_cmp a b [] [] same p q = then_equal (nat_cmp a b)
@@ -47,7 +47,7 @@ after_cmp a b (u ∷ us) (v ∷ vs) same p q =
     ∙ next_then a b u v (slice_cmp nat_cmp us vs) (p 0) (q 0)
 
 module _ (us vs : List ℕ) (same : length us ≡ length vs) (p : AreBytes us) (q : AreBytes vs) where
-  -- as many bytes compare as the numbers that they spell
+  -- Two lists of the same length compare as the numbers that they represent.
   pub number_cmp : nat_cmp (big_endian 0 us) (big_endian 0 vs) ≡ slice_cmp nat_cmp us vs
   number_cmp = after_cmp 0 0 us vs same p q
 

@@ -1,4 +1,4 @@
--- The map that a tree's entries make answers as the tree does.
+-- The map with the entries of a tree agrees with the tree.
 use Rattle.std.proofs.Common.{◌≡◌, ◌≢◌, Bool, true, false, cond, is_some, List, [], ◌∷◌, Some, None, Option, refl, sym, ap, subst, ◌∙◌, ◌+◌, ◌<◌, length, suc, arith}
 use Rattle.std.specs.Option.{IsSome}
 use Rattle.std.specs.declared.cmp.Ordering.{Ordering}
@@ -68,7 +68,7 @@ module _ {K X : Type 0} {R : K → K → Ordering} (o : IsTotalOrder R) (same : 
       get-insert o (insert m k v) k w q ∙ ap (cond (eq_by_cmp R q k) (Some w)) (get-insert o m k v q)
       ∙ twice (eq_by_cmp R q k) _ _ _ ∙ sym (get-insert o m k w q))
 
-  -- the value that was there, put back
+  -- Inserting the value that a key has changes nothing.
   pub insert_same : (m : FinMap R X) (k : K) (w : X) → get m k ≡ Some w → insert m k w ≡ m
   insert_same m k w h = same_map o same _ _ (λ q.
       get-insert o m k w q ∙ kept (eq_by_cmp R q k) _ _ (λ e. sym h ∙ ap (get m) (sym (key_of same q k e))))
@@ -84,11 +84,11 @@ module _ {K X : Type 0} {R : K → K → Ordering} (o : IsTotalOrder R) (same : 
   pub get_apart : (m : FinMap R X) (k : K) (v : X) (q : K) → q ≢ k → get (insert m k v) q ≡ get m q
   get_apart m k v q h = get-insert o m k v q ∙ other (eq_by_cmp R q k) _ _ (λ e. h (key_of same q k e))
 
-  -- a key has a value still where another was put
+  -- A key with a value still has one after any insertion.
   pub there_still : (m : FinMap R X) (k : K) (v : X) (q : K) → is_some (get m q) ≡ true → is_some (get (insert m k v) q) ≡ true
   there_still m k v q h = ap is_some (get-insert o m k v q) ∙ some_either (eq_by_cmp R q k) v (get m q) h
 
-  -- what stood at a key first doesn't matter where it is put later
+  -- The first of two values inserted at the same key does not matter.
   pub insert_over : (m : FinMap R X) (k j : K) (v u w : X) → insert (insert (insert m k v) j u) k w ≡ insert (insert m j u) k w
   insert_over m k j v u w = same_map o same _ _ (λ q.
       get-insert o _ k w q ∙ ap (cond (eq_by_cmp R q k) (Some w)) (get-insert o _ j u q ∙ ap (cond (eq_by_cmp R q j) (Some u)) (get-insert o m k v q))
@@ -98,7 +98,7 @@ module _ {K X : Type 0} {R : K → K → Ordering} (o : IsTotalOrder R) (same : 
   pub there_now : (m n : FinMap R X) (k : K) (v : X) → n ≡ insert m k v → is_some (get n k) ≡ true
   there_now m n k v h = ap (λ x. is_some (get x k)) h ∙ ap is_some (get_here m k v)
 
--- keys are ordered byte by byte
+-- Keys are ordered byte by byte.
 pub same_key : IsAntisymmetric (slice_cmp nat_cmp)
 same_key = slice_cmp-IsAntisymmetric nat_cmp-IsAntisymmetric
 
@@ -116,11 +116,11 @@ not_over : (r : Ordering) → r ≡ Greater → is_gt r ≡ false → ⊥
 not_over r g h = subst (λ b. T b) (sym (ap is_gt g) ∙ h) tt
 
 module _ {K X : Type 0} {R : K → K → Ordering} (o : IsTotalOrder R) where
-  -- what the tree answers, the map answers
+  -- The map returns what the tree returns.
   pub seen_at : (es : List (K × X)) (m : FinMap R X) → from_entries {R = R} es ≡ m → (q : K) (r : Option X) → lookup (is_at (R q)) es ≡ r → get m q ≡ r
   seen_at es m v q r h = sym (ap (λ m. get m q) v) ∙ get_view o es q ∙ h
 
-  -- a key below the least of those with a value has none
+  -- A key below the least key with a value has none.
   pub below_least : (es : List (K × X)) (m : FinMap R X) → from_entries {R = R} es ≡ m → (k q : K) → (is_some (lookup (is_at (R q)) es) ≡ true → is_gt (R k q) ≡ false) → R q k ≡ Less → get m q ≡ None
   below_least es m v k q h l = seen_at es m v q None (none_of _ (λ s. not_over (R k q) (o.antisymm k q ∙ ap ordering_reverse l) (h s)))
 
@@ -130,14 +130,14 @@ nothing = None
 none_is_some : (X : Type 0) → IsSome {T = X} nothing → ⊥
 none_is_some X h = cc
 
--- ---- how many keys
+-- ---- the number of keys
 
 module _ {K X : Type 0} {R : K → K → Ordering} (o : IsTotalOrder R) where
   below_find : (k : K) (es : List (K × X)) → AllByRecursion (λ y. R k y ≡ Less) (map (λ e. e.0) es) → find R k es ≡ None
   below_find k [] h = refl
   below_find k (e ∷ es) h = ap (λ r. cond (is_eq r) (Some e.1) (find R k es)) h.0 ∙ below_find k es h.1
 
-  -- of keys that rise, the map has as many as the list
+  -- If the keys increase, the map has as many keys as the list.
   pub len_view : (es : List (K × X)) → IsStrictlySortedBy R (map (λ e. e.0) es) → len (from_entries {R = R} es) ≡ length es
   unfolding IsStrictlySortedBy
   len_view [] h = len-empty R X
@@ -147,7 +147,7 @@ module _ {K X : Type 0} {R : K → K → Ordering} (o : IsTotalOrder R) where
       ∙ ap (λ n. n + 1) (len_view es h.1)
       ∙ (let one : length es + 1 ≡ suc (length es) = omega arith in one)
 
-  -- a map from which nothing could be taken is empty
+  -- A map from which nothing can be removed is empty.
   pub empty_after : (es : List (K × X)) → (0 < length es → IsSome {T = K × X} nothing) → (q : K) → lookup (is_at (R q)) es ≡ None
   empty_after [] h q = refl
   empty_after (e ∷ es) h q = absurd (none_is_some (K × X) (h (omega arith)))

@@ -1,9 +1,9 @@
--- The numbers at whose places a mark stands. (This project's own.)
+-- The set of the numbers whose marks are set. (This project's own.)
 use Rattle.std.specs.Prelude.{ℕ, suc, Bool, true, false, List, [], ◌∷◌}
 use Rattle.std.specs.Ordering.{nat_cmp}
 use Rattle.std.specs.FinMap.{FinMap, from_entries}
 
--- where the first mark's place is a number
+-- These numbers in order, if the first mark is at number n.
 abbrev pub marked_from : ℕ → List Bool → List (ℕ × Unit {0})
 marked_from n [] = []
 marked_from n (true ∷ marks) = (n, tt) ∷ marked_from (suc n) marks

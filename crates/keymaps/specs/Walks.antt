@@ -1,4 +1,4 @@
--- What a walk over a map passes over, in the order of its keys. (This project's own.)
+-- The keys that a walk over a map passes, in the order of the keys. (This project's own.)
 use Rattle.std.specs.Prelude.{◌≡◌, ℕ, true, Option, Some, None, if◌then◌else◌, length, nat_lt}
 use Rattle.std.specs.declared.cmp.Ordering.{Ordering}
 use Rattle.std.specs.declared.cmp.Ordering.TheVariants.{Less}
@@ -9,27 +9,27 @@ use Rattle.std.specs.FinMap.{FinMap, get, entries}
 use Rattle.filenames.specs.Names.{Key}
 use Rattle.keymaps.specs.Order.{is_above}
 
--- a key, or a place, is not in a map
+-- A key is not in a map.
 abbrev pub IsAbsent : {K X : Type 0} {R : K → K → Ordering} → FinMap R X → K → Type 0
 IsAbsent m x = get m x ≡ None
 
--- a key is in neither of two maps
+-- A key is in neither of two maps.
 abbrev pub IsInNeither : {X Y : Type 0} → FinMap (slice_cmp nat_cmp) X → FinMap (slice_cmp nat_cmp) Y → Key → Type 0
 IsInNeither first second x = IsAbsent first x × IsAbsent second x
 
--- a fact of each key above one, if there is one
+-- A fact holds for each key above `after`. Every key is above `None`.
 abbrev pub EachAbove : Option Key → (Key → Type 0) → Type 0
 EachAbove after Fact = (x : Key) → is_above after x ≡ true → Fact x
 
--- a fact of each key above one, if there is one, and below another
+-- A fact holds for each key above `after` and below k.
 abbrev pub EachBetween : Option Key → Key → (Key → Type 0) → Type 0
 EachBetween after k Fact = (x : Key) → is_above after x ≡ true → slice_cmp nat_cmp x k ≡ Less → Fact x
 
--- how many keys of a map lie above one
+-- The number of keys of a map that are above `after`.
 unfoldable pub left : {X : Type 0} → FinMap (slice_cmp nat_cmp) X → Option Key → ℕ
 left m after = length (filter (λ e. is_above after e.0) (entries m))
 
--- a number that is below a limit
+-- A number, if it is below a limit.
 abbrev pub if_below : ℕ → Option ℕ → Option ℕ
 if_below limit None = None
 if_below limit (Some n) = if nat_lt n limit then Some n else None

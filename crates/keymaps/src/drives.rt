@@ -6,7 +6,7 @@ ghost use Rattle.keymaps.specs.Walks.{IsAbsent};
 
 use std::marker::Model;
 
-/// A set of drives, each told by a byte. None of its functions takes memory.
+/// A set of drives, each given by a byte. Its functions allocate nothing.
 #[derive(Drop)]
 pub struct DriveSet {
     marks: [bool; 256],
@@ -31,7 +31,7 @@ impl Model for DriveSet {
 }
 
 impl DriveSet {
-    /// No drive.
+    /// Creates an empty set.
     pub fn new() -> Self
         ensures { result ≡ finmap.empty }
     {
@@ -41,21 +41,21 @@ impl DriveSet {
         }
     }
 
-    /// How many drives there are.
+    /// Returns the number of drives.
     pub fn len(&self) -> usize
         ensures { result ≡ finmap.len self.now }
     {
         self.count
     }
 
-    /// Whether a drive is in the set.
+    /// Returns whether a drive is in the set.
     pub fn contains(&self, drive: u8) -> bool
         ensures { result ≡ finmap.contains_key self.now drive }
     {
         self.marks[drive as usize]
     }
 
-    /// The drive with the others.
+    /// Inserts a drive.
     pub fn insert(&mut self, drive: u8)
         ensures { self.new ≡ finmap.insert self.old drive tt }
     {
@@ -65,7 +65,7 @@ impl DriveSet {
         }
     }
 
-    /// The same set.
+    /// Returns a copy of the set.
     pub fn snapshot(&self) -> DriveSet
         ensures { result ≡ self.now }
     {
@@ -75,7 +75,7 @@ impl DriveSet {
         }
     }
 
-    /// Takes every drive out.
+    /// Removes all drives.
     pub fn clear(&mut self)
         ensures { self.new ≡ finmap.empty }
     {
@@ -85,7 +85,7 @@ impl DriveSet {
         }
     }
 
-    /// Takes one of the drives out, where there is one.
+    /// Removes and returns one of the drives, or `None` if the set is empty.
     pub fn pop(&mut self) -> Option<u8>
         ensures there { IfSome result (λ drive. finmap.contains_key self.old drive ≡ true) }
         ensures some { IfSome result (λ drive. self.new ≡ finmap.remove self.old drive) }
@@ -104,7 +104,7 @@ impl DriveSet {
     }
 }
 
-// The place of the first mark that stands.
+// Returns the index of the first mark that is set.
 fn first_mark(marks: &[bool; 256]) -> Option<u8>
     ensures there { IfSome result (λ drive. get_or marks.now drive false ≡ true) }
     ensures none { IfNone result ((drive : ℕ) → get_or marks.now drive false ≡ false) }

@@ -9,10 +9,10 @@ use filenames::Key;
 use std::alloc::{AllocError, Global};
 use std::marker::Model;
 
-/// A set of keys of files. The first one takes no memory.
+/// A set of keys of files. The first key needs no allocation.
 #[derive(Drop)]
 pub struct KeySet {
-    // Where there is none, nothing is in the rest; where there is one, it is not in the rest.
+    // If this is `None`, `rest` is empty; otherwise this key is not in `rest`.
     first: Option<Key>,
     rest: KeyMap<()>,
 }
@@ -35,7 +35,7 @@ impl Model for KeySet {
 }
 
 impl KeySet {
-    /// No key. Takes no memory.
+    /// Creates an empty set. Allocates nothing.
     pub fn new(alloc: Global) -> Self
         ensures { result ≡ finmap.empty }
     {
@@ -45,7 +45,7 @@ impl KeySet {
         }
     }
 
-    /// How many keys there are.
+    /// Returns the number of keys.
     pub fn len(&self) -> usize
         ensures { result ≡ finmap.len self.now }
     {
@@ -55,7 +55,7 @@ impl KeySet {
         }
     }
 
-    /// Whether a key is in the set.
+    /// Returns whether a key is in the set.
     pub fn contains_key(&self, key: &Key) -> bool
         ensures { result ≡ finmap.contains_key self.now key.now }
     {
@@ -65,7 +65,8 @@ impl KeySet {
         }
     }
 
-    /// The key with the others. Takes no memory where the set is empty or has the key. An `Err` changes nothing.
+    /// Inserts a key. Allocates nothing if the set is empty or has the key. On `Err`, which means out of memory, the set is
+    /// unchanged.
     pub fn insert(&mut self, key: Key) -> Result<(), AllocError>
         ensures ok { OnOk result (self.new ≡ finmap.insert self.old key tt) }
         ensures err { OnErr result (self.new ≡ self.old) }
@@ -80,7 +81,7 @@ impl KeySet {
         self.rest.insert(key, ())
     }
 
-    /// The same set.
+    /// Returns a copy of the set. `Err` means out of memory.
     pub fn snapshot(&self) -> Result<KeySet, AllocError>
         ensures { IfOk result (λ m. m ≡ self.now) }
     {
@@ -90,7 +91,7 @@ impl KeySet {
         })
     }
 
-    /// Takes every key out. Takes no memory.
+    /// Removes all keys. Allocates nothing.
     pub fn clear(&mut self)
         ensures { self.new ≡ finmap.empty }
     {
@@ -98,7 +99,7 @@ impl KeySet {
         self.rest.clear();
     }
 
-    /// Takes one of the keys out, where there is one. Takes no memory.
+    /// Removes and returns one of the keys, or `None` if the set is empty. Allocates nothing.
     pub fn pop(&mut self) -> Option<Key>
         ensures there { IfSome result (λ key. finmap.contains_key self.old key ≡ true) }
         ensures some { IfSome result (λ key. self.new ≡ finmap.remove self.old key) }

@@ -1,9 +1,9 @@
-//! Ordered maps from the keys of files, and sets of drives, seen by contracts as finite maps.
+//! Ordered maps with keys of files, and sets of drives. Contracts see them as finite maps.
 //!
-//! - `map`: maps by the keys of files, in order
-//! - `keys`, `places`: sets of keys of files; sets of a key and a number
+//! - `map`: ordered maps with keys of files
+//! - `keys`, `places`: sets of keys of files; sets of pairs of a key and a record number
 //! - `drives`: sets of drives
-//! - `ordered`: a key as the maps keep it, to compare two of them fast
+//! - `ordered`: keys in a form that is fast to compare, as the maps store them
 #![tactic(auto)]
 
 pub mod drives;

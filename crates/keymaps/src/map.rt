@@ -1,4 +1,4 @@
-// A map from keys.
+// Maps with keys of files.
 
 ghost use Rattle.std.specs.Prelude.{◌≡◌, ◌<◌, ◌+◌, ℕ, List, true, IfOk, OnOk, OnErr, IfSome, IfNone, IsSome, None, Some, option_copied};
 ghost use Rattle.std.specs.FinMap as finmap;
@@ -15,7 +15,7 @@ use std::marker::Model;
 use std::mem::replace;
 use std::ops::Bound;
 
-/// A map from keys, in the order of their bytes.
+/// A map from keys of files to values, in the order of the keys' bytes.
 #[derive(Drop)]
 pub struct KeyMap<V> {
     map: BTreeMap<OrderedKey, V>,
@@ -35,7 +35,8 @@ impl<V> Model for KeyMap<V> {
 }
 
 impl<V: Clone> KeyMap<V> {
-    /// The same map, where a clone of a value equals it.
+    /// Returns a copy with clones of the values, which equals the map if each clone equals its value. `Err` means out of
+    /// memory.
     pub fn snapshot(&self) -> Result<KeyMap<V>, AllocError>
         ensures { ((x y : V) → V.is_clone x y → y ≡ x) → IfOk result (λ m. m ≡ self.now) }
     {
@@ -46,7 +47,7 @@ impl<V: Clone> KeyMap<V> {
 }
 
 impl<V: Drop> KeyMap<V> {
-    /// No key. Takes no memory.
+    /// Creates an empty map. Allocates nothing.
     pub fn new(alloc: Global) -> Self
         ensures { result ≡ finmap.empty }
     {
@@ -55,7 +56,7 @@ impl<V: Drop> KeyMap<V> {
         }
     }
 
-    /// How many keys there are.
+    /// Returns the number of keys.
     pub fn len(&self) -> usize
         ensures len { result ≡ finmap.len self.now }
         ensures small { result < 9223372036854775808 }
@@ -63,21 +64,22 @@ impl<V: Drop> KeyMap<V> {
         self.map.len()
     }
 
-    /// The value at a key.
+    /// Returns the value of a key, or `None` if the key is absent.
     pub fn get(&self, key: &Key) -> Option<&V>
         ensures { option_copied result ≡ finmap.get self.now key.now }
     {
         self.map.get(&OrderedKey::new(*key))
     }
 
-    /// Whether a key is there.
+    /// Returns whether a key is present.
     pub fn contains_key(&self, key: &Key) -> bool
         ensures { result ≡ finmap.contains_key self.now key.now }
     {
         self.map.contains_key(&OrderedKey::new(*key))
     }
 
-    /// The value at the key, in place of the one before. An `Err` changes nothing.
+    /// Inserts a key with a value, which replaces its old value if there is one. On `Err`, which means out of memory, the map
+    /// is unchanged.
     pub fn insert(&mut self, key: Key, value: V) -> Result<(), AllocError>
         ensures ok { OnOk result (self.new ≡ finmap.insert self.old key value) }
         ensures err { OnErr result (self.new ≡ self.old) }
@@ -86,7 +88,7 @@ impl<V: Drop> KeyMap<V> {
         Ok(())
     }
 
-    /// Takes a key out, and gives the value that was there.
+    /// Removes a key and returns its value, or `None` if the key is absent.
     pub fn remove(&mut self, key: &Key) -> Option<V>
         ensures value { result ≡ finmap.get self.old key.now }
         ensures removed { self.new ≡ finmap.remove self.old key.now }
@@ -94,7 +96,7 @@ impl<V: Drop> KeyMap<V> {
         self.map.remove(&OrderedKey::new(*key))
     }
 
-    /// Another value at a key that is there. Takes no memory.
+    /// Replaces the value of a key that is present. Allocates nothing.
     pub fn put(&mut self, key: &Key, value: V)
         requires { finmap.contains_key self.old key.now ≡ true }
         ensures { self.new ≡ finmap.insert self.old key.now value }
@@ -102,7 +104,8 @@ impl<V: Drop> KeyMap<V> {
         self.replace(key, value);
     }
 
-    /// Another value at a key that is there, and the one before. Takes no memory.
+    /// Replaces the value of a key and returns the old one. If the key is absent, returns `None` and changes nothing.
+    /// Allocates nothing.
     pub fn replace(&mut self, key: &Key, value: V) -> Option<V>
         ensures value { result ≡ finmap.get self.old key.now }
         ensures some { IsSome result → self.new ≡ finmap.insert self.old key.now value }
@@ -114,7 +117,8 @@ impl<V: Drop> KeyMap<V> {
         Some(replace(place, value))
     }
 
-    /// Changes the value at a key in place, where there is one, and gives what the change answers. Takes no memory but the change's.
+    /// Calls `change` with the value of a key, to change it in place, and returns the result of the call. If the key is
+    /// absent, returns `None` and changes nothing. Only `change` may allocate.
     pub fn change<R, F: FnOnce(&mut V) -> R>(&mut self, key: &Key, change: F) -> Option<R>
         requires { F.IsAlwaysCallable change }
         ensures some { IfSome result (λ r. (v : V) × (w : V) × (finmap.get self.old key.now ≡ Some v)
@@ -128,7 +132,7 @@ impl<V: Drop> KeyMap<V> {
         Some(change(place))
     }
 
-    /// Takes every key out. Takes no memory.
+    /// Removes all keys. Allocates nothing.
     pub fn clear(&mut self)
         ensures { self.new ≡ finmap.empty }
     {
@@ -137,7 +141,7 @@ impl<V: Drop> KeyMap<V> {
         }
     }
 
-    /// Takes one of the keys out, where there is one. Takes no memory.
+    /// Removes and returns one of the keys, or `None` if the map is empty. Allocates nothing.
     pub fn pop(&mut self) -> Option<Key>
         ensures there { IfSome result (λ key. finmap.contains_key self.old key ≡ true) }
         ensures some { IfSome result (λ key. self.new ≡ finmap.remove self.old key) }
@@ -149,7 +153,7 @@ impl<V: Drop> KeyMap<V> {
         Some(*first.0.key())
     }
 
-    // The least key, with its value.
+    // Returns the least key and its value.
     fn first(&self) -> Option<(&Key, &V)>
         ensures there { IfSome result (λ e. finmap.get self.now e.0.now ≡ Some e.1.now) }
         ensures least { IfSome result (λ e. EachBetween None e.0.now (IsAbsent self.now)) }
@@ -162,7 +166,7 @@ impl<V: Drop> KeyMap<V> {
         }
     }
 
-    // The least key above one, with its value.
+    // Returns the least key above `low` and its value.
     fn above(&self, low: Key) -> Option<(&Key, &V)>
         ensures above { IfSome result (λ e. is_above (Some low) e.0.now ≡ true) }
         ensures there { IfSome result (λ e. finmap.get self.now e.0.now ≡ Some e.1.now) }
@@ -177,7 +181,7 @@ impl<V: Drop> KeyMap<V> {
         }
     }
 
-    /// The least key, above the one given if there is one, and its value.
+    /// Returns the least key above `after` and its value, or `None` if there is no such key. Every key is above `None`.
     pub fn next_key_value(&self, after: Option<Key>) -> Option<(&Key, &V)>
         ensures above { IfSome result (λ e. is_above after e.0.now ≡ true) }
         ensures there { IfSome result (λ e. finmap.get self.now e.0.now ≡ Some e.1.now) }
@@ -191,7 +195,7 @@ impl<V: Drop> KeyMap<V> {
         }
     }
 
-    /// The least key, above the one given if there is one.
+    /// Returns the least key above `after`, or `None` if there is no such key. Every key is above `None`.
     pub fn next_key(&self, after: Option<Key>) -> Option<Key>
         ensures above { IfSome result (λ k. is_above after k ≡ true) }
         ensures there { IfSome result (λ k. finmap.contains_key self.now k ≡ true) }
@@ -207,7 +211,7 @@ impl<V: Drop> KeyMap<V> {
 }
 
 impl KeyMap<u64> {
-    /// Takes out every number from this one on. Takes no memory.
+    /// Removes each key whose value is `limit` or more. Allocates nothing.
     pub fn retain_below(&mut self, limit: u64)
         ensures { (q : List ℕ) → finmap.get self.new q ≡ if_below limit (finmap.get self.old q) }
     {
@@ -215,18 +219,18 @@ impl KeyMap<u64> {
     }
 }
 
-/// A key of two maps, and what each of them has at it.
+/// A key of at least one of two maps, with its value in each.
 #[derive(Clone, Copy)]
 pub struct KeyOfBoth<'a, V, W> {
     /// The key.
     pub key: Key,
-    /// The value in the first map, if the key is there.
+    /// The value in the first map, if the key is present there.
     pub first: Option<&'a V>,
-    /// The value in the second map, if the key is there.
+    /// The value in the second map, if the key is present there.
     pub second: Option<&'a W>,
 }
 
-// A key with these values.
+// Joins a key and its values.
 fn key_with<'a, V, W>(key: &Key, first: Option<&'a V>, second: Option<&'a W>) -> KeyOfBoth<'a, V, W>
     ensures key { result.key ≡ key.now }
     ensures first { result.first ≡ first.entry }
@@ -239,7 +243,8 @@ fn key_with<'a, V, W>(key: &Key, first: Option<&'a V>, second: Option<&'a W>) ->
     }
 }
 
-/// The least key in either of two maps, above the one given if there is one, and its value in each.
+/// Returns the least key above `after` of both maps together, with its value in each map, or `None` if there is no such key.
+/// Every key is above `None`.
 pub fn next_of_both<'a, V: Drop, W: Drop>(
     first: &'a KeyMap<V>,
     second: &'a KeyMap<W>,

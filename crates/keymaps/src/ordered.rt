@@ -1,4 +1,4 @@
-// A key as the maps keep it: two of them compare as the numbers that their bytes spell.
+// Keys as the maps store them: two keys compare as the numbers that their bytes represent.
 
 ghost use Rattle.std.specs.Prelude.{◌≡◌, ◌<◌, ℕ, refl, nat_eq, slice_index};
 ghost use Rattle.std.specs.Ordering.{nat_cmp, as_partial_cmp};
@@ -10,7 +10,7 @@ use filenames::Key;
 use std::cmp::Ordering;
 use std::marker::Model;
 
-/// A key in the order of its bytes, which takes one comparison of numbers and not one for each byte.
+/// A key in the order of its bytes. Two keys compare as numbers, at once and not byte by byte.
 #[derive(Clone, Copy)]
 pub(crate) struct OrderedKey {
     bytes: Key,
@@ -27,14 +27,14 @@ impl Model for OrderedKey {
 }
 
 impl OrderedKey {
-    /// A key, in this order.
+    /// Creates an ordered key.
     pub(crate) fn new(key: Key) -> Self
         ensures { result ≡ key }
     {
         Self { bytes: key }
     }
 
-    /// The key itself.
+    /// Returns the key itself.
     pub(crate) fn key(&self) -> &Key
         ensures { result.now ≡ self.now }
     {
@@ -42,7 +42,7 @@ impl OrderedKey {
     }
 }
 
-// The number that the bytes spell.
+// Returns the number that the bytes represent, first byte highest.
 fn spelled(key: &Key) -> u128
     ensures number { result ≡ big_endian 0 key.now }
     ensures bytes { (i : ℕ) → slice_index key.now i < 256 }

@@ -1,4 +1,4 @@
-// A set of keys with places.
+// Sets of pairs of a key and a record number.
 
 ghost use Rattle.std.specs.Prelude.{◌≡◌, ◌<◌, OnOk, OnErr, IfOk, IfSome, IfNone, ℕ, List, true};
 ghost use Rattle.std.specs.FinMap as finmap;
@@ -9,10 +9,10 @@ use std::alloc::{AllocError, Global};
 use std::collections::BTreeMap;
 use std::marker::Model;
 
-/// A set of places of files: each the key of a file and a number. The first one takes no memory.
+/// A set of records of files, each given by the key of its file and its record number. The first one needs no allocation.
 #[derive(Drop)]
 pub struct PlaceSet {
-    // Where there is none, nothing is in the rest; where there is one, it is not in the rest.
+    // If this is `None`, `rest` is empty; otherwise this record is not in `rest`.
     first: Option<(Key, u32)>,
     rest: Places,
 }
@@ -35,7 +35,7 @@ impl Model for PlaceSet {
 }
 
 impl PlaceSet {
-    /// No place. Takes no memory.
+    /// Creates an empty set. Allocates nothing.
     pub fn new(alloc: Global) -> Self
         ensures { result ≡ finmap.empty }
     {
@@ -45,7 +45,7 @@ impl PlaceSet {
         }
     }
 
-    /// How many places there are.
+    /// Returns the number of records.
     pub fn len(&self) -> usize
         ensures { result ≡ finmap.len self.now }
     {
@@ -55,7 +55,7 @@ impl PlaceSet {
         }
     }
 
-    /// Whether a place is in the set.
+    /// Returns whether a record is in the set.
     pub fn contains(&self, key: &Key, place: u32) -> bool
         ensures { result ≡ finmap.contains_key self.now (key.now, place) }
     {
@@ -65,8 +65,8 @@ impl PlaceSet {
         }
     }
 
-    /// The place with the others. Takes no memory where the set is empty or has the place. An `Err` changes
-    /// nothing.
+    /// Inserts a record. Allocates nothing if the set is empty or has the record. On `Err`, which means out of memory, the
+    /// set is unchanged.
     pub fn insert(&mut self, key: Key, place: u32) -> Result<(), AllocError>
         ensures ok { OnOk result (self.new ≡ finmap.insert self.old (key, place) tt) }
         ensures err { OnErr result (self.new ≡ self.old) }
@@ -81,7 +81,7 @@ impl PlaceSet {
         self.rest.insert(key, place)
     }
 
-    /// The same set.
+    /// Returns a copy of the set. `Err` means out of memory.
     pub fn snapshot(&self) -> Result<PlaceSet, AllocError>
         ensures { IfOk result (λ m. m ≡ self.now) }
     {
@@ -91,7 +91,7 @@ impl PlaceSet {
         })
     }
 
-    /// Takes every place out. Takes no memory.
+    /// Removes all records. Allocates nothing.
     pub fn clear(&mut self)
         ensures { self.new ≡ finmap.empty }
     {
@@ -99,7 +99,7 @@ impl PlaceSet {
         self.rest.clear();
     }
 
-    /// Takes one of the places out, where there is one. Takes no memory.
+    /// Removes and returns one of the records, or `None` if the set is empty. Allocates nothing.
     pub fn pop(&mut self) -> Option<(Key, u32)>
         ensures there { IfSome result (λ p. finmap.contains_key self.old p ≡ true) }
         ensures some { IfSome result (λ p. self.new ≡ finmap.remove self.old p) }
@@ -113,7 +113,7 @@ impl PlaceSet {
     }
 }
 
-// Places of files, each in the tree.
+// A set of records of files, all of them in the tree.
 #[derive(Drop)]
 struct Places {
     map: BTreeMap<(Key, u32), ()>,
@@ -134,7 +134,7 @@ impl Model for Places {
 }
 
 impl Places {
-    // No place. Takes no memory.
+    // Creates an empty set. Allocates nothing.
     fn new(alloc: Global) -> Self
         ensures { result ≡ finmap.empty }
     {
@@ -143,7 +143,7 @@ impl Places {
         }
     }
 
-    // How many places there are.
+    // Returns the number of records.
     fn len(&self) -> usize
         ensures len { result ≡ finmap.len self.now }
         ensures small { result < 9223372036854775808 }
@@ -151,14 +151,14 @@ impl Places {
         self.map.len()
     }
 
-    // Whether a place is in the set.
+    // Returns whether a record is in the set.
     fn contains(&self, key: &Key, place: u32) -> bool
         ensures { result ≡ finmap.contains_key self.now (key.now, place) }
     {
         self.map.contains_key(&(*key, place))
     }
 
-    // The place with the others. An `Err` changes nothing.
+    // Inserts a record. On `Err`, which means out of memory, the set is unchanged.
     fn insert(&mut self, key: Key, place: u32) -> Result<(), AllocError>
         ensures ok { OnOk result (self.new ≡ finmap.insert self.old (key, place) tt) }
         ensures err { OnErr result (self.new ≡ self.old) }
@@ -167,7 +167,7 @@ impl Places {
         Ok(())
     }
 
-    // The same set.
+    // Returns a copy of the set. `Err` means out of memory.
     fn snapshot(&self) -> Result<Places, AllocError>
         ensures { IfOk result (λ m. m ≡ self.now) }
     {
@@ -176,7 +176,7 @@ impl Places {
         })
     }
 
-    // Takes every place out. Takes no memory.
+    // Removes all records. Allocates nothing.
     fn clear(&mut self)
         ensures { self.new ≡ finmap.empty }
     {
@@ -185,7 +185,7 @@ impl Places {
         }
     }
 
-    // Takes one of the places out, where there is one. Takes no memory.
+    // Removes and returns one of the records, or `None` if the set is empty. Allocates nothing.
     fn pop(&mut self) -> Option<(Key, u32)>
         ensures there { IfSome result (λ p. finmap.contains_key self.old p ≡ true) }
         ensures some { IfSome result (λ p. self.new ≡ finmap.remove self.old p) }

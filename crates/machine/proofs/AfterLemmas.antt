@@ -11,7 +11,7 @@ use Rattle.machine.specs.Machine.{Answers, part, made, start, outcome, after}
 abbrev pub then_step : Answers → Option PartialState → Option PartialState
 then_step = dependence.then_step part (λ (st : PartialState). st.own) (λ (st : PartialState). next st.core) made start
 
--- a state was reached by a step from one before
+-- A state that was reached follows from an earlier state by one step.
 pub step_before : (f : Answers) (o : Option PartialState) (st : PartialState) → then_step f o ≡ Some st → (b : PartialState) × (o ≡ Some b) × (outcome f b ≡ Step st)
 step_before f None st e = absurd (cc)
 step_before f (Some b) st e = (b, refl, stepped (outcome f b) st e) where
@@ -19,7 +19,7 @@ step_before f (Some b) st e = (b, refl, stepped (outcome f b) st e) where
   stepped (Step x) st e = let same : x ≡ st = cc in ap Step same
   stepped (Stop x) st e = absurd (cc)
 
--- one step more
+-- One more step.
 pub after_step : (f : Answers) (n : ℕ) (st st' : PartialState) → after f n ≡ Some st → outcome f st ≡ Step st' → after f (n + 1) ≡ Some st'
 unfolding dependence.after
 after_step f n st st' at went = rw add-one (ap (then_step f) at ∙ ap state_of went)

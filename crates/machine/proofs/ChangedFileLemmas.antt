@@ -1,4 +1,4 @@
--- The files that are told by one map are those that are told by what was done to the host files.
+-- The reports of the plain machine's files are the reports of what was done to the host files.
 use Rattle.std.proofs.Common.{◌≡◌, Bool, true, false, not, cond, is_some, List, [], ◌∷◌, ◌++◌, ◌||◌, ◌&&◌, T, map, Option, Some, None, refl, sym, ap, subst, ◌∙◌}
 use Rattle.std.proofs.lemmas.Simd.{map-map}
 use Rattle.std.specs.declared.cmp.Ordering.TheVariants.{Less}
@@ -93,7 +93,7 @@ present (Some x) (Some y) h = refl
 abbrev blank : {A : Type 0} → List (Key × A) → List (Key × Unit {0})
 blank es = map (λ e. (e.0, nothing e.1)) es
 
--- two maps that have the same keys have them in one order
+-- Two maps with the same keys have them in the same order.
 same_keys : {A B : Type 0} (m : FinMap (slice_cmp nat_cmp) A) (n : FinMap (slice_cmp nat_cmp) B) → ((q : Key) → is_some (get m q) ≡ is_some (get n q)) → keys m ≡ keys n
 same_keys m n same =
     sym (map-map (λ e. e.0) (λ e. (e.0, nothing e.1)) (entries m))
@@ -112,12 +112,12 @@ pub changed_keys_laid : (host : Host) (own : Own) → changed_keys_in host (file
 changed_keys_laid host own = same_keys (changed_in host (files.files host own)) (changed_names host own)
     (λ q. all_changed_in host (files.files host own) q ∙ changed_name_laid host own q ∙ sym (all_changed host own q))
 
--- ---- a walk over them
+-- ---- a walk over the changed names
 
 lacks : (host : Host) (fs : Files) (q : Key) → is_changed_name_in host fs q ≡ false → get (changed_in host fs) q ≡ None
 lacks host fs q h = absent_of (get (changed_in host fs) q) (all_changed_in host fs q ∙ h)
 
--- the changed keys above a bound begin at the least changed name there
+-- The changed keys above a bound begin with the least changed name there.
 pub changed_next_in : (host : Host) (fs : Files) (after : Option Key) (k : Key) → is_above after k ≡ true → is_changed_name_in host fs k ≡ true
     → ((x : Key) → is_above after x ≡ true → slice_cmp nat_cmp x k ≡ Less → is_changed_name_in host fs x ≡ false)
     → keys_above (changed_in host fs) after ≡ k ∷ keys_above (changed_in host fs) (Some k)

@@ -51,7 +51,7 @@ use Rattle.machine.proofs.AfterLemmas.{step_before}
 use Rattle.machine.proofs.HostLemmas.{result_of-asking_host}
 
 module _ (host : Host) (own : Own) where
-  -- what is done to files that are there
+  -- A change of files that are there.
   abbrev pub IsFit : FileChange → Type 0
   IsFit Unchanged = Unit {0}
   IsFit (Made key) = Unit {0}
@@ -66,7 +66,7 @@ module _ (host : Host) (own : Own) where
   fitting (Renamed old new) h = h.0
   fitting (Stored w r) h = h.0
 
-  -- a stop does nothing
+  -- A stop changes no file.
   abbrev pub IsStill : CallEnd → FileChange → Type 0
   IsStill (Completed r spot bytes written) change = Unit {0}
   IsStill (calls.Stopped cause) change = change ≡ Unchanged
@@ -236,7 +236,7 @@ module _ (host : Host) (own : Own) where
 
 -- ---- a run
 
--- the state's answers, with those about files as the files tell them
+-- The answers of the state, with answers about files from the current files.
 abbrev told : Session → PartialState → SystemAnswers
 told s st (OfState q) = laid st.own (ask s) (OfState q)
 told s st (OfFiles q) = file_answers s.files st.own.files q
@@ -254,7 +254,7 @@ step_sound s st onward (Went r spot bytes wrote change) sound fits e =
     subst (λ (x : PartialState). IsSound s.files x.own.files) same (stays_sound s.files st.own.files change (fitting s.files st.own.files change fits) sound)
 step_sound s st onward (Stopped cause) sound fits e = absurd (cc)
 
--- what was done to the files is sound at each state of a run
+-- What was done to the files is sound at each state of a run.
 pub sound_after : (s : Session) (n : ℕ) (st : PartialState) → after (ask s) n ≡ Some st → IsSound s.files st.own.files
 unfolding dependence.after dependence.outcome
 sound_after s zero st e = let same : start ≡ st = cc in subst (λ (x : PartialState). IsSound s.files x.own.files) same (starts_sound s.files)

@@ -41,15 +41,15 @@ no_place f (Query a t) k = no_place f (t (f (OfHost a))) k
 
 -- ---- marks
 
--- nothing more is marked
+-- Nothing more is marked.
 same_marks : (b : Bool) → b ≡ (b || false)
 same_marks b = sym (or-false b)
 
--- two places are the same where their keys are, and their numbers
+-- A key with a record number is equal to another if both parts are equal.
 pub same_place_tie : (x key : Key) (j k : ℕ) → eq_by_cmp place_cmp (x, j) (key, k) ≡ (eq_by_cmp (slice_cmp nat_cmp) x key && j == k)
 same_place_tie x key j k = elim (slice_cmp nat_cmp x key) as (λ o. is_eq (ordering_then o (nat_cmp j k)) ≡ (is_eq o && j == k)) [ Less ↦ refl | Equal ↦ unsigned_tied j k | Greater ↦ refl ]
 
--- one more is marked
+-- One more is marked.
 joined : (b : Bool) (o : Option (Unit {0})) → is_some (cond b (Some tt) o) ≡ (is_some o || (b || false))
 joined true None = refl
 joined true (Some u) = refl
@@ -68,7 +68,7 @@ marked_drive m drive d = ap is_some (get-insert nat_cmp_total m drive tt d) ∙ 
 -- ---- one question
 
 module _ (f : Answers) (a : Ask) where
-  -- whether the tree asks it
+  -- Whether the tree asks the question.
   abbrev passes : {E : Type 0} → HostTree E → Bool
   passes t = is_in (OfHost a) (asked f (asking_host t))
 
@@ -127,7 +127,7 @@ module _ (f : Answers) (a : Ask) where
   mark_one own (Content key k) l = mark_content key k (entry_at own key).base (get (entry_at own key).records k) (is_below k (entry_at own key).grown) l
   mark_one own (FilesOn drive) l = by_directory l drive a
 
--- with no question asked, none was
+-- Empty looks contain no question.
 pub nothing_asked : (l : Looks) (a : Ask) → l ≡ no_looks → is_looked l a ≡ false
 nothing_asked l a e = ap (λ x. is_looked x a) e ∙ none a where
   none : (a : Ask) → is_looked no_looks a ≡ false

@@ -1,4 +1,4 @@
--- A stretch that goes on where steps before it looked at nothing new.
+-- A stretch that continues after steps that looked at nothing new.
 use Rattle.std.proofs.Common.{inl, inr, ◌≡◌, ℕ, ◌<◌, ◌≤◌, ◌+◌, ◌-◌, ◌||◌, Bool, true, false, Option, Some, None, Ok, Err, refl, sym, ◌∙◌, ap, subst, arith, List, IfOk, IfNone}
 use Rattle.std.proofs.lemmas.Bool.{cases_lt, or_cases}
 use Rattle.std.proofs.Math.Bool.{or-false}
@@ -18,7 +18,7 @@ use Rattle.machine.specs.StateView.{Looked, StateView}
 use Rattle.machine.specs.Machine.{Question, Cell, Script, OfHost, ask, after, looks, looked_at, is_in, LooksAlso, Extends}
 use Rattle.machine.specs.Stretch.{LooksAtNothingNew, Stretches}
 
--- the same was looked at, and the same cells and places in the same order
+-- The same was looked at, with the same cells and offsets in the same order.
 pub record LooksAlike (was is : Looked) : Type 0 where
   pub cells : is.cells ≡ was.cells
   pub places : is.places ≡ was.places
@@ -37,7 +37,7 @@ alike was is l (OfHost a) = both (is_looked was.files a) (is_looked is.files a) 
 
 module _ (s : Session) (from end n k : ℕ) (looked : Looked) (old new : StateView) (low : from ≤ n) (high : n < end)
     (same : LooksAlike looked old.looked) (quiet : LooksAtNothingNew (ask s) looked from n) where
-  -- steps that look at nothing new, and then more of them
+  -- Steps that look at nothing new, and then more of them.
   quiet_on : (upto : ℕ) → LooksAtNothingNew (ask s) old.looked n upto → LooksAtNothingNew (ask s) looked from upto
   quiet_on upto w i l h q e = elim (cases_lt i n) [
     | inl below ↦ quiet i l below q e
@@ -101,11 +101,11 @@ module _ (s : Session) (from end n k : ℕ) (looked : Looked) (old new : StateVi
     bounded = λ q h. ap (λ b. b || is_in q (looks (ask s) (n + k))) (sym (alike looked old.looked same q)) ∙ w.bounded q h;
   }
 
-  -- the same, by the answer that its end becomes
+  -- The same with an equal result.
   pub joined_as : (result answer : Result (Option Cause) AllocError) → result ≡ answer → Stretches s n (n + (end - n)) old.looked (n + k) result new → IfOk result (λ stop. IfNone stop (0 < k)) → Stretches s from end looked (n + k) answer new
   joined_as result answer is w more = subst (λ (x : Result (Option Cause) AllocError). Stretches s from end looked (n + k) x new) is (joined result w more)
 
--- steps that all looked at nothing new
+-- Steps that all looked at nothing new.
 pub ends_alike : (s : Session) (from end n : ℕ) (looked : Looked) (running : StateView) → from ≤ n → n ≤ end → LooksAlike looked running.looked → after (ask s) n ≡ Some running.state → LooksAtNothingNew (ask s) looked from n
     → Stretches s from end looked n (Ok None) running
 ends_alike s from end n looked running low high same at quiet = record {
@@ -131,7 +131,7 @@ ends_alike s from end n looked running low high same at quiet = record {
   absorbs false true h = h refl
   absorbs false false h = refl
 
--- where the last step looked at nothing new either, none did
+-- If the last step looked at nothing new either, no step did.
 pub quiet_to : (s : Session) (from end n : ℕ) (looked : Looked) (new : StateView) → from < n → Stretches s from end looked n (Ok None) new → LooksAlike looked new.looked → LooksAtNothingNew (ask s) looked from n
 quiet_to s from end n looked new past w same i l h q e = elim (cases_lt i (n - 1)) [
   | inl below ↦ w.before_last i l below q e
@@ -144,7 +144,7 @@ quiet_to s from end n looked new past w same i l h q e = elim (cases_lt i (n - 1
   at_last : is_in q (looks (ask s) (n - 1)) ≡ true → looked_at looked q ≡ true
   at_last h = second (looked_at looked q) (is_in q (looks (ask s) (n - 1))) (looked_at new.looked q) (w.last past q) h (alike looked new.looked same q)
 
--- the same cells and places, and no question of the host files
+-- The same cells and offsets, and no question to the host files.
 pub looks_alike : (was is : Looked) → Extends was is → is.cells ≡ was.cells → is.places ≡ was.places → ((a : Ask) → is_looked is.files a ≡ false) → LooksAlike was is
 looks_alike was is e cells places none = record {
   cells = cells;

@@ -1,16 +1,16 @@
--- A splice is an insertion or a removal, and what is written over the rest.
+-- A splice is an insertion or a removal, after which the rest is overwritten.
 use Rattle.std.proofs.Common.{◌≡◌, ℕ, ◌+◌, ◌-◌, ◌<◌, ◌≤◌, List, [], ◌++◌, length, take, drop, refl, sym, ◌∙◌, ap, arith, append_assoc, take-append-drop, length-append}
 use Rattle.std.proofs.lemmas.List.{take_all, take_at, drop_at, length-take-le, length-drop, append-nil}
 use Rattle.machine.specs.Session.{spliced, written_over}
 
--- a splice of a middle
+-- A splice of a middle part.
 at_seams : (first middle last bytes : List ℕ) (at removed : ℕ) → length first ≡ at → length middle ≡ removed → spliced (first ++ middle ++ last) at removed bytes ≡ first ++ bytes ++ last
 at_seams first middle last bytes at removed e m =
     let before : take at (first ++ middle ++ last) ≡ first = ap (take at) (append_assoc first middle last) ∙ take_at first (middle ++ last) at e in
     let behind : drop (at + removed) (first ++ middle ++ last) ≡ last = drop_at (first ++ middle) last (at + removed) (length-append first middle ∙ omega (arith, e, m)) in
     ap (λ (l : List ℕ). l ++ bytes ++ drop (at + removed) (first ++ middle ++ last)) before ∙ ap (λ (l : List ℕ). first ++ bytes ++ l) behind
 
--- more bytes than are removed: those past the removed ones are put in first
+-- More bytes than are removed: the excess bytes are inserted first.
 grown : (list bytes : List ℕ) (at removed : ℕ) → at + removed ≤ length list → removed < length bytes
     → written_over (spliced list (at + removed) 0 (drop removed bytes)) at (take removed bytes) ≡ spliced list at removed bytes
 grown list bytes at removed inside more =
@@ -32,7 +32,7 @@ grown list bytes at removed inside more =
     sym (append_assoc (first ++ some) others last) ∙ ap (λ (l : List ℕ). l ++ last) (append_assoc first some others ∙ ap (λ (l : List ℕ). first ++ l) (take-append-drop removed bytes)) in
     ap (λ (l : List ℕ). written_over l at some) inserted ∙ over ∙ joined ∙ sym (ap (λ (l : List ℕ). spliced l at removed bytes) (sym whole) ∙ at_seams first middle last bytes at removed count long)
 
--- no more: as many as are too many are taken out first
+-- No more bytes than are removed: the excess bytes are removed first.
 pub shrunk : (list bytes : List ℕ) (at removed : ℕ) → at + removed ≤ length list → length bytes ≤ removed
     → written_over (spliced list (at + length bytes) (removed - length bytes) []) at bytes ≡ spliced list at removed bytes
 shrunk list bytes at removed inside fewer =
@@ -56,7 +56,7 @@ shrunk list bytes at removed inside fewer =
     let as_one : first ++ (middle ++ gone) ++ last ≡ list = ap (λ (l : List ℕ). l ++ last) (sym (append_assoc first middle gone)) ∙ whole in
     ap (λ (l : List ℕ). written_over l at bytes) taken ∙ over ∙ sym (ap (λ (l : List ℕ). spliced l at removed bytes) (sym as_one) ∙ at_seams first (middle ++ gone) last bytes at removed count removed_all)
 
--- the same, where those past the removed ones are counted
+-- The insertion with the number of excess bytes.
 pub grown_by : (list bytes : List ℕ) (at removed : ℕ) → at + removed ≤ length list → removed < length bytes
     → written_over (spliced list (at + removed) 0 (take (length bytes - removed) (drop removed bytes))) at (take removed bytes) ≡ spliced list at removed bytes
 grown_by list bytes at removed inside more =

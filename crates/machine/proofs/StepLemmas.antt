@@ -72,7 +72,7 @@ use Rattle.machine.proofs.WrittenCellLemmas.{InCells, in_cells, get_written, cel
 use Rattle.machine.proofs.HostLemmas.{result_of-asking_host, no_cell, no_place, mark_one}
 use Rattle.machine.proofs.FitLemmas.{IsStill, call_fits}
 
--- a step, by registers, devices and an overlay
+-- A step, by registers, devices and an overlay.
 abbrev pub Takes : Session → Regs → Devices → Overlay → Result (Option Cause) AllocError → Regs → Devices → Overlay → Type 0
 Takes s r d o result r' d' o' = TakesStep s (running_with r d o) result (running_with r' d' o')
 
@@ -86,14 +86,14 @@ pub answered : (f : Answers) (o : Option ℕ) (a : ℕ) → result_of f (own_or_
 answered f None a = refl
 answered f (Some v) a = refl
 
--- what pages, a session, and files answer
+-- The answers of pages, a session and files.
 abbrev pub memory_answers : Session → (ℕ → Option ℕ) → files.Own → SystemAnswers
 memory_answers s own done = system_answers (over own (image_of s)) s.script s.files done
 
 abbrev pub own_written : (ℕ → Option ℕ) → files.Own → Own
 own_written own done = record { cells = written_cells own; files = done }
 
--- a written cell, and one that was not
+-- A written cell, and a cell that was not written.
 pub cell_written : (f : Answers) (own : ℕ → Option ℕ) (done : files.Own) → InCells own → (a v : ℕ) → own a ≡ Some v → laid (own_written own done) f (OfState (Byte a)) ≡ v
 cell_written f own done h a v e = ap (λ o. result_of f (own_or_ask o a)) (get_written own h a ∙ e)
 
@@ -118,7 +118,7 @@ is_in-append : (q : Question) (xs ys : List Question) → is_in q (xs ++ ys) ≡
 is_in-append q [] ys = refl
 is_in-append q (x ∷ xs) ys = ap (λ b. same_question q x || b) (is_in-append q xs ys) ∙ sym (or_assoc (same_question q x) _ _)
 
--- a read passes on its cell where that is not written
+-- A read passes its cell on to the session if the cell was not written.
 one_asked : (f : Answers) (o : Option ℕ) (a q : ℕ) → is_in (Cell q) (asked f (own_or_ask o a)) ≡ ((q == a) && not (is_some o))
 one_asked f None a q = pick (q == a) where
   pick : (b : Bool) → (b || false) ≡ (b && true)
@@ -129,7 +129,7 @@ one_asked f (Some v) a q = pick (q == a) where
   pick true = refl
   pick false = refl
 
--- and is looked at then
+-- The cell is looked at then.
 one_look : (own : ℕ → Option ℕ) (looks : Looks) (a q : ℕ) → is_among q (look own looks a) ≡ (is_among q looks || ((q == a) && not (is_some (own a))))
 unfolding look
 one_look own looks a q = pick (own a) (is_among a looks) refl where
@@ -166,7 +166,7 @@ looks_of_cell f own done h (OfFiles x ∷ qs) looks q =
     ∙ ap (λ b. is_among q looks || b) (sym (is_in-append (Cell q) (asked f (asking_host (passing.part done x))) _
     ∙ ap (λ b. b || is_in (Cell q) (dependence.passed_on part (own_written own done) f qs)) (no_cell f (passing.part done x) q)))
 
--- a question for a script place is passed on
+-- A question for a script offset is passed on.
 looks_of_script : (f : Answers) (o : Own) (qs : List SystemQuestion) (k : ℕ) → is_in (Script k) (dependence.passed_on part o f qs) ≡ is_among k (script_places (state_questions qs))
 looks_of_script f o [] k = refl
 looks_of_script f o (OfState (Byte a) ∷ qs) k =
@@ -179,7 +179,7 @@ looks_of_script f o (OfFiles x ∷ qs) k =
     is_in-append (Script k) (asked f (asking_host (passing.part o.files x))) _
     ∙ ap (λ b. b || is_in (Script k) (dependence.passed_on part o f qs)) (no_place f (passing.part o.files x) k) ∙ looks_of_script f o qs k
 
--- questions of memory and of the script pass on nothing to the host files
+-- Questions to memory and the script pass nothing on to the host files.
 near_asks_none : (f : Answers) (o : Own) (a : Ask) (q : _) → is_in (OfHost a) (asked f (part o (OfState q))) ≡ false
 near_asks_none f o a (Byte b) = none (finmap.get o.cells b) where
   none : (v : Option ℕ) → is_in (OfHost a) (asked f (own_or_ask v b)) ≡ false
@@ -187,7 +187,7 @@ near_asks_none f o a (Byte b) = none (finmap.get o.cells b) where
   none (Some v) = refl
 near_asks_none f o a (Input k) = refl
 
--- a question about files marks what is passed on
+-- A question about files marks what is passed on.
 looks_of_host : (f : Answers) (o : Own) (a : Ask) (qs : List SystemQuestion) (l : file_questions_asked.Looks)
     → is_looked (look_for_all o.files (file_questions qs) l) a ≡ (is_looked l a || is_in (OfHost a) (dependence.passed_on part o f qs))
 looks_of_host f o a [] l = sym (or-false (is_looked l a))
@@ -200,14 +200,14 @@ looks_of_host f o a (OfFiles x ∷ qs) l =
     ∙ or_assoc (is_looked l a) _ _
     ∙ ap (λ b. is_looked l a || b) (sym (is_in-append (OfHost a) (asked f (asking_host (passing.part o.files x))) _))
 
--- an address among some is among more
+-- An address among some looks is among more looks.
 among_further : (q : ℕ) (xs ys : List ℕ) → memory.Extends xs ys → is_among q xs ≡ true → is_among q ys ≡ true
 among_further q xs ys e h = rw (sym (take-append-drop (length xs) ys), e, is_among-append q xs (drop (length xs) ys), h) refl
 
--- ---- a step, by the tree that comes at PC
+-- ---- a step, by the tree at PC
 
 module _ (s : Session) (r : Regs) (d : Devices) (own : ℕ → Option ℕ) (h : InCells own) (sound : IsSound s.files d.files) where
-  -- how the tree ends that comes at PC
+  -- The outcome of the tree at PC.
   outcome_of : (t : SystemTree Reached) → next (record { regs = r; desk = d.desk }) ≡ t → outcome (ask s) (state_with r d own) ≡ made (state_with r d own) (result_of (memory_answers s own d.files) t)
   unfolding dependence.outcome
   outcome_of t e = ap (λ x. made (state_with r d own) (result_of (laid (own_written own d.files) (ask s)) x)) e ∙ ap (made (state_with r d own)) (laid_result s own d.files h sound t)
@@ -219,7 +219,7 @@ module _ (s : Session) (r : Regs) (d : Devices) (own : ℕ → Option ℕ) (h : 
       ap (λ x. dependence.passed_on part (own_written own d.files) (ask s) (asked (laid (own_written own d.files) (ask s)) x)) e
       ∙ ap (dependence.passed_on part (own_written own d.files) (ask s)) (laid_asked s own d.files h sound t)
 
-  -- the looks after it
+  -- The looks after it.
   looked_of : (t : SystemTree Reached) → next (record { regs = r; desk = d.desk }) ≡ t → (old new : Looked)
       → new.cells ≡ look_all own (addresses (state_questions (asked (memory_answers s own d.files) t))) old.cells
       → ((k : ℕ) → is_within new.places k ≡ (is_within old.places k || is_among k (script_places (state_questions (asked (memory_answers s own d.files) t)))))
@@ -236,7 +236,7 @@ module _ (s : Session) (r : Regs) (d : Devices) (own : ℕ → Option ℕ) (h : 
       ∙ looks_of_host (ask s) (own_written own d.files) a (asked (memory_answers s own d.files) t) old.files
       ∙ ap (λ qs. is_looked old.files a || is_in (OfHost a) qs) (sym (looks_are t e))
 
-  -- some of the looks after it
+  -- Some of the looks after it.
   bounded_of : (t : SystemTree Reached) → next (record { regs = r; desk = d.desk }) ≡ t → (old new : Looked)
       → memory.Extends new.cells (look_all own (addresses (state_questions (asked (memory_answers s own d.files) t))) old.cells) → ((k : ℕ) → is_within new.places k ≡ is_within old.places k)
       → file_looks.Extends new.files (look_for_all d.files (file_questions (asked (memory_answers s own d.files) t)) old.files)
@@ -250,7 +250,7 @@ module _ (s : Session) (r : Regs) (d : Devices) (own : ℕ → Option ℕ) (h : 
       ∙ ap (λ qs. is_looked old.files a || is_in (OfHost a) qs) (sym (looks_are t e)))
       ∙ asks.kept a marked
 
--- what a tree's end leaves
+-- The effect of the end of a tree.
 abbrev Leaves : Reached → Regs → Devices → (ℕ → Option ℕ) → Regs → Devices → (ℕ → Option ℕ) → Type 0
 Leaves (Went t spot bytes wrote change) r d own r' d' own' = (r' ≡ t) × (d'.desk ≡ desk_with d.desk spot bytes) × (own' ≡ write_all own wrote.cells) × (d'.files ≡ own_with change d.files)
 Leaves (Stopped x) r d own r' d' own' = (r' ≡ r) × (d'.desk ≡ d.desk) × (own' ≡ own) × (d'.files ≡ d.files)
@@ -274,7 +274,7 @@ within_cells c = in_cells c.slots.items (omega arith)
 pub within : (o : Overlay) → InCells (own_of o)
 within o = within_cells o.cells
 
--- what a tree leaves that was carried out over pages
+-- The effect of a tree that is executed over pages.
 pub record Carried (s : Session) (t : SystemTree Reached) (r : Regs) (d : Devices) (o : Overlay) (r' : Regs) (d' : Devices) (o' : Overlay) : Type 0 where
   pub at : next (record { regs = r; desk = d.desk }) ≡ t
   pub leaves : Leaves (result_of (memory_answers s (own_of o) d.files) t) r d (own_of o) r' d' (own_of o')
@@ -298,7 +298,7 @@ carried s r r' d d' o o' t sound w = record {
   bounded = tt;
 }
 
--- a tree that failed
+-- A tree that failed.
 broken_off : (s : Session) (r r' : Regs) (d d' : Devices) (o o' : Overlay) (t : SystemTree Reached) (e : AllocError) → IsSound s.files d.files → next (record { regs = r; desk = d.desk }) ≡ t
     → r' ≡ r → d'.desk ≡ d.desk → own_of o' ≡ own_of o → d'.files ≡ d.files → memory.Extends (looks_of o) (looks_of o')
     → memory.Extends (looks_of o') (look_all (own_of o) (addresses (state_questions (asked (memory_answers s (own_of o) d.files) t))) (looks_of o))
@@ -434,14 +434,14 @@ pub next_system : (r : Regs) (d : Desk) → r.pc ≢ 0xff03 → r.pc ≢ 0xfe06 
 unfolding next
 next_system r d w b h = rw (ne_eqb r.pc 0xff03 w, ne_eqb r.pc 0xfe06 b, le-leb 0xfe00 r.pc h) refl
 
--- a failure, whatever it carries
+-- An error, whatever it carries.
 pub fails_as : {s : Session} {old new : StateView} (e : AllocError) (result : Result (Option Cause) AllocError) → IsErr result → TakesStep s old (Err e) new → TakesStep s old result new
 fails_as e (Ok x) h w = absurd (cc)
 fails_as e (Err e') h w = record { outcome = tt; stays = tt; failed = w.failed; looked = tt; extends = w.extends; bounded = w.bounded }
 
--- ---- a call over a view and a table, at the greatest script
+-- ---- a call over a view and a table, with the longest script
 
--- two memories and two tables that hold the same
+-- Two memories and two tables with the same contents.
 pub record IsSeenAs (m v : Memory) : Type 0 where
   pub own : m.own ≡ v.own
   pub beneath : m.beneath ≡ v.beneath

@@ -1,4 +1,4 @@
--- Steps one after another of which none but the last looks at anything new.
+-- Steps one after another, of which only the last looks at anything new.
 use Rattle.std.proofs.Common.{inl, inr, ◌≡◌, ℕ, ◌<◌, ◌≤◌, ◌+◌, ◌-◌, ◌||◌, Bool, true, false, List, length, Option, Some, None, Ok, Err, refl, sym, ◌∙◌, ap, subst, arith, add-one, IfOk, IfNone, IfSome, OnErr, ◌≢◌}
 use Rattle.std.proofs.lemmas.Bool.Decides.{eqb_tells}
 use Rattle.std.proofs.Math.Bool.{or-false}
@@ -33,7 +33,7 @@ use Rattle.machine.specs.Steps.{seen, looked_in, TakesStep}
 use Rattle.machine.specs.Stretch.{LooksAtNothingNew, Stretches, ended_of, RunsTo}
 use Rattle.machine.proofs.AfterLemmas.{then_step, step_before, after_step}
 
--- the looks at the state that was reached
+-- The looks at the state that was reached.
 looks_here : (f : Answers) (n : ℕ) (st : PartialState) → after f n ≡ Some st → looks f n ≡ looks_at f st
 unfolding dependence.looks
 looks_here f n st at = ap (dependence.looks_of part (λ (st : PartialState). st.own) (λ (st : PartialState). next st.core) made start f) at
@@ -42,7 +42,7 @@ or_second : (a b c : Bool) → c ≡ (a || b) → b ≡ true → c ≡ true
 or_second true b c e h = e
 or_second false b c e h = e ∙ h
 
--- one step more that looks at nothing new
+-- One more step that looks at nothing new.
 nothing_new_more : (f : Answers) (looked : Looked) (from n : ℕ) → LooksAtNothingNew f looked from n → ((q : Question) → is_in q (looks f n) ≡ true → looked_at looked q ≡ true) → LooksAtNothingNew f looked from (n + 1)
 nothing_new_more f looked from n quiet here i low high q h = elim (eqb_tells i n) [
   | inl same ↦ here q (subst (λ (k : ℕ). is_in q (looks f k) ≡ true) same.1 h)
@@ -54,14 +54,14 @@ module _ (s : Session) (from end n : ℕ) (old new : StateView) (looked : Looked
   before : LooksAtNothingNew (ask s) looked from (n - 1)
   before i l h q = quiet i l (omega arith) q
 
-  -- what was looked at after the step
+  -- The looks after the step.
   looked_after : {result : Option Cause} → TakesStep s old (Ok result) new → LooksAlso looked (looks (ask s) n) new.looked
   looked_after w q =
       w.looked q
       ∙ ap (λ (l : Looked). looked_at l q || is_in q (looks_at (ask s) old.state)) same
       ∙ ap (λ (qs : List Question). looked_at looked q || is_in q qs) (sym (looks_here (ask s) n old.state at))
 
-  -- a stretch that ends with the step n
+  -- A stretch that ends with step n.
   pub ends_by_step : n < end → TakesStep s old (Ok None) new → Stretches s from end looked (n + 1) (Ok None) new
   ends_by_step high w = record {
     within = (omega arith, omega arith);
@@ -78,7 +78,7 @@ module _ (s : Session) (from end n : ℕ) (old new : StateView) (looked : Looked
     bounded = tt;
   }
 
-  -- one that ends before the step n, which stops
+  -- A stretch that ends before step n, which stops.
   pub ends_by_stop : (cause : Cause) → n < end → TakesStep s old (Ok (Some cause)) new → Stretches s from end looked n (Ok (Some cause)) new
   ends_by_stop cause high w = record {
     within = (low, omega arith);
@@ -95,7 +95,7 @@ module _ (s : Session) (from end n : ℕ) (old new : StateView) (looked : Looked
     bounded = tt;
   }
 
-  -- one that ends before the step n, which fails
+  -- A stretch that ends before step n, which fails.
   pub ends_by_failure : (e : AllocError) → n < end → TakesStep s old (Err e) new → Stretches s from end looked n (Err e) new
   ends_by_failure e high w = record {
     within = (low, omega arith);
@@ -115,7 +115,7 @@ module _ (s : Session) (from end n : ℕ) (old new : StateView) (looked : Looked
         ∙ w.bounded q h;
   }
 
-  -- and one that ends where nothing new was looked at
+  -- A stretch that ends when nothing new was looked at.
   looked_before : (q : Question) → (b : Bool) → (b ≡ true → looked_at looked q ≡ true) → looked_at looked q ≡ (looked_at looked q || b)
   looked_before q true h = absorbs (looked_at looked q) (h refl) where
     absorbs : (b : Bool) → b ≡ true → b ≡ (b || true)
@@ -193,14 +193,14 @@ module _ (s : Session) (n : ℕ) (old new : StateView) (at : after (ask s) n ≡
   is_step k (Ok (Some cause)) w more = stopped_one (n + k) cause w
   is_step k (Err e) w more = failed_one (n + k) e w
 
-  -- where it goes on, the meter counts one; where it does not, it stays
+  -- The meter counts one if the run continues, and is unchanged otherwise.
   pub counts : (k metered metered' : ℕ) (result : Result (Option Cause) AllocError) → Stretches s n (n + 1) old.looked (n + k) result new → IfOk result (λ stop. IfNone stop (0 < k))
       → metered' ≡ metered + k → IfOk result (λ stop. IfNone stop (metered' ≡ metered + 1)) × IfOk result (λ stop. IfSome stop (λ _. metered' ≡ metered)) × OnErr result (metered' ≡ metered)
   counts k metered metered' (Ok None) w more e = (omega (arith, w.within, more), tt, tt)
   counts k metered metered' (Ok (Some cause)) w more e = (tt, omega (arith, w.stopped.0), tt)
   counts k metered metered' (Err x) w more e = (tt, tt, omega (arith, w.failed))
 
--- ---- a run from a step on
+-- ---- a run from a step
 
 pub fails_too : (answer : Result (ℕ × Option Cause) AllocError) (e : AllocError) → IsErr answer → Err e ≡ ended_of answer
 fails_too (Ok x) e h = absurd (cc)
@@ -217,7 +217,7 @@ runs_to s from end k metered metered' old new result answer same at order w e =
       at,
     )
 
--- the same looks, where there are no more
+-- If no cell was added, the looks are the same.
 pub same_cells : (old new : List ℕ) → memory.Extends old new → length new ≡ length old → new ≡ old
 same_cells old new e count = sym (take_all (length old) new (omega arith)) ∙ e
 
@@ -242,7 +242,7 @@ module _ (s : Session) (r r' : Regs) (o o' : Overlay) (beneath beneath' : ℕ �
   abbrev Viewed : Result Did AllocError → Type 0
   Viewed result = Performs (instruction r) r (record { own = own_of o; beneath = beneath; looks = looks_of o; lender = lender }) result r' (record { own = own_of o'; beneath = beneath'; looks = looks_of o'; lender = lender' })
 
-  -- it is one over the session's image
+  -- The instruction is one over the session's image.
   seen_through : (result : Result Did AllocError) → Viewed result → Performs (instruction r) r (seen s o) result r' (seen s o')
   seen_through result p =
       let w = subst (λ (b : ℕ → ℕ). Performs (instruction r) r (record { own = own_of o; beneath = b; looks = looks_of o; lender = lender }) result r' (record { own = own_of o'; beneath = beneath'; looks = looks_of o'; lender = lender' })) image p in
@@ -264,6 +264,6 @@ module _ (s : Session) (r r' : Regs) (o o' : Overlay) (beneath beneath' : ℕ �
   pub viewed_failure : (d : Devices) (sound : IsSound s.files d.files) (e : AllocError) → r.pc < 0xfe00 → Viewed (Err e) → Takes s r d o (Err e) r' d o'
   viewed_failure d sound e low p = instruction_fails s r r' d o o' sound low e (seen_through (Err e) p)
 
--- the looks after it extend those before
+-- The looks after an instruction extend the looks before it.
 pub looks_on : (r r' : Regs) (m m' : memory.Memory) (did : Did) → Performs (instruction r) r m (Ok did) r' m' → memory.Extends m.looks m'.looks
 looks_on r r' m m' did p = extends_by m.own (asked (instruction r) (memory.bytes m)) m.looks m'.looks p.looks

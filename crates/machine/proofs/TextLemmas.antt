@@ -47,14 +47,14 @@ text_grows f n (suc k) a b first last =
     let (before, at, went) = step_before f (after f (k + n)) b (rw suc-add at last) in
     longer_further _ _ _ (text_grows f n k a before first at) (step_grows f before b went)
 
--- the text of an earlier state is a beginning of a later one's
+-- The text of an earlier state is a prefix of a later one's.
 pub text_begins : (f : Answers) (n m : ℕ) (a b : PartialState) → n ≤ m → after f n ≡ Some a → after f m ≡ Some b → take (length a.core.desk.text) b.core.desk.text ≡ a.core.desk.text
 text_begins f n m a b h first last =
     let count : (m - n) + n ≡ m = omega arith in
     let all = text_grows f n (m - n) a b first (rw count last) in
     ap (take (length a.core.desk.text)) all.1 ∙ take-append_seam a.core.desk.text all.0
 
--- and is no longer
+-- It is no longer than the later one's.
 pub text_length : (f : Answers) (n m : ℕ) (a b : PartialState) → n ≤ m → after f n ≡ Some a → after f m ≡ Some b → length a.core.desk.text ≤ length b.core.desk.text
 text_length f n m a b h first last =
     let count : (m - n) + n ≡ m = omega arith in

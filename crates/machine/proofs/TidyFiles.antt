@@ -1,4 +1,4 @@
--- Along a run no record stands past the end of a file, and a file that is not there has no places.
+-- Along a run no record is past the end of a file, and a file that is not there has length 0.
 use Rattle.std.proofs.Common.{◌≡◌, ℕ, zero, suc, Bool, true, false, cond, List, [], ◌∷◌, length, Option, Some, None, is_some, unwrap_or, refl, sym, subst}
 use Rattle.std.specs.Ordering.{nat_cmp, eq_by_cmp}
 use Rattle.std.specs.Cmp.Lexicographic.{slice_cmp, nat_list_cmp_total}
@@ -24,7 +24,7 @@ use Rattle.machine.specs.Machine.{ask, laid, stored_all, made, start, after}
 use Rattle.machine.proofs.AfterLemmas.{step_before}
 use Rattle.machine.proofs.FitLemmas.{IsFit, FitsReached, reached_fits, sound_after}
 
--- no record stands past the end of a file, and a file that is not there has no places
+-- No record is past the end of a file, and a file that is not there has length 0.
 pub record IsTidy (host : Host) (own : Own) : Type 0 where
   pub ends : (q : Key) → Ends host own q
   pub absent : (q : Key) → has host own q ≡ false → length_at host own q ≡ 0
@@ -40,7 +40,7 @@ untouched_absent host q = by (get host q) where
   by None h = refl
   by (Some f) h = absurd (cc)
 
--- a file that is there may have places
+-- A file that is there may have any length.
 there_absent : (host : Host) (q : Key) (e : Entry) → is_there host q e.base ≡ true → IsEmptyIfAbsent host q e
 there_absent host q e there h = absurd (cc)
 
@@ -53,7 +53,7 @@ moved_there host old new Gone h = h
 moved_there host old new New h = refl
 moved_there host old new (Moved x) h = refl
 
--- one entry more
+-- One more entry.
 module _ (host : Host) (own : Own) (all : (q : Key) → has host own q ≡ false → length_at host own q ≡ 0) (key : Key) (e : Entry) (here : IsEmptyIfAbsent host key e) where
   at_key : (q : Key) (b : Bool) → eq_by_cmp (slice_cmp nat_cmp) q key ≡ b → IsEmptyIfAbsent host q (unwrap_or (cond b (Some e) (get own q)) untouched)
   at_key q true is = subst (λ (x : Key). IsEmptyIfAbsent host x e) (sym (key_of same_key q key is)) here

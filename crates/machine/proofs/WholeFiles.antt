@@ -1,4 +1,4 @@
--- The files as one map begin, answer and change as what was done to the files, laid over the host files.
+-- The files as one map have the same start, answers and changes as what was done to the files, laid over the host files.
 use Rattle.std.proofs.Common.{◌≡◌, ℕ, ◌&&◌, Bool, true, false, cond, T, List, [], ◌∷◌, length, map, Option, Some, None, is_some, unwrap_or, refl, sym, ap, subst, ◌∙◌, arith, inl, inr}
 use Rattle.std.proofs.lemmas.Bool.{cases_lt}
 use Rattle.std.proofs.lemmas.List.{get_or-map, length-map}
@@ -40,7 +40,7 @@ host_file host q = by (get host q) where
   by None = refl
   by (Some u) = ap (λ (f : File). Some f) (all_stand u)
 
--- with nothing done, all files are the host's
+-- If nothing was done, all files are the host files.
 pub loaded_is : (host : Host) → loaded_files host ≡ files host empty
 unfolding loaded_files
 loaded_is host = same_map nat_list_cmp_total same_key _ _ (λ q.
@@ -63,7 +63,7 @@ module _ {A B : Type 0} (g : A → B) where
   sorted-mapped (e ∷ es) = λ i. below-mapped e.0 es i && sorted-mapped es i
 
 module _ (host : Host) (own : Own) where
-  -- those of a drive, with their shapes
+  -- The files of a drive, with their shapes.
   files_of_drive : (drive : ℕ) → map (λ e. (e.0, shape_of e.1)) (filter (λ e. is_on drive e.0) (entries (files host own))) ≡ files_on drive (shapes host own)
   unfolding files_on
   files_of_drive drive =
@@ -79,7 +79,7 @@ module _ (host : Host) (own : Own) where
         shaped true o = refl
         shaped false o = refl
 
-  -- ---- what files answer
+  -- ---- the answers of files
 
   module _ (tidy : IsTidy host own) where
     file_is : (key : Key) → file_in (files host own) key ≡ file_of host key (entry_at own key)

@@ -1,4 +1,4 @@
--- The machine with its whole memory as one list and its files as one map goes the same way.
+-- The plain machine makes the same steps.
 use Rattle.std.proofs.Common.{rules, inl, inr, ◌≡◌, ℕ, zero, suc, ◌+◌, ◌<◌, ◌≤◌, Option, Some, None, List, [], ◌∷◌, length, get_or, unwrap_or, refl, sym, ◌∙◌, ap, arith, cond, eqb, get_or-set_same, get_or-set_other, length-set, nat_lt, Bool, true, false, subst}
 use Rattle.std.specs.Prelude.{slice_index, slice_set}
 use Rattle.std.specs.Option.{option_map}
@@ -36,7 +36,7 @@ use Rattle.machine.proofs.FitLemmas.{FitsReached, reached_fits, sound_after}
 use Rattle.machine.proofs.TidyFiles.{IsTidy, tidy_after}
 use Rattle.machine.proofs.WholeFiles.{loaded_is, answer_is, changed_is}
 
--- ---- a list of a byte for each cell
+-- ---- a list with a byte for each cell
 
 length_memory : (byte : ℕ → ℕ) → length (memory_of byte) ≡ cell_count
 unfolding memory_of
@@ -56,11 +56,11 @@ memory_is byte m e same = sym (fill_by_all byte m cell_count 0 e same)
 
 -- ---- reads and writes
 
--- a state's cell: what was written, else the session's
+-- A state's cell: the written byte, or else the session's.
 abbrev cell_of : Session → Cells → ℕ → ℕ
 cell_of s m a = unwrap_or (finmap.get m a) (image_of s a)
 
--- nothing is stored past the last cell
+-- Nothing is stored past the last cell.
 abbrev pub Inside : Cells → Type 0
 Inside m = (q : ℕ) → 65536 ≤ q → finmap.get m q ≡ None
 
@@ -81,7 +81,7 @@ same_tell s m own limits inside sound tidy (OfState (Byte a)) = elim (leb_tells 
 same_tell s m own limits inside sound tidy (OfState (Input k)) = refl
 same_tell s m own limits inside sound tidy (OfFiles q) = answer_is s.files own tidy q ∙ sym (result_of-asking_host (ask s) (passing.part own q) ∙ answers_are s.files own sound q)
 
--- a cell of a state is the one of its memory
+-- The byte of a cell in a state is its byte in the plain memory.
 pub cell_is : (s : Session) (st : PartialState) (a : ℕ) → a < 65536 → slice_index (laid_over s st).memory a ≡ cell_at s st a
 cell_is s st a below = get_memory (cell_of s st.own.cells) a below ∙ sym (answered (ask s) (finmap.get st.own.cells a) a)
 
@@ -133,7 +133,7 @@ step_inside st next (Went r spot bytes wrote change) h e =
     subst (λ (x : PartialState). Inside x.own.cells) same (inside_all wrote.cells st.own.cells h)
 step_inside st next (Stopped cause) h e = absurd (cc)
 
--- what was written lies below the last cell
+-- No cell past the last one was written.
 after_inside : (f : Answers) (n : ℕ) (st : PartialState) → after f n ≡ Some st → Inside st.own.cells
 unfolding dependence.after dependence.outcome
 after_inside f zero st e = let same : start ≡ st = cc in rw (← same) (λ q h. finmap.get-empty nat_cmp q)
@@ -161,7 +161,7 @@ same_after s limits zero = λ i. Some (record {
 })
 same_after s limits (suc n) = ap (whole_then s) (same_after s limits n) ∙ one_more s limits (after (ask s) n) (after_inside (ask s) n) (sound_after s n) (tidy_after s n)
 
--- the law of the whole machine
+-- The law of the plain machine.
 pub whole_goes_as_laid : WholeIsLaid
 whole_goes_as_laid = record {
   states = same_after;

@@ -1,4 +1,4 @@
--- What pages hold, as a finite map and as a function of the address.
+-- The written cells of pages, as a finite map and as a function of the address.
 use Rattle.std.proofs.Common.{rules, inl, inr, ◌≡◌, ℕ, zero, suc, ◌<◌, ◌≤◌, ◌≢◌, Option, Some, None, refl, sym, ◌∙◌, ap, arith, cond, eqb, List, [], ◌∷◌, nat_lt, true, false, length, ◌/◌, ◌%◌}
 use Rattle.std.proofs.lemmas.Bool.Decides.{eqb_tells, leb_tells}
 use Rattle.std.proofs.lemmas.Cmp.{nat_cmp_total}
@@ -37,7 +37,7 @@ within (suc n) own q h = elim (eqb_tells q n) [
   | inr other ↦ entry_other _ n (own n) q other.1 ∙ within n own q (let far : q ≢ n = other.1 in omega arith)
 ]
 
--- nothing is written past the last cell
+-- Nothing is written past the last cell.
 abbrev pub InCells : (ℕ → Option ℕ) → Type 0
 InCells own = (q : ℕ) → 65536 ≤ q → own q ≡ None
 
@@ -54,14 +54,14 @@ cells_are own m h same = map.same_map nat_cmp_total map.nat_cmp-IsAntisymmetric 
 pub cells_none : (own : ℕ → Option ℕ) → own ≡ (λ _. None) → written_cells own ≡ map.empty
 cells_none own e = cells_are own map.empty (λ q h. ap (λ (f : ℕ → Option ℕ). f q) e) (λ q. map.get-empty nat_cmp q ∙ sym (ap (λ (f : ℕ → Option ℕ). f q) e))
 
--- whether a byte is stored
+-- A byte is stored exactly at addresses below 65,536.
 not_below : (a : ℕ) → 65536 ≤ a → nat_lt a 65536 ≡ false
 not_below a p = search (rules)
 
 below : (a : ℕ) → a < 65536 → nat_lt a 65536 ≡ true
 below a p = search (rules)
 
--- a byte stored is there afterwards, below the last cell
+-- Below 65,536, a cell has the byte that was stored there, and any other cell is unchanged.
 pub get_stored : (m : Cells) (a v q : ℕ) → q < 65536 → map.get (stored m a v) q ≡ cond (eqb q a) (Some v) (map.get m q)
 get_stored m a v q h = elim (leb_tells 65536 a) [
   | inl over ↦ far (let p : 65536 ≤ a = over.1 in p)
@@ -76,7 +76,7 @@ get_stored m a v q h = elim (leb_tells 65536 a) [
   near : a < 65536 → map.get (stored m a v) q ≡ cond (eqb q a) (Some v) (map.get m q)
   near p = rw (below a p) (get_insert m a v q)
 
--- nothing is stored past the last cell
+-- Nothing is stored past the last cell.
 pub stored_past : (m : Cells) (a v q : ℕ) → 65536 ≤ q → map.get m q ≡ None → map.get (stored m a v) q ≡ None
 stored_past m a v q h e = elim (leb_tells 65536 a) [
   | inl over ↦ rw (not_below a over.1) e
@@ -94,14 +94,14 @@ unfolding write
 get_stored_all [] m own q h e = e
 get_stored_all (w ∷ ws) m own q h e = get_stored_all ws (stored m w.0 w.1) (write own w.0 w.1) q h (get_stored m w.0 w.1 q h ∙ ap (λ r. cond (eqb q w.0) (Some w.1) r) e)
 
--- after the writes, the pages hold what they held with the writes
+-- After the writes, the written cells are the old ones with the writes applied.
 pub cells_written : (own own' : ℕ → Option ℕ) (ws : List (ℕ × ℕ)) → InCells own → InCells own' → own' ≡ write_all own ws → written_cells own' ≡ stored_all (written_cells own) ws
 cells_written own own' ws h h' e = cells_are own' (stored_all (written_cells own) ws) h' (λ q. elim (leb_tells 65536 q) [
   | inl over ↦ stored_all_past ws (written_cells own) q over.1 (get_written own h q ∙ h q over.1) ∙ sym (h' q over.1)
   | inr under ↦ get_stored_all ws (written_cells own) own q under.1 (get_written own h q) ∙ ap (λ (f : ℕ → Option ℕ). f q) (sym e)
 ])
 
--- 256 slots hold no more than 65,536 cells
+-- 256 slots have at most 65,536 cells.
 pub in_cells : (slots : List Slot) → length slots ≡ 256 → InCells (pages.own_at slots)
 unfolding pages.own_at
 in_cells slots e q h = ap (λ (t : Slot). pages.slot_own t (q % 256)) (get_or_past slots (q / 256) Empty (omega arith))

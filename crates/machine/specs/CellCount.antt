@@ -1,7 +1,7 @@
--- How many cells there are. [8080 manual 1975, chapter 4, memory]
+-- The number of cells. [8080 manual 1975, chapter 4, memory]
 use Rattle.std.specs.Prelude.{◌≡◌, refl, ℕ}
 
--- a word of its own, so that nothing counts up to it
+-- Not unfolded by default, so that no proof counts up to it.
 pub cell_count : ℕ
 cell_count = 65536
 

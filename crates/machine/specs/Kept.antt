@@ -1,17 +1,17 @@
--- A state without its text. (This project's own.)
+-- A saved state: a state without its text. (This project's own.)
 use Rattle.std.specs.Prelude.{ℕ, List, length}
 use Rattle.i8080.specs.declared.registers.Regs.{Regs}
 use Rattle.console_calls.specs.declared.desk.Spot.{Spot}
 use Rattle.machine.specs.StateView.{Own, PartialState}
 
--- what is kept of a state: all of it but the text, of which the length is kept
+-- A state with the length of its text in place of the text.
 pub record Kept : Type 0 where
   pub regs : Regs
   pub spot : Spot
   pub length : ℕ
   pub own : Own
 
--- the state again, with its text
+-- The state that is restored from a saved state and its text.
 abbrev pub whole : Kept → List ℕ → PartialState
 whole k text = record { core = record { regs = k.regs; desk = record { spot = k.spot; text = text } }; own = k.own }
 

@@ -1,4 +1,4 @@
--- The machine that tells apart what a run wrote and what its session has: what of a step's questions is asked of the session.
+-- The machine that separates what a run wrote from what its session has: which of a step's questions reach the session.
 -- (What is looked at: this project's profile.)
 use Rattle.std.specs.Prelude.{◌≡◌, ℕ, ◌==◌, ◌||◌, nat_lt, if◌then◌else◌, Bool, true, false, List, [], ◌∷◌, Option, Some, None, slice_get}
 use Rattle.std.specs.FinMap as map
@@ -22,9 +22,9 @@ use Rattle.machine.specs.StateView.{Cells, Own, PartialState, Looked}
 use Rattle.machine.specs.Session.{image_of}
 use Rattle.machine.specs.Step.{Reached, Went, Stopped, first_core, desk_with, next}
 
--- ---- what the session is asked
+-- ---- questions to the session
 
--- the byte of a cell of the loaded image; the script byte at a place, or that there is none; and what the host files are asked
+-- The byte of a cell of the loaded image; the script byte at an offset, or that there is none; a question to the host files.
 pub data Question : Type 0 where
   Cell : ℕ → Question
   Script : ℕ → Question
@@ -38,7 +38,7 @@ Answer (OfHost a) = HostAnswer a
 abbrev pub Answers : Type 0
 Answers = (q : Question) → Answer q
 
--- the answers of a session as it was handed in
+-- The answers of a session.
 abbrev pub ask : Session → Answers
 ask s (Cell a) = image_of s a
 ask s (Script k) = slice_get s.script k
@@ -54,32 +54,32 @@ abbrev pub is_in : Question → List Question → Bool
 is_in q [] = false
 is_in q (x ∷ xs) = same_question q x || is_in q xs
 
--- ---- what was written, and what is asked instead
+-- ---- what is own, and what the session is asked instead
 
 abbrev pub own_or_ask : Option ℕ → ℕ → Tree Question Answer ℕ
 own_or_ask None a = Query (Cell a) Return
 own_or_ask (Some v) a = Return v
 
--- what is asked of the host files, as a tree over the session
+-- A tree of questions to the host files, as a tree over the session.
 abbrev pub asking_host : {E : Type 0} → HostTree E → Tree Question Answer E
 asking_host (Return e) = Return e
 asking_host (Query a t) = Query (OfHost a) (λ x. asking_host (t x))
 
--- what a state that owns o answers, as a tree over the session
+-- The answer of a state that owns o, as a tree over the session.
 abbrev pub part : Own → (q : SystemQuestion) → Tree Question Answer (SystemAnswer q)
 part o (OfState (Byte a)) = own_or_ask (map.get o.cells a) a
 part o (OfState (Input k)) = Query (Script k) Return
 part o (OfFiles q) = asking_host (passing.part o.files q)
 
--- the answers of the state that owns o, over a session that answers f
+-- The answers of the state that owns o, over a session that answers f.
 abbrev pub laid : Own → Answers → SystemAnswers
 laid = dependence.laid part
 
--- the byte of a cell in a state of a session: what was written there, else the session's
+-- The byte of a cell in a state of a session: the written byte, or else the session's.
 abbrev pub cell_at : Session → PartialState → ℕ → ℕ
 cell_at s st a = laid st.own (ask s) (OfState (Byte a))
 
--- a byte written at a cell; there are 65,536 cells [8080 manual 1975, chapter 4, memory]
+-- A byte written to a cell; there are 65,536 cells. [8080 manual 1975, chapter 4, memory]
 abbrev pub stored : Cells → ℕ → ℕ → Cells
 stored m a v = if nat_lt a 65536 then map.insert m a v else m
 
@@ -97,53 +97,53 @@ made st (Stopped cause) = Stop cause
 
 -- ---- a run
 
--- the loaded state: nothing is written yet
+-- The loaded state: nothing is written yet.
 abbrev pub start : PartialState
 start = record { core = first_core; own = record { cells = map.empty; files = map.empty } }
 
--- what follows a state, without regard to the limit
+-- The outcome that follows a state, without regard to the limit.
 abbrev pub outcome : Answers → PartialState → Outcome PartialState Cause
 outcome = dependence.outcome part (λ (st : PartialState). st.own) (λ (st : PartialState). next st.core) made start
 
--- the questions that reach the session there, where a stop follows too
+-- The questions that reach the session there, also if a stop follows.
 abbrev pub looks_at : Answers → PartialState → List Question
 looks_at = dependence.looks_at part (λ (st : PartialState). st.own) (λ (st : PartialState). next st.core) made start
 
--- the state after n steps; none where a stop comes before
+-- The state after n steps; `None` if a stop comes before.
 abbrev pub after : Answers → ℕ → Option PartialState
 after = dependence.after part (λ (st : PartialState). st.own) (λ (st : PartialState). next st.core) made start
 
--- the questions that reach the session at the state after n steps
+-- The questions that reach the session at the state after n steps.
 abbrev pub looks : Answers → ℕ → List Question
 looks = dependence.looks part (λ (st : PartialState). st.own) (λ (st : PartialState). next st.core) made start
 
--- some number of steps leads there
+-- Some number of steps leads to the state.
 abbrev pub IsReached : Answers → PartialState → Type 0
 IsReached f st = (n : ℕ) × (after f n ≡ Some st)
 
 -- ---- looks
 
--- whether a question was looked at
+-- Whether a question was looked at.
 abbrev pub looked_at : Looked → Question → Bool
 looked_at looked (Cell a) = is_among a looked.cells
 looked_at looked (Script k) = is_within looked.places k
 looked_at looked (OfHost a) = is_looked looked.files a
 
--- nothing was looked at
+-- Nothing was looked at.
 pub record NothingLooked (looked : Looked) : Type 0 where
   pub cells : looked.cells ≡ []
   pub places : (k : ℕ) → is_within looked.places k ≡ false
   pub files : (a : Ask) → is_looked looked.files a ≡ false
 
--- exactly these were looked at, beside what was before
+-- Exactly these questions were looked at, as well as the earlier ones.
 abbrev pub LooksAlso : Looked → List Question → Looked → Type 0
 LooksAlso old qs new = (q : Question) → looked_at new q ≡ (looked_at old q || is_in q qs)
 
--- nothing more was looked at than before and among these
+-- Nothing was looked at except the earlier looks and some of these questions.
 abbrev pub IsBounded : Looked → List Question → Looked → Type 0
 IsBounded old qs new = (q : Question) → looked_at new q ≡ true → (looked_at old q || is_in q qs) ≡ true
 
--- some more was looked at: more cells after those before, and the places and the questions before stay
+-- More was looked at: more cells after the earlier ones, and all earlier offsets and questions.
 pub record Extends (old new : Looked) : Type 0 where
   pub cells : memory.Extends old.cells new.cells
   pub places : (k : ℕ) → is_within old.places k ≡ true → is_within new.places k ≡ true

@@ -9,11 +9,11 @@ use Rattle.hostfiles.specs.Hosts.{Host, IsHost}
 use Rattle.machine.specs.declared.session.TheConstants.{PROGRAM_LIMIT, SCRIPT_LIMIT, STEP_LIMIT}
 use Rattle.machine.specs.Given.{Session}
 
--- a byte that may stand in a command tail (this project's profile)
+-- Whether a command tail may contain a byte. (This project's profile.)
 abbrev pub is_tail_byte : ℕ → Bool
 is_tail_byte b = nat_le 0x20 b && nat_le b 0x7e
 
--- within the limits
+-- A session within the limits.
 pub record IsSession (s : Session) : Type 0 where
   pub program : length s.program ≤ PROGRAM_LIMIT
   pub tail : length s.tail ≤ TAIL_LIMIT
@@ -22,7 +22,7 @@ pub record IsSession (s : Session) : Type 0 where
   pub script : length s.script ≤ SCRIPT_LIMIT
   pub limit : s.limit ≤ STEP_LIMIT
 
--- the session of what is handed in, or the number of the refusal
+-- The session with these parts, or the number of the refusal.
 abbrev pub made_of : List ℕ → List ℕ → Host → List ℕ → ℕ → Result Session ℕ
 made_of program tail files script limit =
     if nat_lt PROGRAM_LIMIT (length program) then Err 1
@@ -32,14 +32,14 @@ made_of program tail files script limit =
     else if nat_lt STEP_LIMIT limit then Err 5
     else Ok (record { program = program; tail = tail; files = files; script = script; limit = limit })
 
--- the byte of each cell of the loaded image: page zero with the command tail, the program, and 0 elsewhere
+-- The byte of each cell of the loaded image: page zero with the command tail, the program, and 0 elsewhere.
 abbrev pub image_of : Session → ℕ → ℕ
 image_of s = image_at (page_zero s.tail) s.program
 
--- a list with so many bytes from a place on exchanged for others
+-- A list with `removed` bytes from an index on replaced by others.
 abbrev pub spliced : List ℕ → ℕ → ℕ → List ℕ → List ℕ
 spliced list at removed bytes = take at list ++ bytes ++ drop (at + removed) list
 
--- a list with other bytes written over it from a place on
+-- A list with other bytes written over it from an index on.
 abbrev pub written_over : List ℕ → ℕ → List ℕ → List ℕ
 written_over list at bytes = take at list ++ bytes ++ drop (at + length bytes) list

@@ -61,23 +61,23 @@ Cells = FinMap nat_cmp ℕ
 abbrev pub cells_code : Coded Cells
 cells_code = code coded_ℕ coded_ℕ
 
--- what the steps so far wrote: the last byte of each written cell, and what they did to the files
+-- What the steps so far wrote: the last byte of each written cell, and what they did to the files.
 pub record Own : Type 0 where
   pub cells : Cells
   pub files : files.Own
 
--- a state without its session: all that was not written is the session's
+-- A state without its session: everything that was not written is the session's.
 pub record PartialState : Type 0 where
   pub core : Core
   pub own : Own
 
--- what was looked at: cells, in the order of their first looks, places of the console script, and questions of the host files
+-- The looks of a run: cells in the order of their first looks, offsets of the script, and questions to the host files.
 pub record Looked : Type 0 where
   pub cells : List ℕ
   pub places : Places
   pub files : Looks
 
--- a state, and what was looked at
+-- A state and its looks.
 pub record StateView : Type 0 where
   pub state : PartialState
   pub looked : Looked

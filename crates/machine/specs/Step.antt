@@ -1,5 +1,5 @@
 -- What a step asks, and what it makes of the answers. ([8080 manual 1975, chapter 4]; [Interface Guide 1979, page zero]; why a
--- run stops, and where the system's area lies: this project's profile.)
+-- run stops, and where the system area is: this project's profile.)
 use Rattle.std.specs.Prelude.{◌≡◌, ℕ, ◌==◌, nat_le, if◌then◌else◌, refl, false, List, [], ◌++◌}
 use Rattle.interaction_trees.specs.Tree.{Return, returning}
 use Rattle.i8080.specs.declared.registers.Regs.{Regs}
@@ -18,32 +18,32 @@ use Rattle.bdos.specs.Calls.{call}
 use Rattle.machine.specs.declared.session.TheConstants.{SCRIPT_LIMIT}
 use Rattle.machine.specs.Given.{Core}
 
--- the registers of a loaded program (that it begins at 0100H: [Interface Guide 1979, transient program area])
+-- The registers of a loaded program. (That it begins at 0100H: [Interface Guide 1979, transient program area])
 abbrev pub first_regs : Regs
 first_regs = record { a = 0; b = 0; c = 0; d = 0; e = 0; h = 0; l = 0; sp = 0xfdfe; pc = 0x0100; flags = record { s = false; z = false; ac = false; p = false; cy = false } }
 
--- what the first step goes on from
+-- What the first step depends on.
 abbrev pub first_core : Core
 first_core = record { regs = first_regs; desk = first_desk }
 
--- the desk of a spot, after it sent some bytes more
+-- The desk with a spot, after more bytes were sent.
 abbrev pub desk_with : Desk → Spot → List ℕ → Desk
 desk_with d spot bytes = record { spot = spot; text = d.text ++ bytes }
 
--- what a step makes of its answers: it goes on with these registers and this spot, after these bytes sent, this written and this
--- done to the files, or it stops and changes nothing
+-- The end of a step: the run continues with these registers and this spot, after it sent these bytes, wrote these cells and did
+-- this to the files; or it stops, and nothing is changed.
 pub data Reached : Type 0 where
   Went : Regs → Spot → List ℕ → Written → FileChange → Reached
   Stopped : Cause → Reached
 
--- the end of an instruction: HLT and a byte that is no opcode stop (which bytes are opcodes:
+-- The end of an instruction: HLT and a byte that is not an opcode stop. (Which bytes are opcodes:
 -- [8080 manual 1975, chapter 4, instruction set])
 abbrev pub reached : Spot → end.End → Reached
 reached spot (end.Went r writes) = Went r spot [] (record { cells = writes }) Unchanged
 reached spot end.Halt = Stopped Halt
 reached spot (end.Undefined byte) = Stopped (Undefined byte)
 
--- the end of a call
+-- The end of a call.
 abbrev pub reached_with : calls.CallEnd → FileChange → Reached
 reached_with (calls.Completed r spot bytes written) change = Went r spot bytes written change
 reached_with (calls.Stopped cause) change = Stopped cause
@@ -51,7 +51,7 @@ reached_with (calls.Stopped cause) change = Stopped cause
 abbrev pub reached_by_call : SystemEnd → Reached
 reached_by_call e = reached_with e.0 e.1
 
--- the most bytes that a script may have; a word of its own, so that nothing counts up to it
+-- The maximum length of a script. Not unfolded by default, so that no proof counts up to it.
 pub script_limit : ℕ
 script_limit = SCRIPT_LIMIT
 
@@ -59,8 +59,8 @@ pub script_limit-is : script_limit ≡ SCRIPT_LIMIT
 unfolding script_limit
 script_limit-is = refl
 
--- What a step asks of the state, and what it makes of the answers: the first line that fits decides. (That a jump to 0000H is
--- the warm start and a call to 0005H the BDOS: [Interface Guide 1979, page zero]. Page zero leads there to 0FF03H and to
+-- What a step asks of the state, and what it makes of the answers: the first line that applies decides. (That a jump to 0000H is
+-- the warm start and a call to 0005H the BDOS: [Interface Guide 1979, page zero]. From there page zero leads to 0FF03H and to
 -- 0FE06H.)
 unfoldable pub next : Core → SystemTree Reached
 next c =

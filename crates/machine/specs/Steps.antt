@@ -17,28 +17,28 @@ use Rattle.machine.specs.Session.{image_of}
 use Rattle.machine.specs.Machine.{ask, outcome, looks_at, LooksAlso, Extends, IsBounded}
 use Rattle.machine.specs.WrittenCells.{Devices, state_with}
 
--- the host files of a session with what was done to them, whatever reference lends the latter
+-- The host files of a session with what was done to them, whatever reference lends the latter.
 abbrev pub drives_in : Session → Changes → GName → Drives
 drives_in s c g = record { host = s.files; own = c.journal.entries; looks = c.looks; lender = g }
 
--- an overlay as memory, over the loaded image
+-- An overlay over the loaded image, as memory.
 abbrev pub seen : Session → Overlay → Memory
 seen s o = record { own = own_of o; beneath = image_of s; looks = looks_of o; lender = None }
 
--- the outcome that an answer tells: none is a step to the state that is left, and some is a stop
+-- The outcome of a result: `None` is a step to the state that is left, `Some` is a stop.
 abbrev pub told : Option Cause → PartialState → Outcome PartialState Cause
 told None st = Step st
 told (Some cause) st = Stop cause
 
--- what was looked at, by an overlay and devices
+-- The looks of an overlay and devices.
 abbrev pub looked_in : Overlay → Devices → Looked
 looked_in o d = record { cells = looks_of o; places = d.places; files = d.asks }
 
--- a state with what was looked at, by registers, devices and an overlay
+-- The state with its looks of registers, devices and an overlay.
 abbrev pub running_with : Regs → Devices → Overlay → StateView
 running_with r d o = record { state = state_with r d (own_of o); looked = looked_in o d }
 
--- what is left by one step: what follows the state, and what was looked at. A stop and a failure leave the state
+-- The effect of one step: the outcome of the state, and its looks. A stop and an error leave the state unchanged.
 pub record TakesStep (s : Session) (old : StateView) (result : Result (Option Cause) AllocError) (new : StateView) : Type 0 where
   pub outcome : IfOk result (λ stop. outcome (ask s) old.state ≡ told stop new.state)
   pub stays : IfOk result (λ stop. IfSome stop (λ cause. new.state ≡ old.state))

@@ -1,4 +1,4 @@
--- The stop that an instruction or a call tells. (This project's profile.)
+-- The stop of an instruction or a call. (This project's profile.)
 use Rattle.std.specs.Prelude.{Option, Some, None}
 use Rattle.i8080.specs.declared.outcome.Did.{Did}
 use Rattle.i8080.specs.declared.outcome.Did.TheVariants as did

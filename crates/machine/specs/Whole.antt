@@ -1,5 +1,5 @@
--- The plain machine: its whole memory is one list and its files are one map, and nothing is told apart by who wrote it. (This
--- project's own.)
+-- The plain machine: its memory is one list and its files are one map, whoever wrote them. (This project's
+-- own.)
 use Rattle.std.specs.Prelude.{ℕ, List, [], ◌∷◌, map, slice_index, slice_set}
 use Rattle.std.specs.List.{range_with_len}
 use Rattle.interaction_trees.specs.Tree.{result_of}
@@ -13,21 +13,22 @@ use Rattle.machine.specs.Session.{image_of}
 use Rattle.machine.specs.Step.{Reached, Went, Stopped, desk_with, next}
 use Rattle.machine.specs.WholeFiles.{Files, answers_of, changed}
 
--- registers and desk, the byte of each cell, and all files
+-- The registers and the desk, the byte of each cell, and all files.
 pub record Whole : Type 0 where
   pub core : Core
   pub memory : List ℕ
   pub files : Files
 
--- the list of a byte for each cell
+-- The list of the bytes of all cells.
 unfoldable pub memory_of : (ℕ → ℕ) → List ℕ
 memory_of byte = map byte (range_with_len 0 cell_count)
 
--- page zero, the program, and 0 in every other cell [Interface Guide 1979, page zero and the transient program area]
+-- The loaded memory: page zero, the program, and 0 in every other cell.
+-- [Interface Guide 1979, page zero and the transient program area]
 abbrev pub loaded : Session → List ℕ
 loaded s = memory_of (image_of s)
 
--- what a memory and a script, and files answer
+-- The answers of a memory, a script and files.
 abbrev pub tells : List ℕ → List ℕ → Files → SystemAnswers
 tells memory script files (OfState q) = answers (slice_index memory) script q
 tells memory script files (OfFiles q) = answers_of files q
@@ -41,6 +42,6 @@ whole_made w (Went r spot bytes wrote change) =
     Step (record { core = record { regs = r; desk = desk_with w.core.desk spot bytes }; memory = written w.memory wrote.cells; files = changed change w.files })
 whole_made w (Stopped cause) = Stop cause
 
--- what follows a machine: a step to another, or a stop
+-- The outcome that follows a machine: a step to another, or a stop.
 unfoldable pub whole_outcome : Session → Whole → Outcome Whole Cause
 whole_outcome s w = whole_made w (result_of (tells w.memory s.script w.files) (next w.core))

@@ -1,4 +1,4 @@
--- What pages hold, as data. (This project's own.)
+-- The written cells of pages, as a finite map. (This project's own.)
 use Rattle.std.specs.Prelude.{ℕ, zero, suc, Option, Some, None}
 use Rattle.std.specs.FinMap as map
 use Rattle.i8080.specs.declared.registers.Regs.{Regs}
@@ -15,17 +15,17 @@ abbrev pub with_entry : Cells → ℕ → Option ℕ → Cells
 with_entry m a None = m
 with_entry m a (Some v) = map.insert m a v
 
--- the written cells below n
+-- The written cells below n.
 abbrev pub written_below : ℕ → (ℕ → Option ℕ) → Cells
 written_below zero own = map.empty
 written_below (suc n) own = with_entry (written_below n own) n (own n)
 
--- the written cells of a memory
+-- The written cells of a memory.
 unfoldable pub written_cells : (ℕ → Option ℕ) → Cells
 written_cells own = written_below cell_count own
 
--- what a step has beside registers and memory: the desk and what was done to the files, and what was looked at of the script and
--- asked of the host files
+-- What a step has besides registers and memory: the desk and what was done to the files, and the looks at the script and at the
+-- host files.
 pub record Devices : Type 0 where
   pub desk : Desk
   pub places : Places
@@ -35,6 +35,6 @@ pub record Devices : Type 0 where
 abbrev pub devices_of : Watched → Changes → Devices
 devices_of d c = record { desk = d.desk; places = d.places; files = c.journal.entries; asks = c.looks }
 
--- the state with these registers and these devices, which wrote this
+-- The state with these registers and these devices, which wrote this.
 abbrev pub state_with : Regs → Devices → (ℕ → Option ℕ) → PartialState
 state_with r d own = record { core = record { regs = r; desk = d.desk }; own = record { cells = written_cells own; files = d.files } }

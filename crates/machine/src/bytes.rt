@@ -2,7 +2,7 @@ ghost use Rattle.std.specs.Prelude.{◌≡◌};
 
 use std::marker::Model;
 
-/// Bytes that contracts see as a list, whatever memory is set aside for them.
+/// Bytes that contracts see as a list, without the capacity of their allocation.
 #[derive(Drop)]
 pub struct Bytes {
     items: Vec<u8>,
@@ -17,14 +17,14 @@ impl Model for Bytes {
 }
 
 impl Bytes {
-    /// The bytes of a `Vec`, which is moved in.
+    /// Creates the bytes of a `Vec`, which is moved in.
     pub fn new(items: Vec<u8>) -> Bytes
         ensures { result ≡ items.items }
     {
         Bytes { items }
     }
 
-    /// All of the bytes.
+    /// Returns all of the bytes.
     pub fn as_slice(&self) -> &[u8]
         ensures { result.now ≡ self.now }
     {

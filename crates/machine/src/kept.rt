@@ -13,9 +13,8 @@ use pagemem::{BlankMarks, Cells, Overlay};
 use std::alloc::{AllocError, Global};
 use std::marker::Model;
 
-/// What is kept of a state: the registers, what was written, what was done to the files, and the desk with the length of its text in
-/// place of the text.
-/// It holds no looks.
+/// A saved state: the registers, what was written, what was done to the files, and the desk with the length of its text
+/// in place of the text. It holds no looks.
 #[derive(Drop)]
 pub struct Kept {
     regs: Regs,
@@ -48,8 +47,11 @@ impl Model for Kept {
 }
 
 impl State {
-    /// What is kept of the state. Its pages are shared with it from now on; nothing that contracts see of it changes.
-    /// `Err` where memory is refused.
+    /// Saves the state. Its pages are shared with the saved state from now on; nothing that contracts see of it changes.
+    ///
+    /// # Errors
+    ///
+    /// `Err` means out of memory.
     pub fn keep(&mut self) -> Result<Kept, AllocError>
         ensures kept { IfOk result (λ k. k ≡ kept_of self.old.state) }
         ensures same { self.new ≡ self.old }
@@ -65,7 +67,7 @@ impl State {
         })
     }
 
-    /// What is kept of the state, its text, and the memory for its marks, all moved out. It takes no memory.
+    /// Consumes the state and returns it as a saved state, its text, and the memory for its marks. Allocates nothing.
     pub fn into_kept(self) -> (Kept, Vec<u8>, BlankMarks)
         ensures kept { result.0 ≡ kept_of self.state }
         ensures text { result.1.items ≡ self.state.core.desk.text }
@@ -95,21 +97,22 @@ impl Kept {
     ghost use Rattle.pagemem.specs.Overlay.{own_of, looks_of};
     ghost use Rattle.machine.specs.Machine.{cell_at};
 
-    /// The length of the text, in bytes.
+    /// Returns the length of the text, in bytes.
     pub fn text_length(&self) -> usize
         ensures { result ≡ self.now.length }
     {
         self.text_length
     }
 
-    /// The registers.
+    /// Returns the registers.
     pub fn regs(&self) -> Regs
         ensures { result ≡ self.now.regs }
     {
         self.regs
     }
 
-    /// What was written, again, over the memory for its marks, with nothing looked at. `Err` where memory is refused.
+    /// Returns what was written as an overlay with no looks, over the given memory for its marks. `Err` means out of
+    /// memory.
     pub fn overlay(&self, marks: BlankMarks) -> Result<Overlay, AllocError>
         ensures own { IfOk result (λ o. written_cells (own_of o) ≡ self.now.own.cells) }
         ensures looks { IfOk result (λ o. looks_of o ≡ []) }
@@ -118,7 +121,7 @@ impl Kept {
         Ok(Overlay::over(marks, cells))
     }
 
-    /// What was done to the files, again, with nothing asked of the host files. `Err` where memory is refused.
+    /// Returns what was done to the files, with no looks at the host files. `Err` means out of memory.
     pub fn changes(&self, alloc: Global) -> Result<Changes, AllocError>
         ensures files { IfOk result (λ c. c.journal.entries ≡ self.now.own.files) }
         ensures looks { IfOk result (λ c. c.looks ≡ no_looks) }
@@ -129,7 +132,7 @@ impl Kept {
         })
     }
 
-    /// The state again, over what was written, what was done to the files, and the text. It takes no memory.
+    /// Restores the state from what was written, what was done to the files, and the text. Allocates nothing.
     pub fn resume(&self, overlay: Overlay, changes: Changes, text: Vec<u8>) -> State
         requires own { written_cells (own_of overlay) ≡ self.now.own.cells }
         requires looks { looks_of overlay ≡ [] }
@@ -147,14 +150,14 @@ impl Kept {
         }
     }
 
-    /// What was done to the files.
+    /// Returns what was done to the files.
     pub fn journal(&self) -> &Journal
         ensures { result.now.entries ≡ self.now.own.files }
     {
         &self.journal
     }
 
-    /// The byte of a cell: what was written there, else the session's.
+    /// Returns the byte of a cell: the written byte, or else the session's.
     pub fn cell(&self, session: &Session, a: u16) -> u8
         ensures { (text : List ℕ) → result ≡ cell_at session.now (whole self.now text) a }
     {

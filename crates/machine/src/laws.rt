@@ -1,6 +1,6 @@
 ghost use Rattle.machine.specs.LaidOver.{WholeIsLaid};
 
-/// A law: the machine with its whole memory as one list, and its files as one map, goes the same way.
+/// The plain machine, whose memory is one list and whose files are one map, makes the same steps as this machine.
 pub fn whole_is_laid()
     ensures { WholeIsLaid }
 {}

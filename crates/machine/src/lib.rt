@@ -1,11 +1,11 @@
-//! A session of one program, the state of its run, and its steps: one by one, or a stretch of them.
+//! A session of one program, the state of its run, and its steps: one at a time, or a stretch of them.
 //!
 //! - `session`, `bytes`: a session, its limits and its edits; bytes as a value
 //! - `state`: a state of a run: the registers, the overlay, the desk, and what was done to the files
-//! - `system_area`: what follows in the system's area: the calls, and the stops there
-//! - `stretch`, `laws`: `run_from`: a stretch of steps; `step`, which is one of at most one step; the law that the
-//!   plain machine goes the same way
-//! - `kept`, `meter`: what is kept of a state, and the state again; the count of steps carried out
+//! - `system_area`: a step in the system area: the calls, and the stops there
+//! - `stretch`, `laws`: `run_from` executes a stretch of steps, and `step` one step; the law that the plain machine
+//!   makes the same steps
+//! - `kept`, `meter`: a saved state, and the state that is restored from it; the count of executed steps
 #![tactic(auto)]
 
 mod bytes;

@@ -2,7 +2,7 @@ ghost use Rattle.std.specs.Prelude.{◌≡◌, ◌+◌, ◌<◌, ◌^◌};
 
 use std::marker::Model;
 
-/// Counts the steps that are carried out. It is no `Clone`, `Copy` or `Default`: a count is passed on, not begun again.
+/// A counter of executed steps. It is not `Clone`, `Copy` or `Default`, so a count is passed on and never restarted.
 #[derive(Drop)]
 pub struct Meter {
     count: u64,
@@ -17,21 +17,21 @@ impl Model for Meter {
 }
 
 impl Meter {
-    /// A meter that stands at 0.
+    /// Creates a meter at 0.
     pub fn new() -> Meter
         ensures { result ≡ 0 }
     {
         Meter { count: 0 }
     }
 
-    /// Where the meter stands, in steps.
+    /// Returns the number of steps counted.
     pub fn count(&self) -> u64
         ensures { result ≡ self.now }
     {
         self.count
     }
 
-    /// Counts so many steps more.
+    /// Counts `steps` more steps.
     pub(crate) fn count_on(&mut self, steps: u64)
         requires { self.old + steps < 2 ^ 64 }
         ensures { self.new ≡ self.old + steps }
@@ -39,7 +39,7 @@ impl Meter {
         self.count += steps;
     }
 
-    /// Counts one step more.
+    /// Counts one more step.
     #[inline(always)]
     pub fn tick(&mut self)
         requires { self.old + 1 < 2 ^ 64 }

@@ -12,16 +12,17 @@ use std::alloc::AllocError;
 use std::marker::Model;
 use thiserror::Error;
 
-/// The most bytes of a program: it stands from 0100H on and ends at 0FD00H. The system's area begins at 0FE00H.
+/// The maximum length of a program, in bytes. A program begins at 0100H, so it ends below 0FD00H; the system area begins
+/// at 0FE00H.
 pub const PROGRAM_LIMIT: usize = 64_512;
 
-/// The most bytes of a console script.
+/// The maximum length of a script, in bytes.
 pub const SCRIPT_LIMIT: usize = 1_048_576;
 
-/// The most steps of a run.
+/// The maximum number of steps of a run.
 pub const STEP_LIMIT: u64 = 4_000_000_000;
 
-/// A program, its command tail, the host files, the console script and a limit of steps, each within its limits.
+/// A program, its command tail, the host files, the script and a limit of steps, each within its limits.
 #[derive(Drop)]
 pub struct Session {
     first_page: [u8; 256],
@@ -61,7 +62,7 @@ impl Model for Session {
     }) };
 }
 
-/// Why a session is refused.
+/// The reason why a session is refused.
 #[derive(Clone, Copy, Debug, PartialEq, Eq, Error)]
 pub enum SessionError {
     /// The program has more than 64,512 bytes.
@@ -84,7 +85,7 @@ pub enum SessionError {
 impl SessionError {
     ghost use Rattle.machine.specs.SessionError.{number_of};
 
-    /// The refusal's number: 1 to 5.
+    /// Returns the number of the refusal: 1 to 5.
     pub fn number(self) -> u8
         ensures { result ≡ number_of self }
     {
@@ -102,11 +103,15 @@ impl Session {
     ghost use Rattle.machine.specs.Session.{IsSession};
     ghost use Rattle.machine.specs.SessionError.{MadeAs};
 
-    /// The session of these, or the first refusal that fits. What is refused is dropped.
+    /// Creates a session.
+    ///
+    /// # Errors
+    ///
+    /// Returns the first refusal that applies, and drops the arguments.
     ///
     /// # Example
     ///
-    /// The twelve bytes that print `Hi`, with an empty tail, no files, nothing typed, and at most 1,000,000 steps:
+    /// Twelve bytes that print `Hi`, with an empty tail, no files, an empty script, and at most 1,000,000 steps:
     ///
     /// ```text
     /// let program = b"\x0e\x09\x11\x09\x01\xcd\x05\x00\xc9Hi$".to_vec(alloc)?;
@@ -147,7 +152,7 @@ impl Session {
         })
     }
 
-    /// The limit, in steps; a session is within all its limits.
+    /// Returns the limit, in steps.
     pub fn limit(&self) -> u64
         ensures value { result ≡ self.now.limit }
         ensures within { result ≤ STEP_LIMIT }
@@ -156,7 +161,7 @@ impl Session {
         self.limit
     }
 
-    /// The console script.
+    /// Returns the script.
     pub fn script(&self) -> &[u8]
         ensures value { result.now ≡ self.now.script }
         ensures within { length result.now ≤ SCRIPT_LIMIT }
@@ -164,7 +169,7 @@ impl Session {
         self.script.as_slice()
     }
 
-    /// The program's bytes, which stand from 0100H on.
+    /// Returns the program's bytes, which begin at 0100H.
     pub fn program(&self) -> &[u8]
         ensures value { result.now ≡ self.now.program }
         ensures within { length result.now ≤ PROGRAM_LIMIT }
@@ -172,7 +177,7 @@ impl Session {
         self.program.as_slice()
     }
 
-    /// The command tail, as it was handed in.
+    /// Returns the command tail, with its letters as they were given.
     pub fn tail(&self) -> &[u8]
         ensures value { result.now ≡ self.now.tail }
         ensures within { length result.now ≤ TAIL_LIMIT }
@@ -180,14 +185,14 @@ impl Session {
         self.tail.as_slice()
     }
 
-    /// The host files.
+    /// Returns the host files.
     pub fn files(&self) -> &HostFiles
         ensures { result.now ≡ self.now.files }
     {
         &self.files
     }
 
-    /// Page zero and the program as memory, borrowed.
+    /// Returns page zero and the program as memory, borrowed.
     #[inline(always)]
     pub fn image(&self) -> Image<'_>
         ensures { cells_of result ≡ image_of self.now }
@@ -195,7 +200,7 @@ impl Session {
         Image::new(&self.first_page, &self.program)
     }
 
-    /// Replaces the program's bytes from a place on.
+    /// Overwrites the program's bytes from index `at` on. The new bytes end within the program.
     pub fn poke(&mut self, at: usize, bytes: &[u8])
         requires { at + length bytes.now ≤ length self.old.program }
         ensures { self.new ≡ record self.old { program = written_over self.old.program at bytes.now } }
@@ -203,8 +208,12 @@ impl Session {
         overwrite(&mut self.program, at, bytes);
     }
 
-    /// Exchanges so many bytes of the script from a place on for others. It takes memory only where these are more. `Err` where
-    /// memory is refused: the session is as it was.
+    /// Replaces `removed` bytes of the script from offset `at` on with others.
+    ///
+    /// # Errors
+    ///
+    /// `Err` means out of memory and leaves the session unchanged. If the script does not become longer, nothing is
+    /// allocated and the result is never an `Err`.
     pub fn splice_script(
         &mut self,
         at: usize,
@@ -221,7 +230,7 @@ impl Session {
         splice(&mut self.script, at, removed, bytes)
     }
 
-    /// Sets or exchanges a host file for which there is room. `Err` where memory is refused: the session is as it was.
+    /// Inserts or replaces a host file for which there is room. `Err` means out of memory and leaves the session unchanged.
     pub fn set_file(&mut self, name: Name, file: HostFile) -> Result<(), AllocError>
         requires { has_room self.old.files name ≡ true }
         ensures ok { OnOk result (self.new
@@ -231,7 +240,7 @@ impl Session {
         self.files.put(name, file)
     }
 
-    /// Takes a host file out. It takes no memory.
+    /// Removes a host file. Allocates nothing.
     pub fn remove_file(&mut self, name: &Name)
         ensures { self.new ≡ record self.old { files = finmap.remove self.old.files name.now } }
     {
@@ -247,7 +256,7 @@ impl Session {
     }
 }
 
-// Exchanges so many bytes from a place on for others.
+// Replaces `removed` bytes from index `at` on with others.
 #[tactic(auto, using(crate::proofs::SpliceLemmas::shrunk))]
 fn splice(list: &mut Vec<u8>, at: usize, removed: usize, bytes: &[u8]) -> Result<(), AllocError>
     requires { at + removed ≤ vec_len list.old }
@@ -265,7 +274,7 @@ fn splice(list: &mut Vec<u8>, at: usize, removed: usize, bytes: &[u8]) -> Result
     Ok(())
 }
 
-// Puts bytes before a place.
+// Inserts bytes before index `at`.
 fn insert(list: &mut Vec<u8>, at: usize, bytes: &[u8]) -> Result<(), AllocError>
     requires { at ≤ vec_len list.old }
     ensures ok { OnOk result (list.new.items ≡ spliced list.old.items at 0 bytes.now) }
@@ -276,7 +285,7 @@ fn insert(list: &mut Vec<u8>, at: usize, bytes: &[u8]) -> Result<(), AllocError>
     Ok(())
 }
 
-// Takes out so many bytes from a place on.
+// Removes `count` bytes from index `at` on.
 fn remove(list: &mut Vec<u8>, at: usize, count: usize)
     requires { at + count ≤ vec_len list.old }
     ensures { list.new.items ≡ spliced list.old.items at count [] }
@@ -285,7 +294,7 @@ fn remove(list: &mut Vec<u8>, at: usize, count: usize)
     list.truncate(list.len() - count);
 }
 
-// Writes bytes over those from a place on.
+// Overwrites the bytes from index `at` on.
 fn overwrite(list: &mut Vec<u8>, at: usize, bytes: &[u8])
     requires { at + length bytes.now ≤ vec_len list.old }
     ensures { list.new.items ≡ written_over list.old.items at bytes.now }
@@ -294,21 +303,21 @@ fn overwrite(list: &mut Vec<u8>, at: usize, bytes: &[u8])
     place.copy_from_slice(bytes);
 }
 
-// Whether a byte may stand in a command tail.
+// Returns whether a command tail may contain a byte.
 fn is_tail_byte(byte: u8) -> bool
     ensures { result ≡ is_tail_byte byte }
 {
     byte >= 0x20 && byte <= 0x7e
 }
 
-// Whether all bytes of a text may stand in a command tail.
+// Returns whether a command tail may contain all bytes of a text.
 fn is_tail(text: &[u8]) -> bool
     ensures { result ≡ list_all is_tail_byte text.now }
 {
     text.iter().all(|byte| is_tail_byte(*byte))
 }
 
-/// A law: how much a session may have.
+/// The limits of a session have these values.
 pub fn limits()
     ensures program { PROGRAM_LIMIT ≡ 0xfd00 - 0x0100 }
     ensures tail { TAIL_LIMIT ≡ 126 }

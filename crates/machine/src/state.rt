@@ -11,8 +11,9 @@ use pagemem::{BlankMarks, Cells, Overlay};
 use std::alloc::{AllocError, Global};
 use std::marker::Model;
 
-/// A state of a run, and what was looked at: the registers, the overlay with what was written and the cells, the desk with the
-/// script places, and what was done to the files with the questions of the host files. All else is the session's.
+/// A state of a run with its looks: the registers, the overlay with what was written and the cells that were looked at,
+/// the desk with the script offsets that were looked at, and the changes with what was done to the files and the
+/// questions to the host files. Everything else is the session's.
 #[derive(Drop)]
 pub struct State {
     pub regs: Regs,
@@ -86,7 +87,7 @@ impl State {
         })
     }
 
-    /// How many cells were looked at.
+    /// Returns the number of cells that were looked at.
     #[inline(always)]
     pub fn look_count(&self) -> usize
         ensures { result ≡ length self.now.looked.cells }
@@ -94,7 +95,7 @@ impl State {
         self.overlay.look_count()
     }
 
-    /// The cell that was looked at after so many others.
+    /// Returns the cell that was looked at after `index` others.
     pub fn nth_look(&self, index: usize) -> u16
         requires { index < length self.now.looked.cells }
         ensures { result ≡ slice_index self.now.looked.cells index }
@@ -102,7 +103,7 @@ impl State {
         self.overlay.nth_look(index)
     }
 
-    /// The script places that were looked at.
+    /// Returns the script offsets that were looked at.
     #[inline(always)]
     pub(crate) fn places(&self) -> Places
         ensures { result ≡ self.now.looked.places }
@@ -110,22 +111,22 @@ impl State {
         self.desk.places()
     }
 
-    /// Whether so many cells and these script places were looked at, and no question of the host files was asked.
+    /// Returns whether `cells` cells and these script offsets were looked at, and no question was asked of the host files.
     #[inline(always)]
     pub(crate) fn looks_at_no_more(&self, cells: usize, places: Places) -> bool
         ensures cells { result ≡ true → length self.now.looked.cells ≡ cells }
         ensures places { result ≡ true → self.now.looked.places ≡ places }
         ensures files { result ≡ true → (ask : Ask) → is_looked self.now.looked.files ask ≡ false }
     {
-        // where the places begin is asked last, and apart: two numbers that are read as one wait until both were written
+        // The start of the offsets is compared last and by itself: one load of both numbers would wait until both are stored.
         self.look_count() == cells
             && self.places().end_as(places)
             && self.asks_nothing()
             && self.places().begin_as(places)
     }
 
-    /// Removes and returns one script offset that was looked at; `None` if there is none. The state and the cells that were looked at
-    /// stay.
+    /// Removes and returns one script offset that was looked at; `None` if there is none. The state and its other looks
+    /// are unchanged.
     #[inline(always)]
     pub fn take_place(&mut self) -> Option<usize>
         ensures state { self.new.state ≡ self.old.state }
@@ -143,8 +144,8 @@ impl State {
         }
     }
 
-    /// Forgets which script places were looked at, and what the host files were asked. The state and the cells that were looked at
-    /// stay. Takes no memory.
+    /// Forgets the script offsets that were looked at, and the questions to the host files. The state and the cells that
+    /// were looked at are unchanged. Allocates nothing.
     #[inline(always)]
     pub fn forget_questions(&mut self)
         ensures state { self.new.state ≡ self.old.state }
@@ -156,7 +157,7 @@ impl State {
         self.desk.forget_looks();
     }
 
-    /// Whether no question of the host files was asked.
+    /// Returns whether no question was asked of the host files.
     #[inline(always)]
     pub fn asks_nothing(&self) -> bool
         ensures value { result ≡ asks_nothing self.now.looked.files }
@@ -165,8 +166,8 @@ impl State {
         self.changes.asks_nothing()
     }
 
-    /// Takes a question of the host files out of those that were asked. `None` where there is none. The state stays, and so do the
-    /// cells and the script places that were looked at.
+    /// Removes and returns one question that was asked of the host files; `None` if there is none. The state and its other
+    /// looks are unchanged.
     #[inline(always)]
     pub fn take_ask(&mut self) -> Option<Ask>
         ensures state { self.new.state ≡ self.old.state }
@@ -177,7 +178,7 @@ impl State {
         ensures none { IfNone result ((ask : Ask) → is_looked self.old.looked.files ask ≡ false) }
         ensures same { IfNone result (self.new ≡ self.old) }
     {
-        // so it is nearly always, and this is told without moving a question
+        // This is the usual case, and it moves no question.
         if self.changes.asks_nothing() {
             return None;
         }

@@ -15,8 +15,8 @@ use i8080::{Did, Regs, execute};
 use pagemem::{Overlay, View};
 use std::alloc::AllocError;
 
-// Instructions: at most so many, up to the system's area, to one that looks at something new, or to a stop. Answers how many
-// were carried out, and how it ended.
+// Executes at most `steps` instructions, up to the system area, to an instruction that looks at something new, or to
+// a stop. Returns the number of executed instructions, and how it ended.
 #[inline(always)]
 fn instructions_over(
     regs: &mut Regs,
@@ -45,7 +45,8 @@ fn instructions_over(
     (n, Ok(None))
 }
 
-// The same, over a session's image. The registers and the overlay are lent apart, so that the loop may keep registers at hand.
+// Executes instructions over a session's image. The registers and the overlay are borrowed separately, so that the
+// loop need not store the registers.
 #[inline(always)]
 fn instructions(
     regs: &mut Regs,
@@ -61,7 +62,8 @@ fn instructions(
     instructions_over(regs, &mut view, steps)
 }
 
-// At most so many steps: one in the system's area, or instructions. Answers how many were carried out, and how it ended.
+// Executes at most `steps` steps: one in the system area, or instructions. Returns the number of executed steps, and how it
+// ended.
 #[inline(always)]
 fn go_on(
     running: &mut State,
@@ -84,11 +86,18 @@ fn go_on(
     }
 }
 
-/// Carries out steps from the step `from` on: at least one, and on up to the step `end`, to a step that looks at something new,
-/// or to a stop. Answers the step that was reached, and the cause of a stop. A stop and `Err` leave the state that was reached, but
-/// for what was looked at; and at an `Err` what is looked at afterwards was looked at before, or is among what the step looks at
-/// that failed. It is a function of its own, with the loop of instructions in it, so that going from a call to instructions and back
-/// hands nothing over in memory.
+/// Executes steps from step `from` on: up to step `end`, to a step that looks at something new, or to a stop. Returns the
+/// step that was reached, and the cause of a stop. Without a stop, at least one step is executed.
+///
+/// A stop leaves the state that was reached, with the earlier looks and the looks of the step that stops.
+///
+/// This function contains the loop of instructions and is never inlined, so that nothing passes through memory between calls and
+/// instructions.
+///
+/// # Errors
+///
+/// `Err` means out of memory. It leaves the state that was reached, with the earlier looks and some of the looks of the
+/// step that failed.
 #[inline(never)]
 pub fn run_from(
     running: &mut State,
@@ -120,9 +129,12 @@ pub fn run_from(
     Ok((n, None))
 }
 
-/// One step, or the cause of a stop: a stretch of at most one step. A stop or `Err` leaves the state, but for what was looked at;
-/// and at an `Err` each cell, script place and question of the host files that is looked at afterwards was looked at before, or is
-/// among those of the step.
+/// Executes one step, or returns the cause of a stop. A stop leaves the state unchanged, and adds the looks of
+/// the step that stops. The meter counts the step only if it is executed.
+///
+/// # Errors
+///
+/// `Err` means out of memory. It leaves the state unchanged, with the earlier looks and some of the looks of the step.
 pub fn step(
     running: &mut State,
     session: &Session,

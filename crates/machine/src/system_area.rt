@@ -1,4 +1,4 @@
-// A step in the system's area.
+// A step in the system area.
 
 ghost use Rattle.std.specs.Prelude.{◌≡◌, ◌≤◌};
 ghost use Rattle.std.specs.Borrow.{GName};
@@ -19,16 +19,16 @@ use i8080::Regs;
 use pagemem::{Overlay, View};
 use std::alloc::AllocError;
 
-/// Where a jump goes to the warm start.
+/// The address of the warm start, to which the jump at 0000H leads.
 const WARM_START: u16 = 0xff03;
 
-/// Where a call goes to the BDOS.
+/// The address of the BDOS, to which the jump at 0005H leads.
 const BDOS_ENTRY: u16 = 0xfe06;
 
-/// The first cell of the system's area.
+/// The first cell of the system area.
 pub(crate) const SYSTEM_AREA: u16 = 0xfe00;
 
-// The call whose number is in C, over a session's image and its files.
+// Executes the call whose number is in C, over a session's image and its files.
 fn serve(
     regs: &mut Regs,
     overlay: &mut Overlay,
@@ -45,7 +45,7 @@ fn serve(
     call(regs, &mut view, &mut table, desk, session.script())
 }
 
-// The stop that a call tells.
+// Returns the cause if a call stopped.
 fn stop_of_call(served: Served) -> Option<Cause>
     ensures { result ≡ stop_of_call served }
 {
@@ -55,7 +55,7 @@ fn stop_of_call(served: Served) -> Option<Cause>
     }
 }
 
-// What follows where PC is in the system's area: the call at the BDOS's entry, and a stop elsewhere.
+// Executes a step with PC in the system area: the call at the address of the BDOS, or a stop anywhere else.
 #[inline(always)]
 pub(crate) fn enter_system(
     running: &mut State,

@@ -1,11 +1,11 @@
--- Memories of the same bytes, as they are read and written.
+-- Reads and writes of memories with the same bytes.
 use Rattle.std.proofs.Common.{◌≡◌, ℕ, Bool, true, false, cond, ◌==◌, List, [], ◌∷◌, Option, Some, unwrap_or, refl, sym, ◌∙◌, ap}
 use Rattle.std.proofs.Math.Path.{fun_ext}
 use Rattle.i8080.specs.Memory.{Memory, bytes, write}
 use Rattle.pagemem.specs.Agreement.{accessed, reads_of, MemoriesAgree}
 use Rattle.pagemem.specs.Agreement.Access.{Read, Write}
 
--- the bytes after a write
+-- The bytes after a write.
 written : (m : Memory) (a v : ℕ) → bytes (accessed m (Write a v)) ≡ (λ q. cond (q == a) v (bytes m q))
 unfolding write
 written m a v = fun_ext (λ q. pick (q == a) (m.own q) (m.beneath q)) where

@@ -15,7 +15,7 @@ use Rattle.pagemem.specs.declared.page.Page.{Page}
 use Rattle.pagemem.specs.declared.page.Slot.{Slot}
 use Rattle.pagemem.specs.declared.page.Slot.TheVariants.{Empty}
 
--- what stands at a place after a write
+-- The element at an index after a write.
 pub set_read : {X : Type 0} (xs : List X) (a : ℕ) (v d : X) → a < length xs → (q : ℕ) → get_or (set xs a v) q d ≡ cond (q == a) v (get_or xs q d)
 set_read xs a v d h q = elim (eqb_tells q a) [
   | inl same ↦ rw same.0 (rw same.1 (get_or-set_same xs a v d h))
@@ -50,7 +50,7 @@ pub page_blank : (n : ℕ) (p : Page) → p.written ≡ replicate n false → pa
 unfolding page_own
 page_blank n p e = fun_ext (λ q. rw (e, none_set n q) refl)
 
--- a slot exchanged for one that holds the same
+-- Replacing a slot by one with the same written bytes changes no byte.
 pub own_same : (slots : List Slot) (i : ℕ) (slot : Slot) → i < length slots → slot_own slot ≡ slot_own (get_or slots i Empty) → own_at (set slots i slot) ≡ own_at slots
 unfolding own_at
 own_same slots i slot h e = fun_ext (λ q. elim (eqb_tells (q / 256) i) [
@@ -58,7 +58,7 @@ own_same slots i slot h e = fun_ext (λ q. elim (eqb_tells (q / 256) i) [
   | inr other ↦ rw (set_read slots i slot Empty h (q / 256), other.0) refl
 ])
 
--- an address by its page and its place there
+-- An address by its page and its index in the page.
 apart : (q a : ℕ) → q / 256 ≢ a / 256 → eqb q a ≡ false
 apart q a h = elim (eqb_tells q a) [ inl same ↦ absurd (h (ap (λ n. n / 256) same.1)) | inr other ↦ other.0 ]
 
@@ -68,7 +68,7 @@ together q a h = elim (eqb_tells (q % 256) (a % 256)) [
   | inr other ↦ other.0 ∙ sym (elim (eqb_tells q a) [ inl equal ↦ absurd (other.1 (ap (λ n. n % 256) equal.1)) | inr far ↦ far.0 ])
 ]
 
--- a slot exchanged for one after a write
+-- Replacing a slot by one after a write writes the cell.
 pub own_write : (slots : List Slot) (a v : ℕ) (slot : Slot) → a / 256 < length slots → slot_own slot ≡ write (slot_own (get_or slots (a / 256) Empty)) (a % 256) v → own_at (set slots (a / 256) slot) ≡ write (own_at slots) a v
 unfolding own_at write
 own_write slots a v slot h e = fun_ext (λ q. elim (eqb_tells (q / 256) (a / 256)) [
@@ -78,18 +78,18 @@ own_write slots a v slot h e = fun_ext (λ q. elim (eqb_tells (q / 256) (a / 256
   | inr other ↦ rw (set_read slots (a / 256) slot Empty h (q / 256), other.0, apart q a other.1) refl
 ])
 
--- a slot exchanged for one that is owned where the old one was
+-- Replacing a slot by one that is owned if the old one was keeps ready cells ready.
 pub ready_kept : (slots : List Slot) (i : ℕ) (slot : Slot) → i < length slots → (IsTrue (is_owned (get_or slots i Empty)) → IsTrue (is_owned slot)) → (q : ℕ) → IsTrue (ready_at slots q) → IsTrue (ready_at (set slots i slot) q)
 ready_kept slots i slot h keep q r = elim (eqb_tells (q / 256) i) [
   | inl same ↦ rw (set_read slots i slot Empty h (q / 256), same.0) (keep (subst (λ (k : ℕ). IsTrue (is_owned (get_or slots k Empty))) same.1 r))
   | inr other ↦ rw (set_read slots i slot Empty h (q / 256), other.0) r
 ]
 
--- a slot exchanged for itself
+-- Replacing a slot by itself changes nothing.
 pub ready_same : (slots : List Slot) (i : ℕ) (slot : Slot) → slot ≡ get_or slots i Empty → ready_at (set slots i slot) ≡ ready_at slots
 ready_same slots i slot e = ap ready_at (ap (set slots i) e ∙ set-get_or slots i Empty)
 
--- a look at a written cell is none, at another it is added
+-- A read of a written cell is no look; a read of another cell adds one.
 pub look_written : (own : Own) (looks : Looks) (a : ℕ) → is_some (own a) ≡ true → looks ≡ look own looks a
 unfolding look
 look_written own looks a w = rw w refl
@@ -103,7 +103,7 @@ empty_set zero q = refl
 empty_set (suc n) zero = refl
 empty_set (suc n) (suc q) = empty_set n q
 
--- nothing is written in empty slots
+-- Empty slots have no written bytes.
 pub own_blank : (n : ℕ) (slots : List Slot) → slots ≡ replicate n Empty → own_at slots ≡ (λ q. None)
 unfolding own_at
 own_blank n slots e = fun_ext (λ q. rw (e, empty_set n (q / 256)) refl)
@@ -115,7 +115,7 @@ replicate-suc (suc n) = simp unary_clauses (ap (λ (t : List Slot). Empty ∷ t)
 pub more_empty : (n : ℕ) (slots : List Slot) → slots ≡ replicate n Empty → slots ++ Empty ∷ [] ≡ replicate (n + 1) Empty
 more_empty n slots e = rw e (replicate-suc n)
 
--- slots that hold the same, one by one
+-- If the slots of two lists have the same written bytes, so have the lists.
 pub own_alike : (n : ℕ) (xs ys : List Slot) → length xs ≡ n → length ys ≡ n → SameOwn n xs ys → own_at xs ≡ own_at ys
 unfolding own_at
 own_alike n xs ys e f same = fun_ext (λ q. elim (leb_tells n (q / 256)) [
@@ -123,19 +123,19 @@ own_alike n xs ys e f same = fun_ext (λ q. elim (leb_tells n (q / 256)) [
   | inr within ↦ ap (λ (g : ℕ → Option ℕ). g (q % 256)) (same (q / 256) within.1)
 ])
 
--- slots that are owned alike, one by one
+-- If the slots of two lists are owned alike, the same cells are ready.
 pub ready_alike : (n : ℕ) (xs ys : List Slot) → length xs ≡ n → length ys ≡ n → SameOwned n xs ys → (q : ℕ) → ready_at xs q ≡ ready_at ys q
 ready_alike n xs ys e f same q = elim (leb_tells n (q / 256)) [
   | inl past ↦ rw (get_or_past xs (q / 256) Empty (let h : n ≤ q / 256 = past.1 in omega arith), get_or_past ys (q / 256) Empty (let h : n ≤ q / 256 = past.1 in omega arith)) refl
   | inr within ↦ same (q / 256) within.1
 ]
 
--- a slot exchanged for one that is not owned
+-- Replacing a slot by one that is not owned leaves each slot unowned that was so.
 pub shared_kept : (slots : List Slot) (i : ℕ) (slot : Slot) → i < length slots → is_owned slot ≡ false → (j : ℕ) → is_owned (get_or slots j Empty) ≡ false → is_owned (get_or (set slots i slot) j Empty) ≡ false
 shared_kept slots i slot h e j r = elim (eqb_tells j i) [
   | inl same ↦ rw (set_read slots i slot Empty h j, same.0) e
   | inr other ↦ rw (set_read slots i slot Empty h j, other.0) r
 ]
 
--- one slot whose page is made owned
+-- The laws for a slot whose page is made owned.
 pub ruleset one_slot_owned = (own_same, ready_kept, ready_same)

@@ -1,4 +1,4 @@
--- Marks of cells and the order in which they were set, as a cell is added and taken away.
+-- Marks of cells and the order in which they were set, when a cell is added or removed.
 use Rattle.std.proofs.Common.{inl, inr, ◌≡◌, ◌≢◌, ℕ, zero, suc, ◌+◌, ◌-◌, ◌<◌, Bool, true, false, cond, ◌||◌, List, [], ◌∷◌, ◌++◌, length, get_or, set, take, count_by, refl, sym, ◌∙◌, ap, arith, replicate, eqb, length-set, get_or-set_same, get_or-set_other, slice_index}
 use Rattle.std.proofs.Math.Bool.{or-false}
 use Rattle.std.proofs.lemmas.Bool.Decides.{eqb_tells}
@@ -12,7 +12,7 @@ use Rattle.pagemem.proofs.Laws.{set_read, none_set}
 abbrev one : Bool → ℕ
 one b = cond b 1 0
 
--- ---- how many marks are set
+-- ---- the number of marks that are set
 
 count_set : (marks : List Bool) (a : ℕ) → a < length marks → get_or marks a false ≡ false → count_by (λ b. b) (set marks a true) ≡ count_by (λ b. b) marks + 1
 count_set marks a h e =
@@ -26,7 +26,7 @@ count_unset marks a h e =
     let some : one (get_or marks a false) ≡ 1 = ap one e in
     omega (arith, all, some)
 
--- where a mark is not set there is room for one more
+-- If a mark is not set, one more can be set.
 pub room : (marks : List Bool) (a : ℕ) → a < length marks → get_or marks a false ≡ false → count_by (λ b. b) marks < length marks
 room marks a h e =
     let more = count_set marks a h e in
@@ -55,7 +55,7 @@ lists_none marks order hm ho none zeros = record {
 }
 
 module _ (marks : List Bool) (order : List ℕ) (count : ℕ) (l : Lists marks order count) where
-  -- a cell that is not marked is added
+  -- Adding a cell that is not marked.
   module _ (a : ℕ) (h : a < 65536) (e : get_or marks a false ≡ false) where
     pub fits : count < length order
     fits = let r = room marks a (omega (arith, l.all_marks)) e in omega (arith, r, l.counted, l.all_marks, l.all_order)
@@ -90,7 +90,7 @@ module _ (marks : List Bool) (order : List ℕ) (count : ℕ) (l : Lists marks o
             ∙ ap (is_among (slice_index order i)) (take-set-le i order count a (omega arith)) ∙ l.apart i (omega (arith, apart))
       ]
 
-  -- the last cell is taken away
+  -- Removing the last cell.
   module _ (n : ℕ) (last : count ≡ n + 1) where
     pub here : n < length order
     here = let c = count_by-le-length (λ b. b) marks in omega (arith, last, l.counted, l.all_marks, l.all_order, c)

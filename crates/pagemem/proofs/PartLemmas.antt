@@ -1,9 +1,9 @@
--- A list in which a part was written.
+-- Lists of which a part was written.
 use Rattle.std.proofs.Common.{◌≡◌, ◌+◌, ◌-◌, ◌<◌, ◌≤◌, ℕ, List, ◌++◌, length, get_or, take, drop, ap, ◌∙◌, arith, min}
 use Rattle.std.proofs.lemmas.List.{length-take, length-drop, length-append, get_or-take, get_or-drop, get_or_append_left, get_or-append_right}
 use borrow.Rule.Slice.PartMut.{put_mid, post_of}
 
--- the length of a part
+-- The length of a part.
 pub part_length : {X : Type 0} (a k : ℕ) (xs : List X) → a + k ≤ length xs → length (take k (drop a xs)) ≡ k
 part_length a k xs fits = length-take k (drop a xs) ∙ ap (min k) (length-drop a xs) ∙ (let e : min k (length xs - a) ≡ k = omega (arith, fits) in e)
 

@@ -1,4 +1,4 @@
--- Settled cells stay at rest as a cell is settled or taken out.
+-- The settled cells stay at rest when a cell is settled or removed.
 use Rattle.std.proofs.Common.{inl, inr, ◌≡◌, ℕ, Bool, true, false, cond, ◌||◌, ◌++◌, ◌∷◌, [], IsTrue, None, refl, sym, ◌∙◌, ap, subst, eqb}
 use Rattle.std.proofs.lemmas.Bool.Decides.{eqb_tells}
 use Rattle.i8080.specs.Memory.{Own, Looks, look, write, is_among}
@@ -12,12 +12,12 @@ use Rattle.std.proofs.Common.{is_some}
 use Rattle.pagemem.specs.Pages.{IsLaid}
 use Rattle.pagemem.proofs.Laws.{look_written}
 
--- a cell at rest is not looked at again
+-- A read of a cell at rest adds no look.
 pub look_at_rest : (own : Own) (looks : Looks) (a : ℕ) → Rests own looks a → looks ≡ look own looks a
 unfolding look
 look_at_rest own looks a r = rw (r.unwritten, r.looked) refl
 
--- the looks with one more
+-- The looks with one more.
 abbrev with_look : Looks → ℕ → Looks
 with_look looks a = cond (is_among a looks) looks (looks ++ a ∷ [])
 
@@ -37,7 +37,7 @@ looked_at looks a = pick (is_among a looks) refl where
   pick true e = e
   pick false e = is_among-append a looks (a ∷ []) ∙ at_end (is_among a looks)
 
--- a cell is settled after its look
+-- The settled cells are at rest after a look at one more cell, which is then settled too.
 pub settled_by_look : (own : Own) (was is : ℕ → Bool) (looks : Looks) (a : ℕ) → ((q : ℕ) → IsTrue (was q) → Rests own looks q) → ((q : ℕ) → is q ≡ cond (eqb q a) true (was q)) → own a ≡ None
     → (q : ℕ) → IsTrue (is q) → Rests own (with_look looks a) q
 settled_by_look own was is looks a rests e unwritten q h = elim (eqb_tells q a) [
@@ -45,7 +45,7 @@ settled_by_look own was is looks a rests e unwritten q h = elim (eqb_tells q a) 
   | inr other ↦ let r = rests q (sym (e q ∙ rw other.0 refl) ∙ h) in record { unwritten = r.unwritten; looked = after_look looks a q r.looked }
 ]
 
--- a cell that is written is taken out
+-- The settled cells are at rest after a write, if the written cell is removed.
 pub settled_by_write : (own : Own) (was is : ℕ → Bool) (looks : Looks) (a v : ℕ) → ((q : ℕ) → IsTrue (was q) → Rests own looks q) → ((q : ℕ) → is q ≡ cond (eqb q a) false (was q))
     → (q : ℕ) → IsTrue (is q) → Rests (write own a v) looks q
 unfolding write
@@ -54,7 +54,7 @@ settled_by_write own was is looks a v rests e q h = elim (eqb_tells q a) [
   | inr other ↦ let r = rests q (sym (e q ∙ rw other.0 refl) ∙ h) in record { unwritten = rw other.0 r.unwritten; looked = r.looked }
 ]
 
--- a cell whose look is taken away is taken out
+-- The settled cells are at rest without the last look, if its cell is removed.
 pub settled_by_take : (own : Own) (was is : ℕ → Bool) (looks left : Looks) (a : ℕ) → ((q : ℕ) → IsTrue (was q) → Rests own looks q) → ((q : ℕ) → is q ≡ cond (eqb q a) false (was q)) → looks ≡ left ++ a ∷ []
     → (q : ℕ) → IsTrue (is q) → Rests own left q
 settled_by_take own was is looks left a rests e last q h = elim (eqb_tells q a) [
@@ -65,13 +65,13 @@ settled_by_take own was is looks left a rests e last q h = elim (eqb_tells q a) 
   without true s = refl
   without false s = s
 
--- cells that are written one after another are taken out
+-- The settled cells are at rest after writes to consecutive cells, if these cells are removed.
 pub settled_by_writes : (own : Own) (was is : ℕ → Bool) (looks : Looks) (a : ℕ) (values : List ℕ) → a + length values ≤ 65536 → ((q : ℕ) → IsTrue (was q) → Rests own looks q)
     → ((q : ℕ) → is q ≡ true → was q ≡ true) → ((q : ℕ) → is q ≡ true → (q < a) ⊎ (a + length values ≤ q)) → (q : ℕ) → IsTrue (is q) → Rests (write_all own (cells_from a values)) looks q
 settled_by_writes own was is looks a values fits rests kept gone q h =
     let r = rests q (kept q h) in record { unwritten = outside own a values q fits (gone q h) ∙ r.unwritten; looked = r.looked }
 
--- a cell that was written or is settled is not looked at again
+-- A read of a written or settled cell adds no look.
 pub known_unlooked : (own : Own) (settled : ℕ → Bool) (looks : Looks) (q beneath byte : ℕ) (mark : Bool) → ((q : ℕ) → IsTrue (settled q) → Rests own looks q) → mark ≡ settled q → IsLaid (own q) beneath mark byte → look own looks q ≡ looks
 known_unlooked own settled looks q beneath byte mark rests m w =
     elim (is_some (own q)) as (λ b. is_some (own q) ≡ b → (b || mark) ≡ true → look own looks q ≡ looks) [

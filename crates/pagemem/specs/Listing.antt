@@ -2,7 +2,7 @@
 use Rattle.std.specs.Prelude.{◌≡◌, ℕ, ◌<◌, Bool, false, List, length, take, get_or, slice_index, count_by}
 use Rattle.i8080.specs.Memory.{is_among}
 
--- the first `count` of the order are the marked cells, each once
+-- The first `count` entries of the order are the marked cells, each once.
 pub record Lists (marks : List Bool) (order : List ℕ) (count : ℕ) : Type 0 where
   pub all_marks : length marks ≡ 65536
   pub all_order : length order ≡ 65536

@@ -1,17 +1,17 @@
--- What is seen of an overlay. (This project's own.)
+-- What contracts see of an overlay. (This project's own.)
 use Rattle.std.specs.Prelude.{ℕ, Bool}
 use Rattle.i8080.specs.Memory.{Own, Looks}
 use Rattle.pagemem.specs.declared.overlay.Overlay.{Overlay}
 use Rattle.pagemem.specs.Cells.{own_in, is_ready_in}
 
--- the last byte of each written cell
+-- The byte last written to each cell, if any.
 abbrev pub own_of : Overlay → Own
 own_of o = own_in o.cells
 
--- the cells that were looked at
+-- The cells that were looked at, in order.
 abbrev pub looks_of : Overlay → Looks
 looks_of o = o.looks
 
--- whether a cell may be written
+-- Whether a cell may be written.
 abbrev pub is_ready_at : Overlay → ℕ → Bool
 is_ready_at o = is_ready_in o.cells

@@ -1,7 +1,7 @@
 ghost use Rattle.pagemem.specs.Agreement.{MemoriesAgree};
 
-/// A law: two memories with the same bytes give the same bytes in every run of reads and writes, whatever is
-/// read of them from pages and whatever from an image.
+/// Two memories with the same bytes return the same bytes in every run of reads and writes, whether these bytes are in pages
+/// or in an image.
 pub fn memories_agree()
     ensures { MemoriesAgree }
 {}

@@ -6,8 +6,8 @@ ghost use Rattle.i8080.specs.Memory.{write, write_all};
 use crate::page::{Slot, all_set};
 use std::alloc::{AllocError, Global};
 
-/// What was written, in 256 pages. A page is made where one of its cells is first made ready to be
-/// written; a cell that was not written has no byte here.
+/// The written bytes, in 256 pages. A page is allocated when one of its cells is first made ready to be written; a cell that
+/// was not written has no byte here.
 #[derive(Drop)]
 pub struct Cells {
     slots: Vec<Slot>,
@@ -18,7 +18,7 @@ pub struct Cells {
 impl Cells {
     ghost use Rattle.pagemem.specs.Cells.{own_in, is_ready_in};
 
-    /// Nothing written. `Err` where memory is refused.
+    /// Creates cells of which none is written. `Err` means out of memory.
     pub fn new(alloc: Global) -> Result<Cells, AllocError>
         ensures { IfOk result (λ c. own_in c ≡ (λ _. None)) }
     {
@@ -26,8 +26,8 @@ impl Cells {
         Ok(Cells { slots, alloc })
     }
 
-    /// Makes the page of a cell owned, so that the cell may be written. No byte changes, and at `Err` nothing
-    /// does.
+    /// Makes the page of a cell owned, so that the cell may be written. No byte changes. `Err` means out of memory; nothing
+    /// has then changed.
     #[inline(always)]
     pub fn ready(&mut self, a: u16) -> Result<(), AllocError>
         ensures ready { OnOk result (IsTrue (is_ready_in self.new a)) }
@@ -39,7 +39,7 @@ impl Cells {
         make_ready(&mut self.slots, (a / 256) as usize, alloc)
     }
 
-    /// The last byte that was written at a cell; none where none was.
+    /// Returns the byte that was last written to a cell, or `None` if none was.
     #[tactic(auto, unfolding(crate::specs::Pages::own_at))]
     #[inline(always)]
     pub fn written(&self, a: u16) -> Option<u8>
@@ -69,7 +69,7 @@ impl Cells {
         }
     }
 
-    /// Writes bytes into ready cells of one page, from an address on.
+    /// Writes bytes to ready cells of one page, starting at `at`.
     #[tactic(auto, using(crate::proofs::Laws::ready_kept, crate::proofs::RunLaws::own_write_all))]
     pub fn write_in_page(&mut self, at: u16, values: &[u8])
         requires ready { IsTrue (is_ready_in self.old at) }
@@ -85,8 +85,9 @@ impl Cells {
         }
     }
 
-    /// Copies the bytes of cells of one page from an address on: the written ones, and beneath them others. Answers whether each
-    /// cell was written or has a mark; `false` says nothing of the copy.
+    /// Copies the bytes of cells of one page, starting at `at`: the written byte of a cell, or its byte of `beneath` if it
+    /// was not written. Returns `true` if each cell was written or is marked; on `false`, the bytes in `cells` are
+    /// unspecified.
     #[inline(always)]
     pub fn copy_over(&self, at: u16, beneath: &[u8], marks: &[bool], cells: &mut [u8]) -> bool
         requires page { at % 256 + length cells.old ≤ 256 }
@@ -105,8 +106,8 @@ impl Cells {
         }
     }
 
-    /// Makes the owned pages shared, so that a snapshot costs a reference for each. No byte changes, also at
-    /// `Err`.
+    /// Makes the owned pages shared, so that a snapshot only needs a reference to each. No byte changes. `Err` means out of
+    /// memory; some pages may then be shared.
     pub fn share(&mut self) -> Result<(), AllocError>
         ensures shared { OnOk result ((q : ℕ) → is_ready_in self.new q ≡ false) }
         ensures own { own_in self.new ≡ own_in self.old }
@@ -115,7 +116,7 @@ impl Cells {
         share_slots(&mut self.slots, alloc)
     }
 
-    /// Cells in which the same is written. A shared page has one owner more, an owned one is copied.
+    /// Returns a copy of the cells. Shared pages get one more owner; owned pages are copied. `Err` means out of memory.
     pub fn snapshot(&self) -> Result<Cells, AllocError>
         ensures own { IfOk result (λ c. own_in c ≡ own_in self.now) }
         ensures ready { IfOk result (λ c. (q : ℕ) → is_ready_in c q ≡ is_ready_in self.now q) }
@@ -143,7 +144,7 @@ fn make_ready(slots: &mut Vec<Slot>, at: usize, alloc: Global) -> Result<(), All
     slot.make_owned(alloc)
 }
 
-// Makes one slot shared, where its page is owned.
+// Makes one slot shared if its page is owned.
 #[tactic(auto, using(crate::proofs::Laws::own_same, crate::proofs::Laws::shared_kept))]
 fn make_shared(slots: &mut [Slot], at: usize, alloc: Global) -> Result<(), AllocError>
     requires { at < length slots.old }
@@ -156,7 +157,7 @@ fn make_shared(slots: &mut [Slot], at: usize, alloc: Global) -> Result<(), Alloc
     slot.share(alloc)
 }
 
-// The same where none was written.
+// Does the same as `Page::copy_over` for a page without written cells.
 #[inline(always)]
 fn copy_marked(beneath: &[u8], marks: &[bool], cells: &mut [u8]) -> bool
     requires beneath { length beneath.now ≡ length cells.old }
@@ -169,7 +170,7 @@ fn copy_marked(beneath: &[u8], marks: &[bool], cells: &mut [u8]) -> bool
     all_set(marks)
 }
 
-// Makes all slots shared whose pages are owned.
+// Makes all slots with an owned page shared.
 fn share_slots(slots: &mut [Slot], alloc: Global) -> Result<(), AllocError>
     ensures shared { OnOk result ((q : ℕ) → ready_at slots.new q ≡ false) }
     ensures own { own_at slots.new ≡ own_at slots.old }
@@ -180,7 +181,7 @@ fn share_slots(slots: &mut [Slot], alloc: Global) -> Result<(), AllocError>
     Ok(())
 }
 
-// Empty slots.
+// Returns `count` empty slots.
 #[tactic(auto, using(crate::proofs::Laws::more_empty, crate::proofs::Laws::own_blank))]
 fn blank_slots(alloc: Global, count: u16) -> Result<Vec<Slot>, AllocError>
     ensures len { IfOk result (λ v. vec_len v ≡ count) }
@@ -193,7 +194,7 @@ fn blank_slots(alloc: Global, count: u16) -> Result<Vec<Slot>, AllocError>
     Ok(slots)
 }
 
-// Slots that hold the same.
+// Returns copies of the slots.
 fn copied_slots(slots: &[Slot], alloc: Global) -> Result<Vec<Slot>, AllocError>
     ensures len { IfOk result (λ v. vec_len v ≡ length slots.now) }
     ensures own { IfOk result (λ v. own_at v.items ≡ own_at slots.now) }

@@ -4,10 +4,10 @@ ghost use Rattle.pagemem.specs.Image.{image_at};
 
 use i8080::word_of;
 
-/// A page behind the program.
+/// The cells of a page past the program.
 static ZEROS: [u8; 256] = [0; 256];
 
-/// Page zero and the program, borrowed; every other cell is 0.
+/// Page zero and the program, borrowed. Every other cell is 0.
 #[derive(Clone, Copy)]
 pub struct Image<'a> {
     page_zero: &'a [u8; 256],
@@ -18,7 +18,7 @@ pub struct Image<'a> {
 impl<'a> Image<'a> {
     ghost use Rattle.pagemem.specs.ImageView.{cells_of};
 
-    /// The image of page zero and a program, which stands from 0100H on.
+    /// Returns the image of page zero and of a program, which starts at 0100H.
     #[inline(always)]
     pub fn new(page_zero: &'a [u8; 256], program: &'a [u8]) -> Image<'a>
         requires { length program.now ≤ 64512 }
@@ -27,12 +27,12 @@ impl<'a> Image<'a> {
         Image { page_zero, program }
     }
 
-    /// The byte of a cell.
+    /// Returns the byte of a cell.
     #[inline(always)]
     pub fn at(self, a: u16) -> u8
         ensures { result ≡ cells_of self.entry a }
     {
-        // below 0100H this wraps to at least 65,280, past every program
+        // Below 0100H this wraps to at least 65,280, which is past every program.
         let at = a.wrapping_sub(256) as usize;
         if at < self.program.len() {
             self.program[at]
@@ -43,13 +43,13 @@ impl<'a> Image<'a> {
         }
     }
 
-    /// The word at an address, its low byte there, where both bytes stand in the program or in page zero.
+    /// Returns the word at an address, low byte first, if both of its bytes are in the program or both are in page zero.
     #[inline(always)]
     pub fn word(self, a: u16) -> Option<u16>
         ensures { IfSome result (λ w. w
             ≡ word (cells_of self.entry a) (cells_of self.entry (onward a 1))) }
     {
-        // as in `at`, this is past every program where the address lies below 0100H
+        // As in `at`, an address below 0100H wraps past every program.
         let low = a.wrapping_sub(256) as usize;
         let high = low + 1;
         if high < self.program.len() {
@@ -63,8 +63,8 @@ impl<'a> Image<'a> {
         None
     }
 
-    /// The bytes of so many cells of one page, from an address on, where they stand in one piece: in page zero, in the program, or
-    /// behind it.
+    /// Returns the bytes of `count` cells of one page, starting at `at`, if they are contiguous: all in page zero, all in the
+    /// program, or all past it.
     #[inline(always)]
     pub fn cells(self, at: u16, count: usize) -> Option<&'a [u8]>
         requires { at % 256 + count ≤ 256 }

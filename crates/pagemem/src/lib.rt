@@ -1,11 +1,11 @@
-//! What a run wrote and looked at, in pages over a borrowed image; and plain memory.
+//! The bytes that a run wrote and the cells that it looked at, in pages over a borrowed image; and plain memory.
 //!
-//! - `page`, `cells`: a page of 256 cells, and the slot that holds none, an owned or a shared one; the 256 slots of
-//!   what a run wrote
+//! - `page`, `cells`: a page of 256 cells, and a slot, which is empty or has an owned or shared page; the 256 slots of what a
+//!   run wrote
 //! - `image`: page zero and the program, borrowed
 //! - `looks`, `settled`: the cells that were looked at, in order; a mark for each settled cell
 //! - `overlay`, `view`: cells, looks and marks together; an overlay laid over an image, as a `Bus`
-//! - `plain`, `agreement`: a list of bytes as a `Bus`; the law that memories of the same bytes agree
+//! - `plain`, `agreement`: a list of bytes as a `Bus`; the law that memories with the same bytes agree
 #![tactic(auto)]
 
 mod agreement;

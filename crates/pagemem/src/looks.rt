@@ -4,11 +4,11 @@ ghost use Rattle.i8080.specs.Memory.{is_among};
 use std::alloc::{AllocError, Global};
 use std::marker::Model;
 
-/// The cells that were looked at, each once, in the order of their first looks. None of the calls but `new`
-/// and `snapshot` takes memory, and none takes longer for what was looked at before.
+/// The cells that were looked at, each once, in the order of their first looks. Only `new` and `snapshot` allocate, and the
+/// other calls take constant time.
 #[derive(Drop)]
 pub struct Looks {
-    // for each cell whether it stands in the order
+    // Whether each cell is in `order`.
     marks: Vec<bool>,
     order: Vec<u16>,
     count: usize,
@@ -26,7 +26,7 @@ impl Model for Looks {
 }
 
 impl Looks {
-    /// No look. `Err` where memory is refused.
+    /// Creates a set with no looks. `Err` means out of memory.
     pub fn new(alloc: Global) -> Result<Looks, AllocError>
         ensures { IfOk result (λ l. l ≡ []) }
     {
@@ -39,7 +39,7 @@ impl Looks {
         })
     }
 
-    /// Whether a cell was looked at.
+    /// Returns whether a cell was looked at.
     #[inline(always)]
     pub fn contains(&self, a: u16) -> bool
         ensures { result ≡ is_among a self.now }
@@ -48,7 +48,7 @@ impl Looks {
         self.marks[at]
     }
 
-    /// Notes a look at a cell, at the end, unless the cell is there.
+    /// Appends a look at a cell, unless the cell was looked at before.
     #[inline(always)]
     pub fn add(&mut self, a: u16)
         ensures { self.new ≡ (if is_among a self.old then self.old else self.old ++ a ∷ []) }
@@ -60,7 +60,7 @@ impl Looks {
         }
     }
 
-    /// How many cells were looked at.
+    /// Returns the number of cells that were looked at.
     #[inline(always)]
     pub fn len(&self) -> usize
         ensures { result ≡ length self.now }
@@ -68,7 +68,7 @@ impl Looks {
         self.count
     }
 
-    /// The cell that was looked at after so many others.
+    /// Returns the cell of the look with this index, in the order of the looks.
     pub fn nth(&self, index: usize) -> u16
         requires { index < length self.now }
         ensures { result ≡ slice_index self.now index }
@@ -76,7 +76,7 @@ impl Looks {
         self.order[index]
     }
 
-    /// Takes away the last look; none where there is none.
+    /// Removes the last look and returns its cell, or `None` if there are no looks.
     pub fn take(&mut self) -> Option<u16>
         ensures none { IfNone result ((self.old ≡ []) × (self.new ≡ [])) }
         ensures some { IfSome result (λ a. self.old ≡ self.new ++ a ∷ []) }
@@ -90,7 +90,7 @@ impl Looks {
         Some(a)
     }
 
-    /// A copy.
+    /// Returns a copy. `Err` means out of memory.
     pub fn snapshot(&self) -> Result<Looks, AllocError>
         ensures { IfOk result (λ l. l ≡ self.now) }
     {
@@ -104,10 +104,10 @@ impl Looks {
     }
 }
 
-// How many cells there are.
+// The number of cells.
 pub(crate) const CELLS: usize = 65_536;
 
-// Marks that are not set.
+// Returns `count` marks, none of which is set.
 #[tactic(auto, using(crate::proofs::ListingLemmas::none_marked, crate::proofs::ListingLemmas::none_counted))]
 pub(crate) fn blank_marks(alloc: Global, count: usize) -> Result<Vec<bool>, AllocError>
     ensures len { IfOk result (λ v. vec_len v ≡ count) }
@@ -117,7 +117,7 @@ pub(crate) fn blank_marks(alloc: Global, count: usize) -> Result<Vec<bool>, Allo
     vec![in alloc; false; count]
 }
 
-// Places for an order, with nothing in them.
+// Allocates an order of `count` entries, with unspecified contents.
 fn blank_order(alloc: Global, count: usize) -> Result<Vec<u16>, AllocError>
     ensures { IfOk result (λ v. vec_len v ≡ count) }
 {

@@ -12,7 +12,7 @@ use crate::looks::Looks;
 use crate::settled::Settled;
 use std::alloc::{AllocError, Global};
 
-/// What a run wrote, and beside it the cells that it looked at.
+/// What a run wrote, with the cells that it looked at.
 #[derive(Drop)]
 pub struct Overlay {
     cells: Cells,
@@ -21,8 +21,8 @@ pub struct Overlay {
     ghost rests: { (q : ℕ) → IsTrue (is_settled settled q) → Rests (own_in cells) looks q },
 }
 
-/// The memory for an overlay's marks, with nothing looked at. An overlay that is done with gives it to the next one, so that it is
-/// neither asked for nor cleared again.
+/// The memory for the marks of an overlay, with no looks. A discarded overlay passes it to the next one, so that it is
+/// neither allocated nor cleared again.
 #[derive(Drop)]
 pub struct BlankMarks {
     looks: Looks,
@@ -32,7 +32,7 @@ pub struct BlankMarks {
 }
 
 impl BlankMarks {
-    /// New memory. `Err` where it is refused.
+    /// Allocates the memory. `Err` means out of memory.
     pub fn new(alloc: Global) -> Result<BlankMarks, AllocError> {
         let looks = Looks::new(alloc)?;
         let settled = Settled::new(alloc)?;
@@ -44,7 +44,7 @@ impl Overlay {
     ghost use Rattle.pagemem.specs.ImageView.{cells_of};
     ghost use Rattle.pagemem.specs.Overlay.{own_of, looks_of, is_ready_at};
 
-    /// Nothing written, nothing looked at. `Err` where memory is refused.
+    /// Creates an overlay with nothing written and no looks. `Err` means out of memory.
     pub fn new(alloc: Global) -> Result<Overlay, AllocError>
         ensures own { IfOk result (λ o. own_of o ≡ (λ _. None)) }
         ensures looks { IfOk result (λ o. looks_of o ≡ []) }
@@ -53,7 +53,7 @@ impl Overlay {
         Ok(Overlay::over(BlankMarks::new(alloc)?, cells))
     }
 
-    /// What was written, and nothing looked at. It takes no memory.
+    /// Creates an overlay of these cells, with no looks. Allocates nothing.
     pub fn over(marks: BlankMarks, cells: Cells) -> Overlay
         ensures own { own_of result ≡ own_in cells }
         ensures looks { looks_of result ≡ [] }
@@ -67,7 +67,7 @@ impl Overlay {
         }
     }
 
-    /// What was written, and the marks, cleared, both moved out. It takes no memory, and goes over the cells alone that were looked at.
+    /// Returns the cells and the cleared marks. Allocates nothing, and takes time proportional to the number of looks.
     pub fn into_parts(self) -> (Cells, BlankMarks)
         ensures own { own_in result.0 ≡ own_of self }
         ensures ready { is_ready_in result.0 ≡ is_ready_at self }
@@ -82,7 +82,7 @@ impl Overlay {
         (cells, BlankMarks { looks, settled })
     }
 
-    // Takes away all looks.
+    // Removes all looks.
     fn forget_looks(&mut self)
         ensures own { own_of self.new ≡ own_of self.old }
         ensures looks { looks_of self.new ≡ [] }
@@ -91,8 +91,8 @@ impl Overlay {
         while let Some(_) = self.take_look() {}
     }
 
-    /// What was written, in pages that are shared with the overlay from now on: each costs a reference.
-    /// Nothing that was written or looked at changes, also at `Err`; cells may have to be made ready again.
+    /// Returns the written bytes, in pages that are then shared with this overlay: each costs a reference. What was written
+    /// and looked at does not change, but cells may have to be made ready again. `Err` means out of memory.
     pub fn shared_cells(&mut self) -> Result<Cells, AllocError>
         ensures cells { IfOk result (λ c. own_in c ≡ own_of self.old) }
         ensures shared { IfOk result (λ c. (q : ℕ) → is_ready_in c q ≡ false) }
@@ -103,7 +103,7 @@ impl Overlay {
         self.cells.snapshot()
     }
 
-    /// Makes a cell ready to be written. No byte and no look changes, and at `Err` nothing does.
+    /// Makes a cell ready to be written. No byte and no look changes. `Err` means out of memory; nothing has then changed.
     #[inline(always)]
     pub fn ready(&mut self, a: u16) -> Result<(), AllocError>
         ensures ready { OnOk result (IsTrue (is_ready_at self.new a)) }
@@ -115,21 +115,21 @@ impl Overlay {
         self.cells.ready(a)
     }
 
-    /// The last byte that was written at a cell; none where none was. That is no look.
+    /// Returns the byte that was last written to a cell, or `None` if none was. This is no look.
     pub fn written(&self, a: u16) -> Option<u8>
         ensures { result ≡ own_of self.now a }
     {
         self.cells.written(a)
     }
 
-    /// Whether a cell was looked at.
+    /// Returns whether a cell was looked at.
     pub fn looked(&self, a: u16) -> bool
         ensures { result ≡ is_among a (looks_of self.now) }
     {
         self.looks.contains(a)
     }
 
-    /// The byte of a cell: what was written, else the image's, which is a look.
+    /// Returns the byte of a cell: the written one if there is one, otherwise the image's, which is a look.
     #[inline(always)]
     pub fn read(&mut self, image: Image<'_>, a: u16) -> u8
         ensures value { result ≡ over (own_of self.old) (cells_of image.entry) a }
@@ -149,8 +149,8 @@ impl Overlay {
         }
     }
 
-    /// The word at an address, its low byte there, where both of its cells are settled and their bytes stand side by side in the image.
-    /// That is no look.
+    /// Returns the word at an address, low byte first, if both of its cells are settled and their bytes are contiguous in the
+    /// image. This is no look.
     #[inline(always)]
     pub fn known_word(&self, image: Image<'_>, a: u16) -> Option<u16>
         ensures value { IfSome result (λ w. w ≡ word (over (own_of self.now) (cells_of image.entry) a)
@@ -166,7 +166,7 @@ impl Overlay {
         None
     }
 
-    // A look at a cell that was not written, away from the path of most reads.
+    // Adds a look at a cell that was not written. Out of line, because most reads add no look.
     #[cold]
     #[inline(never)]
     fn look(&mut self, a: u16)
@@ -191,7 +191,7 @@ impl Overlay {
         self.settled.remove(a);
     }
 
-    // Writes bytes into ready cells of one page, from an address on.
+    // Writes bytes to ready cells of one page, starting at `at`.
     fn write_in_page(&mut self, at: u16, values: &[u8])
         requires ready { IsTrue (is_ready_at self.old at) }
         requires page { at % 256 + length values.now ≤ 256 }
@@ -203,7 +203,7 @@ impl Overlay {
         self.settled.remove_cells(at, values.len());
     }
 
-    /// Writes bytes into ready cells, from an address on; the cell after 0FFFFH is 0000H.
+    /// Writes bytes to ready cells, starting at `at`; the cell after 0FFFFH is 0000H.
     pub fn write_cells(&mut self, at: u16, values: &[u8])
         requires { (i : ℕ) → i < length values.now → IsTrue (is_ready_at self.old (onward at i)) }
         ensures kept { (q : ℕ) → IsTrue (is_ready_at self.old q) → IsTrue (is_ready_at self.new q) }
@@ -220,8 +220,8 @@ impl Overlay {
         }
     }
 
-    /// Makes `count` cells ready, from an address on; the cell after 0FFFFH is 0000H. No byte and no look changes, and cells that were
-    /// ready stay so, at `Err` too.
+    /// Makes `count` cells ready, starting at `at`; the cell after 0FFFFH is 0000H. No byte and no look changes. `Err` means
+    /// out of memory; some of the cells may then be ready. Cells that were ready always stay ready.
     pub fn ready_cells(&mut self, at: u16, count: u16) -> Result<(), AllocError>
         ensures ready { OnOk result ((i : ℕ) → i < count
             → IsTrue (is_ready_at self.new (onward at i))) }
@@ -229,7 +229,7 @@ impl Overlay {
         ensures own { own_of self.new ≡ own_of self.old }
         ensures looks { looks_of self.new ≡ looks_of self.old }
     {
-        // one cell of each page: the page is made ready with it
+        // One cell of each page: making it ready makes the page ready.
         let mut done = 0;
         while done < u32::from(count) {
             let address = at.wrapping_add(done as u16);
@@ -239,8 +239,8 @@ impl Overlay {
         Ok(())
     }
 
-    /// Copies the bytes of cells from an address on, over an image, where each was written or looked at before; the cell after 0FFFFH
-    /// is 0000H. That is no look. `false` says nothing of the copy.
+    /// Copies the bytes of cells over an image, starting at `at`, if each was written or looked at before; the cell after
+    /// 0FFFFH is 0000H. This is no look. Returns `false` otherwise; the bytes in `cells` are then unspecified.
     #[inline(always)]
     pub fn known_cells(&self, image: Image<'_>, at: u16, cells: &mut [u8]) -> bool
         ensures length { length cells.new ≡ length cells.old }
@@ -250,13 +250,13 @@ impl Overlay {
             → look (own_of self.now) (looks_of self.now) (onward at i) ≡ looks_of self.now }
     {
         if cells.len() <= 256 - usize::from(at % 256) {
-            // mostly so, and then their count is that of the caller, who knows it
+            // The usual case, in which the count is often a constant at the call.
             return self.known_in_page(image, at, cells);
         }
         self.known_in_pages(image, at, cells)
     }
 
-    // The same, a page after another.
+    // Does the same, one page after another.
     #[inline(never)]
     fn known_in_pages(&self, image: Image<'_>, at: u16, cells: &mut [u8]) -> bool
         ensures length { length cells.new ≡ length cells.old }
@@ -278,7 +278,7 @@ impl Overlay {
         true
     }
 
-    // The same within a page.
+    // Does the same within a page.
     #[inline(always)]
     fn known_in_page(&self, image: Image<'_>, at: u16, cells: &mut [u8]) -> bool
         requires { at % 256 + length cells.old ≤ 256 }
@@ -295,7 +295,7 @@ impl Overlay {
         self.cells.copy_over(at, beneath, marks, cells)
     }
 
-    /// How many cells were looked at.
+    /// Returns the number of cells that were looked at.
     #[inline(always)]
     pub fn look_count(&self) -> usize
         ensures { result ≡ length (looks_of self.now) }
@@ -303,7 +303,7 @@ impl Overlay {
         self.looks.len()
     }
 
-    /// The cell that was looked at after so many others.
+    /// Returns the cell of the look with this index, in the order of the looks.
     pub fn nth_look(&self, index: usize) -> u16
         requires { index < length (looks_of self.now) }
         ensures { result ≡ slice_index (looks_of self.now) index }
@@ -311,7 +311,8 @@ impl Overlay {
         self.looks.nth(index)
     }
 
-    /// Takes away the last look; none where there is none. It takes no memory, and the same cells stay ready.
+    /// Removes the last look and returns its cell, or `None` if there are no looks. Allocates nothing, and the same cells
+    /// stay ready.
     pub fn take_look(&mut self) -> Option<u16>
         ensures none { IfNone result ((looks_of self.old ≡ []) × (looks_of self.new ≡ [])) }
         ensures some { IfSome result (λ a. looks_of self.old ≡ looks_of self.new ++ a ∷ []) }
@@ -323,8 +324,8 @@ impl Overlay {
         Some(last)
     }
 
-    /// Makes the owned pages shared, so that a snapshot costs a reference for each. Nothing that was written
-    /// or looked at changes, also at `Err`; cells may have to be made ready again.
+    /// Makes the owned pages shared, so that a snapshot only needs a reference to each. What was written and looked at does
+    /// not change, but cells may have to be made ready again. `Err` means out of memory.
     pub fn share(&mut self) -> Result<(), AllocError>
         ensures shared { OnOk result ((q : ℕ) → is_ready_at self.new q ≡ false) }
         ensures own { own_of self.new ≡ own_of self.old }
@@ -333,7 +334,7 @@ impl Overlay {
         self.cells.share()
     }
 
-    /// An overlay in which the same is written and looked at.
+    /// Returns an overlay with the same written bytes and the same looks. `Err` means out of memory.
     pub fn snapshot(&self) -> Result<Overlay, AllocError>
         ensures own { IfOk result (λ o. own_of o ≡ own_of self.now) }
         ensures looks { IfOk result (λ o. looks_of o ≡ looks_of self.now) }
@@ -350,7 +351,7 @@ impl Overlay {
     }
 }
 
-// How many of so many bytes have room in the page of a cell, from it on.
+// Returns how many of `left` bytes fit in the page of a cell, starting with this cell.
 fn count_in_page(address: u16, left: usize) -> usize
     ensures within { (result ≤ left) × (address % 256 + result ≤ 256) }
     ensures some { 0 < left → 0 < result }

@@ -6,7 +6,7 @@ ghost use Rattle.i8080.specs.Memory.{write, write_all};
 use std::alloc::{AllocError, Global};
 use std::rc::Rc;
 
-// From so many cells on it pays to ask first whether all of them were written, as those of a record mostly are.
+// The number of cells from which it pays to check first whether all of them were written, as those of a record mostly were.
 const LONG_RUN: usize = 64;
 
 /// The bytes of 256 cells, and which of them were written.
@@ -16,7 +16,7 @@ pub struct Page {
     pub written: [bool; 256],
 }
 
-/// A page that is not there yet, is owned, or is shared with a snapshot.
+/// A page that does not exist yet, is owned, or is shared with a snapshot.
 #[derive(Drop)]
 pub enum Slot {
     Empty,
@@ -25,7 +25,7 @@ pub enum Slot {
 }
 
 impl Page {
-    /// A page with no written cell.
+    /// Returns a page with no written cell.
     pub fn blank() -> Page
         ensures { page_own result ≡ (λ _. None) }
     {
@@ -35,7 +35,7 @@ impl Page {
         }
     }
 
-    /// The byte of a written cell of the page; none for every other.
+    /// Returns the byte of a cell of the page, or `None` if the cell was not written.
     #[tactic(auto, unfolding(crate::specs::Pages::page_own))]
     #[inline(always)]
     pub fn get(&self, at: u8) -> Option<u8>
@@ -59,7 +59,7 @@ impl Page {
         self.written[at] = true;
     }
 
-    /// Writes cells of the page, from one on.
+    /// Writes cells of the page, starting at `from`.
     pub fn set_cells(&mut self, from: u8, values: &[u8])
         requires { from + length values.now ≤ 256 }
         ensures { page_own self.new ≡ write_all (page_own self.old) (cells_from from values.now) }
@@ -71,8 +71,9 @@ impl Page {
         written[start..end].fill(true);
     }
 
-    /// Copies the bytes of cells of the page from one on: the written ones, and beneath them others. Answers whether each cell was
-    /// written or has a mark; `false` says nothing of the copy.
+    /// Copies the bytes of cells of the page, starting at `from`: the written byte of a cell, or its byte of `beneath` if it
+    /// was not written. Returns `true` if each cell was written or is marked; on `false`, the bytes in `cells` are
+    /// unspecified.
     #[inline(always)]
     pub fn copy_over(&self, from: usize, beneath: &[u8], marks: &[bool], cells: &mut [u8]) -> bool
         requires page { from + length cells.old ≤ 256 }
@@ -95,7 +96,7 @@ impl Page {
         is_known
     }
 
-    // Copies the bytes of cells of the page from one on, where all of them were written; else the answer is `false`.
+    // Copies the bytes of cells of the page, starting at `from`, if all of them were written. Returns `false` otherwise.
     #[inline(always)]
     fn copy_written(&self, from: usize, cells: &mut [u8]) -> bool
         requires page { from + length cells.old ≤ 256 }
@@ -112,20 +113,20 @@ impl Page {
     }
 }
 
-// Whether all of so many marks are set.
+// Returns `true` only if all marks are set.
 #[inline(always)]
 pub(crate) fn all_set(marks: &[bool]) -> bool
     ensures { result ≡ true → (i : ℕ) → i < length marks.now → get_or marks.now i false ≡ true }
 {
     let mut is_set = true;
     for i in 0..marks.len() {
-        // without a branch, so that many marks are read at a time
+        // Without a branch, so that several marks are read at a time.
         is_set &= marks[i];
     }
     is_set
 }
 
-// One of two bytes. Both are at hand, so that the choice takes no jump and many are made at a time.
+// Returns one of two bytes. Both are available, so that no jump is needed and several are selected at a time.
 #[inline(always)]
 fn either(is_first: bool, first: u8, second: u8) -> u8
     ensures { result ≡ cond is_first first second }
@@ -134,7 +135,7 @@ fn either(is_first: bool, first: u8, second: u8) -> u8
 }
 
 impl Slot {
-    /// Makes the page owned: a new one, or a copy of a shared one.
+    /// Makes the page owned: a new page, or a copy of a shared one. `Err` means out of memory; the slot is then unchanged.
     #[inline(always)]
     pub fn make_owned(&mut self, alloc: Global) -> Result<(), AllocError>
         ensures owned { OnOk result (IsTrue (is_owned self.new)) }
@@ -148,7 +149,7 @@ impl Slot {
         self.own(alloc)
     }
 
-    // The same where the page is not owned yet, away from the path of most writes.
+    // Makes a page owned that is not owned yet. Out of line, because most writes find an owned page.
     #[cold]
     #[inline(never)]
     fn own(&mut self, alloc: Global) -> Result<(), AllocError>
@@ -166,7 +167,7 @@ impl Slot {
         Ok(())
     }
 
-    /// Makes an owned page shared.
+    /// Makes an owned page shared. `Err` means out of memory; the slot is then unchanged.
     pub fn share(&mut self, alloc: Global) -> Result<(), AllocError>
         ensures shared { OnOk result (is_owned self.new ≡ false) }
         ensures own { slot_own self.new ≡ slot_own self.old }
@@ -180,8 +181,8 @@ impl Slot {
         Ok(())
     }
 
-    /// Another slot of the same content: a page that is shared has one more owner, one that is owned is
-    /// copied.
+    /// Returns a slot with the same contents: a shared page gets one more owner, and an owned page is copied. `Err` means out
+    /// of memory.
     pub fn snapshot(&self, alloc: Global) -> Result<Slot, AllocError>
         ensures own { IfOk result (λ s. slot_own s ≡ slot_own self.now) }
         ensures owned { IfOk result (λ s. is_owned s ≡ is_owned self.now) }

@@ -5,7 +5,7 @@ ghost use Rattle.pagemem.specs.Plain.{plain_own};
 use i8080::Bus;
 use std::alloc::AllocError;
 
-/// One list of 65,536 bytes, all of which count as written.
+/// A list of 65,536 bytes, all of which count as written.
 #[derive(Drop)]
 pub struct PlainMemory {
     bytes: Vec<u8>,
@@ -13,7 +13,7 @@ pub struct PlainMemory {
 }
 
 impl PlainMemory {
-    /// The memory of 65,536 bytes.
+    /// Creates a memory of 65,536 bytes.
     pub fn new(bytes: Vec<u8>) -> PlainMemory
         requires { vec_len bytes ≡ 65536 }
         ensures { plain_own result.bytes.items ≡ plain_own bytes.items }

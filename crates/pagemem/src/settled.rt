@@ -3,8 +3,8 @@ ghost use Rattle.std.specs.Prelude.{◌≡◌, ◌==◌, ◌+◌, ◌<◌, ◌�
 use crate::looks::{CELLS, blank_marks};
 use std::alloc::{AllocError, Global};
 
-/// Cells that are settled. A read of such a cell is known to give the image's byte and to change nothing, so
-/// it needs to ask neither the pages nor the looks.
+/// The settled cells. A read of a settled cell returns the image's byte and changes nothing, so it need not check the pages
+/// or the looks.
 #[derive(Drop)]
 pub struct Settled {
     marks: Vec<bool>,
@@ -14,7 +14,7 @@ pub struct Settled {
 impl Settled {
     ghost use Rattle.pagemem.specs.Settled.{is_settled};
 
-    /// No cell. `Err` where memory is refused.
+    /// Creates a set with no cells. `Err` means out of memory.
     pub fn new(alloc: Global) -> Result<Settled, AllocError>
         ensures { IfOk result (λ s. (q : ℕ) → is_settled s q ≡ false) }
     {
@@ -22,14 +22,14 @@ impl Settled {
         Ok(Settled { marks })
     }
 
-    /// No cell, in memory of the same allocator. `Err` where memory is refused.
+    /// Creates a set with no cells, with the same allocator. `Err` means out of memory.
     pub fn cleared(&self) -> Result<Settled, AllocError>
         ensures { IfOk result (λ s. (q : ℕ) → is_settled s q ≡ false) }
     {
         Settled::new(*self.marks.allocator())
     }
 
-    /// Whether a cell is settled.
+    /// Returns whether a cell is settled.
     #[inline(always)]
     pub fn contains(&self, a: u16) -> bool
         ensures { result ≡ is_settled self.now a }
@@ -46,7 +46,7 @@ impl Settled {
         self.marks[a as usize] = true;
     }
 
-    /// Takes a cell out.
+    /// Removes a cell.
     #[inline(always)]
     pub fn remove(&mut self, a: u16)
         ensures { (q : ℕ) → is_settled self.new q ≡ (if q == a then false else is_settled self.old q) }
@@ -54,7 +54,7 @@ impl Settled {
         self.marks[a as usize] = false;
     }
 
-    /// The marks of so many cells, from an address on.
+    /// Returns the marks of `count` cells, starting at `at`.
     #[inline(always)]
     pub fn marks(&self, at: u16, count: usize) -> &[bool]
         requires { at + count ≤ 65536 }
@@ -66,7 +66,7 @@ impl Settled {
         &self.marks[from..from + count]
     }
 
-    /// Takes so many cells out, from an address on.
+    /// Removes `count` cells, starting at `at`.
     pub fn remove_cells(&mut self, at: u16, count: usize)
         requires { at + count ≤ 65536 }
         ensures kept { (q : ℕ) → is_settled self.new q ≡ true → is_settled self.old q ≡ true }

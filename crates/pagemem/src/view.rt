@@ -8,7 +8,7 @@ use crate::overlay::Overlay;
 use i8080::Bus;
 use std::alloc::AllocError;
 
-/// The overlay's written cells laid over the image.
+/// An overlay's written cells laid over an image.
 #[derive(Drop)]
 pub struct View<'a> {
     image: Image<'a>,
@@ -18,7 +18,7 @@ pub struct View<'a> {
 impl<'a> View<'a> {
     ghost use Rattle.pagemem.specs.ViewParts.{overlay_in};
 
-    /// Joins them for as long as the overlay is lent.
+    /// Joins an image and an overlay, which is lent for as long as the view exists.
     #[inline(always)]
     pub fn new(image: Image<'a>, overlay: &'a mut Overlay) -> View<'a>
         ensures image { result.image ≡ image.entry }
@@ -27,7 +27,7 @@ impl<'a> View<'a> {
         View { image, overlay }
     }
 
-    /// How many cells were looked at.
+    /// Returns the number of cells that were looked at.
     #[inline(always)]
     pub fn look_count(&self) -> usize
         ensures { result ≡ length (looks_of (overlay_in self.now)) }

@@ -1,4 +1,4 @@
--- What extents hold, as a finite map and as a function of the place.
+-- The records in extents, as a finite map and as a function of the record number.
 use Rattle.std.proofs.Common.{inl, inr, ◌≡◌, ℕ, zero, suc, ◌<◌, ◌≤◌, ◌≢◌, Option, Some, None, refl, sym, ◌∙◌, ap, arith, cond, eqb}
 use Rattle.std.proofs.lemmas.Bool.Decides.{eqb_tells, leb_tells}
 use Rattle.std.proofs.lemmas.Cmp.{nat_cmp_total}
@@ -30,7 +30,7 @@ within (suc n) own q h = elim (eqb_tells q n) [
   | inr other ↦ entry_other _ n (own n) q other.1 ∙ within n own q (let far : q ≢ n = other.1 in omega arith)
 ]
 
--- the record at a place of the file is found, and past its last place there is none
+-- The map has the record with a number below the limit.
 pub get_kept : (own : ℕ → Option Record) (q : ℕ) → q < 65536 → finmap.get (kept own) q ≡ own q
 unfolding kept
 get_kept own q h = within place_count own q (rw place_count-is h)
@@ -45,15 +45,15 @@ kept_is own m below above = finmap.same_map nat_cmp_total finmap.nat_cmp-IsAntis
   | inr under ↦ get_kept own q under.1 ∙ sym (below q under.1)
 ])
 
--- nothing written
+-- Nothing written.
 pub kept_none : (own : ℕ → Option Record) → ((q : ℕ) → own q ≡ None) → kept own ≡ finmap.empty
 kept_none own h = kept_is own finmap.empty (λ q _. finmap.get-empty nat_cmp q ∙ sym (h q)) (λ q _. finmap.get-empty nat_cmp q)
 
--- the same records
+-- The same records.
 pub kept_same : (own own' : ℕ → Option Record) → ((q : ℕ) → own' q ≡ own q) → kept own' ≡ kept own
 kept_same own own' h = kept_is own' (kept own) (λ q b. get_kept own q b ∙ sym (h q)) (get_past own)
 
--- one record more
+-- One more record.
 pub kept_put : (own own' : ℕ → Option Record) (a : ℕ) (r : Record) → a < 65536 → ((q : ℕ) → own' q ≡ cond (eqb q a) (Some r) (own q)) → kept own' ≡ finmap.insert (kept own) a r
 kept_put own own' a r h e = kept_is own' _ (λ q b. get_insert (kept own) a r q ∙ ap (λ o. cond (eqb q a) (Some r) o) (get_kept own q b) ∙ sym (e q)) above where
   above : (q : ℕ) → 65536 ≤ q → finmap.get (finmap.insert (kept own) a r) q ≡ None

@@ -1,25 +1,25 @@
--- Records by place, as extents change.
+-- Records by number, when extents change.
 use Rattle.std.proofs.Common.{◌≡◌, ◌≢◌, ℕ, zero, suc, ◌<◌, ◌/◌, ◌%◌, ◌==◌, true, false, cond, Bool, List, [], ◌∷◌, ◌++◌, length, slice_get, get_or, set, Option, Some, None, refl, sym, ◌∙◌, ap, arith, inl, inr, get_or-set_same, get_or-set_other, eqb}
 use Rattle.std.proofs.lemmas.Bool.Decides.{eqb_tells}
 use Rattle.std.proofs.lemmas.List.{get_or_default, set-get_or}
 use Rattle.records.specs.Extents.{own_of, place_in, marked, PutsRecord}
 use Rattle.records.specs.Records.{Record}
 
--- what stands at a place after a write
+-- The element at an index after a write.
 pub set_read : {X : Type 0} (xs : List X) (a : ℕ) (v d : X) → a < length xs → (q : ℕ) → get_or (set xs a v) q d ≡ cond (q == a) v (get_or xs q d)
 set_read xs a v d h q = elim (eqb_tells q a) [
   | inl same ↦ rw same.0 (rw same.1 (get_or-set_same xs a v d h))
   | inr other ↦ rw other.0 (get_or-set_other xs a q v d other.1)
 ]
 
--- what was read from a list is there
+-- A value that was read from a list is in it.
 pub found : {X : Type 0} (xs : List (Option X)) (i : ℕ) (o : Option X) (x : X) → i < length xs → o ≡ get_or xs i o → o ≡ Some x → get_or xs i None ≡ Some x
 found xs i o x h e s = get_or_default xs i None o h ∙ sym e ∙ s
 
 pub missing : {X : Type 0} (xs : List (Option X)) (i : ℕ) (o : Option X) → i < length xs → o ≡ get_or xs i o → o ≡ None → get_or xs i None ≡ None
 missing xs i o h e s = get_or_default xs i None o h ∙ sym e ∙ s
 
--- what was read from a list and put back
+-- Writing back a value that was read from a list changes nothing.
 pub put_back : {X : Type 0} (xs : List (Option X)) (i : ℕ) (o : Option X) → o ≡ get_or xs i o → set xs i o ≡ xs
 put_back xs i o e = ap (set xs i) e ∙ set-get_or xs i o
 
@@ -27,7 +27,7 @@ unmarked : (b : Bool) → None ≡ cond {A = Option Record} b None None
 unmarked true = refl
 unmarked false = refl
 
--- the record at a place by its mark
+-- The record at an index, by its mark.
 pub marked_at : (marks : List Bool) (records : List Record) (q : ℕ) → get_or (marked marks records) q None ≡ cond (get_or marks q false) (slice_get records q) None
 unfolding marked
 marked_at [] records q = refl
@@ -35,11 +35,11 @@ marked_at (m ∷ ms) [] q = unmarked (get_or (m ∷ ms) q false)
 marked_at (m ∷ ms) (r ∷ rs) zero = refl
 marked_at (m ∷ ms) (r ∷ rs) (suc q) = marked_at ms rs q
 
--- no mark tells a record where there is none
+-- If there are no records, the marks show none.
 pub marked_none : (marks : List Bool) (records : List Record) → records ≡ [] → (q : ℕ) → get_or (marked marks records) q None ≡ None
 marked_none marks records e q = rw e (marked_at marks [] q ∙ sym (unmarked (get_or marks q false)))
 
--- a record and its mark in place of others
+-- A record and its mark replace others.
 set_here : (ms : List Bool) (rs : List Record) (at : ℕ) (r : Record) → at < length rs → at < length ms → get_or (marked (set ms at true) (set rs at r)) at None ≡ Some r
 unfolding marked
 set_here [] rs at r h l = absurd (omega arith)
@@ -64,7 +64,7 @@ marked_set marks records at r h l q = elim (eqb_tells q at) [
   | inr other ↦ rw other.0 (set_there marks records at r q other.1)
 ]
 
--- a record and its mark behind the others
+-- A record and its mark after the others.
 push_there : (ms : List Bool) (rs : List Record) (b : Bool) (r : Record) (q : ℕ) → q ≢ length rs → get_or (marked (set ms (length rs) b) (rs ++ r ∷ [])) q None ≡ get_or (marked ms rs) q None
 unfolding marked
 push_there [] rs b r q n = refl
@@ -86,7 +86,7 @@ marked_push marks records more r e l q = elim (eqb_tells q (length records)) [
   | inr other ↦ rw other.0 (rw e (push_there marks records true r q other.1))
 ]
 
--- a place more, without a record
+-- The index past the last record has no record.
 past : (ms : List Bool) (rs : List Record) → get_or (marked ms rs) (length rs) None ≡ None
 unfolding marked
 past [] rs = refl
@@ -100,7 +100,7 @@ marked_more marks records more r e l q = elim (eqb_tells q (length records)) [
   | inr other ↦ rw e (push_there marks records false r q other.1)
 ]
 
--- the record at a place of an extent that is there, and of one that is not
+-- The record at an index of an extent that exists, and of one that does not.
 pub own_found : (es : List (Option (List (Option Record)))) (a : ℕ) (x : List (Option Record)) → Some x ≡ get_or es (a / 128) None → get_or x (a % 128) None ≡ own_of es a
 unfolding own_of
 own_found es a x e = ap (λ (o : Option (List (Option Record))). place_in o (a % 128)) e
@@ -113,7 +113,7 @@ pub own_none : (es : List (Option (List (Option Record)))) → es ≡ [] → (q 
 unfolding own_of
 own_none es e q = rw e refl
 
--- places of one extent are the same where their remainders are
+-- In one extent, two numbers are equal if and only if their remainders are.
 same_rest : (q a : ℕ) → a / 128 ≡ q / 128 → eqb (q % 128) (a % 128) ≡ eqb q a
 same_rest q a h = elim (eqb_tells q a) [
   | inl same ↦ elim (eqb_tells (q % 128) (a % 128)) [
@@ -132,7 +132,7 @@ apart_at q a h = elim (eqb_tells q a) [
   | inr other ↦ other.0
 ]
 
--- an extent in which a record was written, in place of the one that was there
+-- Replacing an extent by one with a record written to it writes the record.
 pub own_put : (es fs : List (Option (List (Option Record)))) (a : ℕ) (w : List (Option Record)) (r : Record)
     → ((i : ℕ) → get_or fs i None ≡ cond (i == a / 128) (Some w) (get_or es i None))
     → ((i : ℕ) → get_or w i None ≡ cond (i == a % 128) (Some r) (place_in (get_or es (a / 128) None) i))
@@ -147,7 +147,7 @@ own_put es fs a w r h e q = elim (eqb_tells (q / 128) (a / 128)) [
       ∙ sym (ap (λ b. cond b (Some r) (place_in (get_or es (q / 128) None) (q % 128))) (apart_at q a (λ e. other.1 (sym e))))
 ]
 
--- an extent in place of one with the same records
+-- Replacing an extent by one with the same records changes no record.
 pub own_same : (es fs : List (Option (List (Option Record)))) (k : ℕ) (w : List (Option Record))
     → ((i : ℕ) → get_or fs i None ≡ cond (i == k) (Some w) (get_or es i None))
     → ((i : ℕ) → get_or w i None ≡ place_in (get_or es k None) i)
@@ -158,7 +158,7 @@ own_same es fs k w h e q = elim (eqb_tells (q / 128) k) [
   | inr other ↦ ap (λ (o : Option (List (Option Record))). place_in o (q % 128)) (h (q / 128) ∙ ap (λ b. cond b (Some w) (get_or es (q / 128) None)) other.0)
 ]
 
--- the extents stay as they were
+-- If the extents are unchanged, so are the records.
 pub own_alike : (es fs : List (Option (List (Option Record)))) → ((i : ℕ) → get_or fs i None ≡ get_or es i None) → (q : ℕ) → own_of fs q ≡ own_of es q
 unfolding own_of
 own_alike es fs h q = ap (λ (o : Option (List (Option Record))). place_in o (q % 128)) (h (q / 128))

@@ -1,4 +1,4 @@
--- Zeros at one place more.
+-- Zeros at one more record number.
 use Rattle.std.proofs.Common.{◌≡◌, ◌≤◌, ◌+◌, ◌-◌, ℕ, suc, sym, ap, ◌∙◌, refl, arith}
 use Rattle.std.specs.FinMap as finmap
 use Rattle.records.specs.Records.{Kept, zeros, zeros_at}

@@ -1,33 +1,33 @@
--- The records that extents hold, by place, and as one map. ([Interface Guide 1979, operating system call conventions]: an extent is 128
--- records.)
+-- The records in extents, by record number, and as one map. ([Interface Guide 1979, operating system call conventions]: an
+-- extent is 128 records.)
 use Rattle.std.specs.Prelude.{◌≡◌, refl, ℕ, zero, suc, ◌/◌, ◌%◌, ◌==◌, List, [], ◌∷◌, Bool, Option, Some, None, cond, get_or}
 use Rattle.std.specs.FinMap as finmap
 use Rattle.records.specs.Records.{Record, Kept}
 
--- records by their marks: none where there is no mark
+-- The records that are marked; none if a mark is not set.
 unfoldable pub marked : List Bool → List Record → List (Option Record)
 marked [] records = []
 marked (mark ∷ marks) [] = []
 marked (mark ∷ marks) (content ∷ records) = cond mark (Some content) None ∷ marked marks records
 
--- the record at a place of an extent
+-- The record at an index of an extent, if both are there.
 abbrev pub place_in : Option (List (Option Record)) → ℕ → Option Record
 place_in None i = None
 place_in (Some places) i = get_or places i None
 
--- a record is put at a place of an extent, and the others stay
+-- The new extent has this record at an index, and is otherwise like the old one.
 abbrev pub PutsRecord : List (Option Record) → ℕ → Record → List (Option Record) → Type 0
 PutsRecord old at content new = (q : ℕ) → get_or new q None ≡ cond (q == at) (Some content) (get_or old q None)
 
--- each place has the record that it had
+-- Both extents have the same record at each index.
 abbrev pub SameRecords : List (Option Record) → List (Option Record) → Type 0
 SameRecords old new = (q : ℕ) → get_or new q None ≡ get_or old q None
 
--- the record at each place, by extents of 128
+-- The record with a number, by extents of 128.
 unfoldable pub own_of : List (Option (List (Option Record))) → ℕ → Option Record
 own_of extents place = place_in (get_or extents (place / 128) None) (place % 128)
 
--- how many places a file may have; a word of its own, so that nothing counts up to it
+-- The maximum number of records in a file. A definition of its own, so that the prover does not count up to it.
 pub place_count : ℕ
 place_count = 65536
 
@@ -35,16 +35,16 @@ pub place_count-is : place_count ≡ 65536
 unfolding place_count
 place_count-is = refl
 
--- a record with the others, if there is one
+-- The records with one more, if there is one to add.
 abbrev pub with_entry : Kept → ℕ → Option Record → Kept
 with_entry m a None = m
 with_entry m a (Some r) = finmap.insert m a r
 
--- the records below n
+-- The records with numbers below n.
 abbrev pub kept_below : ℕ → (ℕ → Option Record) → Kept
 kept_below zero own = finmap.empty
 kept_below (suc n) own = with_entry (kept_below n own) n (own n)
 
--- the records of a file
+-- The records of a file.
 unfoldable pub kept : (ℕ → Option Record) → Kept
 kept own = kept_below place_count own

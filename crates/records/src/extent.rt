@@ -1,4 +1,4 @@
-// Up to 128 places of a file.
+// Up to 128 records of a file.
 
 ghost use Rattle.std.specs.Prelude.{◌≡◌, ◌<◌, ◌≤◌, ◌==◌, ℕ, OnOk, OnErr, IfOk, None, Some, cond, get_or, slice_get, vec_len, option_copied};
 ghost use Rattle.records.specs.Extents.{PutsRecord, SameRecords, marked};
@@ -8,18 +8,18 @@ use std::alloc::{AllocError, Global};
 use std::marker::Model;
 use std::rc::Rc;
 
-/// The records at the places of an extent, up to the last one that was written. A snapshot shares them, and the first write after it
-/// copies them.
+/// The records of an extent, up to the last one that was written. A snapshot shares them, and the first write after it copies
+/// them.
 #[derive(Drop)]
 pub struct Extent {
     places: Rc<Places>,
 }
 
-// Which places of an extent have a record.
+// Marks for the indexes of an extent that have a record.
 type Marks = [bool; EXTENT_RECORDS as usize];
 
-// Places up to the last one that was written, and which of them have a record. The marks stand apart from the records, so that a place
-// without one is told and no memory of records is touched.
+// Records up to the last one that was written, and marks for the indexes that have one. The marks are separate, so that a
+// lookup of a missing record reads no record.
 #[derive(Drop)]
 struct Places {
     marks: Marks,
@@ -56,7 +56,7 @@ impl Clone for Extent {
 }
 
 impl Extent {
-    /// An extent with one record.
+    /// Creates an extent with one record. `Err` means out of memory.
     pub fn new(alloc: Global, at: usize, content: &Record) -> Result<Extent, AllocError>
         requires { at < 128 }
         ensures { IfOk result
@@ -69,7 +69,7 @@ impl Extent {
         })
     }
 
-    /// The record at a place of the extent.
+    /// Returns the record at an index of the extent, or `None` if there is none.
     pub fn get(&self, at: usize) -> Option<&Record>
         requires { at < 128 }
         ensures { option_copied result ≡ get_or self.now at None }
@@ -77,7 +77,7 @@ impl Extent {
         self.places.get(at)
     }
 
-    /// The record at a place of the extent, instead of the one before. At `Err` every place has the record that it had.
+    /// Sets the record at an index of the extent. On `Err`, which means out of memory, the records are unchanged.
     pub fn put(&mut self, alloc: Global, at: usize, content: &Record) -> Result<(), AllocError>
         requires { at < 128 }
         ensures ok { OnOk result (PutsRecord self.old at content.now self.new) }
@@ -89,7 +89,7 @@ impl Extent {
         self.put_into_copy(alloc, at, content)
     }
 
-    // The same where a snapshot shares the places: they are copied first.
+    // Sets a record if a snapshot shares the records, which are copied first.
     #[cold]
     #[inline(never)]
     fn put_into_copy(
@@ -110,7 +110,7 @@ impl Extent {
 }
 
 impl Places {
-    // No record.
+    // Creates an empty list of records.
     fn new(alloc: Global) -> Places
         ensures { (q : ℕ) → get_or result q None ≡ None }
     {
@@ -120,7 +120,7 @@ impl Places {
         }
     }
 
-    // The same records.
+    // Returns a copy of the records.
     fn copy(&self, alloc: Global) -> Result<Places, AllocError>
         ensures { IfOk result (λ p. p ≡ self.now) }
     {
@@ -130,7 +130,7 @@ impl Places {
         })
     }
 
-    // The record at a place.
+    // Returns the record at an index, if there is one.
     fn get(&self, at: usize) -> Option<&Record>
         requires { at < 128 }
         ensures { option_copied result ≡ get_or self.now at None }
@@ -141,7 +141,7 @@ impl Places {
         None
     }
 
-    // Puts a record at a place. At `Err` every place has the record that it had.
+    // Sets the record at an index. On `Err`, the records are unchanged.
     fn put(&mut self, at: usize, content: &Record) -> Result<(), AllocError>
         requires { at < 128 }
         ensures ok { OnOk result (PutsRecord self.old at content.now self.new) }
@@ -156,8 +156,7 @@ impl Places {
     }
 }
 
-// Puts a record behind all places, with no record at those that come into being before it. At `Err` every place has the record that it
-// had.
+// Sets the record at an index past all others; the indexes between them have no record. On `Err`, the records are unchanged.
 fn append(
     records: &mut Vec<Record>,
     marks: &mut Marks,
@@ -180,7 +179,7 @@ fn append(
     Ok(())
 }
 
-// The record at a place, if there are that many.
+// Returns the record at an index, if the list is long enough.
 fn nth(records: &[Record], at: usize) -> Option<&Record>
     ensures { option_copied result ≡ slice_get records.now at }
 {

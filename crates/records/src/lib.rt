@@ -1,6 +1,6 @@
-//! The records that a run wrote into one file, in extents that snapshots share.
+//! The records that a run wrote to one file, in extents that snapshots share.
 //!
-//! - `extent`, `written`: 128 records that snapshots share; the records that were written into a file
+//! - `extent`, `written`: 128 records that snapshots share; the written records of a file
 #![tactic(auto)]
 
 mod extent;

@@ -1,4 +1,4 @@
-// What a run wrote into a file.
+// The records that a run wrote to a file.
 
 ghost use Rattle.std.specs.Prelude.{◌≡◌, ◌<◌, ◌≤◌, ◌-◌, ◌==◌, ℕ, OnOk, OnErr, IfOk, None, Some, cond, get_or, option_copied};
 ghost use Rattle.std.specs.FinMap as finmap;
@@ -8,19 +8,19 @@ use crate::extent::Extent;
 use std::alloc::{AllocError, Global};
 use std::marker::Model;
 
-/// The bytes of a record [Interface Guide 1979, operating system call conventions].
+/// The number of bytes in a record [Interface Guide 1979, operating system call conventions].
 pub const RECORD_BYTES: usize = 128;
 
-/// The records of an extent [Interface Guide 1979, operating system call conventions].
+/// The number of records in an extent [Interface Guide 1979, operating system call conventions].
 pub const EXTENT_RECORDS: u32 = 128;
 
-/// The most places of a file: 512 extents.
+/// The maximum number of records in a file: 512 extents.
 pub const PLACES: u32 = 65_536;
 
 /// A record: 128 bytes of a file [Interface Guide 1979, operating system call conventions].
 pub type Record = [u8; RECORD_BYTES];
 
-/// The records that were written into a file of up to 65,536 places, by their places.
+/// The written records of a file, by record number. A file has at most 65,536 records.
 #[derive(Drop)]
 pub struct Records {
     extents: Vec<Option<Extent>>,
@@ -42,7 +42,7 @@ impl Model for Records {
 }
 
 impl Records {
-    /// No record. Takes no memory.
+    /// Creates an empty set of records. Allocates nothing.
     pub fn new(alloc: Global) -> Records
         ensures { result ≡ finmap.empty }
     {
@@ -52,7 +52,7 @@ impl Records {
         }
     }
 
-    /// The record at a place, if one was written there.
+    /// Returns the record with this number, or `None` if none was written.
     pub fn get(&self, place: u32) -> Option<&Record>
         ensures { option_copied result ≡ finmap.get self.now place }
     {
@@ -66,7 +66,7 @@ impl Records {
         }
     }
 
-    /// The record at a place, instead of the one before. An `Err` changes nothing.
+    /// Sets the record with a number below 65,536. On `Err`, which means out of memory, nothing changes.
     pub fn put(&mut self, place: u32, content: &Record) -> Result<(), AllocError>
         requires { place < 65536 }
         ensures ok { OnOk result (self.new ≡ finmap.insert self.old place content.now) }
@@ -84,8 +84,8 @@ impl Records {
         set_extent(&mut self.extents, number, extent)
     }
 
-    /// These records with zeros at the places from `from` on, below `to`; at `Err` nothing is known of what
-    /// was made.
+    /// Returns a copy of these records with records of zeros at the numbers from `from` up to, but not including, `to`. `Err`
+    /// means out of memory.
     pub fn with_zeros(&self, from: u32, to: u32) -> Result<Records, AllocError>
         requires ordered { from ≤ to }
         requires within { to < 65536 }
@@ -98,7 +98,7 @@ impl Records {
         Ok(records)
     }
 
-    /// The same records, at the cost of a reference for each extent.
+    /// Returns a copy, which costs a reference for each extent. `Err` means out of memory.
     pub fn snapshot(&self) -> Result<Records, AllocError>
         ensures { IfOk result (λ r. r ≡ self.now) }
     {
@@ -109,7 +109,7 @@ impl Records {
     }
 }
 
-// The extent of a number, if there is one.
+// Returns the extent with this number, if there is one.
 fn extent_at(extents: &[Option<Extent>], number: usize) -> Option<&Extent>
     ensures { option_copied result ≡ get_or extents.now number None }
 {
@@ -119,7 +119,8 @@ fn extent_at(extents: &[Option<Extent>], number: usize) -> Option<&Extent>
     }
 }
 
-// Sets an extent, with none at the places that come into being before it. An `Err` changes no extent.
+// Sets the extent with a number. If the list is too short, the extents in between are missing. On `Err`, the extents are
+// unchanged.
 fn set_extent(
     extents: &mut Vec<Option<Extent>>,
     number: usize,

@@ -10,7 +10,7 @@ use Rattle.cpmfiles.specs.Renaming.{has_wildcard}
 use Rattle.cpmfiles.proofs.LookLaws.{within_second}
 use Rattle.cpmfiles.proofs.asking.can_rename.Goals as goal
 
--- the first of the two keys is asked
+-- A rename asks about the first of its two keys.
 first_key : (own : Own) (old new : Key) (l m : Looks) → has_wildcard old ≡ false → is_sayable new ≡ true
     → Extends l (look_has own old m) → Extends l (look_renamed own old new m)
 first_key own old new l m plain fit h = rw (plain, fit) (within_second own old new l m h)

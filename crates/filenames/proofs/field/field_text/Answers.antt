@@ -2,7 +2,7 @@ use Rattle.std.proofs.Common.{Result, Ok, Err, MatchResult, IsOk, refl}
 use Rattle.filenames.proofs.FieldLemmas.{field_is_text}
 use Rattle.filenames.proofs.field.field_text.Goals as goal
 
--- no error can be
+-- If no error is possible, the result is `Ok`.
 only_ok : {T E : Type 0} (r : Result T E) (P : T → Type 0) (Q : E → Type 0) → MatchResult r P Q → ((e : E) → Q e → ⊥) → IsOk r
 only_ok (Ok x) P Q h never = refl
 only_ok (Err e) P Q h never = absurd (never e h)

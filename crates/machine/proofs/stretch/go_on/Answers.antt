@@ -9,7 +9,7 @@ use Rattle.machine.proofs.FitLemmas.{sound_reached}
 use Rattle.machine.proofs.StretchLemmas.{ends_by_step, ends_by_stop, ends_by_failure}
 use Rattle.machine.proofs.stretch.go_on.Goals as goal
 
--- no step more
+-- No more step.
 none_more : (from : ℕ) → from + 0 ≡ from
 none_more from = omega arith
 

@@ -22,7 +22,7 @@ with_places d cells = record { cells = cells; places = d.places; files = d.asks 
 abbrev seen_here : Regs → Devices → View → StateView
 seen_here r d v = running_with r d (overlay_in v)
 
--- one step more than so many is so many and one
+-- One more step.
 one_more : (from n : ℕ) → from + n + 1 ≡ from + (n + 1)
 one_more from n = omega arith
 

@@ -8,7 +8,7 @@ pub returns-then-place-next-clause-ok : goal.returns-then-place-next-clause-ok
 returns-then-place-next-clause-ok c =
     rw (← c.self.view_is) (kept_in_turn c.self.inside.in_turn.items c.self.inside.others.entries c.args.step c.args.place (omega (arith, c.self.inside.in_turn.ok.0)))
 
--- the place is the next one in turn, and none of the others
+-- The index is the next one in order, and not among the others.
 next_place : (c : goal.In_ok-push) → c.args.place ≡ length c.self.inside.in_turn.items
 next_place c = omega (arith, c.len-next.ensures, c.if-place-next-2.true, c.self.inside.in_turn.ok.0)
 

@@ -43,7 +43,7 @@ note-requires-clause-latest c =
     let low = c.self.invariant c.args.key.now c.in-Some.steps.now (sym c.in-Some.ensures.value) in
     omega arith
 
--- the file of the key is put to the others, which stood as they were
+-- The file of the key is inserted, and the other files are unchanged.
 put : (c : Joined-branch-3) (q : Key)
     → steps_of c.insert.new.self.entries q ≡ cond (is_at (slice_cmp nat_cmp c.args.key.now) q) (Some c.note-2.new.self) (steps_of c.self.inside.files.entries q)
 put c q =

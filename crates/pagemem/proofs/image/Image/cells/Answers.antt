@@ -7,14 +7,14 @@ zero_read zero i = refl
 zero_read (suc n) zero = refl
 zero_read (suc n) (suc i) = zero_read n i
 
--- of zeros the first ones are zeros
+-- The first elements of a list of zeros are zeros.
 zeros_read : (n count i : ℕ) → get_or {A = ℕ} (take count (replicate n 0)) i 0 ≡ 0
 zeros_read n zero i = refl
 zeros_read zero (suc count) i = refl
 zeros_read (suc n) (suc count) zero = refl
 zeros_read (suc n) (suc count) (suc i) = zeros_read n count i
 
--- behind the program
+-- Cells past the program.
 image_past : (page_zero program : List ℕ) (a : ℕ) → 256 + length program ≤ a → image_at page_zero program a ≡ 0
 image_past page_zero program a h = search rules
 

@@ -4,7 +4,7 @@ use Rattle.i8080.specs.Registers.{onward}
 use Rattle.pagemem.specs.Overlay.{own_of, looks_of}
 use Rattle.pagemem.proofs.overlay.Overlay.known_cells.Goals as goal
 
--- a cell of the page
+-- A cell of the page.
 there : (a count i : ℕ) → a < 65536 → count ≤ 256 - a % 256 → i < count → a + i ≡ onward a i
 there a count i low fits below = omega (arith, low, fits, below)
 

@@ -8,12 +8,12 @@ use Rattle.pagemem.proofs.PartLemmas.{length_put, part_length, put_below, put_in
 use Rattle.pagemem.proofs.overlay.Overlay.known_in_pages.Goals as goal
 use borrow.Rule.Slice.PartMut.{put_mid}
 
--- a cell of the part that was read
+-- A cell of the part that was read.
 there : (a address done i : ℕ) → address ≡ onward a done → done ≤ i → address + (i - done) < 65536 → address + (i - done) ≡ onward a i
 there a address done i e low high = omega (arith, e, low, high)
 
 module _ (a address done k : ℕ) (e : address ≡ onward a done) (fits : address + k ≤ 65536) where
-  -- the bytes of a part more
+  -- The bytes after one more part.
   value_on : (byte : ℕ → ℕ) (cells part : List ℕ) → done + k ≤ length cells → length part ≡ k
       → ((i : ℕ) → i < done → get_or cells i 0 ≡ byte (onward a i)) → ((i : ℕ) → i < k → get_or part i 0 ≡ byte (address + i))
       → (i : ℕ) → i < done + k → get_or (put_mid done k cells part) i 0 ≡ byte (onward a i)
@@ -22,7 +22,7 @@ module _ (a address done k : ℕ) (e : address ≡ onward a done) (fits : addres
     | inr above ↦ put_inside done k cells part within long i 0 above h ∙ here (i - done) (omega (arith, above, h)) ∙ ap byte (there a address done i e above (omega (arith, above, h, fits)))
   ]
 
-  -- the looks at a part more
+  -- The looks after one more part.
   unlooked_on : (own : Own) (looks : Looks) → ((i : ℕ) → i < done → look own looks (onward a i) ≡ looks) → ((i : ℕ) → i < k → look own looks (address + i) ≡ looks)
       → (i : ℕ) → i < done + k → look own looks (onward a i) ≡ looks
   unlooked_on own looks before here i h = elim (cases_lt i done) [

@@ -7,7 +7,7 @@ use Rattle.pagemem.specs.Overlay.{own_of}
 use Rattle.pagemem.proofs.RunLaws.{write_split}
 use Rattle.pagemem.proofs.overlay.Overlay.write_cells.Goals as goal
 
--- a piece of the rest, and what is left after it
+-- Writing a piece of the rest, and then what is left, is writing the rest.
 piece : (own now : Own) (a done count : ℕ) (values : List ℕ) → a < 65536 → count ≤ length (drop done values) → now ≡ write_all own (cells_from a (take count (drop done values)))
     → write_all now (cells_from (onward a count) (drop (done + count) values)) ≡ write_all own (cells_from a (drop done values))
 piece own now a done count values low within is =

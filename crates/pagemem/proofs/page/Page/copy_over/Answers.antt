@@ -4,7 +4,7 @@ use Rattle.pagemem.specs.Pages.{page_own, IsLaid}
 use Rattle.pagemem.specs.declared.page.Page.{Page}
 use Rattle.pagemem.proofs.page.Page.copy_over.Goals as goal
 
--- the parts of a test that passed
+-- The parts of a test that passed.
 first_passed : (a b : Bool) → (a && b) ≡ true → a ≡ true
 first_passed true b h = refl
 first_passed false b h = h
@@ -21,7 +21,7 @@ read : (b : Bool) (byte other : ℕ) → unwrap_or (cond b (Some byte) None) oth
 read true byte other = refl
 read false byte other = refl
 
--- one cell
+-- One cell is laid over.
 laid_here : (page : Page) (at other byte : ℕ) (mark : Bool) → byte ≡ cond (get_or page.written at false) (get_or page.bytes at 0) other → (get_or page.written at false || mark) ≡ true → IsLaid (page_own page at) other mark byte
 unfolding page_own
 laid_here page at other byte mark e h = record {
@@ -29,7 +29,7 @@ laid_here page at other byte mark e h = record {
   known = ap (λ b. b || mark) (is_written (get_or page.written at false) (get_or page.bytes at 0)) ∙ h;
 }
 
--- one cell more
+-- One more cell is laid over.
 laid_more : (page : Page) (from i byte : ℕ) (beneath cells : List ℕ) (marks : List Bool) (was is : Bool) → i < length cells → byte ≡ cond (get_or page.written (from + i) false) (get_or page.bytes (from + i) 0) (get_or beneath i 0)
     → is ≡ (was && (get_or page.written (from + i) false || get_or marks i false))
     → (was ≡ true → (j : ℕ) → j < i → IsLaid (page_own page (from + j)) (get_or beneath j 0) (get_or marks j false) (get_or cells j 0))

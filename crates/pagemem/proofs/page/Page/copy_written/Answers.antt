@@ -4,7 +4,7 @@ use Rattle.pagemem.specs.Pages.{page_own}
 use Rattle.pagemem.specs.declared.page.Page.{Page}
 use Rattle.pagemem.proofs.page.Page.copy_written.Goals as goal
 
--- a written cell, by its mark and its byte
+-- A written cell, by its mark and its byte.
 written_here : (page : Page) (at byte : ℕ) → get_or page.written at false ≡ true → byte ≡ get_or page.bytes at 0 → page_own page at ≡ Some byte
 unfolding page_own
 written_here page at byte m e = ap (λ b. cond b (Some (get_or page.bytes at 0)) None) m ∙ ap Some (sym e)

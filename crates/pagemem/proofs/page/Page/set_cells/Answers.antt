@@ -16,7 +16,7 @@ all_set zero i h = absurd (let no : i < 0 = h in omega (arith, no))
 all_set (suc n) zero h = refl
 all_set (suc n) (suc i) h = all_set n i (omega (arith, h))
 
--- the bytes of a part of a page, and its marks
+-- The bytes and the marks of a part of a page.
 module _ (page : Page) (from k : ℕ) (values : List ℕ) (marks : List Bool) (bytes_fit : from + k ≤ length page.bytes) (marks_fit : from + k ≤ length page.written) (low : from + k ≤ 65536)
     (long : length values ≡ k) (set : marks ≡ replicate k true) where
   long_marks : length marks ≡ k

@@ -9,7 +9,7 @@ use Rattle.records.proofs.Laws.{own_put, own_same, own_alike, set_read, found, m
 use Rattle.records.proofs.written.Records.put.Goals as goal
 use Rattle.records.proofs.written.Records.put.Goals.{then-number-len+in_default, else-number-len}
 
--- where no extent was found, none was changed
+-- If no extent was found, none was changed.
 same : (c : goal.After-set_extent) → c.if-number-len.self-inside.extents.items ≡ c.self.inside.extents.items
 same c = elim c.if-number-len.branch [
   | then-number-len+in_default w ↦ ap (λ s. s.extents.items) w.self-inside-is ∙ put_back c.self.inside.extents.items (c.args.place / 128) w.index_mut.result.now w.index_mut.ensures.value
