@@ -20,7 +20,7 @@ pub is_free_line : is_simple_and_free command_line ≡ true
 unfolding clap_on_literals
 is_free_line = refl
 
--- what is said of the matches of a command is said of those of the command line
+-- The matches of a command equal to the command line are the matches of the command line.
 pub at_line : (a : App) (words : List Text) (rows : List Row) → a ≡ command_line → (is_simple a ≡ true → rows ≡ matches_of a words) → rows ≡ matches_at words
 unfolding matches_at
 at_line a words rows same h = h (ap is_simple same ∙ is_simple_line) ∙ ap (λ x. matches_of x words) same
@@ -30,12 +30,12 @@ pub fails_at_line : {T : Type 0} (a : App) (words : List Text) (r : Result T Err
 unfolding faults_at
 fails_at_line a words r same h = subst (λ x. FailsBy (fault_of x words) r) same (h (ap is_simple_and_free same ∙ is_free_line))
 
--- a text that was read is that of the row
+-- A text that was read is the text of the row.
 pub text_said : (f : Found) (id : Text) (rows : List Row) (r : Option (Bor Text)) → rows_of f ≡ rows → option_map (λ s. s.now) r ≡ first_value f id
     → option_map (λ s. s.now) r ≡ first_of id rows
 text_said f id rows r same e = e ∙ first_value-rows f id ∙ ap (first_of id) same
 
--- a number that was read is what the row says
+-- A number that was read is the number in the row.
 pub number_said : {E : Type 0} (f : Found) (id : Text) (G : List ℕ → Result ℕ E → Type 0) (n : ℕ) → (one_text f id ≡ None → Some n ≡ None)
     → ((t : List ℕ) → one_text f id ≡ Some t → ReadsOne G t (Some n)) → ((t : List ℕ) (x : Result ℕ E) → G t x → ParsesUnsigned 64 10 t x)
     → SaysNumber (rows_of f) id n
@@ -44,7 +44,7 @@ number_said f id G n none value parses = elim (one_text f id) as (λ o. one_text
   | Some t ↦ λ e. let read = parses t (Ok n) (value t e) in (t, sym (one_text-rows f id) ∙ e, (read.0.0, read.1))
 ] refl
 
--- where the row says a number of 64 bits, that is the number that was read
+-- If the row has a number of 64 bits, that number was read.
 pub number_read : {E : Type 0} (f : Found) (id : Text) (G : List ℕ → Result ℕ E → Type 0) (r : Option ℕ) → ((t : List ℕ) → one_text f id ≡ Some t → ReadsOne G t r)
     → ((t : List ℕ) (x : Result ℕ E) → G t x → ParsesUnsigned 64 10 t x) → (n : ℕ) → SaysNumber (rows_of f) id n → n < 2 ^ 64 → r ≡ Some n
 number_read {E = E} f id G r value parses n says fits = by_read r (value says.0 (one_text-rows f id ∙ says.1)) where
@@ -52,7 +52,7 @@ number_read {E = E} f id G r value parses n says fits = by_read r (value says.0 
   by_read (Some v) h = let read = parses says.0 (Ok v) h in ap Some (read.1 ∙ sym says.2.1)
   by_read None h = let unread = parses says.0 (Err h.0) h.1 in absurd (unread (says.2.0, subst (λ m. m < 2 ^ 64) says.2.1 fits))
 
--- a number that was read and is not in a range is none of the range
+-- A number that was read and is not within a range is none of the range.
 pub out_of_range : (n v least most : ℕ) → Some v ≡ Some n → least ≤ n → n ≤ most → (least ≤ v → v ≤ most → ⊥) → ⊥
 out_of_range n v least most e low high out = let same : v ≡ n = cc in out (subst (λ m. least ≤ m) (sym same) low) (subst (λ m. m ≤ most) (sym same) high)
 
@@ -60,7 +60,7 @@ pub at_none : {T P : Type 0} (r : Option T) → P → IfNone r P
 at_none None p = p
 at_none (Some x) p = tt
 
--- the text of an argument, or none
+-- The text of an argument, or none.
 pub text_or_none : (r : Option (Bor Text)) (d t : Bor Text) (o : Option Text) → t ≡ unwrap_or r d → d.now ≡ [] → option_map (λ s. s.now) r ≡ o → t.now ≡ unwrap_or o []
 text_or_none None d t o e empty same = ap (λ s. s.now) e ∙ empty ∙ ap (λ x. unwrap_or x []) same
 text_or_none (Some s) d t o e empty same = ap (λ s. s.now) e ∙ ap (λ x. unwrap_or x []) same
@@ -69,16 +69,16 @@ pub four_texts : (a b c d : Option (Bor Text)) (w x y z : Option Text) → text_
     → map text_of (a ∷ b ∷ c ∷ d ∷ []) ≡ w ∷ x ∷ y ∷ z ∷ []
 four_texts a b c d w x y z p q r s = cc
 
--- what is said of the rows is said of the same rows
+-- What holds for the rows holds for equal rows.
 pub says_at : (rows others : List Row) (words : Words) → rows ≡ others → Says rows words → Says others words
 says_at rows others words same h = subst (λ r. Says r words) same h
 
--- a parse that gave matches had no fault
+-- A parse that returned matches had no error.
 pub no_fault : {T : Type 0} (words : List Text) (r : Result T Error) (x : T) → r ≡ Ok x → FailsBy (faults_at words) r → faults_at words ≡ []
 no_fault words (Ok y) x e h = h
 no_fault words (Err y) x e h = cc
 
--- the fault of a parse is handed on
+-- The error of a parse is passed on.
 pub fault_on : {T U : Type 0} (words : List Text) (r : Result T Error) (s : Result U Error) (e : Error) → r ≡ Err e → s ≡ Err e → FailsBy (faults_at words) r → FailsBy (faults_at words) s
 fault_on words (Ok y) s e p q h = cc
 fault_on {U = U} words (Err y) s e p q h =

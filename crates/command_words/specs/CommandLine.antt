@@ -8,55 +8,55 @@ use Rattle.command_words.specs.declared.words.Words.{Words}
 use Rattle.clap.specs.Simple.{on_top}
 use Rattle.clap.specs.declared.builder.value_parser.ValueParser.TheVariants as parser
 
--- an option with one value
+-- An option with one value.
 abbrev pub option_rule : Text → Rule
 option_rule name = record (new_rule name) { long = Some name; value_names = 1 }
 
--- an argument with a default
+-- An argument with a default.
 abbrev pub with_default : Rule → Text → Rule
 with_default rule default = record rule { defaults = default ∷ [] }
 
--- an option whose value is a number from one to another, with a default
+-- An option whose value is a number within a range, with a default.
 abbrev pub number_rule : Text → ℕ → ℕ → Text → Rule
 number_rule name least most default = record (option_rule name) { parser = Some (parser.Unsigned least most); defaults = default ∷ [] }
 
--- a command with arguments, one after another
+-- A command with arguments added one after the other.
 abbrev pub with_rules : App → List Rule → App
 with_rules app [] = app
 with_rules app (rule ∷ rules) = with_rules (with_rule app rule) rules
 
--- the program, which is required, and the tail
+-- The program, which is required, and the tail.
 abbrev pub place_rules : List Rule
 place_rules = record (new_rule (codes "PROGRAM")) { required = true } ∷ new_rule (codes "TAIL") ∷ []
 
--- the folders that are read
+-- The folders that are read.
 abbrev pub folder_rules : List Rule
 folder_rules = option_rule (codes "files") ∷ option_rule (codes "files-b") ∷ option_rule (codes "files-c") ∷ option_rule (codes "files-d") ∷ []
 
--- the folders that are written to
+-- The folders that are written to.
 abbrev pub output_rules : List Rule
 output_rules = option_rule (codes "out") ∷ option_rule (codes "out-b") ∷ option_rule (codes "out-c") ∷ option_rule (codes "out-d") ∷ []
 
--- the console's script, and the edit lines
+-- The script and the edit lines.
 abbrev pub file_rules : List Rule
 file_rules = option_rule (codes "console") ∷ option_rule (codes "edits") ∷ []
 
--- the limit of steps, and how checkpoints are made
+-- The limit of steps, and how checkpoints are made.
 abbrev pub number_rules : List Rule
 number_rules =
     number_rule (codes "limit") 0 4000000000 (codes "1000000")
     ∷ number_rule (codes "spacing") 1 1000000000 (codes "10000")
     ∷ number_rule (codes "slots") 1 4096 (codes "64") ∷ []
 
--- a command without arguments, with a version, whose words begin after its name
+-- A command without arguments, with a version, whose words begin after its name.
 abbrev pub plain_command : App
 plain_command = on_top (λ s. record s { no_binary_name = true; has_version = true }) (new_app (codes "cpmrun"))
 
--- the command line with all its arguments
+-- The command line with all its arguments.
 abbrev pub command_line : App
 command_line = with_rules (with_rules (with_rules (with_rules (with_rules plain_command place_rules) folder_rules) file_rules) output_rules) number_rules
 
--- the matches that clap makes of words, and the kinds of error where it makes none
+-- The matches that clap returns for the words, and the kinds of its errors if it returns none.
 unfoldable pub matches_at : List Text → List Row
 matches_at words = matches_of command_line words
 
@@ -65,32 +65,32 @@ faults_at words = fault_of command_line words
 
 -- ---- what is read of the matches: a row has the values of an argument
 
--- the text is decimal digits of this number, where a plus may stand first
+-- The text is this number in decimal digits, optionally after a plus.
 abbrev pub IsDecimal : Text → ℕ → Type 0
 IsDecimal text n = IsNumeral 10 (without_leading_plus text) × (n ≡ digits_value 10 (without_leading_plus text))
 
--- the text of the first value of an argument is a number
+-- The text of the first value of an argument is a number.
 abbrev pub SaysNumber : List Row → Text → ℕ → Type 0
 SaysNumber rows id n = (text : Text) × (one_of id rows ≡ Some text) × IsDecimal text n
 
--- the text of the first value of an argument is no number from one to another
+-- The text of the first value of an argument is no number within this range.
 abbrev pub HasNoNumberWithin : List Row → Text → ℕ → ℕ → Type 0
 HasNoNumberWithin rows id least most = (n : ℕ) → SaysNumber rows id n → least ≤ n → n ≤ most → ⊥
 
--- the matches have no program, or a number that is not in its range
+-- The matches have no program, or a number that is not in its range.
 abbrev pub LacksWords : List Row → Type 0
 LacksWords rows =
     (first_of (codes "PROGRAM") rows ≡ None) ⊎ HasNoNumberWithin rows (codes "limit") 0 4000000000
     ⊎ HasNoNumberWithin rows (codes "spacing") 1 1000000000 ⊎ HasNoNumberWithin rows (codes "slots") 1 4096
 
--- the first value of each argument, if it has one
+-- The first value of each argument, if it has one.
 abbrev pub texts_of : List Row → List Text → List (Option Text)
 texts_of rows = map (λ id. first_of id rows)
 
 abbrev pub text_of : Option (Bor Text) → Option Text
 text_of = option_map (λ s. s.now)
 
--- the words are those of the matches
+-- The words have the values of the matches.
 pub record Says (rows : List Row) (words : Words) : Type 0 where
   pub program : text_of (Some words.program) ≡ first_of (codes "PROGRAM") rows
   pub tail : words.tail.now ≡ unwrap_or (first_of (codes "TAIL") rows) []

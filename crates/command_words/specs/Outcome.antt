@@ -7,13 +7,13 @@ use Rattle.command_words.specs.CommandLine.{faults_at}
 use Rattle.command_words.specs.declared.outcome.Outcome.{Outcome}
 use Rattle.command_words.specs.declared.outcome.Outcome.TheVariants.{Information, Misuse, OutOfMemory}
 
--- want of memory, help and the version are no faults of use; every other kind is
+-- Out of memory, help and the version are no usage errors; every other kind is.
 abbrev pub outcome_of : ErrorKind → Outcome
 outcome_of kind.OutOfMemory = OutOfMemory
 outcome_of kind.DisplayHelp = Information
 outcome_of kind.DisplayVersion = Information
 outcome_of other = Misuse
 
--- words come to this: an error of a kind that clap's definitions give for them does
+-- Words can have this outcome: clap's definitions give them an error of a kind that has it.
 abbrev pub ComesTo : List Text → Outcome → Type 0
 ComesTo words outcome = (kind : ErrorKind) × IsAmong kind (faults_at words) × (outcome_of kind ≡ outcome)

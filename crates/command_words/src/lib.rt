@@ -1,7 +1,7 @@
 //! The words of the command line of `cpmrun`.
 //!
 //! - `words`, `options`: `read_words`; the command line as a command of `clap`
-//! - `outcome`: what an error of `clap` comes to: help, a fault of use, or want of memory
+//! - `outcome`: what an error of `clap` means for the program: information, a usage error, or out of memory
 #![tactic(auto)]
 
 mod options;

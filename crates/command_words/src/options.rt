@@ -35,14 +35,14 @@ Exit status:
 The manual has each message, edit line and reply, and what the number of a refusal means: docs/MANUAL.md,
 or, where the program is installed, share/doc/cpmrun/MANUAL.md.";
 
-/// An option whose value is a path, with what that is called and what it is for.
+/// An option whose value is a path, with the name of the value and the help text.
 struct PathOption<'a> {
     name: &'a str,
     value: &'a str,
     help: &'a str,
 }
 
-/// The folders of the host files, the single files, and the folders that changed files are written to.
+/// The options for the folders of the host files, the single files, and the folders for changed files.
 const PATHS: &[PathOption<'_>] = &[
     PathOption {
         name: "files",
@@ -96,7 +96,7 @@ const PATHS: &[PathOption<'_>] = &[
     },
 ];
 
-/// The argument of an option whose value is a path.
+/// Returns the argument for an option whose value is a path.
 fn path_argument<'a>(alloc: Global, option: &PathOption<'a>) -> Arg<'a>
     ensures rule { rule_of result ≡ option_rule option.now.name.now }
     ensures local { result.global ≡ false }
@@ -107,7 +107,7 @@ fn path_argument<'a>(alloc: Global, option: &PathOption<'a>) -> Arg<'a>
         .help(option.help)
 }
 
-/// The command with options whose values are paths.
+/// Adds the options whose values are paths to a command.
 fn with_paths<'a>(
     alloc: Global,
     mut command: Command<'a>,
@@ -122,7 +122,7 @@ fn with_paths<'a>(
     Ok(command)
 }
 
-/// The command with the two words that stand by their place.
+/// Adds the two positional arguments to a command.
 fn with_places<'a>(alloc: Global, command: Command<'a>) -> Result<Command<'a>, AllocError>
     ensures { IfOk result (λ c. app_of c ≡ with_rules (app_of command.entry) place_rules) }
 {
@@ -137,7 +137,7 @@ fn with_places<'a>(alloc: Global, command: Command<'a>) -> Result<Command<'a>, A
         ))
 }
 
-/// The argument of an option whose value is a number, which may yet be any text.
+/// Returns the argument for an option whose value is a number, without a check of its value.
 fn number_argument<'a>(alloc: Global, name: &'a str, default: &'a str) -> Arg<'a>
     ensures rule { rule_of result ≡ with_default (option_rule name.entry.now) default.entry.now }
     ensures local { result.global ≡ false }
@@ -148,7 +148,7 @@ fn number_argument<'a>(alloc: Global, name: &'a str, default: &'a str) -> Arg<'a
         .default_value(default)
 }
 
-/// The limit of steps.
+/// Returns the option for the limit of steps.
 fn limit_option<'a>(alloc: Global) -> Arg<'a>
     ensures rule { rule_of result ≡ number_rule (codes "limit") 0 4000000000 (codes "1000000") }
     ensures local { result.global ≡ false }
@@ -160,7 +160,7 @@ fn limit_option<'a>(alloc: Global) -> Arg<'a>
         )
 }
 
-/// The steps from one checkpoint to the next.
+/// Returns the option for the number of steps from one checkpoint to the next.
 fn spacing_option<'a>(alloc: Global) -> Arg<'a>
     ensures rule { rule_of result ≡ number_rule (codes "spacing") 1 1000000000 (codes "10000") }
     ensures local { result.global ≡ false }
@@ -170,7 +170,7 @@ fn spacing_option<'a>(alloc: Global) -> Arg<'a>
         .help("The steps from one checkpoint to the next, 1 to 1,000,000,000")
 }
 
-/// The most checkpoints.
+/// Returns the option for the largest number of checkpoints.
 fn slots_option<'a>(alloc: Global) -> Arg<'a>
     ensures rule { rule_of result ≡ number_rule (codes "slots") 1 4096 (codes "64") }
     ensures local { result.global ≡ false }
@@ -180,7 +180,7 @@ fn slots_option<'a>(alloc: Global) -> Arg<'a>
         .help("The most checkpoints that are kept, 1 to 4,096")
 }
 
-/// The command with the options for numbers.
+/// Adds the options whose values are numbers to a command.
 fn with_numbers<'a>(alloc: Global, command: Command<'a>) -> Result<Command<'a>, AllocError>
     ensures { IfOk result (λ c. app_of c ≡ with_rules (app_of command.entry) number_rules) }
 {
@@ -190,7 +190,7 @@ fn with_numbers<'a>(alloc: Global, command: Command<'a>) -> Result<Command<'a>, 
         .arg(slots_option(alloc))
 }
 
-/// The command line of `cpmrun`, whose words begin after the program's name.
+/// Returns the command line of `cpmrun`; its words begin after the program's name.
 pub fn command<'a>(alloc: Global) -> Result<Command<'a>, AllocError>
     ensures { IfOk result (λ c. app_of c ≡ command_line) }
 {

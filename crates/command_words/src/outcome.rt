@@ -8,15 +8,15 @@ use clap::error::ErrorKind;
 /// What a program is to do with an error of `read_words`.
 #[derive(Clone, Copy, Debug, PartialEq, Eq)]
 pub enum Outcome {
-    /// Help or the version was asked for. The error's text goes to standard output; the status is 0.
+    /// A request for help or the version. The error's text goes to standard output; the status is 0.
     Information,
-    /// The words are a fault of use. The error's text goes to standard error; the status is 1.
+    /// A usage error. The error's text goes to standard error; the status is 1.
     Misuse,
-    /// Memory was refused. The error's text is not the program's; the status is 12.
+    /// A failed allocation. The program prints its own message instead of the error's text; the status is 12.
     OutOfMemory,
 }
 
-/// What an error of `read_words` comes to, by its kind.
+/// Returns what an error of `read_words` means for the program, by its kind.
 pub fn outcome_of(error: &Error) -> Outcome
     ensures { result ≡ outcome_of (kind_of error.now) }
 {

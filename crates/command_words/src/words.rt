@@ -6,30 +6,30 @@ use crate::options::command;
 use clap::{ArgMatches, Error};
 use std::alloc::{AllocError, Global};
 
-/// The words of the command line. Paths are as they were given.
+/// The words of the command line. Paths are unchanged.
 #[derive(Drop)]
 pub struct Words<'a> {
     /// The path of the program.
     pub program: &'a str,
-    /// The command tail; empty where none was given.
+    /// The command tail, empty by default.
     pub tail: &'a str,
     /// The folder of the host files of each drive, A to D.
     pub files: [Option<&'a str>; 4],
-    /// The path of the script; where there is none, the script is empty.
+    /// The path of the script, or `None` for an empty script.
     pub console: Option<&'a str>,
-    /// The limit of steps: 0 to 4,000,000,000.
+    /// The limit of steps, 0 to 4,000,000,000.
     pub limit: u64,
-    /// The folder that changed files of each drive are written to, A to D.
+    /// The folder for the changed files of each drive, A to D.
     pub out: [Option<&'a str>; 4],
-    /// The path of the edit lines; where there is none, the session is run once.
+    /// The path of the edit lines, or `None` to run the session once.
     pub edits: Option<&'a str>,
-    /// The steps from one checkpoint to the next: 1 to 1,000,000,000.
+    /// The number of steps from one checkpoint to the next, 1 to 1,000,000,000.
     pub spacing: u64,
-    /// The most checkpoints that are kept: 1 to 4,096.
+    /// The largest number of checkpoints that are kept, 1 to 4,096.
     pub slots: usize,
 }
 
-/// Returns the number of an option, if it is there and in its range.
+/// Returns the number of an option, if the option is there and in its range.
 fn number(matches: &ArgMatches<'_>, id: &str, least: u64, most: u64) -> Option<u64>
     ensures said { IfSome result (SaysNumber (rows_of (found_of matches.now)) id.now) }
     ensures low { IfSome result (λ n. least ≤ n) }
@@ -42,7 +42,7 @@ fn number(matches: &ArgMatches<'_>, id: &str, least: u64, most: u64) -> Option<u
     }
 }
 
-/// Returns the words of the matches, if each that has to be there is, and each number is in its range.
+/// Returns the words of the matches, or `None` if a required one is missing or a number is out of its range.
 fn words_of<'a>(matches: &ArgMatches<'a>) -> Option<Words<'a>>
     ensures says { IfSome result (Says (rows_of (found_of matches.now))) }
     ensures limit { IfSome result (λ w. w.limit ≤ 4000000000) }
@@ -73,8 +73,12 @@ fn words_of<'a>(matches: &ArgMatches<'a>) -> Option<Words<'a>>
     })
 }
 
-/// The words after the program's name, as `clap` matches them with the command line. An error is `clap`'s:
-/// `outcome_of` says whether help was asked for, the words are a fault of use, or memory was refused.
+/// Parses the words after the program's name with the command line of `cpmrun`.
+///
+/// # Errors
+///
+/// Returns the error of `clap`; `outcome_of` says whether help was asked for, the words are a usage error, or an allocation
+/// failed.
 pub fn read_words<'a>(alloc: Global, words: &'a [String]) -> Result<Words<'a>, Error>
     ensures says { IfOk result (Says (matches_at (map string_bytes words.entry.now))) }
     ensures fails { FailsBy (faults_at (map string_bytes words.entry.now)) result }
@@ -86,7 +90,7 @@ pub fn read_words<'a>(alloc: Global, words: &'a [String]) -> Result<Words<'a>, E
     let matches = command.try_get_matches_from_mut(words)?;
     match words_of(&matches) {
         Some(words) => Ok(words),
-        // clap has seen to it that each is there and in its range, so this is never reached.
+        // clap has checked that each is there and in its range, so this is never reached.
         None => Err(Error::from(AllocError)),
     }
 }

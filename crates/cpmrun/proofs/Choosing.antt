@@ -1,4 +1,4 @@
--- How what is done for the words ends the program.
+-- How a completed or broken-off session ends the program.
 use Rattle.std.proofs.Common.{◌≡◌, ℕ, List, refl, inr, Some, None, Result, Err, IfErr}
 use Rattle.std.specs.Borrow.{Bor}
 use Rattle.command_words.specs.declared.words.Words.{Words}
@@ -15,20 +15,20 @@ use Rattle.cpmrun.specs.Ends.{BreaksReplay, FaultOf, IsSessionOf}
 use Rattle.cpmrun.specs.MeteredEnds.{MeteredEnds, WritesReplayBy, options_of}
 
 module _ (words : List (List ℕ)) (w : Words) (are : AreWords words w) (s : Session) (before after : World) (steps : ℕ) (of : IsSessionOf before w s) where
-  -- it was run once
+  -- The session was run once.
   pub ran_once : (status : ℕ) → w.edits ≡ None → after.failures ≡ before.failures → RunsOnce w.out s status before after → MeteredEnds words status before after steps
   ran_once status e same h = (same, inr (w, are, (s, of, rw e h)))
 
-  -- its edit lines were replayed
+  -- The edit lines were replayed.
   pub replayed : (path : Bor (List ℕ)) → w.edits ≡ Some path → after.err ≡ before.err → after.files ≡ before.files → after.failures ≡ before.failures
       → WritesReplayBy (text_at before.files path.now) (with_no_checkpoint s (options_of w)) before.out after.out steps → MeteredEnds words 0 before after steps
   replayed path e err files same h = (same, inr (w, are, (s, of, rw e (refl, err, files, h))))
 
-  -- a fault broke off its run
+  -- An error broke off the run.
   pub run_broken : {T : Type 0} (r : Result T Fault) (f : RunFault) → r ≡ Err (of_run f) → w.edits ≡ None → BreaksRun w.out s before after f → IfErr r (FaultOf words before after)
   run_broken r f is e h = rw is (inr (inr (w, are, inr (s, of, rw e (f, refl, h)))))
 
-  -- a fault broke off the replay of its edit lines
+  -- An error broke off the replay of the edit lines.
   pub replay_broken : {T : Type 0} (r : Result T Fault) (f : Fault) (path : Bor (List ℕ)) → r ≡ Err f → w.edits ≡ Some path → after.files ≡ before.files
       → BreaksReplay path.now (text_at before.files path.now) s (before.out, before.out_failures) (after.out, after.out_failures) f → IfErr r (FaultOf words before after)
   replay_broken r f path is e files h = rw is (inr (inr (w, are, inr (s, of, rw e (h, files)))))

@@ -4,7 +4,7 @@ use Rattle.cpmrun.specs.Complaints.{Complains, status_of}
 use Rattle.cpmrun.specs.declared.fault.Fault.{Fault}
 use Rattle.cpmrun.specs.declared.fault.Fault.TheVariants.{Use, NotText, CannotRead, CannotWrite, Folders, Refused, Malformed, TooLong, OutOfMemory}
 
--- no fault has the status 0
+-- No error has the status 0.
 status_above : (f : Fault) → status_of f ≡ 0 → ⊥
 status_above (Use text) e = cc
 status_above NotText e = cc

@@ -14,13 +14,13 @@ use Rattle.folders.specs.FileSystem.{Path, Stored, Opens, text_at}
 use Rattle.cpmrun.specs.Ends.{BreaksOffWith}
 use Rattle.cpmrun.specs.MeteredEnds.{WritesReplayBy}
 
--- a reader that is read to its end gave all of its bytes
+-- A reader that is read to its end returned all of its bytes.
 all_read : (a d : Option (List ℕ)) (bytes : List ℕ) → Consumes a d bytes → IsAtEnd d → IfSome a (λ all. all ≡ bytes)
 all_read None d bytes c e = tt
 all_read (Some all) None bytes c e = absurd c
 all_read (Some all) (Some rest) bytes c e = c ∙ ap (λ r. bytes ++ r) e ∙ append-nil bytes
 
--- a replay that ended wrote its text, by the runner that it was given
+-- A replay that ended wrote its text, by the runner that it was given.
 pub writes_replay : (given first now : RunnerView) (begun steps : ℕ) (a d held holds : Option (List ℕ)) (r : Result Ending ReplayFault)
     → first ≡ given → begun ≡ 0
     → IfOk r (λ e. (bytes : List ℕ) × (text : List ℕ) × Consumes a d bytes × IsAtEnd d × Appends held holds text
@@ -39,7 +39,7 @@ writes_replay given first now begun steps a d held holds (Ok e) same none h = re
 }
 writes_replay given first now begun steps a d held holds (Err f) same none h = tt
 
--- the bytes of a reader are those of the file that it was opened for, where that is told
+-- The bytes of a reader are the bytes of the file that it was opened for, if these are known.
 pub of_file : (files : Option Stored) (path : Path) (left : Option (List ℕ)) → Opens files path left → (text_at files path ≡ left) ⊎ (text_at files path ≡ None)
 of_file None path left o = inr refl
 of_file (Some stored) path left o = inl (sym o.0)
@@ -59,6 +59,6 @@ breaks_file files path left f s held holds o b = elim (of_file files path left o
   | inr e ↦ subst (λ source. BreaksOffWith f source s held holds) (sym e) (record { left = b.left; last = b.last; bytes = b.bytes; read = tt; leaves = b.leaves })
 ]
 
--- a reader that had not failed failed, and that was counted
+-- A reader that had not failed failed, and that was counted.
 pub one_failed : (begun ended before middle after : ℕ) → begun ≡ 0 → begun < ended → middle ≡ before → after ≡ middle + min 1 ended → after ≡ before + 1
 one_failed begun ended before middle after none more same counted = counted ∙ ap (λ m. middle + m) (min-eq_left (omega (arith, none, more))) ∙ ap (λ m. m + 1) same

@@ -1,4 +1,4 @@
--- What the program says of its faults: their statuses and their messages. (This project's own.)
+-- The exit status and the message of each error. (This project's own.)
 use Rattle.std.specs.Prelude.{◌≡◌, ℕ, List, [], ◌⊎◌, ◌++◌, codes, Option, string_bytes}
 use Rattle.std.specs.Fmt.{decimal}
 use Rattle.folders.specs.Faults.{fault_failures, text_of}
@@ -11,7 +11,7 @@ use Rattle.cpmrun.specs.declared.fault.Fault.TheVariants.{Use, NotText, CannotRe
 use Rattle.report_lines.specs.FirstLines.{line}
 use Rattle.report_lines.specs.Writing.{WritesOrFails}
 
--- a fault of loading, and one of the run
+-- The program's error for an error of loading, and for an error of the run.
 abbrev pub of_load : LoadFault → Fault
 of_load (load.CannotRead path) = CannotRead path
 of_load (load.Folders f) = Folders f
@@ -23,7 +23,7 @@ of_run run.CannotWrite = CannotWrite
 of_run (run.Folders f) = Folders f
 of_run run.OutOfMemory = OutOfMemory
 
--- the failures of the file system that a fault reports: one if a file or a folder could not be read or written
+-- The failures of the file system that an error reports: one if a file or a folder could not be read or written.
 abbrev pub file_failures : Fault → ℕ
 file_failures (Use text) = 0
 file_failures NotText = 0
@@ -35,7 +35,7 @@ file_failures (Malformed k) = 0
 file_failures (TooLong k) = 0
 file_failures OutOfMemory = 0
 
--- the exit status of a fault
+-- The exit status of an error.
 abbrev pub status_of : Fault → ℕ
 status_of (Use text) = 1
 status_of NotText = 1
@@ -47,7 +47,7 @@ status_of (Malformed k) = 2
 status_of (TooLong k) = 2
 status_of OutOfMemory = 12
 
--- the lines that tell a fault: those of clap for one of use, and one line for every other
+-- The message of an error: clap's lines for a usage error, and one line for every other.
 abbrev pub message_of : Fault → List ℕ
 message_of (Use text) = string_bytes text
 message_of NotText =
@@ -62,11 +62,11 @@ message_of (Malformed k) = codes "cpmrun: line " ++ decimal k ++ line (codes " i
 message_of (TooLong k) = codes "cpmrun: line " ++ decimal k ++ line (codes " is too long")
 message_of OutOfMemory = line (codes "cpmrun: out of memory")
 
--- the fault has this status, and its message was written, or a part of it where writing failed
+-- The status is this error's, and its message was written, or a prefix of it if writing failed.
 abbrev pub Tells : Fault → ℕ → Option (List ℕ) → Option (List ℕ) → ℕ → ℕ → Type 0
 Tells f status held holds failed fails = (status ≡ status_of f) × WritesOrFails held holds failed fails (message_of f)
 
--- the message has a path, a name or a number put into it, and so takes memory
+-- The message has a path, a name or a number put into it, and so needs memory.
 abbrev pub NamesAValue : Fault → Type 0
 NamesAValue (Use text) = ⊥
 NamesAValue NotText = ⊥
@@ -78,7 +78,7 @@ NamesAValue (Malformed k) = Unit {0}
 NamesAValue (TooLong k) = Unit {0}
 NamesAValue OutOfMemory = ⊥
 
--- the fault was told, or want of memory where there was none to name its value
+-- The error was reported, or out of memory if there was no memory to put a value into its message.
 abbrev pub Complains : Fault → ℕ → Option (List ℕ) → Option (List ℕ) → ℕ → ℕ → Type 0
 Complains f status held holds failed fails =
     Tells f status held holds failed fails ⊎ (NamesAValue f × Tells OutOfMemory status held holds failed fails)

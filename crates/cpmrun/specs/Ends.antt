@@ -21,7 +21,8 @@ use Rattle.cpmrun.specs.Complaints.{Complains, file_failures, of_load, of_run}
 use Rattle.edit_lines.specs.Faults.{Faults}
 use Rattle.edit_lines.specs.Replay.{Finished, Replays}
 
--- if a reader reports its bytes they are these, and the text was written that their lines give, replayed to their end from this session
+-- The replay of the edit lines, from this session to their end, wrote its text. If a reader reports its bytes, these are the
+-- lines.
 pub record WritesReplay (source : Option (List ℕ)) (first : Session) (held holds : Option (List ℕ)) : Type 0 where
   pub last : Session
   pub bytes : List ℕ
@@ -31,7 +32,7 @@ pub record WritesReplay (source : Option (List ℕ)) (first : Session) (held hol
   pub written : Appends held holds text
   pub replayed : Replays first (lines_of bytes) text last (Finished count)
 
--- what a replay from this session leaves on the output that a fault broke off, where these bytes of the reader's were read
+-- What a replay from this session wrote before this error broke it off, once these bytes of the reader were read.
 pub record BreaksOffWith (f : ReplayFault) (source : Option (List ℕ)) (first : Session) (held holds : Option (List ℕ)) : Type 0 where
   pub left : Option (List ℕ)
   pub last : Session
@@ -39,12 +40,12 @@ pub record BreaksOffWith (f : ReplayFault) (source : Option (List ℕ)) (first :
   pub read : Consumes source left bytes
   pub leaves : Faults left first held bytes last holds f
 
--- what an output holds, where that is told, and how often writing to it failed
+-- What an output holds, if it reports that, and how often writing to it failed.
 abbrev pub Output : Type 0
 Output = Option (List ℕ) × ℕ
 
--- what a fault leaves that broke off the replay of the edit lines of this path, which has these bytes where they are told: a fault of
--- writing comes only where writing failed
+-- What an error that broke off the replay of the edit lines of this path leaves; the file has these bytes if they are known. An
+-- error of writing occurs only if writing failed.
 abbrev pub BreaksReplay : List ℕ → Option (List ℕ) → Session → Output → Output → Fault → Type 0
 BreaksReplay path source s old new (Use text) = ⊥
 BreaksReplay path source s old new NotText = ⊥
@@ -56,45 +57,45 @@ BreaksReplay path source s old new (Malformed k) = BreaksOffWith (replay_fault.M
 BreaksReplay path source s old new (TooLong k) = BreaksOffWith (replay_fault.LineTooLong k) source s old.0 new.0
 BreaksReplay path source s old new OutOfMemory = (new.0 ≡ old.0) ⊎ BreaksOffWith replay_fault.OutOfMemory source s old.0 new.0
 
--- help or the version was written, some text
+-- Help or the version was written: some text.
 abbrev pub Informs : Option (List ℕ) → Option (List ℕ) → Type 0
 Informs held holds = (text : List ℕ) × Appends held holds text
 
--- the session that words say, whose files and folders are these
+-- The session that the words describe, loaded from these files and folders.
 abbrev pub IsSessionOf : World → Words → Session → Type 0
 IsSessionOf before w s = IsLoadedFrom before.files before.names w s
 
--- what a session that words say comes to without a fault: it is run once, or the lines of the file of edit lines are replayed to their
--- end, which is said of the path of that file
+-- How a session that the words describe is completed: it is run once, or the edit lines are replayed to their end. `IsReplayed`
+-- holds for the path of the edit lines.
 abbrev pub Completes : (List ℕ → Type 0) → Words → Session → ℕ → World → World → Type 0
 Completes IsReplayed w s status before after = MatchOption w.edits
     (RunsOnce w.out s status before after)
     (λ path. (status ≡ 0) × (after.err ≡ before.err) × (after.files ≡ before.files) × IsReplayed path.now)
 
--- how the program ends without a fault, by what is said of a replay: it wrote help or the version, or what the words ask for was done;
--- and no call of the file system failed
+-- How the program ends without an error: it wrote help or the version, or the session was completed. No call of the file system
+-- failed. `IsReplayed` holds for a replay.
 abbrev pub EndsBy : (Words → Session → List ℕ → Type 0) → List (List ℕ) → ℕ → World → World → Type 0
 EndsBy IsReplayed words status before after = (after.failures ≡ before.failures) × (
     (ComesTo words Information × (status ≡ 0) × (after.err ≡ before.err) × (after.files ≡ before.files) × Informs before.out after.out)
     ⊎ ((w : Words) × AreWords words w × ((s : Session) × IsSessionOf before w s × Completes (IsReplayed w s) w s status before after)))
 
--- the same, where a replay writes the text that the lines give
+-- The same, with a replay that writes the text of its lines.
 abbrev pub Ends : List (List ℕ) → ℕ → World → World → Type 0
 Ends words status before after = EndsBy (λ w s path. WritesReplay (text_at before.files path) s before.out after.out) words status before after
 
--- what a fault leaves that broke off what is done with a session that words say
+-- What an error leaves that broke off the run or the replay of the session of the words.
 abbrev pub BreaksOff : Words → Session → World → World → Fault → Type 0
 BreaksOff w s before after fault = MatchOption w.edits
     ((f : RunFault) × (fault ≡ of_run f) × BreaksRun w.out s before after f)
     (λ path. BreaksReplay path.now (text_at before.files path.now) s (before.out, before.out_failures) (after.out, after.out_failures) fault
     × (after.files ≡ before.files))
 
--- nothing was written
+-- Nothing was written.
 abbrev pub LeavesAll : World → World → Type 0
 LeavesAll before after = (after.out ≡ before.out) × (after.files ≡ before.files)
 
--- a fault that comes of these words, and what it leaves: of the words themselves, of writing help, of the files that give the session,
--- or of what is done with it
+-- An error of these words, and what it leaves: an error of the words themselves, of writing help, of loading the session, or of
+-- its run or replay.
 abbrev pub FaultOf : List (List ℕ) → World → World → Fault → Type 0
 FaultOf words before after fault =
     (Misread words fault × LeavesAll before after)
@@ -102,8 +103,8 @@ FaultOf words before after fault =
     ⊎ ((w : Words) × AreWords words w × (((f : LoadFault) × (fault ≡ of_load f) × FailsToLoad before.files before.names w f × LeavesAll before after)
     ⊎ ((s : Session) × IsSessionOf before w s × BreaksOff w s before after fault)))
 
--- a fault came, and it was reported with its status, or "out of memory" if there was none to name its value; a call of the file
--- system failed exactly if the fault says so
+-- An error occurred and was reported with its status, or "out of memory" if there was no memory to put its value into the
+-- message. A call of the file system failed exactly if the error reports that.
 pub record EndsByFault (words : List (List ℕ)) (status : ℕ) (before after : World) : Type 0 where
   pub fault : Fault
   pub comes : FaultOf words before after fault

@@ -11,12 +11,12 @@ use Rattle.edit_lines.specs.Replay.{Finished, Replays}
 use Rattle.cpmrun.specs.Ends.{EndsBy}
 use Rattle.one_run.specs.World.{World}
 
--- how checkpoints are made, as words say
+-- The options for checkpoints in the words.
 abbrev pub options_of : Words → Options
 options_of w = record { spacing = w.spacing; slots = w.slots }
 
--- if a reader reports its bytes they are these, and the text was written that their lines give, replayed to their end by this
--- runner; so many steps were executed
+-- The replay of the edit lines by this runner, to their end, wrote its text and executed `steps` steps. If a reader reports its
+-- bytes, these are the lines.
 pub record WritesReplayBy (source : Option (List ℕ)) (first : RunnerView) (held holds : Option (List ℕ)) (steps : ℕ) : Type 0 where
   pub last : RunnerView
   pub bytes : List ℕ
@@ -27,7 +27,7 @@ pub record WritesReplayBy (source : Option (List ℕ)) (first : RunnerView) (hel
   pub replayed : Replays first.session (lines_of bytes) text last.session (Finished count)
   pub effects : Effects first 0 (lines_of bytes) last steps
 
--- the program ends without a fault, and a replay executes so many steps, by a runner that makes checkpoints as the words say
+-- The program ends without an error, and a replay executes `steps` steps, by a runner with the options of the words.
 abbrev pub MeteredEnds : List (List ℕ) → ℕ → World → World → ℕ → Type 0
 MeteredEnds words status before after steps =
     EndsBy (λ w s path. WritesReplayBy (text_at before.files path) (with_no_checkpoint s (options_of w)) before.out after.out steps) words status before after

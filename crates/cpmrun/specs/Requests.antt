@@ -1,4 +1,4 @@
--- What the words of the command line ask for. (This project's own.)
+-- The request in the words of the command line. (This project's own.)
 use Rattle.std.specs.Prelude.{◌≡◌, ℕ, ◌≤◌, List, []}
 use Rattle.command_words.specs.CommandLine.{Says, faults_at, matches_at}
 use Rattle.command_words.specs.Outcome.{ComesTo}
@@ -9,7 +9,7 @@ use Rattle.cpmrun.specs.declared.request.Request.TheVariants.{Session, Informati
 use Rattle.cpmrun.specs.declared.fault.Fault.{Fault}
 use Rattle.cpmrun.specs.declared.fault.Fault.TheVariants.{Use, NotText, CannotRead, CannotWrite, Folders, Refused, Malformed, TooLong, OutOfMemory}
 
--- the words are no fault of use, and say this
+-- The words are no usage error, and have these values.
 pub record AreWords (words : List (List ℕ)) (w : Words) : Type 0 where
   pub fine : faults_at words ≡ []
   pub says : Says (matches_at words) w
@@ -17,12 +17,12 @@ pub record AreWords (words : List (List ℕ)) (w : Words) : Type 0 where
   pub spacing : (1 ≤ w.spacing) × (w.spacing ≤ 1000000000)
   pub slots : (1 ≤ w.slots) × (w.slots ≤ 4096)
 
--- what words ask for: a session, or help or the version
+-- The request in the words: a session, or help or the version.
 abbrev pub IsRequestOf : List (List ℕ) → Request → Type 0
 IsRequestOf words (Session w) = AreWords words w
 IsRequestOf words (Information text) = ComesTo words outcome.Information
 
--- why words ask for nothing: they are a fault of use, or memory was refused
+-- Why words have no request: they are a usage error, or an allocation failed.
 abbrev pub Misread : List (List ℕ) → Fault → Type 0
 Misread words (Use text) = ComesTo words outcome.Misuse
 Misread words NotText = ⊥

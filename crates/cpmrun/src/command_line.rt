@@ -1,4 +1,4 @@
-// The whole of the program except its `main`.
+// The whole program except its `main`.
 
 ghost use Rattle.std.specs.Prelude.{◌≡◌, ◌⊎◌, ◌^◌, ◌<◌, ℕ, None, IfOk, IfErr, OnOk, OnErr, map, string_bytes};
 ghost use Rattle.machine.specs.Given.{Session};
@@ -24,7 +24,7 @@ use replay::{Options, Runner};
 use report_lines::write_all;
 use std::alloc::Global;
 
-/// Returns how checkpoints are made, as the words say.
+/// Returns the options for checkpoints in the words.
 fn options(words: &Words<'_>) -> Options
     ensures { result ≡ options_of words.now }
 {
@@ -34,8 +34,8 @@ fn options(words: &Words<'_>) -> Options
     }
 }
 
-/// Replays the edit lines of the reader over a new runner of the session. The faults are those of
-/// `replay`; if memory for the runner is refused, nothing was read and nothing written.
+/// Replays the edit lines of the reader over a new runner of the session. The errors are those of `replay`; if memory for the
+/// runner runs out, nothing was read and nothing written.
 fn replay_session<R: Reader, W: Writer>(
     alloc: Global,
     session: Session,
@@ -110,7 +110,7 @@ fn inform<'a, O: Writer>(text: &str, out: &mut O) -> Result<(), Fault<'a>>
     }
 }
 
-/// Does what the words ask for, and returns the exit status if no fault came.
+/// Executes the command that the words describe, and returns the exit status if there was no error.
 fn run<'a, S: FileSystem, O: Writer, E: Writer>(
     system: &mut S,
     words: &'a [String],
@@ -150,7 +150,7 @@ fn run<'a, S: FileSystem, O: Writer, E: Writer>(
     Ok(0)
 }
 
-/// The whole of the program, as `command`, with a meter that counts the steps that its runs execute.
+/// Runs the program as `command` does, with a meter that counts the steps that its runs execute.
 pub fn metered_command<S: FileSystem, O: Writer, E: Writer>(
     system: &mut S,
     words: &[String],
@@ -180,9 +180,9 @@ pub fn metered_command<S: FileSystem, O: Writer, E: Writer>(
     }
 }
 
-/// The whole of the program, for the words after its name, over the files of a file system: it returns the exit status. That is 0 if
-/// help was asked for, if the edit lines were replayed to their end, and their replies are in `out`, and if the one run came to
-/// the warm start; 3 to 10 report another stop of that run. Else it is 1, 2 or 12, and `err` reports what was wrong.
+/// Runs the program for the words after its name, over the files of a file system, and returns the exit status. The status is 0
+/// if help was requested, if the edit lines were replayed to their end with their replies written to `out`, or if the one run
+/// came to the warm start; 3 to 10 report another stop of that run. Otherwise it is 1, 2 or 12, and `err` reports the error.
 pub fn command<S: FileSystem, O: Writer, E: Writer>(
     system: &mut S,
     words: &[String],

@@ -7,12 +7,12 @@ use one_run::RunFault;
 use report_lines::{Writer, write_piece};
 use std::alloc::{AllocError, Global};
 
-/// Why the program ends with a status other than 0.
+/// The error with which the program ends, if its status is 1, 2 or 12.
 #[derive(Drop)]
 pub enum Fault<'a> {
-    /// The words of the command line are a fault of use, which this text tells.
+    /// A usage error in the words of the command line, with its message.
     Use(String),
-    /// A word of the command line is no text.
+    /// A word of the command line is not UTF-8.
     NotText,
     /// The file of this path could not be read.
     CannotRead(&'a str),
@@ -20,13 +20,13 @@ pub enum Fault<'a> {
     CannotWrite,
     /// Folders were not read, or a changed file was not written.
     Folders(folders::Fault),
-    /// The session was refused, by the number of its refusal.
+    /// The session was refused, with this number.
     Refused(u8),
-    /// The edit line of this number has no meaning.
+    /// The edit line of this number is malformed.
     Malformed(u64),
     /// The edit line of this number is too long.
     TooLong(u64),
-    /// Memory was wanted and refused.
+    /// An allocation failed.
     OutOfMemory,
 }
 
@@ -61,7 +61,7 @@ impl From<RunFault> for Fault<'_> {
     }
 }
 
-/// What `clap` would say of a word that is no text. It takes texts alone.
+/// The message of `clap` for a word that is not UTF-8. `read_words` takes only strings, so it never returns this message.
 const NOT_TEXT: &str = "\
 error: invalid UTF-8 was detected in one or more arguments
 
@@ -73,8 +73,8 @@ For more information, try '--help'.
 impl Fault<'_> {
     ghost use Rattle.cpmrun.specs.Complaints.{NamesAValue, message_of, status_of};
 
-    /// The exit status: 1 for a fault of use, of a device, of the host files or of the session, 2 for a
-    /// line, 12 for want of memory.
+    /// Returns the exit status: 1 for a usage error, an I/O error, invalid host files or a refused session, 2 for an edit line,
+    /// 12 for out of memory.
     pub fn status(&self) -> u8
         ensures { result ≡ status_of self.now }
     {
@@ -85,7 +85,7 @@ impl Fault<'_> {
         }
     }
 
-    // The lines that tell it, where they name no value that has to be put into them.
+    // Returns the message, if no path, name or number has to be put into it.
     fn fixed_message(&self) -> Option<&str>
         ensures some { IfSome result (λ s. s.now ≡ message_of self.now) }
         ensures none { IfNone result (NamesAValue self.now) }
@@ -99,7 +99,7 @@ impl Fault<'_> {
         }
     }
 
-    /// The lines that tell it, each with its 0AH: one line, but for a fault of use.
+    /// Returns the message, each of its lines with its 0AH. It is one line, except for a usage error.
     pub fn message(&self, alloc: Global) -> Result<String, AllocError>
         ensures { IfOk result (λ s. string_bytes s ≡ message_of self.now) }
     {
@@ -126,8 +126,8 @@ fn tell<E: Writer>(err: &mut E, text: &[u8])
     let _ = write_piece(err, text);
 }
 
-/// Writes the message of a fault, or that of want of memory where there is no memory to name its
-/// path or number, and gives the status. A failure of the writer is passed over.
+/// Writes the message of an error and returns the status. If there is no memory to put a path, name or number into the message,
+/// it reports out of memory instead. A failure of the writer is ignored.
 pub fn complain<E: Writer>(alloc: Global, fault: Fault<'_>, err: &mut E) -> u8
     requires { E.failures err.old < 2 ^ 63 }
     ensures { Complains fault.entry result (E.holds err.old) (E.holds err.new) (E.failures err.old)

@@ -1,8 +1,8 @@
-//! The program except its `main`: the words of its command line, one run or a replay of edit lines, and its faults.
+//! The program except its `main`: the words of its command line, one run or a replay of edit lines, and its errors.
 //!
-//! - `request`: what the words of the command line ask for
-//! - `command_line`, `edit_file`, `fault`: the command; the file of its edit lines as a reader; its faults, with their statuses and
-//!   messages
+//! - `request`: the request in the words of the command line
+//! - `command_line`, `edit_file`, `fault`: the command; the file of its edit lines as a reader; its errors, with their statuses
+//!   and messages
 #![tactic(auto)]
 
 mod command_line;

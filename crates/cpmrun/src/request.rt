@@ -1,4 +1,4 @@
-// What the words of the command line ask for.
+// The request in the words of the command line.
 
 ghost use Rattle.std.specs.Prelude.{◌≡◌, IfOk, IfErr, map, string_bytes};
 ghost use Rattle.cpmrun.specs.Requests.{IsRequestOf, Misread};
@@ -7,16 +7,16 @@ use crate::fault::Fault;
 use command_words::{Outcome, Words, outcome_of, read_words};
 use std::alloc::Global;
 
-/// What words that are no fault of use ask for.
+/// The request in words that are no usage error.
 #[derive(Drop)]
 pub enum Request<'a> {
-    /// A session, which is replayed or run once.
+    /// A session to be replayed or run once.
     Session(Words<'a>),
-    /// Help or the version: this text.
+    /// Help or the version, with the text.
     Information(String),
 }
 
-/// What the words after the program's name ask for.
+/// Returns the request in the words after the program's name.
 pub fn read_request<'a>(alloc: Global, words: &'a [String]) -> Result<Request<'a>, Fault<'a>>
     ensures request { IfOk result (IsRequestOf (map string_bytes words.entry.now)) }
     ensures fault { IfErr result (Misread (map string_bytes words.entry.now)) }

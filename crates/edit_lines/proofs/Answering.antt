@@ -1,4 +1,4 @@
--- What a replay answers, from what its parts answered.
+-- The result of a replay, from the results of its parts.
 use Rattle.std.proofs.Common.{◌≡◌, ℕ, List, [], take, Option, Result, Ok, Err, IfOk, IfErr}
 use Rattle.std.proofs.lemmas.List.{append-nil}
 use Rattle.std.specs.Io.KnownBytes.{Appends, Consumes, IsAtEnd}

@@ -1,4 +1,4 @@
--- Lines that are carried out one after the other.
+-- Lines that are executed one after the other.
 use Rattle.std.proofs.Common.{◌*◌, ◌≡◌, ℕ, ◌+◌, ◌-◌, ◌≤◌, List, [], ◌∷◌, ◌++◌, length, take, drop, refl, sym, ap, ◌∙◌, arith, append_assoc, length-append, take-append-drop, Option, Some, Err}
 use Rattle.std.proofs.lemmas.List.{append-nil}
 use Rattle.std.proofs.lemmas.List.Folds.{concat-append}
@@ -17,17 +17,17 @@ use Rattle.edit_lines.specs.Faults.{BreaksOff, Faults}
 use Rattle.edit_lines.specs.Progress.{CarriesOut}
 use Rattle.edit_lines.specs.declared.limits.TheConstants.{LINE_LIMIT, LINES_LIMIT}
 
--- one more line is carried out
+-- One more line is executed.
 pub Carries-snoc : {s t : Session} {ls rs : List (List ℕ)} (l : List ℕ) (c : Command) → Carries s ls rs t → length l ≤ LINE_LIMIT
     → EditLine l c → Carries s (ls ++ l ∷ []) (rs ++ reply t c ∷ []) (session_after t c)
 Carries-snoc l c none short is = more c short is none
 Carries-snoc l c (more d short' is' rest) short is = more d short' is' (Carries-snoc l c rest short is)
 
--- a reply for each line
+-- One more reply is appended.
 pub concat-snoc : (rs : List (List ℕ)) (r : List ℕ) → concat (rs ++ r ∷ []) ≡ concat rs ++ r
 concat-snoc rs r = concat-append rs (r ∷ []) ∙ ap (λ x. concat rs ++ x) (append-nil r)
 
--- some of what all but the last reply hold, and all of it
+-- All replies except the last are a prefix of all replies.
 pub most_of : (rs : List (List ℕ)) → (rest : List ℕ) × (concat rs ≡ concat (take (length rs - 1) rs) ++ rest)
 most_of rs = let n = length rs - 1 in (
   concat (drop n rs),
@@ -41,7 +41,7 @@ take_most rs r =
 
 module _ (left : Option (List ℕ)) (first s t : Session) (held h₀ h₁ : Option (List ℕ)) (whole line : List ℕ) (done replies : List (List ℕ))
     (carried : Carries first done replies s) (written : Appends held h₀ (concat replies)) (few : length done ≤ LINES_LIMIT) where
-  -- no line more was carried out
+  -- No further line was executed.
   pub stays_there : (others : List (List ℕ)) → lines_of whole ≡ done ++ others
       → ((rest : List ℕ) → left ≡ Some rest → (others : List (List ℕ)) × (lines_of (whole ++ rest) ≡ done ++ others))
       → length (past_lines (length done) whole) ≤ 2 * LINE_LIMIT → BreaksOff left first held whole s h₀
@@ -59,7 +59,7 @@ module _ (left : Option (List ℕ)) (first s t : Session) (held h₀ h₁ : Opti
     near = near;
   }
 
-  -- what carrying out the next line answered, where it failed
+  -- The next line failed.
   pub Faults-from : (U : Type 0) (n : ℕ) (f : ReplayFault) → n ≡ length done + 1 → length line ≤ LINE_LIMIT
       → (others : List (List ℕ)) → lines_of whole ≡ done ++ line ∷ others
       → ((rest : List ℕ) → left ≡ Some rest → (others : List (List ℕ)) × (lines_of (whole ++ rest) ≡ done ++ line ∷ others))

@@ -9,7 +9,7 @@ nil_ne_snoc : (ds : List (List ℕ)) (l : List ℕ) → [] ≡ ds ++ l ∷ [] �
 nil_ne_snoc [] l e = cc
 nil_ne_snoc (d ∷ ds) l e = cc
 
--- the pieces of a longer text: the last piece goes on
+-- In a longer text, the last piece continues and the other pieces are the same.
 pub pieces-append : (cut : ℕ) (xs ys : List ℕ) (ds : List (List ℕ)) (l : List ℕ) → pieces cut xs ≡ ds ++ l ∷ []
     → pieces cut (xs ++ ys) ≡ ds ++ (l ++ first_piece cut ys) ∷ other_pieces cut ys
 pieces-append cut [] ys [] l e = let n : [] ≡ l = cc in rw (← n) refl
@@ -32,7 +32,7 @@ pieces-append cut (b ∷ xs) ys (d ∷ ds) l e = elim (cases_Bool (eqb b cut)) [
       rw f cc
 ]
 
--- what stands past the ended lines is what stands after them
+-- What follows the ended lines is the last piece and the rest.
 pub past_lines-pieces : (xs ys : List ℕ) (ds : List (List ℕ)) (l : List ℕ) → pieces 10 xs ≡ ds ++ l ∷ []
     → past_lines (length ds) (xs ++ ys) ≡ l ++ ys
 past_lines-pieces [] ys [] l e = let n : [] ≡ l = cc in rw (← n) refl
@@ -52,7 +52,7 @@ past_lines-pieces (b ∷ xs) ys (d ∷ ds) l e = elim (cases_Bool (eqb b 10)) [
       rw f (past_lines-pieces xs ys (first_piece 10 xs ∷ ds) l (ap (λ ps. first_piece 10 xs ∷ ps) others))
 ]
 
--- nothing stands past a last line that has no end
+-- Nothing follows a last line that has no end.
 pub past_lines-last : (xs : List ℕ) (ds : List (List ℕ)) (l : List ℕ) → pieces 10 xs ≡ ds ++ l ∷ []
     → past_lines (suc (length ds)) xs ≡ []
 past_lines-last [] ds l e = refl
@@ -69,25 +69,25 @@ past_lines-last (b ∷ xs) (d ∷ ds) l e = elim (cases_Bool (eqb b 10)) [
       rw f (past_lines-last xs (first_piece 10 xs ∷ ds) l (ap (λ ps. first_piece 10 xs ∷ ps) others))
 ]
 
--- only the last member is looked at
+-- Only the last member matters.
 pub without_empty_last-append : (ds : List (List ℕ)) (q : List ℕ) (qs : List (List ℕ))
     → without_empty_last (ds ++ q ∷ qs) ≡ ds ++ without_empty_last (q ∷ qs)
 without_empty_last-append [] q qs = refl
 without_empty_last-append (d ∷ []) q qs = refl
 without_empty_last-append (d ∷ e ∷ ds) q qs = ap (λ ps. d ∷ ps) (without_empty_last-append (e ∷ ds) q qs)
 
--- the lines of a longer text
+-- The lines of a longer text.
 pub lines_of-append : (xs ys : List ℕ) (ds : List (List ℕ)) (l : List ℕ) → pieces 10 xs ≡ ds ++ l ∷ []
     → lines_of (xs ++ ys) ≡ ds ++ without_empty_last ((l ++ first_piece 10 ys) ∷ other_pieces 10 ys)
 lines_of-append xs ys ds l e =
     ap without_empty_last (pieces-append 10 xs ys ds l e) ∙ without_empty_last-append ds _ _
 
--- the lines of a text
+-- The lines of a text.
 pub lines_of-pieces : (xs : List ℕ) (ds : List (List ℕ)) (l : List ℕ) → pieces 10 xs ≡ ds ++ l ∷ []
     → lines_of xs ≡ ds ++ without_empty_last (l ∷ [])
 lines_of-pieces xs ds l e = ap without_empty_last e ∙ without_empty_last-append ds l []
 
--- bytes of which none cuts
+-- Bytes among which none equals cut.
 pub uncut : (cut : ℕ) (bs : List ℕ) → ((i : ℕ) → i < length bs → slice_index bs i ≡ cut → ⊥) → pieces cut bs ≡ bs ∷ []
 uncut cut [] none = refl
 uncut cut (b ∷ bs) none =
@@ -95,7 +95,7 @@ uncut cut (b ∷ bs) none =
     let again = uncut cut bs (λ i h. none (suc i) (omega (arith, h))) in
     rw f cc
 
--- bytes of which the first one that cuts stands at place k
+-- Bytes whose first one that equals cut is at index k.
 pub cut_at : (cut : ℕ) (bs : List ℕ) (k : ℕ) → k < length bs → ((i : ℕ) → i < k → slice_index bs i ≡ cut → ⊥) → slice_index bs k ≡ cut
     → pieces cut bs ≡ take k bs ∷ pieces cut (drop (suc k) bs)
 cut_at cut [] k h none here = absurd (omega (arith, h))
@@ -105,7 +105,7 @@ cut_at cut (b ∷ bs) (suc k) h none here =
     let again = cut_at cut bs k (omega (arith, h)) (λ i below. none (suc i) (omega (arith, below))) here in
     rw f cc
 
--- what stands before such a place is one piece
+-- The bytes before such an index are one piece.
 front_uncut : (cut : ℕ) (bs : List ℕ) (k : ℕ) → ((i : ℕ) → i < k → slice_index bs i ≡ cut → ⊥) → pieces cut (take k bs) ≡ take k bs ∷ []
 front_uncut cut bs zero none = refl
 front_uncut cut [] (suc k) none = refl
@@ -137,7 +137,7 @@ module _ (cut : ℕ) (bs : List ℕ) where
           ap (λ (c : ℕ). take k bs ++ (c ∷ drop (k + 1) bs)) (sym (eqb-true (slice_index bs k) cut here))
           ∙ ap (λ (t : List ℕ). take k bs ++ t) (sym one) ∙ take-append-drop k bs
 
--- such bytes go on with the last line of a text
+-- Bytes without 0AH continue the last line of a text.
 pub cut_beside : (xs : List ℕ) (ds : List (List ℕ)) (l : List ℕ) → pieces 10 xs ≡ ds ++ l ∷ [] → (bs : List ℕ) → pieces 10 bs ≡ bs ∷ []
     → pieces 10 (xs ++ bs) ≡ ds ++ (l ++ bs) ∷ []
 cut_beside xs ds l e bs part =
@@ -145,7 +145,7 @@ cut_beside xs ds l e bs part =
     let others : other_pieces 10 bs ≡ [] = cc in
     let p = pieces-append 10 xs bs ds l e in rw (first, others) at p
 
--- 0AH ends it
+-- 0AH ends the last line.
 pub cut_here : (xs : List ℕ) (ds : List (List ℕ)) (l : List ℕ) → pieces 10 xs ≡ ds ++ l ∷ []
     → pieces 10 (xs ++ 10 ∷ []) ≡ (ds ++ l ∷ []) ++ [] ∷ []
 cut_here xs ds l e =
@@ -153,7 +153,7 @@ cut_here xs ds l e =
     ∙ ap (λ p. ds ++ p ∷ [] ∷ []) (append-nil l)
     ∙ sym (append_assoc ds (l ∷ []) ([] ∷ []))
 
--- a last line that is not empty is a line
+-- A last line that is not empty is a line.
 pub one_line : (l : List ℕ) → 0 < length l → without_empty_last (l ∷ []) ≡ l ∷ []
 one_line [] h = absurd (omega arith)
 one_line (b ∷ l) h = refl

@@ -1,4 +1,4 @@
--- Lines of three words that mean nothing, and that a line has one command at most.
+-- Lines of three words without a meaning; a line has at most one command.
 use Rattle.std.specs.Prelude.{codes, Option, Some, None, IfNone, Result, Ok, Err, IfOk, OnErr, length, ◌%◌, ◌<◌}
 use Rattle.std.proofs.Common.{◌≡◌, ℕ, List, [], ◌∷◌, inl, inr, subst, sym, arith, ◌∙◌, refl, ap, get_or, ◌≢◌}
 use Rattle.std.proofs.lemmas.Bool.{cases_eq}
@@ -16,7 +16,7 @@ use Rattle.filenames.specs.Names.{Key}
 use Rattle.edit_lines.specs.FileLines.{IsFile}
 use Rattle.edit_lines.specs.Pieces.{words_of}
 
--- verbs of one length
+-- Verbs of the same length differ.
 insert_or_remove : codes "insert" ≡ codes "remove" → ⊥
 insert_or_remove e = let first : 105 ≡ 114 = ap (λ (word : List ℕ). get_or word 0 0) e in omega (arith, first)
 
@@ -29,7 +29,7 @@ drop_or_gone e = let first : 100 ≡ 103 = ap (λ (word : List ℕ). get_or word
 first_word : (a b : List (List ℕ)) → a ≡ b → get_or a 0 [] ≡ get_or b 0 []
 first_word a b e = ap (λ (words : List (List ℕ)). get_or words 0 []) e
 
--- what two words mean
+-- If two words have no meaning, neither has the line.
 pub two_words : (line a b : List ℕ) → words_of line ≡ a ∷ b ∷ [] → ((c : Command) → IsPaired a b c → ⊥) → (c : Command) → EditLine line c → ⊥
 two_words line a b e none (Edit (Insert n m)) p = let w = p.2 in cc
 two_words line a b e none (Edit (Replace n m)) p = let w = p.2 in cc
@@ -50,7 +50,7 @@ two_words line a b e none (DropOldest n) p =
     let same : p.0 ≡ b = let w = p.1 in cc in
     none (DropOldest n) (verb, subst (λ x. IsNumber x n) same p.2)
 
--- what three words mean
+-- If three words have no meaning, neither has the line.
 pub three_words : (line a b d : List ℕ) → words_of line ≡ a ∷ b ∷ d ∷ [] → ((c : Command) → IsPlaced a b d c → ⊥) → (c : Command) → EditLine line c → ⊥
 three_words line a b d e none (Edit (Insert n m)) p =
     let verb : a ≡ codes "insert" = let w = p.2 in cc in
@@ -94,7 +94,7 @@ pub on_err : {X E P : Type 0} (r : Result X E) → P → OnErr r P
 on_err (Ok x) p = tt
 on_err (Err e) p = p
 
--- digits that are not of an odd count are the text of some bytes
+-- A word of an even number of digits is the text of some bytes.
 pub digits_of_bytes : {X : Type 0} (w : List ℕ) (r : Result X FromHexError) (e : FromHexError) → r ≡ Err e → e ≡ OutOfMemory
     → (length w % 2 ≡ 1 → r ≡ Err OddLength) → 0 < length w → AllPass is_hex_digit w → (bytes : List ℕ) × IsHexText w bytes × (0 < length bytes)
 digits_of_bytes w r e is memory odd some digits =
@@ -106,12 +106,12 @@ digits_of_bytes w r e is memory odd some digits =
     let size = (decode_of-ok w found.0 found.1).2 in
     (found.0, inr (some, found.1), omega (arith, some, size))
 
--- bytes that are not all digits are no text of bytes
+-- A word that is not all digits is the text of no bytes.
 pub no_digits : (w : List ℕ) → (w ≡ codes "-" → ⊥) → (AllPass is_hex_digit w → ⊥) → (bytes : List ℕ) → IsHexText w bytes → ⊥
 no_digits w dash none bytes (inl p) = dash p.0
 no_digits w dash none bytes (inr p) = none (decode_of-ok w bytes p.1).1
 
--- words that mean nothing
+-- Words without a meaning.
 pub no_address : (a h : List ℕ) → ((at : ℕ) → IsAddress a at → ⊥) → (c : Command) → IsPlaced (codes "poke") a h c → ⊥
 no_address a h none (Edit (Insert n m)) p = let e = p.0 in cc
 no_address a h none (Edit (Replace n m)) p = let e = p.0 in cc
@@ -379,7 +379,7 @@ one_command_lem line (DropOldest a) (DropOldest b) p q =
     let e = one_number p.0 a b p.2 (subst (λ w. IsNumber w b) first q.2) in
     cc
 
--- what does not decode to two bytes is no address
+-- A word that does not decode to two bytes is no address.
 pub not_sized : (w : List ℕ) (e : FromHexError) → decode_sized w 2 ≡ Err e → (a : ℕ) → IsAddress w a → ⊥
 not_sized w e h a p =
     let whole = decode_sized-twice w 2 (decode_of-ok w _ p.2).2 in

@@ -23,7 +23,7 @@ ends_once n (l ∷ ls) (TooLongAt j) (Finished k) p q = let e = q.0 in absurd (c
 ends_once n (l ∷ ls) (TooLongAt j) (MalformedAt k) p q = absurd (omega (arith, p.1, q.1))
 ends_once n (l ∷ ls) (TooLongAt j) (TooLongAt k) p q = ap TooLongAt (p.0 ∙ sym q.0)
 
--- a line that has a command, and is neither too long nor past the last, ends no replay
+-- A line that has a command, and is neither too long nor past the last, ends no replay.
 not_ended : (n : ℕ) (l : List ℕ) (ls : List (List ℕ)) (c : Command) → EditLine l c → length l ≤ LINE_LIMIT → n + 1 ≤ LINES_LIMIT
     → (e : End) → EndsAt n (l ∷ ls) e → ⊥
 not_ended n l ls c is short few (Finished k) p = let e = p.0 in cc

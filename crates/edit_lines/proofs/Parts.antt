@@ -2,7 +2,7 @@
 use Rattle.std.proofs.Common.{◌≡◌, ℕ, ◌+◌, ◌-◌, ◌≤◌, List, ◌++◌, length, take, drop, sym, ap, ◌∙◌, arith, ◌∷◌, [], append_assoc, length-append}
 use Rattle.std.proofs.lemmas.List.{append-nil, take_all, length-drop}
 
--- what stands behind a place
+-- The bytes from an index on.
 pub all_after : (m : ℕ) (t : List ℕ) → take (length t - m) (drop m t) ≡ drop m t
 all_after m t = take_all (length t - m) (drop m t) (omega (arith, length-drop m t))
 
@@ -17,7 +17,7 @@ module _ (bytes taken part others rest piece : List ℕ) (cut : part ++ others �
   pub small_parts : length piece ≤ 65535 → length part + length others ≤ 65535
   small_parts small = let all = ap length cut in let more = ap length whole in omega (arith, small, all, more, length-append part others, length-append taken rest)
 
--- and the end of a line
+-- A part with the end of a line.
 module _ (bytes taken part others rest piece : List ℕ) (cut : part ++ (10 ∷ others) ≡ rest) (whole : taken ++ rest ≡ piece) where
   pub with_line : (((bytes ++ taken) ++ part) ++ 10 ∷ []) ++ others ≡ (bytes ++ piece) ++ []
   with_line = append_assoc ((bytes ++ taken) ++ part) (10 ∷ []) others ∙ with_part bytes taken part (10 ∷ others) rest piece cut whole

@@ -1,4 +1,4 @@
--- The report as it is written in pieces.
+-- The report, written in pieces.
 use Rattle.std.proofs.Common.{◌≡◌, ℕ, List, ◌++◌, take, Option, Result, Ok, Err, OnOk, ◌+◌, ◌<◌, arith, codes, refl, ap, subst, ◌∙◌}
 use Rattle.std.specs.Io.KnownBytes.{Appends}
 use Rattle.replay.specs.Edits.{edited}
@@ -31,7 +31,7 @@ report_is s run head text host all first printed files done =
     ∙ ap (λ (h : Host). ((report_head run.cause run.steps run.machine.core.regs ++ text_line run.machine.core.desk.text) ++ changed_lines h all) ++ line (codes "end")) files
     ∙ ap (λ (m : Files). ((report_head run.cause run.steps run.machine.core.regs ++ text_line run.machine.core.desk.text) ++ changed_lines s.files m) ++ line (codes "end")) done
 
--- the refusal that was answered
+-- The refusal that the edit returned.
 pub refused_by : (wanted : Result Session ℕ) (e : EditError) (after : Session) → (e ≡ OutOfMemory → ⊥) → AnswersEdit {U = Unit {0}} wanted (Err e) after → wanted ≡ Err (number_of e)
 refused_by wanted PastEnd after not a = a
 refused_by wanted ScriptTooLong after not a = a
@@ -42,7 +42,7 @@ refused_by wanted OutsideProgram after not a = a
 refused_by wanted LimitTooLarge after not a = a
 refused_by wanted OutOfMemory after not a = absurd (not refl)
 
--- an edit was carried out, and this reply to it written
+-- An edit was applied, and this reply to it written.
 pub edit_does : (s t : Session) (e : Edit) (held holds : Option (List ℕ)) (before after : ℕ) (text : List ℕ) (r : Result (Unit {0}) ReplayFault) → t ≡ edit_after s (edited s e) → text ≡ edit_reply (edited s e)
     → Replies held holds before after text r → Does (command.Edit e) s t held holds r
 edit_does s t e held holds before after text (Ok u) went is w = (went, subst (Appends held holds) is w.0)

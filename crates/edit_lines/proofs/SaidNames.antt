@@ -1,4 +1,4 @@
--- A word that says a name is ASCII.
+-- A word that is a valid name is ASCII.
 use Rattle.std.proofs.Common.{is_some, not, rules, ◌≡◌, ◌<◌, ◌+◌, ℕ, suc, Bool, true, false, cond, ◌&&◌, ◌||◌, ◌==◌, nat_lt, List, [], ◌∷◌, length, take, drop, Option, Some, None, Result, Ok, Err, refl, sym, ap, ◌∙◌, arith}
 use Rattle.std.specs.List.{prefix_len, before_first, after_first}
 use Rattle.std.specs.Str.{IsAscii, IsUtf8}
@@ -19,7 +19,7 @@ valid_ascii (b ∷ bs) h = let p = both (is_allowed (to_ascii_uppercase b)) (is_
 dot_ascii : (b : ℕ) → is_dot b ≡ true → b < 128
 dot_ascii b h = grind (arith, nat_tests)
 
--- the name before a dot and the type behind it
+-- The name before a dot and the type after it.
 halves_ascii : (text : List ℕ) → is_valid (before_first is_dot text) ≡ true → is_valid (after_first is_dot text) ≡ true → IsAscii text
 halves_ascii [] n k = IsAscii-nil
 halves_ascii (b ∷ bs) n k =
@@ -60,7 +60,7 @@ drive_ascii : (d : Option ℕ) (text key : List ℕ) → on_drive d text ≡ Ok 
 drive_ascii None text key h = cc
 drive_ascii (Some drive) text key h = (refl, plain_ascii drive text key h)
 
--- of two bytes or more
+-- A name of two bytes or more.
 letter_or_plain : (a b : ℕ) (bs key : List ℕ) (t : Bool) → is_colon b ≡ t → cond t (on_drive (drive_of a) bs) (plain_name 0 (a ∷ b ∷ bs)) ≡ Ok key → IsAscii (a ∷ b ∷ bs)
 letter_or_plain a b bs key true t h = let p = drive_ascii (drive_of a) bs key h in IsAscii-cons a (b ∷ bs) (letter_ascii a p.0) (IsAscii-cons b bs (colon_ascii b t) p.1)
 letter_or_plain a b bs key false t h = plain_ascii 0 (a ∷ b ∷ bs) key h

@@ -1,4 +1,4 @@
--- What more of a line, its end, and the end of the input do to a replay.
+-- The effect of more bytes of a line, of its end and of the end of the input on a replay.
 use Rattle.std.proofs.Common.{◌≡◌, ℕ, suc, ◌+◌, ◌*◌, ◌-◌, ◌≤◌, ◌<◌, List, [], ◌∷◌, ◌++◌, length, refl, sym, ap, subst, ◌∙◌, arith, append_assoc, length-append, Option, Some, Result, Ok, Err, OnOk, IfErr}
 use Rattle.std.proofs.lemmas.List.{append-nil}
 use Rattle.std.specs.List.{concat}
@@ -20,7 +20,7 @@ use Rattle.edit_lines.specs.declared.limits.TheConstants.{LINE_LIMIT, LINES_LIMI
 at_end : (left : Option (List ℕ)) (more : List ℕ) → IsAtEnd left → left ≡ Some more → more ≡ []
 at_end left more end e = rw e at end
 
--- nothing was read, and nothing written
+-- Nothing was read, and nothing written.
 pub at_start : (s : Session) (held : Option (List ℕ)) → StandsAt s held [] s held [] 0
 at_start s held = record {
   done = [];
@@ -31,7 +31,7 @@ at_start s held = record {
   counted = refl;
 }
 
--- nothing was read, and nothing will be
+-- Nothing was read, and nothing will be.
 pub at_once : (left : Option (List ℕ)) (s : Session) (held : Option (List ℕ)) → BreaksOff left s held [] s held
 at_once left s held = record {
   text = [];
@@ -47,7 +47,7 @@ at_once left s held = record {
   near = omega arith;
 }
 
--- a line that is too long is at the front of what is left, however it goes on
+-- A line that is too long is the first of what is left, whatever follows.
 ends_long : (n : ℕ) (q : List ℕ) (qs : List (List ℕ)) → LINE_LIMIT < length q → EndsAt n (without_empty_last (q ∷ qs)) (TooLongAt (n + 1))
 ends_long n [] qs h = absurd (omega arith)
 ends_long n (b ∷ q) [] h = (refl, h)
@@ -58,7 +58,7 @@ module _ (first : Session) (held : Option (List ℕ)) (bytes : List ℕ) (now : 
   pub enough : length r.done ≤ LINES_LIMIT
   enough = omega (arith, r.counted)
 
-  -- the line goes on
+  -- The line continues.
   pub line_grows : (bs : List ℕ) → pieces 10 bs ≡ bs ∷ [] → StandsAt first held (bytes ++ bs) now holds (line ++ bs) count
   line_grows bs part = record {
     done = r.done;
@@ -69,7 +69,7 @@ module _ (first : Session) (held : Option (List ℕ)) (bytes : List ℕ) (now : 
     counted = r.counted;
   }
 
-  -- the line ends
+  -- The line ends.
   ends_here : pieces 10 (bytes ++ 10 ∷ []) ≡ (r.done ++ line ∷ []) ++ [] ∷ []
   ends_here = cut_here bytes r.done line r.cut
 
@@ -79,7 +79,7 @@ module _ (first : Session) (held : Option (List ℕ)) (bytes : List ℕ) (now : 
     lines_of-append (bytes ++ 10 ∷ []) rest (r.done ++ line ∷ []) [] ends_here ∙ append_assoc r.done (line ∷ []) others,
   )
 
-  -- its command was carried out
+  -- The command of the line was executed.
   pub line_done : (t : Session) (h₁ : Option (List ℕ)) (c : Command) → EditLine line c → t ≡ session_after now c → Appends holds h₁ (reply now c)
       → StandsAt first held (bytes ++ 10 ∷ []) t h₁ [] (count + 1)
   line_done t h₁ c is e w = record {
@@ -91,7 +91,7 @@ module _ (first : Session) (held : Option (List ℕ)) (bytes : List ℕ) (now : 
     counted = omega (arith, r.counted, length-append r.done (line ∷ []));
   }
 
-  -- or it was not
+  -- The line failed.
   pub line_fails : (U : Type 0) (left : Option (List ℕ)) (rest : List ℕ) → length rest ≤ 65535 → (t : Session) (h₁ : Option (List ℕ)) (f : ReplayFault)
       → (given : List ℕ) → given ≡ line → CarriesOut {U = U} (count + 1) given now t holds h₁ (Err f) → Faults left first held ((bytes ++ 10 ∷ []) ++ rest) t h₁ f
   line_fails U left rest few_more t h₁ f given same h =
@@ -108,14 +108,14 @@ module _ (first : Session) (held : Option (List ℕ)) (bytes : List ℕ) (now : 
       (rw (← e, past') (omega arith))
       (subst (λ x. CarriesOut {U = U} (count + 1) x now t holds h₁ (Err f)) same h)
 
-  -- what stands past the lines that were carried out
+  -- What follows the executed lines.
   pub past_here : (bs rest : List ℕ) → length bs + length rest ≤ 65536 → length (past_lines (length r.done) ((bytes ++ bs) ++ rest)) ≤ 2 * LINE_LIMIT
   past_here bs rest few_more =
       let past : past_lines (length r.done) ((bytes ++ bs) ++ rest) ≡ line ++ (bs ++ rest) =
       ap (past_lines (length r.done)) (append_assoc bytes bs rest) ∙ past_lines-pieces bytes (bs ++ rest) r.done line r.cut in
       rw past (omega (arith, length-append line (bs ++ rest), length-append bs rest))
 
-  -- the line is too long
+  -- The line is too long.
   line_too_long : (left : Option (List ℕ)) (bs rest : List ℕ) → pieces 10 bs ≡ bs ∷ [] → LINE_LIMIT < length line + length bs
       → length bs + length rest ≤ 65536 → EndsWith left first held ((bytes ++ bs) ++ rest) now holds (count + 1) (TooLongAt (count + 1))
   line_too_long left bs rest part full few_more = record {
@@ -141,14 +141,14 @@ module _ (first : Session) (held : Option (List ℕ)) (bytes : List ℕ) (now : 
               (omega (arith, length-append (line ++ bs) (first_piece 10 (rest ++ more)), length-append line bs)));
         }
 
-  -- the lines, where the line goes on with these bytes and more
+  -- The lines, if the line continues with these bytes and more.
   lines_on : (bs more : List ℕ) → (others : List (List ℕ)) × (lines_of ((bytes ++ bs) ++ more) ≡ r.done ++ others)
   lines_on bs more = (
     without_empty_last ((line ++ first_piece 10 (bs ++ more)) ∷ other_pieces 10 (bs ++ more)),
     ap lines_of (append_assoc bytes bs more) ∙ lines_of-append bytes (bs ++ more) r.done line r.cut,
   )
 
-  -- no memory for more bytes
+  -- An allocation for more bytes failed.
   line_stays : (left : Option (List ℕ)) (bs rest : List ℕ) → length bs + length rest ≤ 65536
       → BreaksOff left first held ((bytes ++ bs) ++ rest) now holds
   line_stays left bs rest few_more =
@@ -157,7 +157,7 @@ module _ (first : Session) (held : Option (List ℕ)) (bytes : List ℕ) (now : 
       (λ more e. let on = lines_on bs (rest ++ more) in (on.0, ap lines_of (append_assoc (bytes ++ bs) rest more) ∙ on.1))
       (past_here bs rest few_more)
 
-  -- the next part of the line is not taken
+  -- The next part of the line is not taken.
   pub part_fails : (left : Option (List ℕ)) (bs rest : List ℕ) → pieces 10 bs ≡ bs ∷ [] → length bs + length rest ≤ 65536 → (room : ℕ) (f : ReplayFault)
       → IsPartFault count (length line) (length bs) room f → Faults left first held ((bytes ++ bs) ++ rest) now holds f
   part_fails left bs rest part few_more room (LineTooLong k) h = rw h.0 (line_too_long left bs rest part h.1 few_more)
@@ -166,14 +166,14 @@ module _ (first : Session) (held : Option (List ℕ)) (bytes : List ℕ) (now : 
   part_fails left bs rest part few_more room Read h = absurd h
   part_fails left bs rest part few_more room Write h = absurd h
 
-  -- what taking the next part of the line answers
+  -- The result of taking the next part of the line.
   pub part_goes : (U : Type 0) (bs : List ℕ) → pieces 10 bs ≡ bs ∷ [] → length bs ≤ 65536 → (grown : List ℕ) (same room : ℕ) (r : Result U ReplayFault)
       → same ≡ count → OnOk r (grown ≡ line ++ bs) → IfErr r (IsPartFault count (length line) (length bs) room)
       → Goes first held (bytes ++ bs) [] now holds grown same r
   part_goes U bs part few_bytes grown same room (Ok u) counted ok fault = rw (ok, counted) (line_grows bs part)
   part_goes U bs part few_bytes grown same room (Err f) counted ok fault = λ left few_more. part_fails left bs [] part (omega (arith, few_bytes)) room f fault
 
-  -- the input ends after a whole line
+  -- The input ends after a whole line.
   pub ends_whole : line ≡ [] → Replays first (lines_of bytes) (concat r.replies) now (Finished count)
   ends_whole e = record {
     done = r.done;
@@ -186,11 +186,11 @@ module _ (first : Session) (held : Option (List ℕ)) (bytes : List ℕ) (now : 
     ends = (refl, r.counted);
   }
 
-  -- the input ends in a line
+  -- The input ends within a line.
   pub lines_there : 0 < length line → lines_of bytes ≡ r.done ++ line ∷ []
   lines_there some = lines_of-pieces bytes r.done line r.cut ∙ ap (λ ls. r.done ++ ls) (one_line line some)
 
-  -- whose command was carried out
+  -- The command of the last line was executed.
   pub ends_done : 0 < length line → (t : Session) (h₁ : Option (List ℕ)) (c : Command) → EditLine line c → t ≡ session_after now c
       → Appends holds h₁ (reply now c) → count + 1 ≤ LINES_LIMIT
       → (text : List ℕ) × Appends held h₁ text × Replays first (lines_of bytes) text t (Finished (count + 1))
@@ -209,7 +209,7 @@ module _ (first : Session) (held : Option (List ℕ)) (bytes : List ℕ) (now : 
     },
   )
 
-  -- or was not
+  -- The last line failed.
   pub ends_failing : 0 < length line → (U : Type 0) (left : Option (List ℕ)) → IsAtEnd left → (t : Session) (h₁ : Option (List ℕ)) (f : ReplayFault)
       → (given : List ℕ) → given ≡ line → CarriesOut {U = U} (count + 1) given now t holds h₁ (Err f) → Faults left first held bytes t h₁ f
   ends_failing some U left end t h₁ f given same h =

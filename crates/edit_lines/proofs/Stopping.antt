@@ -18,7 +18,7 @@ use Rattle.edit_lines.specs.MemoryFaults.{FailsForMemory, StopsForMemory}
 use Rattle.edit_lines.proofs.Cutting.{cut_beside, lines_of-append, past_lines-pieces}
 use Rattle.edit_lines.proofs.Stepping.{enough, lines_here, lines_there, past_here}
 
--- an allocation failed at this line, by what executing it answered
+-- An allocation failed at this line, by the result of the line.
 pub fails_for_memory : (U : Type 0) (n : ℕ) (line given : List ℕ) (old : RunnerView) (meter : ℕ) (new : RunnerView) (metered : ℕ) (held holds : Option (List ℕ))
     (f : ReplayFault) → given ≡ line → f ≡ OutOfMemory → CarriesOut {U = U} n given old.session new.session held holds (Err f)
     → LineDid {U = U} n given old meter new metered (Err f) → FailsForMemory n line old meter new metered held holds
@@ -27,7 +27,7 @@ fails_for_memory U n line given old meter new metered held holds f same is carri
     let did' = subst (λ x. LineDid {U = U} n given old meter new metered (Err x)) is did in
     subst (λ x. FailsForMemory n x old meter new metered held holds) same (carries', did')
 
--- the buffer of a line has no room for its next part, where memory was refused for that
+-- If an allocation failed for the next part of a line, its buffer had no room for that part.
 pub part_fault_room : (count taken more room : ℕ) (f : ReplayFault) → f ≡ OutOfMemory → IsPartFault count taken more room f → room < taken + more
 part_fault_room count taken more room f is h = (subst (IsPartFault count taken more room) is h).0
 
@@ -35,7 +35,7 @@ pub full_when : (count taken more room : ℕ) (o : Result (Unit {0}) ReplayFault
     → room < taken + more
 full_when count taken more room o is h = (subst (λ x. IfErr x (IsPartFault count taken more room)) is h).0
 
--- a line that may want memory is not empty
+-- A line that may need memory is not empty.
 no_words : (c : Command) → EditLine [] c → ⊥
 no_words (Edit (Insert at bytes)) is = let words = is.2 in cc
 no_words (Edit (Replace at bytes)) is = let words = is.2 in cc
@@ -51,7 +51,7 @@ pub wants_some : (s : Session) (line : List ℕ) → MayWantMemory s line → 0 
 wants_some s [] h = absurd (no_words h.0 h.1)
 wants_some s (b ∷ l) h = omega arith
 
--- the lines before the last piece are the same
+-- The lines before the last piece are the same.
 same_front : (ds es : List (List ℕ)) (l m : List ℕ) → ds ++ l ∷ [] ≡ es ++ m ∷ [] → ds ≡ es
 same_front [] [] l m e = refl
 same_front [] (d ∷ []) l m e = cc
@@ -64,7 +64,7 @@ same_front (d ∷ ds) (f ∷ es) l m e =
     let same = same_front ds es l m tail in
     rw (head, same) refl
 
--- a piece that is not empty is a line
+-- A piece that is not empty is a line.
 front_line : (q : List ℕ) (qs : List (List ℕ)) → 0 < length q → (others : List (List ℕ)) × (without_empty_last (q ∷ qs) ≡ q ∷ others)
 front_line [] qs some = absurd (omega arith)
 front_line (b ∷ q) [] some = ([], refl)
@@ -76,7 +76,7 @@ module _ (first : RunnerView) (begun : ℕ) (held : Option (List ℕ)) (bytes : 
   same_done : e.done ≡ r.done
   same_done = same_front e.done r.done line line (sym e.cut ∙ r.cut)
 
-  -- executing the line failed
+  -- Executing the line failed.
   at_line : (whole : List ℕ) → (others : List (List ℕ)) × (lines_of whole ≡ r.done ++ line ∷ others) → length (past_lines (length r.done) whole) ≤ 2 * LINE_LIMIT
       → (t : RunnerView) (n : ℕ) (h₁ : Option (List ℕ)) → FailsForMemory (count + 1) line now meter t n holds h₁ → StopsForMemory first begun held whole t n h₁
   at_line whole cut near t n h₁ (carries, did) = record {
@@ -95,7 +95,7 @@ module _ (first : RunnerView) (begun : ℕ) (held : Option (List ℕ)) (bytes : 
     near = near;
   }
 
-  -- and the line has its 0AH
+  -- The line has its 0AH.
   pub line_stops : (rest : List ℕ) → length rest ≤ 65535 → (t : RunnerView) (n : ℕ) (h₁ : Option (List ℕ))
       → FailsForMemory (count + 1) line now meter t n holds h₁ → StopsForMemory first begun held ((bytes ++ 10 ∷ []) ++ rest) t n h₁
   line_stops rest few_more t n h₁ h =
@@ -104,7 +104,7 @@ module _ (first : RunnerView) (begun : ℕ) (held : Option (List ℕ)) (bytes : 
       ap (past_lines (length r.done)) (append_assoc bytes (10 ∷ []) rest) ∙ past_lines-pieces bytes (10 ∷ rest) r.done line r.cut in
       at_line whole (lines_here first.session held bytes now.session holds line count r few short rest) (rw past (omega (arith, short, length-append line (10 ∷ rest)))) t n h₁ h
 
-  -- or the input ends in it
+  -- The input ends within the line.
   pub last_stops : 0 < length line → (t : RunnerView) (n : ℕ) (h₁ : Option (List ℕ))
       → FailsForMemory (count + 1) line now meter t n holds h₁ → StopsForMemory first begun held bytes t n h₁
   last_stops some t n h₁ h =
@@ -112,7 +112,7 @@ module _ (first : RunnerView) (begun : ℕ) (held : Option (List ℕ)) (bytes : 
       ap (past_lines (length r.done)) (sym (append-nil bytes)) ∙ past_lines-pieces bytes [] r.done line r.cut ∙ append-nil line in
       at_line bytes ([], lines_there first.session held bytes now.session holds line count r few short some) (rw past (omega (arith, short))) t n h₁ h
 
-  -- the buffer had no room for the next part of the line
+  -- The buffer had no room for the next part of the line.
   pub part_stops : (bs rest : List ℕ) → pieces 10 bs ≡ bs ∷ [] → length bs + length rest ≤ 65536 → room < length line + length bs
       → StopsForMemory first begun held ((bytes ++ bs) ++ rest) now meter holds
   part_stops bs rest part few_more full =

@@ -1,5 +1,5 @@
--- What a line of an edit text means, one case a command: `insert AT HEX`, `replace AT HEX`, `remove AT COUNT`, `poke ADDR HEX`,
--- `file NAME HEX`, `gone NAME`, `limit N`, `drop N`, `run`. (This project's own.)
+-- The command of a line of an edit text, one case for each command: `insert AT HEX`, `replace AT HEX`, `remove AT COUNT`,
+-- `poke ADDR HEX`, `file NAME HEX`, `gone NAME`, `limit N`, `drop N`, `run`. (This project's own.)
 use Rattle.std.specs.Prelude.{◌≡◌, ℕ, ◌+◌, ◌*◌, ◌<◌, ◌≤◌, ◌⊎◌, List, [], ◌∷◌, length, codes, Ok}
 use Rattle.std.specs.Str.Parse.{IsNumeral, digits_value}
 use Rattle.hex.specs.Hex.{decode_of}
@@ -9,19 +9,19 @@ use Rattle.edit_lines.specs.declared.line.Command.{Command}
 use Rattle.edit_lines.specs.declared.line.Command.TheVariants.{Edit, Run, DropOldest}
 use Rattle.edit_lines.specs.Pieces.{words_of}
 
--- one to ten decimal digits
+-- One to ten decimal digits.
 abbrev pub IsNumber : List ℕ → ℕ → Type 0
 IsNumber word n = IsNumeral 10 word × (length word ≤ 10) × (digits_value 10 word ≡ n)
 
--- four hexadecimal digits, in either case, the high byte first
+-- Four hexadecimal digits, in either case, the high byte first.
 abbrev pub IsAddress : List ℕ → ℕ → Type 0
 IsAddress word a = (high : ℕ) × (low : ℕ) × (decode_of word ≡ Ok (high ∷ low ∷ [])) × (a ≡ 256 * high + low)
 
--- `-` for no byte, or two hexadecimal digits for each of one byte or more
+-- `-` for no byte, or two hexadecimal digits for each of one byte or more.
 abbrev pub IsHexText : List ℕ → List ℕ → Type 0
 IsHexText word bytes = ((word ≡ codes "-") × (bytes ≡ [])) ⊎ ((0 < length word) × (decode_of word ≡ Ok bytes))
 
--- a word that says the name of a key
+-- A word that is the name of a key.
 abbrev pub IsName : List ℕ → Key → Type 0
 IsName word key = name_of word ≡ Ok key
 

@@ -1,4 +1,4 @@
--- What the lines of an edit text do, one after the other, to a runner with its checkpoints and to the meter of its runs. (This project's own.)
+-- What the lines of an edit text do, one after the other, to a runner and its checkpoints and to the meter. (This project's own.)
 use Rattle.std.specs.Prelude.{◌≡◌, ℕ, ◌+◌, ◌-◌, ◌≤◌, ◌⊎◌, List, [], ◌∷◌, ◌++◌, length, Result, Ok, Err}
 use Rattle.std.specs.List.{All}
 use Rattle.machine.specs.Given.{Session}
@@ -14,14 +14,14 @@ use Rattle.edit_lines.specs.declared.ending.ReplayFault.TheVariants.{Malformed, 
 use Rattle.edit_lines.specs.EditLine.{EditLine}
 use Rattle.edit_lines.specs.Pieces.{pieces, lines_of}
 
--- an edit that is carried out leaves exactly the checkpoints that it does not touch, and one that is refused changes nothing
+-- An edit that is applied leaves exactly the checkpoints that it does not touch; an edit that is refused changes nothing.
 abbrev pub EditEffect : Result Session ℕ → RunnerView → RunnerView → Type 0
 EditEffect (Ok s) old new =
     (new.session ≡ s) × SameOptions old new × (new.refused ≡ old.refused)
     × KeepsUntouched (ask old.session) (ask new.session) old.checkpoints new.checkpoints
 EditEffect (Err n) old new = new ≡ old
 
--- a run adds to the meter the steps from the kept one where it begins, and makes the checkpoints that are due
+-- A run adds to the meter the steps from the kept one where it begins, and makes the checkpoints that are due.
 pub record RunEffect (old : RunnerView) (meter : ℕ) (new : RunnerView) (metered : ℕ) : Type 0 where
   pub session : new.session ≡ old.session
   pub options : SameOptions old new
@@ -30,24 +30,24 @@ pub record RunEffect (old : RunnerView) (meter : ℕ) (new : RunnerView) (metere
   pub complete : LeavesNoneOut old new (plain_run old.session).steps
   pub counted : CountsAnew old new (plain_run old.session).steps
 
--- what a command does to a runner and a meter
+-- What a command does to a runner and a meter.
 abbrev pub Effect : Command → RunnerView → ℕ → RunnerView → ℕ → Type 0
 Effect (Edit e) old meter new metered = EditEffect (edited old.session e) old new × (metered ≡ meter)
 Effect Run old meter new metered = RunEffect old meter new metered
 Effect (DropOldest n) old meter new metered = DropsOldest n old new × (metered ≡ meter)
 
--- the lines' commands have their effects one after the other, and nothing else is done
+-- The commands of the lines have their effects one after the other, and nothing else is done.
 pub data Effects : RunnerView → ℕ → List (List ℕ) → RunnerView → ℕ → Type 0 where
   none : {r : RunnerView} {m : ℕ} → Effects r m [] r m
   more : {r s t : RunnerView} {k m n : ℕ} {l : List ℕ} {ls : List (List ℕ)} (c : Command) → EditLine l c
       → Effect c r k s m → Effects s m ls t n → Effects r k (l ∷ ls) t n
 
--- the runner and the meter are as they were
+-- The runner and the meter are unchanged.
 abbrev pub IsUnchanged : RunnerView → ℕ → RunnerView → ℕ → Type 0
 IsUnchanged old meter new metered = (new ≡ old) × (metered ≡ meter)
 
--- a run that wants memory on its way: the steps from where it begins up to some step are on the meter, and some due checkpoints
--- were made
+-- A run that runs out of memory on its way: the meter counts the steps from where it begins up to some step, and some due
+-- checkpoints were made.
 pub record RunCutShort (old : RunnerView) (meter : ℕ) (new : RunnerView) (metered : ℕ) : Type 0 where
   pub session : new.session ≡ old.session
   pub options : SameOptions old new
@@ -55,8 +55,8 @@ pub record RunCutShort (old : RunnerView) (meter : ℕ) (new : RunnerView) (mete
   pub reran : Reran old new old.session.limit
   pub counted : CountsAnew old new old.session.limit
 
--- what a command did, by what carrying it out answered: where its reply could not be written it was carried out, and where
--- memory was wanted nothing was done, or it is a run that was cut short
+-- What a command did, by its result. If its reply could not be written, it was executed. If memory ran out, nothing was done, or
+-- it is a run that was cut short.
 abbrev pub CommandDid : {U : Type 0} → Command → RunnerView → ℕ → RunnerView → ℕ → Result U ReplayFault → Type 0
 CommandDid c old meter new metered (Ok _) = Effect c old meter new metered
 CommandDid c old meter new metered (Err Write) = Effect c old meter new metered
@@ -66,7 +66,7 @@ CommandDid c old meter new metered (Err (Malformed k)) = ⊥
 CommandDid c old meter new metered (Err (LineTooLong k)) = ⊥
 CommandDid c old meter new metered (Err Read) = ⊥
 
--- what line number n did
+-- What line number n did, by its result.
 abbrev pub LineDid : {U : Type 0} → ℕ → List ℕ → RunnerView → ℕ → RunnerView → ℕ → Result U ReplayFault → Type 0
 LineDid n line old meter new metered (Ok _) = (c : Command) × EditLine line c × Effect c old meter new metered
 LineDid n line old meter new metered (Err Write) = (c : Command) × EditLine line c × Effect c old meter new metered
@@ -76,14 +76,15 @@ LineDid n line old meter new metered (Err (Malformed k)) = (k ≡ n) × IsUnchan
 LineDid n line old meter new metered (Err (LineTooLong k)) = ⊥
 LineDid n line old meter new metered (Err Read) = ⊥
 
--- the lines of the bytes that have their 0AH had their effects
+-- The lines whose 0AH is among the bytes had their effects.
 pub record EffectsOfEnded (first : RunnerView) (begun : ℕ) (bytes : List ℕ) (now : RunnerView) (meter : ℕ) : Type 0 where
   pub ended : List (List ℕ)
   pub rest : List ℕ
   pub cut : pieces 10 bytes ≡ ended ++ rest ∷ []
   pub effects : Effects first begun ended now meter
 
--- the bytes are whole lines, so many, which had their effects, and the beginning of one more, whose buffer has room for each of these
+-- The bytes are `count` whole lines, which had their effects, and the beginning of one more, whose buffer has room for each of
+-- them.
 pub record EffectsSoFar (first : RunnerView) (begun : ℕ) (bytes : List ℕ) (now : RunnerView) (meter : ℕ) (line : List ℕ) (count room : ℕ) : Type 0 where
   pub done : List (List ℕ)
   pub cut : pieces 10 bytes ≡ done ++ line ∷ []
@@ -91,7 +92,7 @@ pub record EffectsSoFar (first : RunnerView) (begun : ℕ) (bytes : List ℕ) (n
   pub counted : count ≡ length done
   pub fits : All (λ l. length l ≤ room) done
 
--- the first lines of the bytes, so many, had their effects
+-- The first `count` lines of the bytes had their effects.
 pub record FirstEffects (first : RunnerView) (begun : ℕ) (bytes : List ℕ) (count : ℕ) (now : RunnerView) (meter : ℕ) : Type 0 where
   pub done : List (List ℕ)
   pub others : List (List ℕ)
@@ -99,7 +100,7 @@ pub record FirstEffects (first : RunnerView) (begun : ℕ) (bytes : List ℕ) (c
   pub counted : count ≡ length done
   pub effects : Effects first begun done now meter
 
--- some first lines of the bytes had their effects, and the run of the next one was cut short
+-- Some first lines of the bytes had their effects, and the run of the next one was cut short.
 pub record EffectsCutShort (first : RunnerView) (begun : ℕ) (bytes : List ℕ) (now : RunnerView) (meter : ℕ) : Type 0 where
   pub done : List (List ℕ)
   pub line : List ℕ
@@ -111,7 +112,7 @@ pub record EffectsCutShort (first : RunnerView) (begun : ℕ) (bytes : List ℕ)
   pub effects : Effects first begun done before metered
   pub part : RunCutShort before metered now meter
 
--- what was done where a fault ended the replay of the bytes
+-- What was done if an error ended the replay of the bytes.
 abbrev pub EffectsAtFault : RunnerView → ℕ → List ℕ → RunnerView → ℕ → ReplayFault → Type 0
 EffectsAtFault first begun bytes now meter (Malformed k) = FirstEffects first begun bytes (k - 1) now meter
 EffectsAtFault first begun bytes now meter (LineTooLong k) = FirstEffects first begun bytes (k - 1) now meter
@@ -120,12 +121,12 @@ EffectsAtFault first begun bytes now meter Write = (count : ℕ) × FirstEffects
 EffectsAtFault first begun bytes now meter OutOfMemory =
     ((count : ℕ) × FirstEffects first begun bytes count now meter) ⊎ EffectsCutShort first begun bytes now meter
 
--- what a step over some bytes did, where the rest was read too
+-- What a step over some bytes did, if the rest was read too.
 abbrev pub EffectsAfter : {U : Type 0} → RunnerView → ℕ → List ℕ → List ℕ → RunnerView → ℕ → List ℕ → ℕ → ℕ → Result U ReplayFault → Type 0
 EffectsAfter first begun bytes rest now meter line count room (Ok _) = EffectsSoFar first begun bytes now meter line count room
 EffectsAfter first begun bytes rest now meter line count room (Err f) = EffectsAtFault first begun (bytes ++ rest) now meter f
 
--- what was done at the end of the input
+-- What was done at the end of the input.
 abbrev pub EffectsAtEnd : RunnerView → ℕ → List ℕ → RunnerView → ℕ → Result Ending ReplayFault → Type 0
 EffectsAtEnd first begun bytes now meter (Ok e) = Effects first begun (lines_of bytes) now meter
 EffectsAtEnd first begun bytes now meter (Err f) = EffectsAtFault first begun bytes now meter f

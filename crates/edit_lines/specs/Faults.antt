@@ -1,4 +1,4 @@
--- What holds after each fault of a replay. (This project's own.)
+-- What holds after each error of a replay. (This project's own.)
 use Rattle.std.specs.Prelude.{◌*◌, ◌≡◌, ℕ, ◌-◌, ◌≤◌, List, ◌∷◌, [], ◌++◌, length, take, Option, Some}
 use Rattle.std.specs.List.{concat}
 use Rattle.std.specs.Io.KnownBytes.{Appends}
@@ -9,8 +9,8 @@ use Rattle.edit_lines.specs.Pieces.{pieces, lines_of, past_lines}
 use Rattle.edit_lines.specs.Replay.{Carries, End, Finished, MalformedAt, TooLongAt, Replays}
 use Rattle.edit_lines.specs.declared.limits.TheConstants.{LINE_LIMIT, LINES_LIMIT}
 
--- the replay of these bytes and those that are left ends so, that of some text which begins with them does where the reader
--- does not tell what is left, and little more than k - 1 lines was read
+-- The replay of these bytes and of what is left has this end; if the reader does not report what is left, the replay of some text that
+-- begins with these bytes has it. Little more than k - 1 lines was read.
 pub record EndsWith (left : Option (List ℕ)) (first : Session) (held : Option (List ℕ)) (bytes : List ℕ) (now : Session) (holds : Option (List ℕ)) (k : ℕ) (end : End) : Type 0 where
   pub text : List ℕ
   pub written : Appends held holds text
@@ -18,8 +18,8 @@ pub record EndsWith (left : Option (List ℕ)) (first : Session) (held : Option 
   pub some : (rest : List ℕ) × Replays first (lines_of (bytes ++ rest)) text now end
   pub near : length (past_lines (k - 1) bytes) ≤ 2 * LINE_LIMIT
 
--- some first lines were read and carried out, and all their replies but the last were written whole, that one in part; they
--- are the first lines of the bytes that were read, and of these and those that are left where the reader tells that
+-- Some first lines were read and executed. All their replies except the last were written whole, the last one in part. The lines
+-- are the first lines of the bytes that were read, and of these with what is left if the reader reports that.
 pub record BreaksOff (left : Option (List ℕ)) (first : Session) (held : Option (List ℕ)) (bytes : List ℕ) (now : Session) (holds : Option (List ℕ)) : Type 0 where
   pub text : List ℕ
   pub written : Appends held holds text
@@ -33,7 +33,7 @@ pub record BreaksOff (left : Option (List ℕ)) (first : Session) (held : Option
   pub contains : (rest : List ℕ) × (text ≡ concat (take (length replies - 1) replies) ++ rest)
   pub near : length (past_lines (length done) bytes) ≤ 2 * LINE_LIMIT
 
--- the lines whose 0AH was read were carried out, and their replies written
+-- The lines whose 0AH was read were executed, and their replies written.
 pub record ReadsNoMore (first : Session) (held : Option (List ℕ)) (bytes : List ℕ) (now : Session) (holds : Option (List ℕ)) : Type 0 where
   pub text : List ℕ
   pub written : Appends held holds text
@@ -43,7 +43,7 @@ pub record ReadsNoMore (first : Session) (held : Option (List ℕ)) (bytes : Lis
   pub replays : Replays first ended text now (Finished (length ended))
   pub near : length rest ≤ 2 * LINE_LIMIT
 
--- what holds after a fault, where these bytes were read, and these are left if the reader tells
+-- What holds after an error, once these bytes were read and `left` is what is left, if the reader reports it.
 abbrev pub Faults : Option (List ℕ) → Session → Option (List ℕ) → List ℕ → Session → Option (List ℕ) → ReplayFault → Type 0
 Faults left first held bytes now holds (Malformed k) = EndsWith left first held bytes now holds k (MalformedAt k)
 Faults left first held bytes now holds (LineTooLong k) = EndsWith left first held bytes now holds k (TooLongAt k)

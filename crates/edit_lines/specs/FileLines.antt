@@ -3,6 +3,6 @@ use Rattle.std.specs.Prelude.{ℕ, List}
 use Rattle.filenames.specs.Names.{Key}
 use Rattle.edit_lines.specs.EditLine.{IsName, IsHexText}
 
--- the words behind `file`: a name, and the bytes of its file
+-- The words after `file`: a name, and the bytes of its file.
 abbrev pub IsFile : List ℕ → List ℕ → Key → List ℕ → Type 0
 IsFile name hex key bytes = IsName name key × IsHexText hex bytes

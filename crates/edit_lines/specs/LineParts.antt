@@ -1,4 +1,4 @@
--- What the words of a line mean, by their count, and which lines may want memory. (This project's own.)
+-- The meaning of the words of a line, by their number, and which lines may need memory. (This project's own.)
 use Rattle.std.specs.Prelude.{◌≡◌, ℕ, ◌<◌, ◌⊎◌, List, [], ◌∷◌, length, codes, Ok}
 use Rattle.replay.specs.declared.edit.Edit.TheVariants.{Insert, Replace, Remove, Poke, SetFile, RemoveFile, SetLimit}
 use Rattle.machine.specs.Given.{Session}
@@ -10,7 +10,7 @@ use Rattle.edit_lines.specs.declared.line.Words.{Words}
 use Rattle.edit_lines.specs.declared.line.Words.TheVariants.{One, Two, Three, More}
 use Rattle.edit_lines.specs.EditLine.{EditLine, IsAddress, IsHexText, IsName, IsNumber}
 
--- what two words mean, the second of them a number or a name
+-- The meaning of two words, of which the second is a number or a name.
 abbrev pub IsPaired : List ℕ → List ℕ → Command → Type 0
 IsPaired verb word (Edit (Insert at bytes)) = ⊥
 IsPaired verb word (Edit (Replace at bytes)) = ⊥
@@ -22,7 +22,7 @@ IsPaired verb word (Edit (SetLimit n)) = (verb ≡ codes "limit") × IsNumber wo
 IsPaired verb word Run = ⊥
 IsPaired verb word (DropOldest n) = (verb ≡ codes "drop") × IsNumber word n
 
--- what three words mean
+-- The meaning of three words.
 abbrev pub IsPlaced : List ℕ → List ℕ → List ℕ → Command → Type 0
 IsPlaced verb a h (Edit (Insert at bytes)) = (verb ≡ codes "insert") × IsNumber a at × IsHexText h bytes
 IsPlaced verb a h (Edit (Replace at bytes)) = (verb ≡ codes "replace") × IsNumber a at × IsHexText h bytes
@@ -34,14 +34,14 @@ IsPlaced verb a h (Edit (SetLimit n)) = ⊥
 IsPlaced verb a h Run = ⊥
 IsPlaced verb a h (DropOldest n) = ⊥
 
--- the words of a line, where they are three at most
+-- The words of a line, if there are at most three.
 abbrev pub AreSplit : List (List ℕ) → Words → Type 0
 AreSplit words (One a) = words ≡ a.now ∷ []
 AreSplit words (Two a b) = words ≡ a.now ∷ b.now ∷ []
 AreSplit words (Three a b c) = words ≡ a.now ∷ b.now ∷ c.now ∷ []
 AreSplit words More = 3 < length words
 
--- the commands that name bytes, for which a buffer is made
+-- The commands that name bytes, for which a buffer is allocated.
 abbrev pub NamesBytes : Command → Type 0
 NamesBytes (Edit (Insert at bytes)) = 0 < length bytes
 NamesBytes (Edit (Replace at bytes)) = 0 < length bytes
@@ -53,12 +53,12 @@ NamesBytes (Edit (SetLimit n)) = ⊥
 NamesBytes Run = ⊥
 NamesBytes (DropOldest n) = ⊥
 
--- the commands that may want memory in a session: a run, and an insertion or a file that is set and that the session does not refuse
+-- The commands that may need memory in a session: a run, and an insertion or a file that the session does not refuse.
 abbrev pub WantsMemory : Session → Command → Type 0
 WantsMemory s (Edit e) = TakesMemory e × ((t : Session) × (edited s e ≡ Ok t))
 WantsMemory s Run = Unit {0}
 WantsMemory s (DropOldest n) = ⊥
 
--- the lines that may want memory in a session: edit lines, for the bytes that they name or for what they ask for
+-- The lines that may need memory in a session: edit lines, for the bytes that they name or for what they do.
 abbrev pub MayWantMemory : Session → List ℕ → Type 0
 MayWantMemory s line = (c : Command) × EditLine line c × (NamesBytes c ⊎ WantsMemory s c)

@@ -1,4 +1,4 @@
--- At which lines a replay may run out of memory, and what holds after it did. (This project's own.)
+-- The lines at which a replay may run out of memory, and what holds after it did. (This project's own.)
 use Rattle.std.specs.Prelude.{◌*◌, ◌≡◌, ℕ, ◌<◌, ◌≤◌, ◌⊎◌, List, ◌∷◌, ◌++◌, length, Option, Err}
 use Rattle.std.specs.List.{All, concat}
 use Rattle.std.specs.Io.KnownBytes.{Appends}
@@ -13,25 +13,26 @@ use Rattle.edit_lines.specs.Replay.{Carries}
 use Rattle.edit_lines.specs.Effects.{Effects, LineDid, RunCutShort}
 use Rattle.edit_lines.specs.Progress.{CarriesOut}
 
--- a line that is not empty and is longer than each of these: the buffer that held them may have to grow for it
+-- A line that is not empty and is longer than each of these: the buffer that held them may have to grow for it.
 abbrev pub IsLongest : List (List ℕ) → List ℕ → Type 0
 IsLongest lines line = (0 < length line) × All (λ l. length l < length line) lines
 
--- an allocation failed when line number n was executed: the line may want memory in its session, nothing was written, and nothing
--- was done, or its run was cut short
+-- An allocation failed when line number n was executed. The line may need memory in its session, nothing was written, and nothing
+-- was done, or its run was cut short.
 abbrev pub FailsForMemory : ℕ → List ℕ → RunnerView → ℕ → RunnerView → ℕ → Option (List ℕ) → Option (List ℕ) → Type 0
 FailsForMemory n line old meter new metered held holds =
     CarriesOut {U = Unit {0}} n line old.session new.session held holds (Err OutOfMemory)
     × LineDid {U = Unit {0}} n line old meter new metered (Err OutOfMemory)
 
--- these lines had their effects, and the next one none, or its run was cut short
+-- These lines had their effects, and the next one had none, or its run was cut short.
 abbrev pub EffectsBefore : RunnerView → ℕ → List (List ℕ) → List ℕ → RunnerView → ℕ → Type 0
 EffectsBefore first begun done line now meter =
     Effects first begun done now meter
     ⊎ (EditLine line Run × ((before : RunnerView) × (metered : ℕ) × Effects first begun done before metered × RunCutShort before metered now meter))
 
--- an allocation failed at a line of these bytes: all lines before it were executed and their replies written whole, nothing more was
--- written, and the line is longer than each line before it or may want memory in the session that they left; little more was read
+-- An allocation failed at a line of these bytes. All lines before it were executed and their replies written whole, and nothing
+-- more was written. The line is longer than each line before it, or may need memory in the session that they left. Little more
+-- was read.
 pub record StopsForMemory (first : RunnerView) (begun : ℕ) (held : Option (List ℕ)) (bytes : List ℕ) (now : RunnerView) (meter : ℕ) (holds : Option (List ℕ)) : Type 0 where
   pub done : List (List ℕ)
   pub replies : List (List ℕ)

@@ -1,5 +1,5 @@
--- What a replay of an edit text does: a reply to each line in turn, up to the first line that is too long or malformed. A line
--- has 65,536 bytes at most, and a text 1,000,000 lines. (This project's own.)
+-- The replay of an edit text: a reply to each line in order, up to the first line that is too long or malformed. A line has at
+-- most 65,536 bytes, and a text at most 1,000,000 lines. (This project's own.)
 use Rattle.std.specs.Prelude.{◌≡◌, ℕ, ◌+◌, ◌<◌, ◌≤◌, ◌⊎◌, List, [], ◌∷◌, ◌++◌, length, codes, Result, Ok, Err}
 use Rattle.std.specs.Fmt.{decimal}
 use Rattle.std.specs.List.{concat}
@@ -13,17 +13,17 @@ use Rattle.report_lines.specs.FirstLines.{line}
 use Rattle.edit_lines.specs.Reports.{report_text}
 use Rattle.edit_lines.specs.declared.limits.TheConstants.{LINE_LIMIT, LINES_LIMIT}
 
--- the reply to an edit, by what it makes of the session
+-- The reply to an edit, by its result for the session.
 abbrev pub edit_reply : Result Session ℕ → List ℕ
 edit_reply (Ok s) = line (codes "ok")
 edit_reply (Err n) = line (codes "refused " ++ decimal n)
 
--- the session after an edit
+-- The session after an edit.
 abbrev pub edit_after : Session → Result Session ℕ → Session
 edit_after s (Ok t) = t
 edit_after s (Err n) = s
 
--- the reply to a command, and the session after it
+-- The reply to a command, and the session after it.
 abbrev pub reply : Session → Command → List ℕ
 reply s (Edit e) = edit_reply (edited s e)
 reply s Run = report_text s (plain_run s)
@@ -34,23 +34,23 @@ session_after s (Edit e) = edit_after s (edited s e)
 session_after s Run = s
 session_after s (DropOldest n) = s
 
--- the lines are carried out in turn, each with its reply, from the first session to the last
+-- The lines are executed in order, each with its reply, from the first session to the last.
 pub data Carries : Session → List (List ℕ) → List (List ℕ) → Session → Type 0 where
   none : {s : Session} → Carries s [] [] s
   more : {s t : Session} {l : List ℕ} {ls rs : List (List ℕ)} (c : Command) → length l ≤ LINE_LIMIT → EditLine l c
       → Carries (session_after s c) ls rs t → Carries s (l ∷ ls) (reply s c ∷ rs) t
 
--- how a replay ends: after so many lines, or at a line
+-- How a replay ends: after n lines, or at a line.
 pub data End : Type 0 where
   Finished : ℕ → End
   MalformedAt : ℕ → End
   TooLongAt : ℕ → End
 
--- line number n has no command
+-- Line number n has no command.
 abbrev pub IsMalformed : ℕ → List ℕ → Type 0
 IsMalformed n l = (LINES_LIMIT < n) ⊎ ((c : Command) → EditLine l c → ⊥)
 
--- what ends a replay after n lines, where these are left
+-- How a replay ends after n lines, if these are left.
 abbrev pub EndsAt : ℕ → List (List ℕ) → End → Type 0
 EndsAt n left (Finished k) = (left ≡ []) × (k ≡ n)
 EndsAt n [] (MalformedAt k) = ⊥
@@ -58,7 +58,7 @@ EndsAt n (l ∷ ls) (MalformedAt k) = (k ≡ n + 1) × (length l ≤ LINE_LIMIT)
 EndsAt n [] (TooLongAt k) = ⊥
 EndsAt n (l ∷ ls) (TooLongAt k) = (k ≡ n + 1) × (LINE_LIMIT < length l)
 
--- the replay of these lines writes the text, leaves the last session and ends so
+-- The replay of these lines writes the text, leaves the last session and has this end.
 pub record Replays (first : Session) (lines : List (List ℕ)) (text : List ℕ) (last : Session) (end : End) : Type 0 where
   pub done : List (List ℕ)
   pub left : List (List ℕ)

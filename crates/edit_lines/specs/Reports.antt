@@ -5,8 +5,8 @@ use Rattle.replay.specs.Plain.{PlainRun}
 use Rattle.report_lines.specs.FirstLines.{line, report_head, text_line}
 use Rattle.report_lines.specs.ChangedLines.{changed_lines}
 
--- of a session and its run: why it stopped, the count of steps, the registers and the console text, then a line for each changed
--- file in the order of the names
+-- The report on the run of a session: why it stopped, the number of steps, the registers and the console text, then a line for
+-- each changed file in the order of the names, and `end`.
 unfoldable pub report_text : Session → PlainRun → List ℕ
 report_text s run =
     ((report_head run.cause run.steps run.machine.core.regs ++ text_line run.machine.core.desk.text) ++ changed_lines s.files run.machine.files) ++ line (codes "end")

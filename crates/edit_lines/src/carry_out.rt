@@ -21,7 +21,7 @@ use report_lines::{
 };
 use std::alloc::Global;
 
-/// Writes a reply, or some first part of it where the writer fails.
+/// Writes a reply. If the writer fails, a prefix of the reply is written.
 fn write_reply<W: Writer>(writer: &mut W, text: &[u8]) -> Result<(), ReplayFault>
     requires { W.failures writer.old < 2 ^ 63 }
     ensures { Replies (W.holds writer.old) (W.holds writer.new) (W.failures writer.old)
@@ -33,8 +33,8 @@ fn write_reply<W: Writer>(writer: &mut W, text: &[u8]) -> Result<(), ReplayFault
     }
 }
 
-/// Carries out an edit and writes its reply. Exactly the checkpoints that it does not touch are left, and all if it is refused.
-/// Memory may run out only for an insertion or a file that is not refused.
+/// Applies an edit and writes its reply. Exactly the checkpoints that it does not touch are left, or all if it is refused. Memory
+/// can run out only for an insertion or a file that is not refused.
 fn carry_out_edit<W: Writer>(
     runner: &mut Runner,
     edit: Edit,
@@ -56,7 +56,7 @@ fn carry_out_edit<W: Writer>(
     }
 }
 
-/// Drops some of the oldest checkpoints and writes the reply.
+/// Drops the `count` oldest checkpoints and writes the reply.
 fn drop_oldest<W: Writer>(
     runner: &mut Runner,
     count: u64,
@@ -76,8 +76,8 @@ fn drop_oldest<W: Writer>(
     write_reply(writer, b"ok\n")
 }
 
-/// Writes a report: its first lines, the line of its text, the lines of the changed files, and `end`. They are written in pieces,
-/// and no memory is taken.
+/// Writes a report: its first lines, the line of its text, the lines of the changed files, and `end`. It is written in pieces; no
+/// memory is allocated.
 fn write_report<W: Writer>(report: &Report<'_>, writer: &mut W) -> Result<(), Failed>
     requires { W.failures writer.old < 2 ^ 63 }
     ensures { Writes (W.holds writer.old) (W.holds writer.new) (W.failures writer.old) (W.failures writer.new)
@@ -90,7 +90,7 @@ fn write_report<W: Writer>(report: &Report<'_>, writer: &mut W) -> Result<(), Fa
     write_piece(writer, b"end\n")
 }
 
-/// Writes a report as `write_report` does, but one of at most 1024 bytes at once.
+/// Writes a report as `write_report` does, but in a single piece if it has at most 1024 bytes.
 fn write_short_at_once<W: Writer>(report: &Report<'_>, writer: &mut W) -> Result<(), Failed>
     requires { W.failures writer.old < 2 ^ 63 }
     ensures { Writes (W.holds writer.old) (W.holds writer.new) (W.failures writer.old) (W.failures writer.new)
@@ -103,8 +103,8 @@ fn write_short_at_once<W: Writer>(report: &Report<'_>, writer: &mut W) -> Result
     write_piece(writer, whole.into_inner().as_slice())
 }
 
-/// Runs the session, from where the runner begins a rerun, and writes its report. Only the steps from there on are added to the
-/// meter.
+/// Runs the session from the step where the runner begins a rerun, and writes its report. Only the steps from there on are added
+/// to the meter.
 fn run<W: Writer>(runner: &mut Runner, meter: &mut Meter, writer: &mut W) -> Result<(), ReplayFault>
     requires writer { W.failures writer.old < 2 ^ 63 }
     requires meter { meter.old ≤ 2 ^ 63 }
@@ -125,8 +125,8 @@ fn run<W: Writer>(runner: &mut Runner, meter: &mut Meter, writer: &mut W) -> Res
     }
 }
 
-/// Carries out a line by its number. Nothing else is done to the runner and the meter than what its command does, and nothing
-/// at all where it is malformed.
+/// Executes the line with this number. The runner and the meter change only as its command says, and not at all if the line is
+/// malformed.
 pub fn carry_out<W: Writer>(
     alloc: Global,
     line: &[u8],

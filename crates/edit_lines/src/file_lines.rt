@@ -10,8 +10,8 @@ use machine::Bytes;
 use std::alloc::{AllocError, Global};
 use std::str;
 
-/// The name that a word says, in either case: 1 to 8 bytes, and behind a `.` up to 3 of a type, with a letter A to D and `:`
-/// before it or on drive A.
+/// Parses the name of a file, in either case: 1 to 8 bytes, then optionally a `.` and a type of up to 3 bytes. A letter A to D
+/// and `:` before it name the drive, which is A by default.
 pub fn name(word: &[u8]) -> Option<Name>
     ensures found { IfSome result (IsName word.now) }
     ensures none { IfNone result ((key : List ℕ) → IsName word.now key → ⊥) }
@@ -25,11 +25,11 @@ pub fn name(word: &[u8]) -> Option<Name>
     }
 }
 
-/// Reads the file of the two words after `file`: its name, and its bytes.
+/// Parses the two words after `file`: the name of a file, and its bytes.
 ///
 /// # Errors
 ///
-/// An allocation failed for the bytes, of which there are some.
+/// Returns `Err` if the allocation for the bytes fails. A file without bytes never fails.
 pub fn file(
     alloc: Global,
     name_word: &[u8],

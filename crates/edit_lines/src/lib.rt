@@ -1,9 +1,9 @@
 //! Edit lines and their replies, and a replay of edit lines over any reader and writer.
 //!
-//! - `line`, `file_lines`, `reply`: the command of a line; the words of `file NAME HEX` and `gone NAME`; the reply to a refused edit
-//! - `carry_out`, `stream`, `ending`: one line carried out; lines cut from a reader and carried out one by one; how a
-//!   replay ends
-//! - `limits`: the most bytes of a line, and the most lines
+//! - `line`, `file_lines`, `reply`: the command of a line; the words of `file NAME HEX` and `gone NAME`; the reply to a refused
+//!   edit
+//! - `carry_out`, `stream`, `ending`: one line executed; lines read from a reader and executed one by one; how a replay ends
+//! - `limits`: the largest length of a line, and the largest number of lines
 #![tactic(auto)]
 
 mod carry_out;

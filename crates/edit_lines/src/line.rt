@@ -13,19 +13,19 @@ use memchr::memchr;
 use replay::Edit;
 use std::alloc::{AllocError, Global};
 
-/// What a line of an edit text asks for.
+/// The command of a line of an edit text.
 #[derive(Drop)]
 pub enum Command {
-    /// `insert AT HEX`, `replace AT HEX`, `remove AT COUNT`, `poke ADDR HEX`, `file NAME HEX`, `gone NAME` or `limit N`: the session
-    /// is changed.
+    /// An edit of the session: `insert AT HEX`, `replace AT HEX`, `remove AT COUNT`, `poke ADDR HEX`, `file NAME HEX`,
+    /// `gone NAME` or `limit N`.
     Edit(Edit),
-    /// `run`: the session is run, and its report is written.
+    /// A run of the session and its report: `run`.
     Run,
-    /// `drop N`: so many of the oldest checkpoints are dropped. No later answer depends on it.
+    /// The removal of the N oldest checkpoints: `drop N`. No later reply depends on it.
     DropOldest(u64),
 }
 
-/// The words of a line, where they are three at most.
+/// The words of a line, if there are at most three.
 #[derive(Clone, Copy)]
 enum Words<'a> {
     /// One word.
@@ -38,7 +38,7 @@ enum Words<'a> {
     More,
 }
 
-/// The first word of a line, and what stands after its blank.
+/// Returns the first word of a line, and the rest after its blank, if there is a blank.
 fn split_word(line: &[u8]) -> (&[u8], Option<&[u8]>)
     ensures word { result.0.now ≡ first_piece 32 line.now }
     ensures rest { MatchOption result.1 (other_pieces 32 line.now ≡ [])
@@ -50,7 +50,7 @@ fn split_word(line: &[u8]) -> (&[u8], Option<&[u8]>)
     }
 }
 
-/// A line split into its words.
+/// Splits a line into its words.
 fn split(line: &[u8]) -> Words<'_>
     ensures { AreSplit (words_of line.now) result }
 {
@@ -69,7 +69,7 @@ fn split(line: &[u8]) -> Words<'_>
     Words::Three(first, second, third)
 }
 
-/// The number of one to ten decimal digits.
+/// Parses a number of one to ten decimal digits.
 fn number(word: &[u8]) -> Option<u64>
     ensures found { IfSome result (IsNumber word.now) }
     ensures none { IfNone result ((n : ℕ) → IsNumber word.now n → ⊥) }
@@ -88,14 +88,14 @@ fn number(word: &[u8]) -> Option<u64>
     Some(n)
 }
 
-/// Whether a byte is a hexadecimal digit, in either case.
+/// Returns whether a byte is a hexadecimal digit, in either case.
 fn is_digit(byte: u8) -> bool
     ensures { result ≡ is_hex_digit byte }
 {
     b'A' <= byte && byte <= b'F' || b'a' <= byte && byte <= b'f' || b'0' <= byte && byte <= b'9'
 }
 
-/// Whether all bytes of a word are hexadecimal digits.
+/// Returns whether all bytes of a word are hexadecimal digits.
 fn are_digits(word: &[u8]) -> bool
     ensures { MatchBool result (AllPass is_hex_digit word.now) (AllPass is_hex_digit word.now → ⊥) }
 {
@@ -107,7 +107,7 @@ fn are_digits(word: &[u8]) -> bool
     true
 }
 
-/// The bytes of `-`, or of two hexadecimal digits for each. An allocation fails only for the bytes of a word that has some.
+/// Parses bytes: `-` for none, or two hexadecimal digits for each. An allocation can fail only for a word with bytes.
 pub(crate) fn hex_bytes(alloc: Global, word: &[u8]) -> Result<Option<Vec<u8>>, AllocError>
     ensures found { IfOk result (λ r. IfSome r (λ v. IsHexText word.now v.items)) }
     ensures none { IfOk result (λ r. IfNone r ((bytes : List ℕ) → IsHexText word.now bytes → ⊥)) }
@@ -132,7 +132,7 @@ pub(crate) fn hex_bytes(alloc: Global, word: &[u8]) -> Result<Option<Vec<u8>>, A
     }
 }
 
-/// The address of four hexadecimal digits.
+/// Parses an address of four hexadecimal digits.
 fn address(word: &[u8]) -> Option<u16>
     ensures found { IfSome result (IsAddress word.now) }
     ensures none { IfNone result ((a : ℕ) → IsAddress word.now a → ⊥) }
@@ -143,7 +143,7 @@ fn address(word: &[u8]) -> Option<u16>
     }
 }
 
-/// The command of two words, the second of them a number or a name.
+/// Parses the command of two words, of which the second is a number or a name.
 fn paired(verb: &[u8], word: &[u8]) -> Option<Command>
     ensures found { IfSome result (IsPaired verb.now word.now) }
     ensures none { IfNone result ((c : Command) → IsPaired verb.now word.now c → ⊥) }
@@ -163,7 +163,7 @@ fn paired(verb: &[u8], word: &[u8]) -> Option<Command>
     }
 }
 
-/// The poke of two words, an address and the bytes.
+/// Parses the words after `poke`: an address and the bytes.
 fn poke(alloc: Global, at: &[u8], bytes: &[u8]) -> Result<Option<Command>, AllocError>
     ensures found { IfOk result (λ r. IfSome r (IsPlaced (codes "poke") at.now bytes.now)) }
     ensures none { IfOk result
@@ -180,7 +180,7 @@ fn poke(alloc: Global, at: &[u8], bytes: &[u8]) -> Result<Option<Command>, Alloc
     }
 }
 
-/// The insertion of two words, a place and the bytes.
+/// Parses the words after `insert`: an offset and the bytes.
 fn insert(alloc: Global, at: &[u8], bytes: &[u8]) -> Result<Option<Command>, AllocError>
     ensures found { IfOk result (λ r. IfSome r (IsPlaced (codes "insert") at.now bytes.now)) }
     ensures none { IfOk result
@@ -197,7 +197,7 @@ fn insert(alloc: Global, at: &[u8], bytes: &[u8]) -> Result<Option<Command>, All
     }
 }
 
-/// The replacement of two words, a place and the bytes.
+/// Parses the words after `replace`: an offset and the bytes.
 fn replace(alloc: Global, at: &[u8], bytes: &[u8]) -> Result<Option<Command>, AllocError>
     ensures found { IfOk result (λ r. IfSome r (IsPlaced (codes "replace") at.now bytes.now)) }
     ensures none { IfOk result
@@ -214,7 +214,7 @@ fn replace(alloc: Global, at: &[u8], bytes: &[u8]) -> Result<Option<Command>, Al
     }
 }
 
-/// The removal of two words, a place and a count.
+/// Parses the words after `remove`: an offset and a count.
 fn remove(at: &[u8], count: &[u8]) -> Option<Command>
     ensures found { IfSome result (IsPlaced (codes "remove") at.now count.now) }
     ensures none { IfNone result ((c : Command) → IsPlaced (codes "remove") at.now count.now c → ⊥) }
@@ -224,7 +224,7 @@ fn remove(at: &[u8], count: &[u8]) -> Option<Command>
     Some(Command::Edit(Edit::Remove(at, count)))
 }
 
-/// The file of two words, its name and its bytes.
+/// Parses the words after `file`: a name and the bytes.
 fn set_file(alloc: Global, name: &[u8], bytes: &[u8]) -> Result<Option<Command>, AllocError>
     ensures found { IfOk result (λ r. IfSome r (IsPlaced (codes "file") name.now bytes.now)) }
     ensures none { IfOk result
@@ -238,7 +238,7 @@ fn set_file(alloc: Global, name: &[u8], bytes: &[u8]) -> Result<Option<Command>,
     }
 }
 
-/// The command of three words.
+/// Parses the command of three words.
 fn placed(alloc: Global, verb: &[u8], at: &[u8], last: &[u8]) -> Result<Option<Command>, AllocError>
     ensures found { IfOk result (λ r. IfSome r (IsPlaced verb.now at.now last.now)) }
     ensures none { IfOk result
@@ -263,11 +263,11 @@ fn placed(alloc: Global, verb: &[u8], at: &[u8], last: &[u8]) -> Result<Option<C
     Ok(None)
 }
 
-/// Parses a line without its 0AH: its command, or `None` if it has none.
+/// Parses a line without its 0AH, and returns its command, or `None` if it has none.
 ///
 /// # Errors
 ///
-/// An allocation failed for the bytes of a command that names some. A line that has no command never fails.
+/// Returns `Err` if an allocation fails for the bytes of a command. A line that has no command never fails.
 pub fn parse_line(alloc: Global, line: &[u8]) -> Result<Option<Command>, AllocError>
     ensures found { IfOk result (λ r. IfSome r (EditLine line.now)) }
     ensures none { IfOk result (λ r. IfNone r ((c : Command) → EditLine line.now c → ⊥)) }
@@ -281,7 +281,7 @@ pub fn parse_line(alloc: Global, line: &[u8]) -> Result<Option<Command>, AllocEr
     }
 }
 
-/// A law: a line has one command at most.
+/// A line has at most one command.
 pub fn one_command()
     ensures { (line : List ℕ) (c d : Command) → EditLine line c → EditLine line d → c ≡ d }
 {}

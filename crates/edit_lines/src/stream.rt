@@ -19,7 +19,7 @@ use replay::Runner;
 use report_lines::{Reader, Writer};
 use std::alloc::Global;
 
-/// The beginning of a line that was read, and how many lines were carried out.
+/// The beginning of a line that was read, and the number of lines that were executed.
 #[derive(Drop)]
 struct Place {
     line: Vec<u8>,
@@ -32,7 +32,8 @@ struct Place {
 ///
 /// # Errors
 ///
-/// The line would be too long, or its buffer has no room for the part and cannot grow. The line is unchanged.
+/// Returns `Err` if the line would be too long, or if its buffer has no room for the part and cannot grow. The line is then
+/// unchanged.
 fn take_part(place: &mut Place, part: &[u8]) -> Result<(), ReplayFault>
     ensures lines { place.new.lines ≡ place.old.lines }
     ensures taken { OnOk result (place.new.line.items ≡ place.old.line.items ++ part.now) }
@@ -48,7 +49,7 @@ fn take_part(place: &mut Place, part: &[u8]) -> Result<(), ReplayFault>
     Ok(())
 }
 
-/// Carries out the line, whose 0AH was read, and begins the next one. Memory may run out only for a line that may want it.
+/// Executes the line, whose 0AH was read, and begins the next one. Memory can run out only for a line that may need it.
 fn end_line<W: Writer>(
     alloc: Global,
     place: &mut Place,
@@ -137,7 +138,7 @@ fn take_piece<W: Writer>(
     take_part(place, rest)
 }
 
-/// Carries out a last line that has no end.
+/// Executes the last line if it has no 0AH.
 fn finish<W: Writer>(
     alloc: Global,
     place: Place,
@@ -177,21 +178,21 @@ fn finish<W: Writer>(
     })
 }
 
-/// Replays the edit lines of the reader, and writes each reply as it comes. The meter is new. At the
-/// end or at a fault the runner has the session after the lines that were carried out, and the reader
-/// has given at most 131,072 bytes past them. Each line has its effect on the runner's checkpoints and on
-/// the meter, one after the other, and nothing else is done to them: an edit leaves exactly the checkpoints
-/// that it does not touch, and a run adds no steps but those from the kept one where it begins. The options stay.
+/// Replays the edit lines of the reader, and writes the reply to each line in order. The meter must be new. At the end or at an
+/// error, the runner has the session after the executed lines, and at most 131,072 bytes past them were read. The lines change the
+/// runner's checkpoints and the meter one after the other, and nothing else changes them: an edit leaves exactly the checkpoints that
+/// it does not touch, and a run adds only the steps from the kept one where it begins. The options stay the same.
 ///
 /// # Errors
 ///
-/// [`ReplayFault`] says what each leaves. `OutOfMemory` comes only at a line that is longer than each line before it, as
-/// its buffer has to grow, or that may want memory: a run, an edit line that names bytes, or an insertion or a file that
-/// the session does not refuse. Exactly the lines before it were carried out, and their replies written.
+/// [`ReplayFault`] says what holds after each. `OutOfMemory` can occur only at a line that is longer than each line before it, for
+/// which the buffer has to grow, or at a line that may need memory: a run, an edit line that names bytes, or an insertion or a file
+/// that the session does not refuse. Exactly the lines before it were executed, and their replies written.
 ///
 /// # Example
 ///
-/// The edit lines of a device are answered on another; `Over` makes a `Reader` of any `Read`, and a `Writer` of any `Write`:
+/// Replays the edit lines of one device and writes the replies to another; `Over` makes a `Reader` of any `Read`, and a `Writer` of any
+/// `Write`:
 ///
 /// ```text
 /// let mut reader = Over::new(fs::open(&rt, "edits.txt")?);
@@ -242,8 +243,8 @@ pub fn replay<R: Reader, W: Writer>(
     }
 }
 
-/// A law: a replay is a function of its first session and its lines. They have one text, one last
-/// session and one end.
+/// A replay is a function of its first session and its lines: two replays of the same lines write the same text, and have the
+/// same last session and the same end.
 pub fn one_replay()
     ensures { (first : Session) (lines : List (List ℕ)) (text other_text : List ℕ)
         (last other_last : Session) (end other_end : End)

@@ -7,10 +7,10 @@ use replay::{Edit, EditError, Options, OptionsError, Report, Runner};
 use std::alloc::{AllocError, Global};
 use std::io;
 
-/// Why there is no answer.
+/// Why the program ends early.
 #[derive(Drop)]
 pub enum Trouble {
-    /// Memory was refused.
+    /// An allocation failed.
     OutOfMemory,
     /// The session is refused.
     Session(SessionError),
@@ -18,9 +18,9 @@ pub enum Trouble {
     Options(OptionsError),
     /// The edit is refused.
     Edit(EditError),
-    /// The standard output failed.
+    /// Standard output failed.
     Output,
-    /// What the program printed is no text in UTF-8.
+    /// The console text is not UTF-8.
     Text,
 }
 
@@ -54,8 +54,8 @@ impl From<io::Error> for Trouble {
     }
 }
 
-/// A runner of a program with no tail and no files, to which these bytes are typed. A run has a checkpoint every 100 steps, and
-/// the newest eight are kept.
+/// Returns a runner for a program with no tail and no files, and with `typed` as its script. A run makes a checkpoint every 100
+/// steps, and the newest eight are kept.
 pub fn runner_of(alloc: Global, program: &[u8], typed: &[u8]) -> Result<Runner, Trouble> {
     let session = Session::new(
         program.to_vec(alloc)?,
@@ -71,7 +71,7 @@ pub fn runner_of(alloc: Global, program: &[u8], typed: &[u8]) -> Result<Runner, 
     Ok(Runner::new(alloc, session, options)?)
 }
 
-/// Replaces what is typed, from a place on.
+/// Replaces bytes of the script from an offset on.
 pub fn replace_typed(
     alloc: Global,
     runner: &mut Runner,
@@ -83,7 +83,7 @@ pub fn replace_typed(
     Ok(())
 }
 
-/// Runs the session as it is now, and prints what came of it.
+/// Runs the current session and prints the result.
 pub fn run(rt: &impl Print, runner: &mut Runner, meter: &mut Meter) -> Result<(), Trouble>
     requires { meter.old ≤ 2 ^ 63 }
     ensures { meter.new ≤ meter.old + STEP_LIMIT }

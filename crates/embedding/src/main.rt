@@ -1,8 +1,8 @@
-//! A program with the runner in it: a session is run, what is typed is edited, and the session is run again.
+//! A program with the runner in it: it runs a session, edits the script, and runs the session again.
 //!
-//! The 8080 program counts from 250 down to 0, takes a byte from the console, and prints it once more. Each line that is printed here
-//! tells a run: the text, the cause of its stop, its steps, and how many of these were carried out for it. The second run resumes at
-//! the last checkpoint before the step that takes the byte.
+//! The 8080 program counts from 250 down to 0, takes a byte from the console, and prints it once more. This program prints a line
+//! for each run: the text, the cause of the stop, the number of steps, and how many of them the run executed. The second run
+//! resumes from the last checkpoint before the step that takes the byte.
 //!
 //! - `asking`: a session and its runner, a run, and an edit
 #![tactic(auto)]
@@ -28,7 +28,7 @@ fn answer(rt: &(impl Print + AllocGlobal)) -> Result<(), Trouble> {
     run(rt, &mut runner, &mut meter)
 }
 
-/// The status is 0 where both runs were carried out.
+/// Exits with status 0 if both runs were executed, and 1 otherwise.
 fn main(rt: HostRuntime) -> ExitCode {
     match answer(&rt) {
         Ok(()) => ExitCode::SUCCESS,

@@ -6,7 +6,7 @@ use std::env;
 use std::io::ErrorKind;
 use std::process::ExitCode;
 
-/// The words after the program's name go to the command. One that is no text is a fault of use.
+/// Passes the words after the program's name to the command. A word that is not UTF-8 is a usage error.
 fn main(rt: HostRuntime) -> ExitCode {
     let alloc = rt.alloc();
     let mut out = Over::new(rt.stdout());

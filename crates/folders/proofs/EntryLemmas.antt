@@ -5,7 +5,7 @@ use Rattle.std.specs.List.{before_first, after_first, list_any}
 use Rattle.filenames.specs.Names.{Key, is_colon, is_dot, is_valid, key_of, named, on_drive, drive_of, plain_name, has_drive, name_of}
 use Rattle.folders.specs.Entries.{key_in, ok_or_none}
 
--- a name without a `:` names no drive
+-- A name without a `:` names no drive.
 no_letter : (file : List ℕ) → list_any is_colon file ≡ false → has_drive file ≡ false
 no_letter [] h = refl
 no_letter (b ∷ []) h = refl
@@ -20,7 +20,7 @@ no_letter (b ∷ c ∷ bs) h = neither (nat_lt 1 (length (b ∷ c ∷ bs))) (is_
     second false true z e = cc
     second false false z e = refl
 
--- the key that a result gives, put on a drive
+-- The key of a result, put on a drive.
 abbrev put_on : ℕ → Result Key ℕ → Result Key ℕ
 put_on drive (Ok key) = Ok (slice_set key 0 drive)
 put_on drive (Err n) = Err n
@@ -32,7 +32,7 @@ by_tests false true c drive key other e = refl
 by_tests false false true drive key other e = ap Ok (sym e)
 by_tests false false false drive key other e = refl
 
--- a name on a drive is the same name on drive A, put on it
+-- A name on a drive is the same name on drive A, put on that drive.
 named_on : (drive : ℕ) (name kind : List ℕ) → named drive name kind ≡ put_on drive (named 0 name kind)
 unfolding named
 named_on drive name kind = by_tests (length name == 0) (nat_lt 8 (length name) || nat_lt 3 (length kind)) (is_valid name && is_valid kind) drive (key_of 0 name kind) (key_of drive name kind) refl
@@ -44,11 +44,11 @@ plain_of file h = ap (λ b. cond b (on_drive (drive_of (slice_index file 0)) (dr
 key_by : (file : List ℕ) (drive : ℕ) → list_any is_colon file ≡ false → key_in drive file ≡ ok_or_none (put_on drive (name_of file))
 key_by file drive h = rw (h, plain_of file h) (ap ok_or_none (named_on drive (before_first is_dot file) (after_first is_dot file)))
 
--- a file's name that says a name on drive A has the key of it on its drive
+-- If a file's name is valid on drive A, the file has that key, put on its drive.
 pub said_key : (file : List ℕ) (drive : ℕ) (key : Key) → list_any is_colon file ≡ false → name_of file ≡ Ok key → key_in drive file ≡ Some (slice_set key 0 drive)
 said_key file drive key h e = key_by file drive h ∙ ap (λ r. ok_or_none (put_on drive r)) e
 
--- and one that says none has none
+-- If a file's name is not valid, the file has no key.
 pub refused_key : (file : List ℕ) (drive n : ℕ) → list_any is_colon file ≡ false → name_of file ≡ Err n → key_in drive file ≡ None
 refused_key file drive n h e = key_by file drive h ∙ ap (λ r. ok_or_none (put_on drive r)) e
 
@@ -60,7 +60,7 @@ nameless : (drive : ℕ) (kind : List ℕ) → ok_or_none (named drive [] kind) 
 unfolding named
 nameless drive kind = refl
 
--- a name that begins with a `.` (46) is that of no host file
+-- A name that begins with a `.` (46) belongs to no host file.
 pub dotted_key : (file : List ℕ) (drive : ℕ) → key_in drive (46 ∷ file) ≡ None
 dotted_key file drive = either_none (list_any is_colon (46 ∷ file)) (ok_or_none (plain_name drive (46 ∷ file))) (nameless drive (after_first is_dot (46 ∷ file)))
 
@@ -78,6 +78,6 @@ some_named : (b : Bool) (r : Option Key) (key : Key) → cond b None r ≡ Some 
 some_named true r key e = cc
 some_named false r key e = e
 
--- the key of a file in the folder of a drive is one of the drive
+-- The key of a file in the folder of a drive is on that drive.
 pub drive_in : (drive : ℕ) (file : List ℕ) (key : Key) → key_in drive file ≡ Some key → slice_index key 0 ≡ drive
 drive_in drive file key e = named_drive drive _ _ key (some_named (list_any is_colon file) (ok_or_none (plain_name drive file)) key e)

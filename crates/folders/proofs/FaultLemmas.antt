@@ -21,7 +21,7 @@ use Rattle.folders.specs.declared.fault.Failure.TheVariants.{AtFault, OutOfMemor
 use Rattle.folders.proofs.ListingLemmas.{Map}
 use Rattle.folders.proofs.ReadLemmas.{ReadBelow, SetUpTo, WantedOf, named_of, still_of}
 
--- a file that was read is refused, or memory was
+-- A file that was read is refused, or an allocation failed.
 pub set_fails : (files : Option Stored) (path : Path) (host : Host) (key : Key) (bytes : List ℕ) (r : Result (Unit {0}) Failure) → Reads files path (FILE_LIMIT + 1) bytes
     → RefusesAs (refusal_of host key bytes) key r → IfErr r (FailsBy (FailsFile files path host key))
 set_fails files path host key bytes r read h = by_number (refusal_of host key bytes) refl r h where
@@ -31,7 +31,7 @@ set_fails files path host key bytes r read h = by_number (refusal_of host key by
   by_number (Some n) e (Ok u) h = tt
   by_number (Some n) e (Err f) h = subst (FailsBy (FailsFile files path host key)) (sym h) (refl, (bytes, read, e))
 
--- a file of a listing is not read, and those of lesser keys were
+-- A file of a listing is not read, and the files with lesser keys were.
 pub listed_fails : {Z : Type 0} (files : Option Stored) (folder : Path) (listed : Map (String Z)) (first : Host) (after : Option Key) (host : Host) (key : Key) (file : String Z) (failure : Failure)
     → SetUpTo (WantedOf files folder listed) listed first after host
     → ((x : Key) → is_above after x ≡ true → slice_cmp nat_cmp x key ≡ Less → get listed x ≡ None)
@@ -57,7 +57,7 @@ listed_fails {Z = Z} files folder listed first after host key file (AtFault faul
     | false ↦ λ b. s.there k (ap is_some e) b
   ] refl)
 
--- what is not read of a listing is not read of its folder
+-- If a listing is not read, its folder is not.
 pub folder_fails : {Z : Type 0} (files : Option Stored) (names : List Path) (drive : ℕ) (folder : Path) (listed : Map (String Z)) (twice : Option Key) (host : Host) (r : Result (Unit {0}) Failure)
     → IfSome files (λ stored. Lists stored drive folder names listed twice) → twice ≡ None
     → ((k : Key) → contains_key listed k ≡ true → slice_index k 0 ≡ drive)
@@ -82,7 +82,7 @@ folder_fails files names drive folder listed twice host (Err (AtFault fault)) l 
         before = λ k other lt there is. named_of stored folder other (get listed k) (get host k) (l.alone one k other there is) (b k lt);
       }
 
--- the folders of the drives before one were read, and stay so where no file of them changes
+-- The folders of the drives before one were read, and this still holds if no file of them changes.
 pub before_still : (files : Option Stored) (names : Path → List Path) (folders : List (Option (Bor (List ℕ)))) (drive : ℕ) (before now : Host) → ReadBelow files names folders drive before
     → ((k : Key) → slice_index k 0 ≢ drive → get now k ≡ get before k)
     → IfSome files (λ stored. (d : ℕ) (f : Path) → d < drive → folder_of folders d ≡ Some f → AreOf stored (names f) d f now)

@@ -1,4 +1,4 @@
--- Maps from keys into which a value is put.
+-- Maps from keys to which a value is added.
 use Rattle.std.proofs.Common.{◌≡◌, ◌≢◌, ℕ, ◌+◌, ◌<◌, ◌≤◌, Bool, true, false, cond, is_some, List, [], ◌∷◌, ◌++◌, Option, Some, None, Result, Ok, Err, IfSome, OnOk, OnErr, inl, inr, length, take, take_all, map, get_or, refl, sym, ap, subst, ◌∙◌, arith}
 use Rattle.std.specs.Prelude.{String, string_bytes}
 use Rattle.std.specs.Option.{option_map}
@@ -25,31 +25,31 @@ module _ {X : Type 0} where
   put_one P key k true v r same here rest h = subst P (sym (same refl)) here
   put_one P key k false v r same here rest h = rest h
 
-  -- what holds of each key holds still where a key of which it holds was put in
+  -- What holds for each key still holds when such a key is added.
   put_all : (P : Key → Type 0) (m : Map X) (key : Key) (v : X) → P key → ((k : Key) → contains_key m k ≡ true → P k)
       → (k : Key) → contains_key (insert m key v) k ≡ true → P k
   put_all P m key v here rest k h = put_one P key k (eq_by_cmp (slice_cmp nat_cmp) k key) v (get m k) (key_of same_key k key) here (rest k)
       (sym (ap is_some (get-insert nat_list_cmp_total m key v k)) ∙ h)
 
-  -- the same, whether it was put in or not
+  -- The same, whether the key was added or not.
   pub put_or_not : {E : Type 0} (P : Key → Type 0) (m n : Map X) (key : Key) (v : X) (r : Result (Unit {0}) E) → OnOk r (n ≡ insert m key v) → OnErr r (n ≡ m)
       → P key → ((k : Key) → contains_key m k ≡ true → P k) → (k : Key) → contains_key n k ≡ true → P k
   put_or_not P m n key v (Ok x) ok err here rest k h = put_all P m key v here rest k (ap (λ l. contains_key l k) (sym ok) ∙ h)
   put_or_not P m n key v (Err x) ok err here rest k h = rest k (ap (λ l. contains_key l k) (sym err) ∙ h)
 
-  -- a key that was there is there still
+  -- A key that was there is still there.
   pub still_there : {E : Type 0} (m n : Map X) (key : Key) (v : X) (r : Result (Unit {0}) E) → OnOk r (n ≡ insert m key v) → OnErr r (n ≡ m)
       → (k : Key) → contains_key m k ≡ true → contains_key n k ≡ true
   still_there m n key v (Ok x) ok err k h = ap (λ l. contains_key l k) ok ∙ there_still nat_list_cmp_total same_key m key v k h
   still_there m n key v (Err x) ok err k h = ap (λ l. contains_key l k) err ∙ h
 
-  -- the value of another key stays
+  -- The value of another key stays the same.
   pub other_stays : {E : Type 0} (m n : Map X) (key : Key) (v : X) (r : Result (Unit {0}) E) → OnOk r (n ≡ insert m key v) → OnErr r (n ≡ m)
       → (k : Key) → k ≢ key → get n k ≡ get m k
   other_stays m n key v (Ok x) ok err k h = ap (λ l. get l k) ok ∙ get_apart nat_list_cmp_total same_key m key v k h
   other_stays m n key v (Err x) ok err k h = ap (λ l. get l k) err
 
-  -- the key that was put in is there
+  -- The key that was added is there.
   pub now_there : {E : Type 0} (m n : Map X) (key : Key) (v : X) (r : Result (Unit {0}) E) → OnOk r (n ≡ insert m key v) → OnOk r (contains_key n key ≡ true)
   now_there m n key v (Ok x) ok = ap (λ l. contains_key l key) ok ∙ ap is_some (get_here nat_list_cmp_total same_key m key v)
   now_there m n key v (Err x) ok = tt
@@ -77,12 +77,12 @@ module _ (stored : Stored) (drive : ℕ) (folder : Path) where
   some_further names file None t = tt
   some_further names file (Some key) t = two_further names file key t
 
-  -- one key alone is given by a name
+  -- A name has at most one key.
   one_key : (file : Path) (a b : Key) → IsHostFile stored drive folder a file → IsHostFile stored drive folder b file → a ≡ b
   one_key file a b p q = let same : Some a ≡ Some b = sym p.gives ∙ q.gives in cc
 
   module _ {Z : Type 0} (names : List Path) (files : Map (String Z)) (twice : Option Key) (file : Path) (l : Lists stored drive folder names files twice) where
-    -- a name that is that of no host file
+    -- The name belongs to no host file.
     pub passed_over : ((key : Key) → IsHostFile stored drive folder key file → ⊥) → Lists stored drive folder (names ++ file ∷ []) files twice
     passed_over none = record {
       listed = λ key f e. let h = l.listed key f e in (Contains-append_left names (file ∷ []) (string_bytes f) h.0, h.1);
@@ -101,7 +101,7 @@ module _ (stored : Stored) (drive : ℕ) (folder : Path) where
           (Contains-push names file, subst (λ j. IsHostFile stored drive folder j file) (sym (same refl)) is))
       by_key false k f same e = let h = l.listed k f e in (Contains-append_left names (file ∷ []) (string_bytes f) h.0, h.1)
 
-      -- the name of a host file whose key no earlier one gave
+      -- The name belongs to a host file whose key no earlier name has.
       pub added_once : contains_key files key ≡ false → Lists stored drive folder (names ++ file ∷ []) (insert files key text) twice
       added_once new = record {
         listed = λ k f e. by_key (eq_by_cmp (slice_cmp nat_cmp) k key) k f (key_of same_key k key) (sym (get-insert nat_list_cmp_total files key text k) ∙ e);
@@ -134,7 +134,7 @@ module _ (stored : Stored) (drive : ℕ) (folder : Path) where
       least_two None old t = now_two old
       least_two (Some other) old t = lesser_two (is_lt (slice_cmp nat_cmp other key)) other old t
 
-      -- the name of a host file whose key an earlier one gave
+      -- The name belongs to a host file whose key an earlier name has.
       pub added_again : contains_key files key ≡ true → Lists stored drive folder (names ++ file ∷ []) files (Some (least key twice))
       added_again old = record {
         listed = λ k f e. let h = l.listed k f e in (Contains-append_left names (file ∷ []) (string_bytes f) h.0, h.1);
@@ -146,7 +146,7 @@ module _ (stored : Stored) (drive : ℕ) (folder : Path) where
         two = least_two twice old l.two;
       }
 
-      -- either
+      -- The name belongs to a host file.
       pub added : (now : Map (String Z)) (then : Option Key)
           → (contains_key files key ≡ false → (now ≡ insert files key text) × (then ≡ twice))
           → (contains_key files key ≡ true → (now ≡ files) × (then ≡ Some (least key twice)))
@@ -156,7 +156,7 @@ module _ (stored : Stored) (drive : ℕ) (folder : Path) where
         by_old true e = let a = again e in subst (λ m. Lists stored drive folder (names ++ file ∷ []) m then) (sym a.0) (subst (Lists stored drive folder (names ++ file ∷ []) files) (sym a.1) (added_again e))
         by_old false e = let o = once e in subst (λ m. Lists stored drive folder (names ++ file ∷ []) m then) (sym o.0) (subst (Lists stored drive folder (names ++ file ∷ []) (insert files key text)) (sym o.1) (added_once e))
 
-  -- of no name
+  -- There are no names.
   pub none_listed : {Z : Type 0} (files : Map (String Z)) (twice : Option Key) → files ≡ empty → twice ≡ None → Lists stored drive folder [] files twice
   none_listed {Z} files twice e t = subst (λ m. Lists stored drive folder [] m twice) (sym e) (subst (Lists stored drive folder [] empty) (sym t) (record {
     listed = λ key f h. absurd (none_there (String Z) key (ap is_some h));
@@ -167,7 +167,7 @@ module _ (stored : Stored) (drive : ℕ) (folder : Path) where
     none_in : {name : Path} → Contains [] name → ⊥
     none_in h = absurd (omega (arith, h.1))
 
--- the same, where the files are told
+-- The same, if the files are known.
 module _ {Z : Type 0} (drive : ℕ) (folder : Path) (files : Map (String Z)) (twice : Option Key) (file : Path) where
   pub added_if_told : (o : Option Stored) (key : Key) (text : String Z) → string_bytes text ≡ file → IfSome o (λ stored. IsHostFile stored drive folder key file)
       → (now : Map (String Z)) (then : Option Key)
@@ -182,7 +182,7 @@ module _ {Z : Type 0} (drive : ℕ) (folder : Path) (files : Map (String Z)) (tw
   passed_over_if_told None none = tt
   passed_over_if_told (Some stored) none = λ names l. passed_over stored drive folder names files twice file l none
 
-  -- one name more of those that are listed
+  -- One more of the names that are listed.
   pub further : (o : Option Stored) (items : List (String Z)) (i : ℕ) (item : String Z) (d : ℕ) (now : Map (String Z)) (then : Option Key)
       → i < length items → item ≡ get_or items i item → file ≡ string_bytes item → d ≡ drive
       → IfSome o (λ stored. Lists stored drive folder (take i (map string_bytes items)) files twice)
@@ -203,7 +203,7 @@ module _ {Z : Type 0} (drive : ℕ) (folder : Path) (files : Map (String Z)) (tw
   none_listed_if_told None e t = tt
   none_listed_if_told (Some stored) e t = none_listed stored drive folder files twice e t
 
-  -- the names are all of them
+  -- The names are all of them.
   pub all_listed : (o : Option Stored) (items : List (String Z)) (i : ℕ) (names : List Path) → length items ≤ i → IfSome o (λ _. map string_bytes items ≡ names)
       → IfSome o (λ stored. Lists stored drive folder (take i (map string_bytes items)) files twice) → IfSome o (λ stored. Lists stored drive folder names files twice)
   all_listed None items i names le e l = tt

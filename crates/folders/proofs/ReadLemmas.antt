@@ -1,4 +1,4 @@
--- What is read of a file, and files that are read one after another.
+-- What is read of a file, and files that are read one after the other.
 use Rattle.std.proofs.Common.{◌≡◌, ◌≢◌, ℕ, zero, suc, ◌+◌, ◌<◌, ◌≤◌, List, length, take, Bool, true, false, is_some, Option, Some, None, IfSome, ◌⊎◌, inl, inr, refl, sym, ap, subst, ◌∙◌, slice_index, get_or, arith}
 use Rattle.std.specs.Prelude.{String, string_bytes}
 use Rattle.std.specs.List.{Contains}
@@ -24,19 +24,19 @@ use Rattle.folders.specs.Folders.{AreFromFolders, AreOf, AreRead, IsRead, IsRead
 use Rattle.folders.proofs.EntryLemmas.{drive_in}
 use Rattle.folders.proofs.ListingLemmas.{Map, none_there}
 
--- what a reader of so many bytes gives
+-- What is read of a file through a reader of at most n bytes.
 pub up_to : (r : Option (List ℕ)) (n : ℕ) (got : List ℕ) → IfSome (option_map (take n) r) (λ xs. got ≡ xs)
     → IfSome r (λ xs. got ≡ take n xs)
 up_to None n got h = tt
 up_to (Some xs) n got h = h
 
--- what is read of a file that was opened
+-- What is read of a file that was opened.
 pub reads : (files : Option Stored) (path : Path) (n : ℕ) (left : Option (List ℕ)) (got : List ℕ) → Opens files path left → IfSome left (λ all. got ≡ take n all) → Reads files path n got
 reads None path n left got o h = tt
 reads (Some stored) path n None got o h = let bad : false ≡ true = o.1 in cc
 reads (Some stored) path n (Some all) got o h = (all, sym o.0, h)
 
--- a file that was read and put in
+-- A file that was read and set.
 pub put_in : (files : Option Stored) (path : Path) (bytes : List ℕ) (before : Host) (key : Key) (now : Host) → Reads files path (FILE_LIMIT + 1) bytes
     → now ≡ insert before key (records_in bytes) → IfSome files (λ stored. IsRead stored path (get now key))
 put_in None path bytes before key now r e = tt
@@ -46,7 +46,7 @@ put_in (Some stored) path bytes before key now r e = record {
   read = ap (λ m. get m key) e ∙ get_here nat_list_cmp_total same_key before key (records_in bytes) ∙ ap (λ b. Some (records_in b)) r.2;
 }
 
--- of the files that are listed those up to a key were read, and no other name was set
+-- The files that are listed up to a key were read, and no other name was set.
 pub record SetUpTo {X : Type 0} (P : Key → Option (List Record) → Type 0) (listed : Map X) (first : Host) (after : Option Key) (files : Host) : Type 0 where
   pub others : (k : Key) → contains_key listed k ≡ false → get files k ≡ get first k
   pub there : (k : Key) → contains_key listed k ≡ true → is_above after k ≡ false → P k (get files k)
@@ -58,7 +58,7 @@ module _ {X : Type 0} (P : Key → Option (List Record) → Type 0) where
   absent : (listed : Map X) (k : Key) → contains_key listed k ≡ true → get listed k ≡ None → ⊥
   absent listed k h e = let b : is_some (get listed k) ≡ false = ap is_some e in cc
 
-  -- the file of the next key is set
+  -- The file of the next key is set.
   pub one_more : (listed : Map X) (first : Host) (after : Option Key) (files : Host) (key : Key) (now : Host) → SetUpTo P listed first after files
       → ((x : Key) → is_above after x ≡ true → slice_cmp nat_cmp x key ≡ Less → get listed x ≡ None)
       → contains_key listed key ≡ true
@@ -80,7 +80,7 @@ module _ {X : Type 0} (P : Key → Option (List Record) → Type 0) where
     apart k r e = let same : slice_cmp nat_cmp key key ≡ Greater = ap (slice_cmp nat_cmp key) (sym e) ∙ r in
         let bad : Greater ≡ Less = sym same ∙ nat_list_cmp_total.antisymm key key ∙ ap ordering_reverse same in cc
 
-  -- at the end all are set
+  -- At the end all are set.
   pub all_set : (listed : Map X) (first : Host) (after : Option Key) (files : Host) → SetUpTo P listed first after files
       → ((x : Key) → is_above after x ≡ true → get listed x ≡ None)
       → (k : Key) → contains_key listed k ≡ true → P k (get files k)
@@ -91,7 +91,7 @@ module _ {X : Type 0} (P : Key → Option (List Record) → Type 0) where
 
 -- ---- a listing that is read
 
--- what is wanted of each key of a listing
+-- What is wanted for each key of a listing.
 abbrev pub WantedOf : {Z : Type 0} → Option Stored → Path → Map (String Z) → Key → Option (List Record) → Type 0
 WantedOf files folder listed key records = IsReadAs files folder (get listed key) records
 
@@ -113,7 +113,7 @@ pub named_of : {Z : Type 0} (stored : Stored) (folder name : Path) (o : Option (
 named_of stored folder name None records e h = cc
 named_of stored folder name (Some file) records e h = let same : string_bytes file ≡ name = cc in subst (λ n. IsRead stored (path_text folder n) records) same h
 
--- a folder whose listing was read, on a drive without files
+-- A folder whose listing was read, on a drive without files.
 pub folder_read : {Z : Type 0} (files : Option Stored) (names : List Path) (drive : ℕ) (folder : Path) (listed : Map (String Z)) (twice : Option Key) (before now : Host)
     → IfSome files (λ stored. Lists stored drive folder names listed twice) → twice ≡ None
     → ((k : Key) → slice_index k 0 ≡ drive → contains_key before k ≡ false)
@@ -135,7 +135,7 @@ folder_read {Z = Z} (Some stored) names drive folder listed twice before now l o
 
 -- ---- the folders of the drives, one after another
 
--- the drives are in the order of their numbers
+-- The drives are in the order of their numbers.
 pub number_in : (i : ℕ) → i < 4 → drive_number (get_or drives i A) ≡ i
 number_in zero h = refl
 number_in (suc zero) h = refl
@@ -143,11 +143,11 @@ number_in (suc (suc zero)) h = refl
 number_in (suc (suc (suc zero))) h = refl
 number_in (suc (suc (suc (suc i)))) h = absurd (omega arith)
 
--- each name's drive has a folder
+-- The drive of each name has a folder.
 abbrev pub OnlyOf : List (Option (Bor (List ℕ))) → Host → Type 0
 OnlyOf folders files = (k : Key) → contains_key files k ≡ true → is_some (folder_of folders (slice_index k 0)) ≡ true
 
--- those of the drives below one were read
+-- The folders of the drives below one were read.
 pub record ReadBelow (files : Option Stored) (names : Path → List Path) (folders : List (Option (Bor (List ℕ)))) (drive : ℕ) (host : Host) : Type 0 where
   pub below : (k : Key) → contains_key host k ≡ true → slice_index k 0 < drive
   pub only : OnlyOf folders host
@@ -163,7 +163,7 @@ none_read files names folders host e = record {
   none_told None = tt
   none_told (Some stored) = λ d folder less. absurd (omega (arith, less))
 
--- the files of a drive are those of its folder still where its files stay
+-- The files of a drive are still the files of its folder if they are unchanged.
 pub still_of : (stored : Stored) (names : List Path) (drive : ℕ) (folder : Path) (before now : Host) → ((k : Key) → slice_index k 0 ≡ drive → get now k ≡ get before k)
     → AreOf stored names drive folder before → AreOf stored names drive folder now
 still_of stored names drive folder before now same a = record {
@@ -180,7 +180,7 @@ some_same e = cc
 some_none : {X : Type 0} {a : X} → Some a ≡ None → ⊥
 some_none e = cc
 
--- one drive more, with a folder
+-- One more drive, with a folder.
 pub one_read : (files : Option Stored) (names : Path → List Path) (folders : List (Option (Bor (List ℕ)))) (drive : ℕ) (folder : Path) (before now : Host)
     → ReadBelow files names folders drive before → folder_of folders drive ≡ Some folder
     → ((k : Key) → slice_index k 0 ≢ drive → get now k ≡ get before k)
@@ -201,7 +201,7 @@ one_read files names folders drive folder before now r here others read = record
     | inr ne ↦ still_of stored (names f) d f before now (λ k on. others k (λ bad. ne (sym on ∙ bad))) (a d f (omega (arith, less, ne)) e)
   ]
 
--- one drive more, without one
+-- One more drive, without a folder.
 pub none_more : (files : Option Stored) (names : Path → List Path) (folders : List (Option (Bor (List ℕ)))) (drive : ℕ) (host : Host)
     → ReadBelow files names folders drive host → folder_of folders drive ≡ None → ReadBelow files names folders (drive + 1) host
 none_more files names folders drive host r none = record {
@@ -217,7 +217,7 @@ none_more files names folders drive host r none = record {
     | inr ne ↦ a d f (omega (arith, less, ne)) e
   ]
 
--- all four
+-- All four drives.
 pub all_drives : (files : Option Stored) (names : Path → List Path) (folders : List (Option (Bor (List ℕ)))) (drive : ℕ) (host : Host) → length folders ≡ 4 → 4 ≤ drive
     → ReadBelow files names folders drive host → AreFromFolders files names folders host
 all_drives files names folders drive host four le r = record { only = r.only; all = all_of files r.all } where
@@ -231,7 +231,7 @@ all_drives files names folders drive host four le r = record { only = r.only; al
     by_place : (d : ℕ) (f : Path) → folder_of folders d ≡ Some f → d < drive
     by_place d f e = elim (leb_tells 4 d) [ inl h ↦ absurd (past d f h.1 e) | inr h ↦ let low = h.1 in omega (arith, low, le) ]
 
--- no file of a drive was read before its folder
+-- No file of a drive was read before its folder.
 pub nothing_yet : (files : Option Stored) (names : Path → List Path) (folders : List (Option (Bor (List ℕ)))) (drive : ℕ) (host : Host) → ReadBelow files names folders drive host
     → (k : Key) → slice_index k 0 ≡ drive → contains_key host k ≡ false
 nothing_yet files names folders drive host r k e = by_there (contains_key host k) refl where

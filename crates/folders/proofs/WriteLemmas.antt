@@ -1,4 +1,4 @@
--- Records that are written one after another.
+-- Records that are written one after the other.
 use Rattle.std.proofs.Common.{◌≡◌, ◌≢◌, ◌<◌, ◌≤◌, ℕ, ◌+◌, Bool, true, false, cond, List, [], ◌∷◌, ◌++◌, length, length-append, take, take-suc, add-one, append-nil, append_assoc, zero-le, Option, Some, None, unwrap_or, Result, Ok, Err, OnOk, OnErr, refl, sym, ap, subst, ◌∙◌, codes, arith}
 use Rattle.std.specs.Ordering.{nat_cmp, eq_by_cmp}
 use Rattle.std.specs.Cmp.{eq_by_cmp_equiv}
@@ -17,7 +17,7 @@ use Rattle.std.proofs.KnownBytes.{Appends-trans, Appends-nil}
 use Rattle.std.proofs.lemmas.List.{take_all}
 use Rattle.std.proofs.lemmas.Option.{get_or_from_slice_get, slice_get_past, slice_get_within, slice_get-get_or}
 
--- the records of a file that is told, if there is one
+-- The records of the contents of a file, if there is one.
 record_of : (t : Option (List (List ℕ))) (k : ℕ) → option_and_then (λ f. slice_get f k) t ≡ slice_get (unwrap_or t []) k
 record_of None k = sym (slice_get_past [] k zero-le)
 record_of (Some f) k = refl
@@ -26,7 +26,7 @@ concat_push : (rs : List (List ℕ)) (r : List ℕ) → concat (rs ++ r ∷ []) 
 concat_push [] r = append-nil r
 concat_push (q ∷ rs) r = ap (λ t. q ++ t) (concat_push rs r) ∙ sym (append_assoc q (concat rs) r)
 
--- the next one was written
+-- The next record was written.
 pub one_more : (a b c : Option (List ℕ)) (t : Option (List (List ℕ))) (n : ℕ) (r : List ℕ) → Some r ≡ option_and_then (λ f. slice_get f n) t
     → Appends a b (concat (take n (unwrap_or t []))) → Appends b c r → Appends a c (concat (take (n + 1) (unwrap_or t [])))
 one_more a b c t n r h p q =
@@ -35,18 +35,18 @@ one_more a b c t n r h p q =
     let one : take (n + 1) rs ≡ take n rs ++ r ∷ [] = rw add-one (take-suc rs n r (slice_get_within rs n r here)) ∙ ap (λ x. take n rs ++ x ∷ []) (get_or_from_slice_get rs n r r here) in
     subst (Appends a c) (sym (ap concat one ∙ concat_push (take n rs) r)) (Appends-trans a b c (concat (take n rs)) r p q)
 
--- below the count there is one
+-- Below the count there is a record.
 pub not_none : (t : Option (List (List ℕ))) (count n : ℕ) → Some count ≡ option_map length t → n < count → None ≡ option_and_then (λ f. slice_get f n) t → ⊥
 not_none None count n some h none = cc
 not_none (Some f) count n some h none = let there = slice_get-get_or f n [] (let same : count ≡ length f = cc in omega (arith, same)) in cc
 
--- all of them were written
+-- All records were written.
 pub all_written : (a b : Option (List ℕ)) (t : Option (List (List ℕ))) (count n : ℕ) → Some count ≡ option_map length t → count ≤ n
     → Appends a b (concat (take n (unwrap_or t []))) → Appends a b (concat (unwrap_or t []))
 all_written a b None count n some h p = cc
 all_written a b (Some f) count n some h p = subst (λ x. Appends a b (concat x)) (take_all n f (let same : count ≡ length f = cc in omega (arith, same))) p
 
--- there is no file
+-- There is no file.
 pub none_written : (a : Option (List ℕ)) (t : Option (List (List ℕ))) → None ≡ option_map length t → Appends a a (concat (unwrap_or t []))
 none_written a None h = Appends-nil a
 none_written a (Some f) h = cc
@@ -72,7 +72,7 @@ removed_apart files path p ne = get-remove nat_list_cmp_total files path p ∙ b
   by_key true same = absurd (ne (same refl))
   by_key false same = refl
 
--- what was removed, written and renamed is in place
+-- What was removed, written and renamed is in place.
 placed : (path temporary : Path) (bytes : List ℕ) (before removed written after : Option Stored) → temporary ≢ path → ChangesAt temporary before removed
     → Becomes removed written (λ stored. insert stored temporary bytes) → Becomes written after (moved temporary path)
     → PutsInPlace before after path temporary bytes
@@ -116,12 +116,12 @@ longer front text before behind one four =
     let e = length-append front text in
     omega (arith, a, b, d, e, one, four)
 
--- the two paths of a file in a folder are not the same
+-- The two paths of a file in a folder differ.
 pub paths_differ : (folder : Path) (name : Key) → path_text folder (temporary_text name) ≢ path_text folder (file_text name)
 paths_differ folder name e = no_longer _ (ap length e) (longer (folder ++ cond (needs_slash folder) (47 ∷ []) []) (file_text name) (codes ".") (codes ".new") refl refl) where
   no_longer : {n : ℕ} (m : ℕ) → n ≡ m → n ≡ m + 5 → ⊥
   no_longer m p q = let same : m ≡ m + 5 = sym p ∙ q in absurd (omega (arith, same))
 
--- the same file is told alike
+-- Equal files have equal contents.
 pub same_told : {host host' : Host} {own own' : Own} {key key' : Key} → host ≡ host' → own ≡ own' → key ≡ key' → told host own key ≡ told host' own' key'
 same_told h o k = cc

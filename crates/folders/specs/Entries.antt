@@ -8,22 +8,22 @@ abbrev pub ok_or_none : Result Key ℕ → Option Key
 ok_or_none (Ok key) = Some key
 ok_or_none (Err n) = None
 
--- the key that a file in the folder of a drive has by its name there, if it is that of a host file: a name with a `:` is passed over
+-- The key of a file in the folder of a drive, if its name there is valid. A name with a `:` is ignored.
 abbrev pub key_in : ℕ → List ℕ → Option Key
 key_in drive file = if list_any is_colon file then None else ok_or_none (plain_name drive file)
 
--- the name in the folder: as printed of drive A, so without a letter and `:`
+-- The name in the folder: as printed on drive A, so without a letter and `:`.
 abbrev pub file_text : Key → List ℕ
 file_text key = printed (slice_set key 0 0)
 
--- the name while the file is written
+-- The name while the file is written.
 abbrev pub temporary_text : Key → List ℕ
 temporary_text key = codes "." ++ file_text key ++ codes ".new"
 
--- a `/` is wanted behind a folder: it is not empty, and its last byte is no `/`
+-- Whether a folder needs a `/` after it: it is not empty, and its last byte is no `/`.
 abbrev pub needs_slash : List ℕ → Bool
 needs_slash folder = option_map_or (λ last. not (last == 47)) (slice_get folder (length folder - 1)) false
 
--- a folder and the name of a file in it, with a `/` between
+-- A folder and the name of a file in it, with a `/` between if needed.
 abbrev pub path_text : List ℕ → List ℕ → List ℕ
 path_text folder file = folder ++ (if needs_slash folder then 47 ∷ [] else []) ++ file

@@ -5,7 +5,7 @@ use Rattle.std.specs.declared.io.Error.{Error}
 use Rattle.std.specs.declared.io.ErrorKind.{ErrorKind}
 use Rattle.std.specs.declared.io.ErrorKind.TheVariants.{OutOfMemory}
 
--- an error of this kind reports a failure of the file system, unless an allocation failed
+-- The failures that an error of this kind reports: one, unless an allocation failed.
 abbrev pub kind_failures : ErrorKind → ℕ
 kind_failures OutOfMemory = 0
 kind_failures _ = 1
@@ -13,7 +13,7 @@ kind_failures _ = 1
 abbrev pub io_failures : Error → ℕ
 io_failures e = kind_failures (error_kind e)
 
--- a call leaves the count of failures if it succeeds, and adds those that its error reports if it does not
+-- The effect of a call on the count of failures: none if it succeeds, or else it grows by the failures that its error reports.
 abbrev pub AddsFailures : {T E : Type 0} → (E → ℕ) → Result T E → ℕ → ℕ → Type 0
 AddsFailures reported (Ok x) before after = after ≡ before
 AddsFailures reported (Err e) before after = after ≡ before + reported e

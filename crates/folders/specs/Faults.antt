@@ -1,4 +1,4 @@
--- Why folders are not read or a file is not written, and the text that says so. (This project's own.)
+-- Why folders are not read or a file is not written, and the message for it. (This project's own.)
 use Rattle.std.specs.Prelude.{◌≡◌, ℕ, List, ◌++◌, codes, string_bytes}
 use Rattle.std.specs.Fmt.{decimal}
 use Rattle.filenames.specs.Names.{printed}
@@ -7,19 +7,19 @@ use Rattle.folders.specs.declared.fault.Fault.TheVariants.{CannotRead, CannotWri
 use Rattle.folders.specs.declared.fault.Failure.{Failure}
 use Rattle.folders.specs.declared.fault.Failure.TheVariants.{AtFault, OutOfMemory}
 
--- what is printed of a fault
+-- The message for an error.
 abbrev pub text_of : Fault → List ℕ
 text_of (CannotRead path) = codes "cannot read " ++ string_bytes path
 text_of (CannotWrite path) = codes "cannot write " ++ string_bytes path
 text_of (TwoFiles name) = codes "two files are " ++ printed name
 text_of (Refused name n) = codes "file " ++ printed name ++ codes " refused " ++ decimal n
 
--- a fault is such a one, or memory was refused
+-- The failure is such an error, or a failed allocation.
 abbrev pub FailsBy : (Fault → Type 0) → Failure → Type 0
 FailsBy Such (AtFault fault) = Such fault
 FailsBy Such OutOfMemory = Unit {0}
 
--- the failures of a file system that a fault reports: one if something could not be read or written
+-- The failures of a file system that an error reports: one if something could not be read or written.
 abbrev pub fault_failures : Fault → ℕ
 fault_failures (CannotRead path) = 1
 fault_failures (CannotWrite path) = 1
@@ -30,14 +30,14 @@ abbrev pub reported_failures : Failure → ℕ
 reported_failures (AtFault fault) = fault_failures fault
 reported_failures OutOfMemory = 0
 
--- the file or folder of this path could not be read
+-- The file or folder of this path could not be read.
 abbrev pub Unread : List ℕ → Fault → Type 0
 Unread path (CannotRead p) = string_bytes p ≡ path
 Unread path (CannotWrite p) = ⊥
 Unread path (TwoFiles name) = ⊥
 Unread path (Refused name n) = ⊥
 
--- the file of this path could not be written
+-- The file of this path could not be written.
 abbrev pub Unwritten : List ℕ → Fault → Type 0
 Unwritten path (CannotRead p) = ⊥
 Unwritten path (CannotWrite p) = string_bytes p ≡ path

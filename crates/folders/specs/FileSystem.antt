@@ -1,43 +1,43 @@
--- What is in a file system, where that is known: the bytes of each regular file by its path. (This project's own.)
+-- The contents of a file system, if they are known: the bytes of each regular file by its path. (This project's own.)
 use Rattle.std.specs.Prelude.{◌≡◌, ◌≢◌, ℕ, List, take, Option, Some, None, IsSome, ⊤}
 use Rattle.std.specs.Option.{option_and_then}
 use Rattle.std.specs.Ordering.{nat_cmp}
 use Rattle.std.specs.Cmp.Lexicographic.{slice_cmp}
 use Rattle.std.specs.FinMap.{FinMap, get, insert, remove}
 
--- a path, and a name in a folder, as its bytes
+-- A path, and a name in a folder, as its bytes.
 abbrev pub Path : Type 0
 Path = List ℕ
 
--- the bytes of each file by its path
+-- The bytes of each file by its path.
 abbrev pub Stored : Type 0
 Stored = FinMap (slice_cmp nat_cmp) (List ℕ)
 
--- the bytes of the file of a path, where they are known
+-- The bytes of the file of a path, if they are known.
 abbrev pub text_at : Option Stored → Path → Option (List ℕ)
 text_at stored path = option_and_then (λ files. get files path) stored
 
--- where the files are known, there is one of this path, and a reader has its bytes before it
+-- If the files are known, there is one of this path, and its bytes are left to be read.
 abbrev pub Opens : Option Stored → Path → Option (List ℕ) → Type 0
 Opens None path left = ⊤
 Opens (Some files) path left = (left ≡ get files path) × IsSome left
 
--- where the files are known, there is one of this path, and these are its bytes, or its first n where it has more
+-- If the files are known, there is one of this path, and these are its bytes, or its first n if it has more.
 abbrev pub Reads : Option Stored → Path → ℕ → List ℕ → Type 0
 Reads None path n got = ⊤
 Reads (Some files) path n got = (all : List ℕ) × (get files path ≡ Some all) × (got ≡ take n all)
 
--- where the files are known, they change so
+-- If the files are known, they change in this way.
 abbrev pub Becomes : Option Stored → Option Stored → (Stored → Stored) → Type 0
 Becomes None after change = ⊤
 Becomes (Some files) after change = after ≡ Some (change files)
 
--- where the files are known, they change at this path alone, and stay known
+-- If the files are known, they change at this path alone, and stay known.
 abbrev pub ChangesAt : Path → Option Stored → Option Stored → Type 0
 ChangesAt path None after = ⊤
 ChangesAt path (Some files) after = (changed : Stored) × (after ≡ Some changed) × ((p : Path) → p ≢ path → get changed p ≡ get files p)
 
--- the file of one path stands at another, in place of what stood there
+-- The file of one path is moved to another, replacing what was there.
 abbrev pub moved_to : Path → Option (List ℕ) → Stored → Stored
 moved_to to None files = files
 moved_to to (Some bytes) files = insert files to bytes
@@ -45,14 +45,14 @@ moved_to to (Some bytes) files = insert files to bytes
 abbrev pub moved : Path → Path → Stored → Stored
 moved from to files = moved_to to (get files from) (remove files from)
 
--- a file was put in place: all of these bytes stand at its path, nothing stands at the path under which it was written, and every
--- other file is as it was
+-- A file was put in place: its path has all of these bytes, nothing is at the path under which it was written, and every other
+-- file is unchanged.
 pub record IsInPlace (before now : Stored) (path temporary : Path) (bytes : List ℕ) : Type 0 where
   pub there : get now path ≡ Some bytes
   pub gone : get now temporary ≡ None
   pub others : (p : Path) → p ≢ path → p ≢ temporary → get now p ≡ get before p
 
--- the same, where the files are known
+-- The same if the files are known.
 abbrev pub PutsInPlace : Option Stored → Option Stored → Path → Path → List ℕ → Type 0
 PutsInPlace None after path temporary bytes = ⊤
 PutsInPlace (Some files) after path temporary bytes = (now : Stored) × (after ≡ Some now) × IsInPlace files now path temporary bytes

@@ -1,4 +1,4 @@
--- The files of a folder by the names that they give. (This project's profile.)
+-- The files of a folder by their names. (This project's profile.)
 use Rattle.std.specs.Prelude.{◌≡◌, ℕ, List, ◌∷◌, ◌++◌, Option, Some, None, true, false, if◌then◌else◌, IfSome, String, string_bytes}
 use Rattle.std.specs.List.{Contains}
 use Rattle.std.specs.Option.{option_map}
@@ -9,17 +9,17 @@ use Rattle.filenames.specs.Names.{Key}
 use Rattle.folders.specs.Entries.{key_in, path_text}
 use Rattle.folders.specs.FileSystem.{Path, Stored}
 
--- the lesser of two keys, where there are two
+-- The lesser of two keys, or the first if there is no second.
 abbrev pub least : Key → Option Key → Key
 least key None = key
 least key (Some other) = if is_lt (slice_cmp nat_cmp other key) then other else key
 
--- a name in the folder of a drive is that of the host file of a key: it gives the key, and a regular file stands there
+-- A name in the folder of a drive is the name of the host file of a key: the name has the key, and a regular file is there.
 pub record IsHostFile (stored : Stored) (drive : ℕ) (folder : Path) (key : Key) (name : Path) : Type 0 where
   pub gives : key_in drive name ≡ Some key
   pub there : contains_key stored (path_text folder name) ≡ true
 
--- of the names in the folder of a drive two are those of the host file of a key
+-- Two of the names in the folder of a drive belong to the host file of a key.
 pub record AreTwo (stored : Stored) (drive : ℕ) (folder : Path) (names : List Path) (key : Key) : Type 0 where
   pub before : List Path
   pub name : Path
@@ -30,22 +30,22 @@ pub record AreTwo (stored : Stored) (drive : ℕ) (folder : Path) (names : List 
   pub first : IsHostFile stored drive folder key other
   pub second : IsHostFile stored drive folder key name
 
--- a name in the folder of a drive is, or is not, that of a host file
+-- A name in the folder of a drive belongs to this host file, or to none.
 abbrev pub Finds : Stored → ℕ → Path → Path → Option Key → Type 0
 Finds stored drive folder name (Some key) = IsHostFile stored drive folder key name
 Finds stored drive folder name None = (key : Key) → IsHostFile stored drive folder key name → ⊥
 
--- these are the names of the host files in the folder of a drive by their keys, and some key that two of them have, if there is one
+-- The names of the host files in the folder of a drive by their keys, and some key that two of them have, if there is one.
 pub record Lists {Z : Type 0} (stored : Stored) (drive : ℕ) (folder : Path) (names : List Path) (files : FinMap (slice_cmp nat_cmp) (String Z)) (twice : Option Key) : Type 0 where
   pub listed : (key : Key) (file : String Z) → get files key ≡ Some file → Contains names (string_bytes file) × IsHostFile stored drive folder key (string_bytes file)
   pub all : (key : Key) (name : Path) → Contains names name → IsHostFile stored drive folder key name → contains_key files key ≡ true
   pub alone : twice ≡ None → (key : Key) (name : Path) → Contains names name → IsHostFile stored drive folder key name → option_map string_bytes (get files key) ≡ Some name
   pub two : IfSome twice (AreTwo stored drive folder names)
 
--- a file is listed by a key that no file had, and no key more is that of two
+-- A file is listed under a key that no file had, and no other key becomes one that two have.
 abbrev pub ListsOnce : {Z : Type 0} → Key → String Z → FinMap (slice_cmp nat_cmp) (String Z) → Option Key → FinMap (slice_cmp nat_cmp) (String Z) → Option Key → Type 0
 ListsOnce key file files twice files' twice' = contains_key files key ≡ false → (files' ≡ insert files key file) × (twice' ≡ twice)
 
--- a file gives a key that a file had: the first of them stays, and the key is that of two
+-- A file has the same key as an earlier file: the first of them stays, and the key is one that two have.
 abbrev pub ListsAgain : {Z : Type 0} → Key → FinMap (slice_cmp nat_cmp) (String Z) → Option Key → FinMap (slice_cmp nat_cmp) (String Z) → Option Key → Type 0
 ListsAgain key files twice files' twice' = contains_key files key ≡ true → (files' ≡ files) × (twice' ≡ Some (least key twice))

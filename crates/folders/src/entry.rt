@@ -7,8 +7,8 @@ ghost use Rattle.folders.specs.Entries.{key_in, file_text, temporary_text, needs
 use filenames::{Drive, Name};
 use std::alloc::{AllocError, Global};
 
-/// The name of the host file that a file in the folder of a drive is: on this drive, with the name and the
-/// type that the file's name says. None where that is no name, or has a `:`.
+/// Returns the name of the host file for a file in the folder of a drive: on this drive, with the name and the type of the file.
+/// Returns `None` if the file's name is not valid or has a `:`.
 pub fn name_in_folder(drive: Drive, file: &str) -> Option<Name>
     ensures key { result ≡ key_in (drive_number drive) file.now }
     ensures drive { IfSome result (λ name. slice_index name 0 ≡ drive_number drive) }
@@ -22,7 +22,7 @@ pub fn name_in_folder(drive: Drive, file: &str) -> Option<Name>
     }
 }
 
-/// The name of a file in the folder of its drive: as it is printed, without its letter and `:`.
+/// Returns the name of a file in the folder of its drive: as printed, without the letter and `:`.
 pub fn file_name(alloc: Global, name: &Name) -> Result<String, AllocError>
     ensures { IfOk result (λ s. string_bytes s ≡ file_text name.now) }
 {
@@ -30,8 +30,8 @@ pub fn file_name(alloc: Global, name: &Name) -> Result<String, AllocError>
     format!(in alloc; "{plain}")
 }
 
-/// The name that a file has in the folder of its drive while it is written. No host file has it, on any
-/// drive: a `.` stands before its first letter.
+/// Returns the name that a file has in the folder of its drive while it is written. No host file has this name on any drive, as
+/// it begins with a `.`.
 pub fn temporary_name(alloc: Global, name: &Name) -> Result<String, AllocError>
     ensures text { IfOk result (λ s. string_bytes s ≡ temporary_text name.now) }
     ensures passed_over { IfOk result (λ s. (drive : ℕ) → key_in drive (string_bytes s) ≡ None) }
@@ -40,8 +40,8 @@ pub fn temporary_name(alloc: Global, name: &Name) -> Result<String, AllocError>
     format!(in alloc; ".{plain}.new")
 }
 
-/// The path of a file in a folder: the folder as given, a `/` unless the folder ends with one or is empty,
-/// and the file's name.
+/// Returns the path of a file in a folder: the folder as given, a `/` unless the folder ends with one or is empty, and the file's
+/// name.
 pub fn path_in(alloc: Global, folder: &str, file: &str) -> Result<String, AllocError>
     ensures { IfOk result (λ s. string_bytes s ≡ path_text folder.now file.now) }
 {
@@ -53,7 +53,7 @@ pub fn path_in(alloc: Global, folder: &str, file: &str) -> Result<String, AllocE
     Ok(path)
 }
 
-// Whether a `/` is wanted behind a folder.
+// Returns whether a folder needs a `/` before the name of a file.
 fn needs_slash(folder: &str) -> bool
     ensures { result ≡ needs_slash folder.now }
 {

@@ -6,26 +6,26 @@ use filenames::Name;
 use std::io::ErrorKind;
 use std::{fmt, io};
 
-/// What is wrong with a folder or with a file in it.
+/// An error of a folder or of a file in it.
 #[derive(Drop)]
 pub enum Fault {
     /// The folder or the file of this path could not be read.
     CannotRead(String),
     /// The file of this path could not be written.
     CannotWrite(String),
-    /// Two files in a folder have this name, the least such by its key.
+    /// Two files in a folder have this name, the first such by its key.
     TwoFiles(Name),
-    /// The host file of this name is refused, by the number of `FilesError`: 1 for more than 8,388,608 bytes,
-    /// 2 for a 513th file.
+    /// The host file of this name is refused, with the number of `FilesError`: 1 for more than 8,388,608 bytes, 2 for a 513th
+    /// file.
     Refused(Name, u8),
 }
 
 /// Why folders are not read, or a file is not written.
 #[derive(Drop)]
 pub enum Failure {
-    /// A folder or a file is at fault.
+    /// An error of a folder or a file.
     AtFault(Fault),
-    /// Memory was wanted and refused.
+    /// A failed allocation.
     OutOfMemory,
 }
 
@@ -45,7 +45,7 @@ impl fmt::Display for Fault {
     }
 }
 
-/// Returns the failure that an error of reading the file or folder of this path is.
+/// Returns the failure for an error of reading the file or folder of this path.
 pub fn unread(error: io::Error, path: String) -> Failure
     ensures fault { FailsBy (Unread (string_bytes path)) result }
     ensures failures { reported_failures result ≡ io_failures error }
@@ -56,7 +56,7 @@ pub fn unread(error: io::Error, path: String) -> Failure
     Failure::AtFault(Fault::CannotRead(path))
 }
 
-/// Returns the failure that an error of writing the file of this path is.
+/// Returns the failure for an error of writing the file of this path.
 pub fn unwritten(error: io::Error, path: String) -> Failure
     ensures fault { FailsBy (Unwritten (string_bytes path)) result }
     ensures failures { reported_failures result ≡ io_failures error }

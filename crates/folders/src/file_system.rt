@@ -12,27 +12,26 @@ use std::io::{BufWriter, ErrorKind, Read, Write};
 use std::rt::Files;
 use std::{fs, io};
 
-/// Bytes that can be written, as those of a file that is kept in parts.
+/// Bytes that can be written, such as the bytes of a file that is kept in parts.
 pub trait Contents {
-    /// All of them.
+    /// All of the bytes.
     ghost bytes: { Self → List ℕ };
 
-    /// Writes them. An error is the writer's, which then has a part of them.
+    /// Writes all of the bytes. An error is the writer's; a part of them may then be written.
     fn write_to<W: Write>(&self, writer: &mut W) -> io::Result<()>
         ensures { OnOk result (Appends (W.contents writer.old) (W.contents writer.new) (bytes self.now)) };
 }
 
-/// An open file that is read. A contract sees the bytes that are left, if the file reports them, and a count of
-/// failures.
+/// An open file that is read. A contract sees the bytes that are left, if the file reports them, and a count of failures.
 pub trait InputFile {
     /// The bytes that are left, if the file reports them.
     ghost left: { Self → Option (List ℕ) };
 
-    /// How often it failed.
+    /// The number of failures so far.
     ghost failures: { Self → ℕ };
 
-    /// Moves the next bytes, at most as many as the piece has places, to the front of the piece, and returns their
-    /// count. No byte for a piece that is not empty is the end. An error moves no byte and adds one failure.
+    /// Reads the next bytes to the front of the piece and returns their count. A count of 0 for a piece that is not empty is the
+    /// end. An error reads no byte and adds one failure.
     fn read(&mut self, piece: &mut [u8]) -> io::Result<usize>
         requires { failures self.old < 2 ^ 63 }
         ensures count { IfOk result (λ n. n ≤ length piece.new) }
@@ -40,9 +39,8 @@ pub trait InputFile {
         ensures failures { AddsFailures (λ _. 1) result (failures self.old) (failures self.new) };
 }
 
-/// Files by their paths. A contract sees the bytes of each regular file, if the file system gives them (that of an
-/// operating system gives none), and a count of failures: an error adds one, unless an allocation failed. Paths that
-/// differ are different files.
+/// Files by their paths. A contract sees the bytes of each regular file, if the file system reports them (an operating system's
+/// does not), and a count of failures: an error adds one, unless an allocation failed. Different paths are different files.
 pub trait FileSystem {
     /// An open file that is read.
     type Input: InputFile + Drop;
@@ -53,10 +51,10 @@ pub trait FileSystem {
     /// The names in a folder, in the order in which it is listed, if the files are known.
     ghost names: { Self → Path → List Path };
 
-    /// How often it failed.
+    /// The number of failures so far.
     ghost failures: { Self → ℕ };
 
-    /// The allocator of what it makes, and of what is made of its files.
+    /// Returns the allocator for what it makes, and for what is made of its files.
     fn alloc(&self) -> Global;
 
     /// Opens a file to read it piece by piece.
@@ -92,7 +90,7 @@ pub trait FileSystem {
         ensures names { names self.new ≡ names self.old }
         ensures failures { AddsFailures io_failures result (failures self.old) (failures self.new) };
 
-    /// Whether there is a regular file at a path, and no link to one.
+    /// Returns whether there is a regular file at a path; a link to one is none.
     fn is_file(&mut self, path: &str) -> io::Result<bool>
         requires { failures self.old < 2 ^ 63 }
         ensures is { IfOk result
@@ -109,20 +107,20 @@ pub trait FileSystem {
         ensures others { ChangesAt path.now (files self.old) (files self.new) }
         ensures failures { AddsFailures io_failures result (failures self.old) (failures self.new) };
 
-    /// Moves the file of one path to another, in place of what is there.
+    /// Moves the file of one path to another, replacing what is there.
     fn rename(&mut self, from: &str, to: &str) -> io::Result<()>
         requires { failures self.old < 2 ^ 63 }
         ensures moved { OnOk result (Becomes (files self.old) (files self.new) (moved from.now to.now)) }
         ensures err { OnErr result (files self.new ≡ files self.old) }
         ensures failures { AddsFailures io_failures result (failures self.old) (failures self.new) };
 
-    /// Removes a file if there is one and it can be removed. If not, that is no failure.
+    /// Removes a file if there is one and it can be removed. It is no failure if not.
     fn remove(&mut self, path: &str)
         ensures others { ChangesAt path.now (files self.old) (files self.new) }
         ensures failures { failures self.new ≡ failures self.old };
 }
 
-// Writes contents to a writer, through a buffer, and gives the writer back.
+// Writes contents to a writer through a buffer, and returns the writer.
 fn write_whole<W: Write + Drop, C: Contents>(
     alloc: Global,
     writer: W,
@@ -138,7 +136,7 @@ fn write_whole<W: Write + Drop, C: Contents>(
     }
 }
 
-// The bytes of a file, or its first `most` if it has more.
+// Reads the bytes of a file, or its first `most` if it has more.
 fn read_first<T: Read + Drop>(alloc: Global, source: T, most: u64) -> io::Result<Vec<u8>> {
     let mut bytes = Vec::new(alloc);
     source.take(most).read_to_end(&mut bytes)?;
@@ -168,7 +166,7 @@ impl<T: Read> InputFile for SystemFile<T> {
     }
 }
 
-/// The files of the operating system, of which a contract knows nothing but how often they failed.
+/// The files of the operating system. A contract knows only how often they failed.
 #[derive(Drop)]
 pub struct SystemFiles<'a, R> {
     rt: &'a R,
@@ -176,7 +174,7 @@ pub struct SystemFiles<'a, R> {
 }
 
 impl<'a, R> SystemFiles<'a, R> {
-    /// Those that a runtime reaches, with no failure yet.
+    /// Returns the files that a runtime reaches, with no failure yet.
     pub fn new(rt: &'a R) -> SystemFiles<'a, R>
         ensures { result.failures ≡ 0 }
     {

@@ -1,11 +1,9 @@
-//! The folders of the host that stand for the drives A to D: their files are read as host files, and changed files are
-//! written into them.
+//! The folders of the host for the drives A to D: their files are read as host files, and changed files are written into them.
 //!
 //! - `entry`, `listing`: the names of files in a folder, and their paths; the files of a folder by their keys
-//! - `file_system`: `FileSystem`, files by their paths as contracts see them, and `SystemFiles`, those of the
-//!   operating system
-//! - `reading`, `writing`, `fault`: folders read into host files; a changed file written; why either fails, and what
-//!   tells it
+//! - `file_system`: `FileSystem`, files by their paths as contracts see them, and `SystemFiles`, the files of the operating
+//!   system
+//! - `reading`, `writing`, `fault`: reading folders into host files; writing a changed file; why either fails, and the message
 #![tactic(auto)]
 
 mod entry;

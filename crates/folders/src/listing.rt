@@ -1,4 +1,4 @@
-// The files of a folder by the names that they give.
+// The files of a folder by their names.
 
 ghost use Rattle.std.specs.Prelude.{◌≡◌, ℕ, List, true, None, OnOk, OnErr, slice_index};
 ghost use Rattle.std.specs.FinMap as finmap;
@@ -12,14 +12,14 @@ use keymaps::KeyMap;
 use std::alloc::{AllocError, Global};
 use std::cmp::Ordering;
 
-/// The files in the folder of a drive that are host files, and whether two of them have one name.
+/// The host files in the folder of a drive, and whether two of them have the same name.
 #[derive(Drop)]
 pub struct Listing {
     /// The drive.
     pub drive: Drive,
-    /// The name in the folder of the file of each key: of two files of one key, that of the one listed first.
+    /// The name in the folder for each key: if two files have the same key, the name of the one listed first.
     pub files: KeyMap<String>,
-    /// The least name that two files have.
+    /// The first name, by its key, that two files have.
     pub twice: Option<Name>,
     ghost names: { (k : List ℕ) → finmap.contains_key files k ≡ true → is_sayable k ≡ true },
     ghost on_drive: { (k : List ℕ) → finmap.contains_key files k ≡ true
@@ -28,7 +28,7 @@ pub struct Listing {
 }
 
 impl Listing {
-    /// No file. Takes no memory.
+    /// Returns a listing with no file. Allocates nothing.
     pub fn new(alloc: Global, drive: Drive) -> Listing
         ensures drive { result.drive ≡ drive }
         ensures files { result.files ≡ finmap.empty }
@@ -41,8 +41,7 @@ impl Listing {
         }
     }
 
-    /// Adds a file by the name that it gives, on the listing's drive, and its name in the folder. An error
-    /// changes nothing.
+    /// Adds a file by its name on the listing's drive, and its name in the folder. An error changes nothing.
     pub fn add(&mut self, name: &Name, file: String) -> Result<(), AllocError>
         requires { slice_index name.now 0 ≡ drive_number self.old.drive }
         ensures drive { self.new.drive ≡ self.old.drive }
@@ -61,7 +60,7 @@ impl Listing {
     }
 }
 
-// The lesser of two names by their keys, where there are two.
+// Returns the lesser of two names by their keys, or the first if there is no second.
 fn least(name: &Name, other: Option<Name>) -> Name
     ensures { result ≡ least name.now other }
 {

@@ -1,4 +1,4 @@
-// Folders are read as host files.
+// Reading folders as host files.
 
 ghost use Rattle.std.specs.Prelude.{◌≡◌, ◌≢◌, ◌<◌, ◌^◌, ◌∷◌, ◌++◌, [], ℕ, List, true, false, None, Some, IfOk, IfErr, IfSome, OnOk, OnErr, slice_index};
 ghost use Rattle.std.specs.FinMap as finmap;
@@ -19,11 +19,11 @@ use hostfiles::host::FILE_LIMIT;
 use hostfiles::{FilesError, HostFiles};
 use std::io;
 
-/// The most bytes of a file that are read: one more than a host file has, so that a longer one is refused and
+/// The largest number of bytes that are read of a file: one more than a host file can have, so that a longer one is refused and
 /// not read on.
 const MOST_READ: u64 = FILE_LIMIT as u64 + 1;
 
-// Sets a host file. A refusal of the file changes nothing.
+// Sets a host file. If it is refused, nothing changes.
 fn set(files: &mut HostFiles, name: Name, bytes: &[u8]) -> Result<(), Failure>
     ensures ok { OnOk result (files.new ≡ finmap.insert files.old name (records_in bytes.now)) }
     ensures err { OnErr result (files.new ≡ files.old) }
@@ -37,8 +37,7 @@ fn set(files: &mut HostFiles, name: Name, bytes: &[u8]) -> Result<(), Failure>
     }
 }
 
-// The name of the host file that a file of this name in a drive's folder is, if it is one: a regular file,
-// and no link to one.
+// Returns the name of the host file for a file of this name in a drive's folder, if it is one: a regular file and not a link.
 fn host_file<S: FileSystem>(
     system: &mut S,
     drive: Drive,
@@ -136,8 +135,7 @@ fn read_one<S: FileSystem>(
     }
 }
 
-// Reads the files of a listing in the order of their keys. No two of them have one name. The first that is not
-// read ends this.
+// Reads the files of a listing in the order of their keys, up to the first that cannot be read or set.
 fn read_listed<S: FileSystem>(
     system: &mut S,
     folder: &str,
@@ -163,10 +161,10 @@ fn read_listed<S: FileSystem>(
     Ok(())
 }
 
-/// Reads the folder of a drive of which there are no files yet: each regular file in it whose name says a
-/// name, and no link. All else is passed over, but an entry that can't be listed, as one whose name is not
-/// UTF-8, is a fault of the folder. Two files of one name are a fault before any file is read. Files are set
-/// in the order of their keys, up to the first that is not read. Names of other drives stay as they were.
+/// Reads the folder of a drive that has no files yet: each regular file in it with a valid name. Links and all else are ignored,
+/// but an entry that cannot be listed, such as one whose name is not UTF-8, is an error of the folder. It is an error if two
+/// files have the same name, and then no file is read. Files are set in the order of their keys, up to the first that cannot be
+/// read or set. Names on other drives stay unchanged.
 pub fn read_folder<S: FileSystem>(
     system: &mut S,
     drive: Drive,
@@ -198,8 +196,8 @@ pub fn read_folder<S: FileSystem>(
     read_listed(system, folder, &listing, files)
 }
 
-/// Returns the host files of the folders of the drives A to D, if they have any, read in this order: exactly the
-/// files of the folders. The files of a folder are all listed before one of them is read.
+/// Returns exactly the host files in the folders of the drives A to D, as far as they have folders. The folders are read in this
+/// order; the files of a folder are all listed before one of them is read.
 pub fn read_folders<S: FileSystem>(
     system: &mut S,
     folders: &[Option<&str>; 4],

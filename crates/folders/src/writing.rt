@@ -1,4 +1,4 @@
-// A changed file is written into a folder.
+// Writing a changed file into a folder.
 
 ghost use Rattle.std.specs.Prelude.{◌≡◌, ◌≢◌, ◌<◌, ◌^◌, Some, OnOk, OnErr, IfOk, IfErr, slice_index, string_bytes};
 ghost use Rattle.std.specs.Io.KnownBytes.{Appends};
@@ -18,12 +18,12 @@ use std::alloc::{AllocError, Global};
 use std::io;
 use std::io::Write;
 
-/// A file as it is after what was done to it: its records, one after another, and a hole as zeros.
+/// A file after what a run did to it: its records, one after the other, with zeros for a hole.
 #[derive(Clone, Copy)]
 pub struct ChangedFile<'a> {
     /// The host files.
     pub host: &'a HostFiles,
-    /// What was done to them.
+    /// What the run did to them.
     pub journal: &'a Journal,
     /// The file's name.
     pub name: &'a Name,
@@ -37,8 +37,8 @@ impl Contents for ChangedFile<'_> {
     }
 }
 
-/// Writes the records of a file as it is after what was done to it, one after another; a hole as zeros. An
-/// error is the writer's, which then has a part of them.
+/// Writes the records of a file after what a run did to it, one after the other, with zeros for a hole. An error is the writer's;
+/// a part of them may then be written.
 pub fn write_records<W: Write>(
     host: &HostFiles,
     journal: &Journal,
@@ -60,8 +60,8 @@ pub fn write_records<W: Write>(
     Ok(())
 }
 
-// Writes a file under one path and renames it to another. What stands under the first path, as a file that
-// was left there or a link, is removed and not written into.
+// Writes a file under one path and renames it to another. What is at the first path, such as an earlier part of a file or a link,
+// is removed and not written into.
 fn write_and_rename<S: FileSystem, C: Contents>(
     system: &mut S,
     contents: &C,
@@ -80,10 +80,13 @@ fn write_and_rename<S: FileSystem, C: Contents>(
     system.rename(temporary, path)
 }
 
-/// Writes a file into a folder, by its name without the letter and `:`, in place of a file of this name. It
-/// is written under another name in that folder, which no host file has, and then renamed: so a file that
-/// can't be written whole is not there, and one that was there before still is. A fault is that of the file's
-/// path, or out of memory.
+/// Writes a file into a folder, by its name without the letter and `:`, replacing a file of this name. The file is first written
+/// under another name in that folder, which no host file has, and then renamed.
+///
+/// # Errors
+///
+/// Returns the error of the file's path, or out of memory. A file of this name that was there before is then unchanged, and no part
+/// of the new one is under this name.
 pub fn write_file<S: FileSystem, C: Contents>(
     system: &mut S,
     folder: &str,
@@ -110,7 +113,7 @@ pub fn write_file<S: FileSystem, C: Contents>(
     }
 }
 
-// The path of a file in a folder, and the path under which it is written first.
+// Returns the path of a file in a folder, and the path under which it is first written.
 fn paths(alloc: Global, folder: &str, name: &Name) -> Result<(String, String), AllocError>
     ensures path { IfOk result (λ r. string_bytes r.0 ≡ path_text folder.now (file_text name.now)) }
     ensures temporary { IfOk result
@@ -124,8 +127,7 @@ fn paths(alloc: Global, folder: &str, name: &Name) -> Result<(String, String), A
     ))
 }
 
-/// Writes a file into the folder of its drive, A to D, as `write_file` does, if that drive has a folder;
-/// else it is not written.
+/// Writes a file into the folder of its drive, A to D, as `write_file` does. If that drive has no folder, nothing is written.
 pub fn write_to_drive<S: FileSystem, C: Contents>(
     system: &mut S,
     folders: &[Option<&str>; 4],

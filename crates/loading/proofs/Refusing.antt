@@ -1,4 +1,4 @@
--- A session that is made or refused, as the words say.
+-- A session that is made or refused, by the words.
 use Rattle.std.proofs.Common.{◌≡◌, ◌∙◌, ℕ, List, Some, None, Result, Ok, Err, IfErr, inr, refl, sym, ap}
 use Rattle.command_words.specs.CommandLine.{text_of}
 use Rattle.command_words.specs.declared.words.Words.{Words}
@@ -12,7 +12,7 @@ use Rattle.loading.specs.declared.fault.LoadFault.{LoadFault}
 use Rattle.loading.specs.declared.fault.LoadFault.TheVariants.{CannotRead, Folders, Refused, OutOfMemory}
 use Rattle.loading.specs.Loading.{IsProgramOf, IsScriptOf, MadeOrRefused, FailsToLoad, IsReadFaultOf, IsReadFaultIfAny}
 
--- a refusal is one of the words
+-- A refusal of the session is a refusal of the words.
 pub refused_of_words : (stored : Option Stored) (names : Path → List Path) (w : Words) (program : List ℕ) (files : Host) (script : List ℕ) (r : Result Session LoadFault)
     → IsProgramOf stored w program → AreFromFolders stored names w.files files → IsScriptOf stored w script
     → MadeOrRefused (made_of program w.tail.now files script w.limit) r → IfErr r (FailsToLoad stored names w)
@@ -23,7 +23,7 @@ refused_of_words stored names w program files script (Err (Refused n)) p a b h =
     record { program = program; files = files; script = script; of_program = p; from_folders = a; of_script = b; refused = h }
 refused_of_words stored names w program files script (Err OutOfMemory) p a b h = absurd h
 
--- a script that is not read gives no session
+-- If the script cannot be read, no session is loaded.
 pub script_unread : (stored : Option Stored) (names : Path → List Path) (w : Words) (f : LoadFault) → IsReadFaultIfAny (text_of w.console) f → FailsToLoad stored names w f
 script_unread stored names w f h = by_path (text_of w.console) refl h where
   by_fault : (path : Path) → text_of w.console ≡ Some path → (f : LoadFault) → IsReadFaultOf path f → FailsToLoad stored names w f

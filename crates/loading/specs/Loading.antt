@@ -1,4 +1,4 @@
--- The session that the files of the command line make, and why they make none. (This project's profile.)
+-- The session that is loaded from the files of the command line, and why none is. (This project's profile.)
 use Rattle.std.specs.Prelude.{◌≡◌, ◌+◌, ℕ, ◌⊎◌, List, [], Option, Some, None, Result, Ok, Err}
 use Rattle.command_words.specs.CommandLine.{text_of}
 use Rattle.command_words.specs.declared.words.Words.{Words}
@@ -12,11 +12,11 @@ use Rattle.machine.specs.Session.{made_of}
 use Rattle.loading.specs.declared.fault.LoadFault.{LoadFault}
 use Rattle.loading.specs.declared.fault.LoadFault.TheVariants.{CannotRead, Folders, Refused, OutOfMemory}
 
--- the bytes of a program: the file of PROGRAM, of which at most one byte more is read than a session takes
+-- The bytes of a program: the file PROGRAM, of which at most one byte more is read than a session takes.
 abbrev pub IsProgramOf : Option Stored → Words → List ℕ → Type 0
 IsProgramOf files w program = Reads files w.program.now (PROGRAM_LIMIT + 1) program
 
--- the bytes of a script: none without a path, else its file, of which at most one byte more is read than a session takes
+-- The bytes of a script: none without a path, or else its file, of which at most one byte more is read than a session takes.
 abbrev pub IsScriptAt : Option Stored → Option (List ℕ) → List ℕ → Type 0
 IsScriptAt files None script = script ≡ []
 IsScriptAt files (Some path) script = Reads files path (SCRIPT_LIMIT + 1) script
@@ -24,7 +24,7 @@ IsScriptAt files (Some path) script = Reads files path (SCRIPT_LIMIT + 1) script
 abbrev pub IsScriptOf : Option Stored → Words → List ℕ → Type 0
 IsScriptOf files w script = IsScriptAt files (text_of w.console) script
 
--- the session of the files that the words name, with their tail and limit
+-- The session of the files that the words name, with the tail and the limit of the words.
 pub record IsLoadedFrom (stored : Option Stored) (names : Path → List Path) (w : Words) (s : Session) : Type 0 where
   pub program : IsProgramOf stored w s.program
   pub tail : s.tail ≡ w.tail.now
@@ -32,7 +32,7 @@ pub record IsLoadedFrom (stored : Option Stored) (names : Path → List Path) (w
   pub script : IsScriptOf stored w s.script
   pub limit : s.limit ≡ w.limit
 
--- such a session is refused by this number
+-- Such a session is refused with this number.
 pub record IsSessionRefusal (stored : Option Stored) (names : Path → List Path) (w : Words) (n : ℕ) : Type 0 where
   pub program : List ℕ
   pub files : Host
@@ -42,7 +42,7 @@ pub record IsSessionRefusal (stored : Option Stored) (names : Path → List Path
   pub of_script : IsScriptOf stored w script
   pub refused : made_of program w.tail.now files script w.limit ≡ Err n
 
--- the session that is wanted, or its refusal
+-- The result is this session or this refusal.
 abbrev pub MadeOrRefused : Result Session ℕ → Result Session LoadFault → Type 0
 MadeOrRefused wanted (Ok s) = wanted ≡ Ok s
 MadeOrRefused wanted (Err (CannotRead p)) = ⊥
@@ -50,19 +50,19 @@ MadeOrRefused wanted (Err (Folders f)) = ⊥
 MadeOrRefused wanted (Err (Refused n)) = wanted ≡ Err n
 MadeOrRefused wanted (Err OutOfMemory) = ⊥
 
--- why the file of this path can't be read
+-- Why the file of this path cannot be read.
 abbrev pub IsReadFaultOf : List ℕ → LoadFault → Type 0
 IsReadFaultOf path (CannotRead p) = p.now ≡ path
 IsReadFaultOf path (Folders f) = ⊥
 IsReadFaultOf path (Refused n) = ⊥
 IsReadFaultOf path OutOfMemory = Unit {0}
 
--- the same, where there is a path
+-- The same, if there is a path.
 abbrev pub IsReadFaultIfAny : Option (List ℕ) → LoadFault → Type 0
 IsReadFaultIfAny None f = ⊥
 IsReadFaultIfAny (Some path) f = IsReadFaultOf path f
 
--- why the files of the words give no session
+-- Why no session is loaded from the files of the words.
 abbrev pub FailsToLoad : Option Stored → (Path → List Path) → Words → LoadFault → Type 0
 FailsToLoad files names w (CannotRead p) = (p.now ≡ w.program.now) ⊎ (text_of w.console ≡ Some p.now)
 FailsToLoad files names w (Folders f) = FailsFolders files names w.files (AtFault f)

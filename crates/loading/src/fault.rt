@@ -7,7 +7,7 @@ pub enum LoadFault<'a> {
     CannotRead(&'a str),
     /// A folder of host files could not be read, or a file in it was refused.
     Folders(Fault),
-    /// The session was refused, by the number of its refusal.
+    /// The session was refused, with this number.
     Refused(u8),
     /// An allocation failed.
     OutOfMemory,

@@ -1,6 +1,6 @@
-//! The session that the words of a command line ask for, loaded from the files and folders that they name.
+//! Loading of the session that a command line describes, from the files and folders that it names.
 //!
-//! - `loading`: the program, the host files and the script are read, and the session is made
+//! - `loading`: reading the program, the host files and the script, and making the session
 //! - `fault`: why a session was not loaded
 #![tactic(auto)]
 

@@ -1,4 +1,4 @@
-// The session that the files of the command line give.
+// Loading a session from the files of the command line.
 
 ghost use Rattle.std.specs.Prelude.{◌≡◌, ◌+◌, ◌<◌, ◌^◌, IfOk, IfErr};
 ghost use Rattle.command_words.specs.CommandLine.{text_of};
@@ -17,13 +17,14 @@ use std::alloc::Global;
 use std::io;
 use std::io::ErrorKind;
 
-/// The most bytes of a program that are read: one more than a session takes, so that the session refuses a longer one.
+/// The largest number of bytes of a program that are read: one more than a session takes, so that the session refuses a longer
+/// one.
 const PROGRAM_READ: u64 = PROGRAM_LIMIT as u64 + 1;
 
-/// The most bytes of a script that are read: one more than a session takes.
+/// The largest number of bytes of a script that are read: one more than a session takes.
 const SCRIPT_READ: u64 = SCRIPT_LIMIT as u64 + 1;
 
-/// Returns the fault of an error of opening or reading this file.
+/// Returns the `LoadFault` for an error of opening or reading this file.
 fn read_fault<'a>(error: io::Error, path: &'a str) -> LoadFault<'a>
     ensures fault { IsReadFaultOf path.now result }
     ensures failures { load_failures result ≡ io_failures error }
@@ -39,7 +40,7 @@ fn read_fault<'a>(error: io::Error, path: &'a str) -> LoadFault<'a>
 ///
 /// # Errors
 ///
-/// The file could not be opened, or an allocation failed.
+/// Returns `Err` if the file cannot be opened or an allocation fails.
 pub fn open<'a, S: FileSystem>(system: &mut S, path: &'a str) -> Result<S::Input, LoadFault<'a>>
     requires { S.failures system.old < 2 ^ 63 }
     ensures opens { IfOk result (λ input. Opens (S.files system.old) path.now (S.Input.left input)) }
@@ -120,11 +121,11 @@ fn session_of<'a>(
     }
 }
 
-/// Loads the session that the words ask for: reads the program, the folders of the drives A to D and the script, in this order.
+/// Loads the session that the words describe: reads the program, the folders of the drives A to D and the script, in this order.
 ///
 /// # Errors
 ///
-/// A file or a folder could not be read or was refused, the session was refused, or an allocation failed.
+/// Returns `Err` if a file or a folder cannot be read or is refused, if the session is refused, or if an allocation fails.
 pub fn load<'a, S: FileSystem>(system: &mut S, words: &Words<'a>) -> Result<Session, LoadFault<'a>>
     requires { S.failures system.old < 2 ^ 63 }
     ensures session { IfOk result (IsLoadedFrom (S.files system.old) (S.names system.old) words.now) }

@@ -1,4 +1,4 @@
--- The changed files of a run, written one after another.
+-- The changed files of a run, written one after the other.
 use Rattle.std.proofs.Common.{◌≡◌, ℕ, true, false, cond, List, [], ◌∷◌, ◌<◌, length, arith, inl, inr, refl, sym, ap, subst, ◌∙◌, Option, Some, None, filter}
 use Rattle.std.specs.Borrow.{Bor}
 use Rattle.std.specs.FinMap.{contains_key}
@@ -12,17 +12,17 @@ use Rattle.folders.specs.Folders.{FailsToWrite, LeavesIn, WritesInto}
 use Rattle.folders.specs.declared.fault.Failure.{Failure}
 use Rattle.one_run.specs.RawRun.{StopsAt, WritesEach, bytes_in, drive_folder, written_keys}
 
--- the changed files that are there, of those whose keys lie above one
+-- The changed files that are there, with keys above one.
 abbrev pub there_above : Host → Files → Option Key → List Key
 there_above host files after = filter (contains_key files) (keys_above (changed_in host files) after)
 
--- one key fewer is left
+-- One key fewer is left.
 pub fewer_left : (host : Host) (files : Files) (after : Option Key) (key : Key) → keys_above (changed_in host files) after ≡ key ∷ keys_above (changed_in host files) (Some key)
     → length (keys_above (changed_in host files) (Some key)) < length (keys_above (changed_in host files) after)
 fewer_left host files after key split = let n = ap length split in omega (arith, n)
 
 module _ (folders : List (Option (Bor (List ℕ)))) (host : Host) (files : Files) where
-  -- what becomes of those that are left becomes of all
+  -- If the remaining files are written from here on, all are.
   pub record WritesOn (before : Option Stored) (after : Option Key) (now : Option Stored) : Type 0 where
     pub all : (last : Option Stored) → WritesEach folders files now (there_above host files after) last → WritesEach folders files before (written_keys host files) last
     pub some : (f : Failure) (last : Option Stored) → StopsAt (λ name. FailsToWrite folders name f) folders files now (there_above host files after) last
@@ -34,12 +34,12 @@ module _ (folders : List (Option (Bor (List ℕ)))) (host : Host) (files : Files
     some = λ f last h. subst (λ keys. StopsAt (λ name. FailsToWrite folders name f) folders files before (filter (contains_key files) keys) last) (keys_above_none (changed_in host files)) h;
   }
 
-  -- the next key is that of a file that is there
+  -- The next key belongs to a file that is there.
   there_next : (after : Option Key) (key : Key) → keys_above (changed_in host files) after ≡ key ∷ keys_above (changed_in host files) (Some key) → contains_key files key ≡ true
       → there_above host files after ≡ key ∷ there_above host files (Some key)
   there_next after key split h = ap (filter (contains_key files)) split ∙ ap (λ b. cond b (key ∷ there_above host files (Some key)) (there_above host files (Some key))) h
 
-  -- or of one that is gone
+  -- The next key belongs to a file that is gone.
   gone_next : (after : Option Key) (key : Key) → keys_above (changed_in host files) after ≡ key ∷ keys_above (changed_in host files) (Some key) → contains_key files key ≡ false
       → there_above host files after ≡ there_above host files (Some key)
   gone_next after key split h = ap (filter (contains_key files)) split ∙ ap (λ b. cond b (key ∷ there_above host files (Some key)) (there_above host files (Some key))) h
@@ -59,12 +59,12 @@ module _ (folders : List (Option (Bor (List ℕ)))) (host : Host) (files : Files
     some = λ f last rest. w.some f last (subst (λ keys. StopsAt (λ name. FailsToWrite folders name f) folders files now keys last) (sym (gone_next after key split h)) rest);
   }
 
-  -- no key is left
+  -- No key is left.
   pub ends : (before : Option Stored) (after : Option Key) (now : Option Stored) → WritesOn before after now → keys_above (changed_in host files) after ≡ []
       → WritesEach folders files before (written_keys host files) now
   ends before after now w none = w.all now (subst (λ keys. WritesEach folders files now (filter (contains_key files) keys) now) (sym none) refl)
 
-  -- the next one is not written
+  -- The next file is not written.
   pub stops : (f : Failure) (before : Option Stored) (after : Option Key) (now last : Option Stored) (key : Key) → WritesOn before after now
       → keys_above (changed_in host files) after ≡ key ∷ keys_above (changed_in host files) (Some key) → contains_key files key ≡ true
       → FailsToWrite folders key f → LeavesIn (drive_folder folders key) now last key → StopsAt (λ name. FailsToWrite folders name f) folders files before (written_keys host files) last

@@ -1,4 +1,4 @@
--- The faults of one run. (This project's own.)
+-- The errors of one run. (This project's own.)
 use Rattle.std.specs.Prelude.{ℕ}
 use Rattle.folders.specs.Faults.{fault_failures}
 use Rattle.folders.specs.declared.fault.Failure.{Failure}
@@ -6,12 +6,12 @@ use Rattle.folders.specs.declared.fault.Failure.TheVariants as failure
 use Rattle.one_run.specs.declared.fault.RunFault.{RunFault}
 use Rattle.one_run.specs.declared.fault.RunFault.TheVariants.{CannotWrite, Folders, OutOfMemory}
 
--- the fault of a failure of the folders
+-- The error of a run for a failure of the folders.
 abbrev pub fault_of : Failure → RunFault
 fault_of (failure.AtFault f) = Folders f
 fault_of failure.OutOfMemory = OutOfMemory
 
--- the failures of the file system that a fault reports: one if a changed file could not be written
+-- The failures of the file system that an error reports: one if a changed file could not be written.
 abbrev pub run_failures : RunFault → ℕ
 run_failures CannotWrite = 0
 run_failures (Folders f) = fault_failures f

@@ -1,4 +1,4 @@
--- One run of a session: what it writes, its status, and what a fault leaves. (This project's profile.)
+-- One run of a session: what it writes, its status, and what holds after an error. (This project's profile.)
 use Rattle.std.specs.Prelude.{◌≡◌, ℕ, ◌<◌, ◌⊎◌, [], ◌∷◌, ◌++◌, List, Option, codes, filter, slice_index, take, unwrap_or}
 use Rattle.std.specs.FinMap.{contains_key}
 use Rattle.std.specs.List.{concat}
@@ -23,7 +23,7 @@ use Rattle.report_lines.specs.Writing.{WritesOrFails}
 use Rattle.one_run.specs.declared.fault.RunFault.{RunFault}
 use Rattle.one_run.specs.declared.fault.RunFault.TheVariants.{CannotWrite, Folders, OutOfMemory}
 
--- the exit status after a run that stopped by this cause
+-- The exit status after a run that stopped by this cause.
 abbrev pub stop_status : Cause → ℕ
 stop_status WarmBoot = 0
 stop_status Limit = 3
@@ -35,67 +35,68 @@ stop_status NoDollar = 8
 stop_status (Unsupported number) = 9
 stop_status (BadDrive number) = 10
 
--- the line that says why a run stopped
+-- The line that reports why a run stopped.
 abbrev pub stop_line : Cause → List ℕ
 stop_line cause = line (codes "stop " ++ cause_text cause)
 
--- the console text of the run of a session
+-- The console text of the run of a session.
 abbrev pub console_text : Session → List ℕ
 console_text s = (plain_run s).machine.core.desk.text
 
--- the lines of its stop and of the changed files that are gone
+-- The lines of the stop of a run and of the changed files that are gone.
 abbrev pub stop_text : Session → List ℕ
 stop_text s = stop_line (plain_run s).cause ++ gone_lines s.files (plain_run s).machine.files
 
--- the folder of a file's drive, if it has one
+-- The folder of a file's drive, if it has one.
 abbrev pub drive_folder : List (Option (Bor (List ℕ))) → Key → Option Path
 drive_folder folders key = folder_of folders (slice_index key 0)
 
--- the changed files that are there at the stop, in the order of their names
+-- The changed files that are there at the stop, in the order of their names.
 abbrev pub written_keys : Host → Files → List Key
 written_keys host files = filter (contains_key files) (changed_keys_in host files)
 
--- the records of a file in order, with zeros in its holes; nothing if there is no file
+-- The records of a file in order, with zeros for its holes; nothing if there is no file.
 abbrev pub bytes_in : Files → Key → List ℕ
 bytes_in files key = concat (unwrap_or (told_in files key) [])
 
--- files are written into the folders of their drives, one after another, and each whole
+-- Files are written whole into the folders of their drives, one after the other.
 abbrev pub WritesEach : List (Option (Bor (List ℕ))) → Files → Option Stored → List Key → Option Stored → Type 0
 WritesEach folders files before [] after = after ≡ before
 WritesEach folders files before (key ∷ keys) after =
     (next : Option Stored) × WritesInto (drive_folder folders key) before next key (bytes_in files key) × WritesEach folders files next keys after
 
--- the first of them are, and then one of which this holds is not: its path has what it had
+-- The first of them are written, and then one for which `Fails` holds is not; its path is unchanged.
 abbrev pub StopsAt : (Key → Type 0) → List (Option (Bor (List ℕ))) → Files → Option Stored → List Key → Option Stored → Type 0
 StopsAt Fails folders files before [] after = ⊥
 StopsAt Fails folders files before (key ∷ keys) after =
     (Fails key × LeavesIn (drive_folder folders key) before after key)
     ⊎ ((next : Option Stored) × WritesInto (drive_folder folders key) before next key (bytes_in files key) × StopsAt Fails folders files next keys after)
 
--- all changed files that are there were written
+-- All changed files that are there were written.
 abbrev pub WritesAll : List (Option (Bor (List ℕ))) → Host → Files → Option Stored → Option Stored → Type 0
 WritesAll folders host files before after = WritesEach folders files before (written_keys host files) after
 
--- the changed files were not all written, because of this failure
+-- The changed files were not all written, because of this failure.
 abbrev pub FailsToWriteAll : List (Option (Bor (List ℕ))) → Host → Files → Option Stored → Option Stored → Failure → Type 0
 FailsToWriteAll folders host files before after f = StopsAt (λ name. FailsToWrite folders name f) folders files before (written_keys host files) after
 
--- the same for the run of a session
+-- The same for the run of a session.
 abbrev pub WritesFiles : List (Option (Bor (List ℕ))) → Session → Option Stored → Option Stored → Type 0
 WritesFiles folders s before after = WritesAll folders s.files (plain_run s).machine.files before after
 
 abbrev pub FailsToWriteFiles : List (Option (Bor (List ℕ))) → Session → Option Stored → Option Stored → Failure → Type 0
 FailsToWriteFiles folders s before after f = FailsToWriteAll folders s.files (plain_run s).machine.files before after f
 
--- the session was run once: its console text was written, then its changed files, and then its stop, or a prefix of that if writing failed
+-- The session was run once: its console text was written, then its changed files, and then its stop, or a prefix of that if
+-- writing failed.
 pub record RunsOnce (folders : List (Option (Bor (List ℕ)))) (s : Session) (status : ℕ) (before after : World) : Type 0 where
   pub exits : status ≡ stop_status (plain_run s).cause
   pub written : Appends before.out after.out (console_text s)
   pub files : WritesFiles folders s before.files after.files
   pub reported : WritesOrFails before.err after.err before.err_failures after.err_failures (stop_text s)
 
--- what a fault leaves: a prefix of the console text if writing that failed, all of it if a changed file was not written, and nothing or all
--- of it if an allocation failed
+-- What was written before an error: a prefix of the console text if writing that failed, all of it if a changed file was not
+-- written, and nothing or all of it if an allocation failed.
 abbrev pub BreaksRun : List (Option (Bor (List ℕ))) → Session → World → World → RunFault → Type 0
 BreaksRun folders s before after CannotWrite =
     (before.out_failures < after.out_failures) × ((n : ℕ) × Appends before.out after.out (take n (console_text s))) × (after.files ≡ before.files)

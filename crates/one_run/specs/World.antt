@@ -2,8 +2,8 @@
 use Rattle.std.specs.Prelude.{ℕ, List, Option}
 use Rattle.folders.specs.FileSystem.{Path, Stored}
 
--- the files and the names in their folders, if the files are known; what standard output and standard error hold, if they report
--- it; and how often each failed
+-- The files and the names in their folders, if the files are known; what standard output and standard error hold, if they report
+-- it; and how often each failed.
 pub record World : Type 0 where
   pub files : Option Stored
   pub names : Path → List Path

@@ -40,7 +40,7 @@ fn stop_status(cause: Cause) -> u8
     }
 }
 
-/// Returns the line that says why a run stopped.
+/// Returns the line that reports why a run stopped.
 fn stop_line(alloc: Global, cause: Cause) -> Result<String, AllocError>
     ensures { IfOk result (λ s. string_bytes s ≡ stop_line cause) }
 {
@@ -48,7 +48,7 @@ fn stop_line(alloc: Global, cause: Cause) -> Result<String, AllocError>
     format!(in alloc; "stop {cause}\n")
 }
 
-/// Writes a file as the run left it into the folder of its drive, if that has one.
+/// Writes a file as the run left it into the folder of its drive, if the drive has one.
 fn write_file<S: FileSystem>(
     system: &mut S,
     folders: &[Option<&str>; 4],
@@ -73,8 +73,8 @@ fn write_file<S: FileSystem>(
     write_to_drive(system, folders, name, &contents)
 }
 
-/// Writes the changed files of the run that are there at its stop into the folders of their drives, where these have any, in the
-/// order of their names.
+/// Writes the changed files that are there when the run stops into the folders of their drives, as far as these have folders, in
+/// the order of their names.
 fn write_changed<S: FileSystem>(
     system: &mut S,
     folders: &[Option<&str>; 4],
@@ -123,7 +123,7 @@ fn write_stop_lines<E: Writer>(err: &mut E, line: &[u8], host: &HostFiles, journ
     let _ = write_lines(err, line, host, journal);
 }
 
-/// Reports on standard error why the run stopped, and which of the changed files are gone. A failure of the writer is ignored; if
+/// Reports on standard error why the run stopped, and which of the changed files are gone. A failure of the writer is ignored. If
 /// an allocation fails, nothing is written.
 fn report_stop<E: Writer>(alloc: Global, report: &Report<'_>, err: &mut E) -> Result<(), RunFault>
     requires { E.failures err.old < 2 ^ 63 }
@@ -205,13 +205,13 @@ fn run_and_report<S: FileSystem, O: Writer, E: Writer>(
     report_run(system, folders, &report, out, err)
 }
 
-/// Runs a session once. Its console text goes to `out`; then each changed file that is there at the stop is written into the folder of its
-/// drive, if that has one; then `err` gets a line that says why the run stopped, and a line for each changed file that is gone. Returns the
-/// exit status for the stop.
+/// Runs a session once. First its console text is written to `out`. Then each changed file that is there when the run stops is
+/// written into the folder of its drive, if the drive has one. Then `err` gets a line that reports why the run stopped, and a
+/// line for each changed file that is gone. Returns the exit status for the stop.
 ///
 /// # Errors
 ///
-/// Writing `out` or a file failed, or an allocation; `err` is unchanged.
+/// Returns `Err` if writing to `out` or a file fails, or an allocation; `err` is then unchanged.
 pub fn run_once<S: FileSystem, O: Writer, E: Writer>(
     system: &mut S,
     folders: &[Option<&str>; 4],

@@ -1,4 +1,4 @@
--- Questions of the host files that are taken one after the other.
+-- Questions about the host files that are taken out one after the other.
 use Rattle.std.proofs.Common.{◌≡◌, ℕ, suc, ◌+◌, ◌<◌, Bool, true, false, ◌||◌, cond, Option, Some, None, is_some, refl, sym, ap, ◌∙◌, arith, IfSome, IfNone}
 use Rattle.std.proofs.lemmas.Bool.{le-ltb}
 use Rattle.std.specs.Ordering.{eq_by_cmp}
@@ -62,7 +62,7 @@ fewer (Length key) l h = let less = fewer_keys nat_list_cmp_total same_key l.len
 fewer (Rec key k) l h = let less = fewer_keys places_total same_place l.records (key, k) _ refl h in omega (arith, less)
 fewer (Directory d) l h = let less = fewer_keys nat_cmp_total nat_cmp-IsAntisymmetric l.directories d _ refl h in omega (arith, less)
 
--- how many questions there are yet to be noted
+-- The number of questions still to be noted.
 abbrev pub left_asks : Option Ask → Looks → ℕ
 left_asks None asked = look_count asked
 left_asks (Some ask) asked = suc (look_count asked)
@@ -85,7 +85,7 @@ split (Directory drive) l h (Length x) = refl
 split (Directory drive) l h (Rec x j) = refl
 split (Directory drive) l h (Directory d) = key_split nat_cmp_total nat_cmp-IsAntisymmetric l.directories drive d h ∙ ap (λ b. b || is_looked (forgot (Directory drive) l) (Directory d)) (unsigned_tied d drive)
 
--- what a call gave that takes a question
+-- The result of a call that takes out a question.
 pub record TakesAsk (next : Option Ask) (old new : Looks) : Type 0 where
   pub left : (a : Ask) → is_looked old a ≡ is_left_ask next new a
   pub less : left_asks next new < suc (look_count old)
@@ -106,7 +106,7 @@ takes_ask (Some ask) old new one taken none same = record {
 pub left_falls : (ask : Ask) (next : Option Ask) (old new : Looks) → TakesAsk next old new → left_asks next new < left_asks (Some ask) old
 left_falls ask next old new t = t.less
 
--- a question is noted, and one more is taken
+-- A question is noted, and one more is taken out.
 pub one_noted : (ask : Ask) (next : Option Ask) (old new : Looks) (a : Ask) (o p : Option ℕ) (n : ℕ) → TakesAsk next old new → p ≡ or_else o (mark (is_same_ask a ask) n)
     → or_else p (mark (is_left_ask next new a) n) ≡ or_else o (mark (is_left_ask (Some ask) old a) n)
 one_noted ask next old new a o p n t e =
@@ -117,14 +117,14 @@ if_none : {P Q : Type 0} (o : Option Ask) → (P → Q) → IfNone o P → IfNon
 if_none None f h = f h
 if_none (Some ask) f h = tt
 
--- the same of every question
+-- The same for every question.
 pub one_noted_question : (ask : Ask) (next : Option Ask) (old new : Looks) (q : Question) (o p : Option ℕ) (n : ℕ) → TakesAsk next old new → p ≡ or_else o (mark (same_question q (OfHost ask)) n)
     → or_else p (mark (is_ask_of next new q) n) ≡ or_else o (mark (is_ask_of (Some ask) old q) n)
 one_noted_question ask next old new (Cell a) o p n t e = ap (λ x. or_else x (mark false n)) e ∙ marks_join o false false n
 one_noted_question ask next old new (Script k) o p n t e = ap (λ x. or_else x (mark false n)) e ∙ marks_join o false false n
 one_noted_question ask next old new (OfHost a) o p n t e = one_noted ask next old new a o p n t e
 
--- what is noted now is erased again
+-- An entry noted now is erased again.
 pub erased_mark : (o : Option ℕ) (b : Bool) (n : ℕ) → erased n (or_else o (mark b n)) ≡ erased n o
 erased_mark (Some m) b n = refl
 erased_mark None false n = refl

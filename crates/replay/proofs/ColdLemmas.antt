@@ -18,7 +18,7 @@ reached f limit k (suc n) st e a =
     let before = reached f limit (suc k) n b (omega arith) at in
     sym (ap (λ (o : Outcome PartialState Cause). elim o [ Step next ↦ cold_from f k (suc n) next | Stop c ↦ record { state = b; steps = n; cause = c } ]) went) ∙ before
 
--- a stop below the limit ends the cold run
+-- A stop below the limit ends the cold run.
 pub cold_stop : (s : Session) (n : ℕ) (st : PartialState) (c : Cause) → after (ask s) n ≡ Some st → n < s.limit → outcome (ask s) st ≡ Stop c → cold s ≡ record { state = st; steps = n; cause = c }
 unfolding cold
 cold_stop s n st c at below stop =
@@ -26,12 +26,12 @@ cold_stop s n st c at below stop =
     let count : suc k + n ≡ s.limit = omega arith in
     sym (reached (ask s) s.limit (suc k) n st count at) ∙ ap (λ (o : Outcome PartialState Cause). elim o [ Step next ↦ cold_from (ask s) k (suc n) next | Stop x ↦ record { state = st; steps = n; cause = x } ]) stop
 
--- and so does the limit
+-- The limit ends the cold run.
 pub cold_limit : (s : Session) (n : ℕ) (st : PartialState) → after (ask s) n ≡ Some st → n ≡ s.limit → cold s ≡ record { state = st; steps = n; cause = Limit }
 unfolding cold
 cold_limit s n st at e = sym (reached (ask s) s.limit 0 n st (omega arith) at)
 
--- no step leads to the start
+-- After 0 steps the state is the start.
 pub after_none : (f : Answers) (st : PartialState) → st ≡ start → after f 0 ≡ Some st
 unfolding dependence.after
 after_none f st e = ap (λ (s : PartialState). Some s) (sym e)

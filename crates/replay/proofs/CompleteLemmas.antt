@@ -1,4 +1,4 @@
--- That no due step is left out where no memory was refused and each look was noted.
+-- No due step is left out if no allocation failed and each look was noted.
 use Rattle.std.proofs.Common.{◌≡◌, ℕ, ◌+◌, ◌*◌, ◌/◌, ◌%◌, ◌<◌, ◌≤◌, List, [], ◌∷◌, ◌++◌, max, ◌⊎◌, inl, inr, refl, sym, subst, arith, lt_of_mul-lt-mul_right, mul-le-mul_right, div-mul-le_self, div-add-mod'}
 use Rattle.std.proofs.lemmas.Bool.{cases_lt}
 use Rattle.circular_buffer.specs.Buffer.{Buffer}
@@ -6,7 +6,7 @@ use Rattle.replay.specs.declared.ring.Checkpoint.{Checkpoint}
 use Rattle.replay.specs.Ring.{Each, IsDue, AddsAll, Keeps, SomeStep, SomeBy, pushed}
 use Rattle.replay.proofs.RingLemmas.{Adding, relast_adding, push_made, left_out, kept_same}
 
--- no multiple stands before the next one
+-- No multiple of the spacing is between n and the next multiple.
 pub no_multiple : (n s k : ℕ) → n < k → k < (n / s + 1) * s → k % s ≡ 0 → ⊥
 no_multiple n s k above below whole =
     let parts = div-add-mod' k s in
@@ -32,7 +32,7 @@ under : (m k : ℕ) (xs : List Checkpoint) → (m ≡ 0) ⊎ SomeStep xs m → 0
 under m k xs (inl e) p b = omega (arith, e, p)
 under m k xs (inr h) p b = some_under m k xs h b
 
--- in the middle of a run, whose newest checkpoint is at `newest`, each due step was made
+-- In the middle of a run, whose newest checkpoint is at `newest`, each due step so far has its checkpoint.
 pub record AddingAll (old new : List Checkpoint) (slots from upto last spacing newest : ℕ) : Type 0 where
   pub adding : Adding old new slots from upto last spacing newest
   pub complete : (k : ℕ) → IsDue old from upto last spacing k → SomeBy (λ c. c.step) adding.adds.made k
@@ -42,13 +42,13 @@ pub all_made : (old new : List Checkpoint) (slots from upto last spacing newest 
 all_made old new slots from upto last spacing newest g e =
     subst (λ l. AddsAll old new slots from upto l spacing) (sym e) (record { adds = g.adding.adds; complete = g.complete })
 
--- a run begins with none left out
+-- At the start of a run none is left out.
 pub none_left_out : (old : List Checkpoint) (slots from last spacing newest : ℕ) → Adding old old slots from from last spacing newest
     → AddingAll old old slots from from last spacing newest
 none_left_out old slots from last spacing newest g =
     record { adding = g; complete = λ k h. absurd (omega (arith, h.reached.0, h.reached.1)) }
 
--- the last step is another one than the limit
+-- The last step may be another one than the limit.
 pub relast_all : (old new : List Checkpoint) (slots from upto last other spacing newest : ℕ) → upto < last → upto ≤ other
     → (upto ≡ from) ⊎ ((upto % spacing ≡ 0) ⊎ (upto ≡ last)) → AddingAll old new slots from upto last spacing newest
     → AddingAll old new slots from upto other spacing newest

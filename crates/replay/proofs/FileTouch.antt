@@ -1,4 +1,4 @@
--- What the change of a host file touches.
+-- The questions whose answer changes with a host file.
 use Rattle.std.proofs.Common.{◌≡◌, ℕ, ◌<◌, List, Option, Some, inl, inr, refl, subst}
 use Rattle.hostfiles.specs.Hosts.{Key, Record, Host}
 use Rattle.file_steps.specs.declared.steps.FileSteps.{FileSteps}

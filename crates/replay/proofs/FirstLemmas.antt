@@ -12,7 +12,7 @@ use Rattle.machine.specs.Step.{next}
 use Rattle.machine.specs.Machine.{Answers, is_in, part, made, start, looks_at, looks, after}
 use Rattle.replay.specs.FirstLooks.{Noted, or_else, mark, first, erased, step_of, IsFirstLooks}
 
--- an entry below n
+-- A step in an entry is below n.
 abbrev pub IsBelow : ℕ → Option ℕ → Type 0
 IsBelow n o = (m : ℕ) → o ≡ Some m → m < n
 
@@ -63,7 +63,7 @@ same_after = lemmas.same_after part (λ (st : PartialState). st.own) (λ (st : P
 pub same_looks : (f g : Answers) (n : ℕ) → ((i : ℕ) → i < n → AgreeOn (looks f i) f g) → AgreeOn (looks f n) f g → looks g n ≡ looks f n
 same_looks = lemmas.same_looks part (λ (st : PartialState). st.own) (λ (st : PartialState). next st.core) made start
 
--- where two sessions agree on the looks of the steps below n, these steps are first looks alike
+-- If two sessions agree on the looks of the steps below n, they have the same first looks below n.
 pub same_first : (f g : Answers) (q : Question) (n : ℕ) → ((i : ℕ) → i < n → AgreeOn (looks f i) f g) → first g q n ≡ first f q n
 unfolding first
 same_first f g q zero h = refl
@@ -74,10 +74,10 @@ pub looks_here : (f : Answers) (n : ℕ) (st : PartialState) → after f n ≡ S
 unfolding dependence.looks
 looks_here f n st a = ap (λ (o : Option PartialState). dependence.looks_of part (λ (st : PartialState). st.own) (λ (st : PartialState). next st.core) made start f o) a
 
--- a failed note leaves the table
+-- A failed note leaves a table of first looks.
 pub erased_known : (f : Answers) (old new : Noted) → IsFirstLooks f old → ((q : Question) → step_of new q ≡ erased old.seen (step_of old q)) → new.seen ≡ old.seen → IsFirstLooks f new
 erased_known f old new known steps seen = record { entry = λ q. rw (seen, steps q, known.entry q) (erased_same f q old.seen) }
 
--- what is noted of a question is a step below `seen`
+-- The noted step of a question is below `seen`.
 pub noted_below : (f : Answers) (k : Noted) → IsFirstLooks f k → (q : Question) (m : ℕ) → step_of k q ≡ Some m → m < k.seen
 noted_below f k known q m e = first_below f q k.seen m (sym (known.entry q) ∙ e)

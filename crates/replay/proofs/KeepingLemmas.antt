@@ -1,4 +1,4 @@
--- What is kept of a state that a run reached, and the text that stands under it.
+-- What is kept of a state that a run reached, and the text that belongs to it.
 use Rattle.std.proofs.Common.{◌≡◌, ℕ, ◌<◌, ◌≤◌, Bool, true, false, List, [], ◌∷◌, length, take, Some, ◌⊎◌, inl, inr, refl, ap, sym, ◌∙◌, arith, nat_lt}
 use Rattle.std.proofs.lemmas.Bool.Decides.{nat_tests}
 use Rattle.circular_buffer.specs.Buffer.{Buffer}
@@ -18,7 +18,7 @@ stands_valid f text [] h = tt
 stands_valid f text (x ∷ xs) h =
     (record { later = h.0.later; text = take x.state.length text; fits = length-take-le x.state.length text h.0.fits; state = h.0.state }, stands_valid f text xs h.1)
 
--- a checkpoint that stands with some text stands with that of every later state
+-- A valid checkpoint is the state after its step also with the text of every later state.
 pub later_stands : (f : Answers) (n : ℕ) (st : PartialState) (c : Checkpoint) → after f n ≡ Some st → c.step ≤ n → IsValid f c → Stands f st.core.desk.text c
 later_stands f n st c at low v =
     let begins : take (length v.text) st.core.desk.text ≡ v.text = text_begins f c.step n (whole c.state v.text) st low v.state at in
@@ -34,7 +34,7 @@ pub all_later_stand : (f : Answers) (n : ℕ) (st : PartialState) (xs : List Che
 all_later_stand f n st [] at low v = tt
 all_later_stand f n st (x ∷ xs) at low v = (later_stands f n st x at low.0 v.0, all_later_stand f n st xs at low.1 v.1)
 
--- a state before a checkpoint has a beginning of its text
+-- The text of a state before a checkpoint is a prefix of the checkpoint's text.
 pub earlier_text : (f : Answers) (n : ℕ) (st : PartialState) (text : List ℕ) (c : Checkpoint) → after f n ≡ Some st → n ≤ c.step → Stands f text c
     → (take (length st.core.desk.text) text ≡ st.core.desk.text) × (length st.core.desk.text ≤ length text)
 earlier_text f n st text c at low s =
@@ -57,14 +57,14 @@ some_within limit [] n h low = absurd h
 some_within limit (x ∷ xs) n (inl s) low = grind (arith, nat_tests)
 some_within limit (x ∷ xs) n (inr h) low = let r = some_within limit xs n h low in grind (arith, nat_tests)
 
--- the checkpoints stand with the text, and the last state has a beginning of it
+-- The checkpoints agree with the text, and the text of the last state is a prefix of it.
 pub record Left (f : Answers) (st : PartialState) (text : List ℕ) (ring : List Checkpoint) : Type 0 where
   pub stands : Each (Stands f text) ring
   pub begins : take (length st.core.desk.text) text ≡ st.core.desk.text
   pub fits : length st.core.desk.text ≤ length text
 
 module _ (f : Answers) (limit newest from l : ℕ) (st : PartialState) (old new : Buffer Checkpoint) (first begun last : List ℕ) where
-  -- the text of a checkpoint past the limit stays
+  -- If a kept step is past the limit, its text stays.
   left_before : Each (Stands f first) old.items → (newest ≡ 0) ⊎ SomeStep old.items newest → (n : ℕ) → after f n ≡ Some st → n ≤ limit → limit < newest → Left f st first old.items
   left_before stands (inl e) n at low past = absurd (omega arith)
   left_before stands (inr h) n at low past =

@@ -1,4 +1,4 @@
--- The touch of an edit, question by question: the least step among the changed questions done so far.
+-- The touch of an edit, question by question: the first step among the changed questions done so far.
 use Rattle.std.proofs.Common.{◌≡◌, ℕ, ◌<◌, ◌≤◌, Bool, true, false, cond, Option, Some, None, ◌⊎◌, inl, inr, refl, sym, ◌∙◌, subst, arith}
 use Rattle.std.proofs.lemmas.Bool.{lt-ltb, le-ltb, cases_lt}
 use Rattle.machine.specs.Machine.{Question, Answers}
@@ -6,7 +6,7 @@ use Rattle.replay.specs.FirstLooks.{Noted, step_of}
 use Rattle.file_steps.specs.Steps.{lesser}
 use Rattle.replay.specs.Touch.{IsNotedTouch}
 
--- the same as of a noted touch, for the questions that are done
+-- The noted touch, for the questions done so far.
 pub record IsLeast (IsDone : Question → Type 0) (f g : Answers) (k : Noted) (t : ℕ) : Type 0 where
   pub within : t ≤ k.seen
   pub below : (q : Question) (m : ℕ) → IsDone q → step_of k q ≡ Some m → m < t → f q ≡ g q
@@ -15,7 +15,7 @@ pub record IsLeast (IsDone : Question → Type 0) (f g : Answers) (k : Noted) (t
 pub least_of_none : (IsDone : Question → Type 0) (f g : Answers) (k : Noted) → ((q : Question) → IsDone q → ⊥) → IsLeast IsDone f g k k.seen
 least_of_none IsDone f g k none = record { within = omega arith; below = λ q m done there low. absurd (none q done); here = inl refl }
 
--- all questions that have another answer are done
+-- If all questions with another answer are done, it is the noted touch.
 pub least_of_all : (IsDone : Question → Type 0) (f g : Answers) (k : Noted) (t : ℕ) → IsLeast IsDone f g k t → ((q : Question) → IsDone q ⊎ (f q ≡ g q)) → IsNotedTouch f g k t
 least_of_all IsDone f g k t least all = record {
   within = least.within;
@@ -24,7 +24,7 @@ least_of_all IsDone f g k t least all = record {
 }
 
 module _ (IsDone IsDoneThen : Question → Type 0) (f g : Answers) (k : Noted) (c : Question) (split : (q : Question) → IsDoneThen q → IsDone q ⊎ (q ≡ c)) (t : ℕ) (least : IsLeast IsDone f g k t) where
-  -- a question more is done, which has the same answer
+  -- One more question is done, with the same answer.
   pub more_same : f c ≡ g c → IsLeast IsDoneThen f g k t
   more_same same = record {
     within = least.within;
@@ -35,7 +35,7 @@ module _ (IsDone IsDoneThen : Question → Type 0) (f g : Answers) (k : Noted) (
     here = least.here;
   }
 
-  -- or another
+  -- One more question is done, with another answer.
   pub more_changed : (f c ≡ g c → ⊥) → (o : Option ℕ) → step_of k c ≡ o → ((m : ℕ) → o ≡ Some m → m < k.seen) → IsLeast IsDoneThen f g k (lesser o t)
   more_changed differs None at short = record {
     within = least.within;

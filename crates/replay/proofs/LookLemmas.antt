@@ -1,4 +1,4 @@
--- The looks of one step, noted.
+-- The looks of one step are noted.
 use Rattle.std.proofs.Common.{◌≡◌, ℕ, suc, ◌+◌, ◌<◌, ◌≤◌, Bool, true, false, ◌||◌, length, take, drop, take-append-drop, Option, Some, None, ◌⊎◌, inl, inr, refl, ap, sym, ◌∙◌, subst, arith, add-one}
 use Rattle.std.proofs.lemmas.Bool.{cases_lt, or_cases}
 use Rattle.std.proofs.Math.Nat.{eq-or-lt_of_le}
@@ -12,26 +12,26 @@ use Rattle.replay.specs.FirstLooks.{Noted, step_of, or_else, mark, first, IsFirs
 use Rattle.replay.proofs.FirstLemmas.{first-suc, looks_here, erased_known}
 use Rattle.replay.proofs.TouchLemmas.{noted_by}
 
--- an entry is entered for the new looks alone: that is the same as for all
+-- Noting the new looks alone has the same result as noting all.
 same_mark : (o : Option ℕ) (before more all asked : Bool) (n : ℕ) → (before ≡ true → o ≡ None → ⊥) → all ≡ (before || more) → all ≡ (before || asked) → or_else o (mark more n) ≡ or_else o (mark asked n)
 same_mark (Some m) before more all asked n known e f = refl
 same_mark None true more all asked n known e f = absurd (known refl refl)
 same_mark None false more all asked n known e f = ap (λ b. mark b n) (sym e ∙ f)
 
--- a question that was looked at has an entry afterwards
+-- A question that was looked at has an entry afterwards.
 has_entry : (o : Option ℕ) (before more all : Bool) (n : ℕ) → (before ≡ true → o ≡ None → ⊥) → all ≡ (before || more) → all ≡ true → or_else o (mark more n) ≡ None → ⊥
 has_entry (Some m) before more all n known e h none = cc
 has_entry None true more all n known e h none = known refl refl
 has_entry None false true all n known e h none = cc
 has_entry None false false all n known e h none = cc
 
--- where nothing was looked at there is nothing to note
+-- If nothing was looked at, there is nothing to note.
 pub none_looked : (noted : Noted) (looked : Looked) → NothingLooked looked → AllNoted noted looked
 none_looked noted looked none (Cell a) asked o = let no : is_among a looked.cells ≡ false = rw none.cells refl in absurd (let both : false ≡ true = sym no ∙ asked in cc)
 none_looked noted looked none (Script k) asked o = let no : is_within looked.places k ≡ false = none.places k in absurd (let both : false ≡ true = sym no ∙ asked in cc)
 none_looked noted looked none (OfHost a) asked o = let no : is_looked looked.files a ≡ false = none.files a in absurd (let both : false ≡ true = sym no ∙ asked in cc)
 
--- what the first looks are after a step
+-- The first looks after a step.
 pub record Notes (f : Answers) (old new : Noted) (n : ℕ) (looked : Looked) (refused refuses : ℕ) : Type 0 where
   pub noted : IsFirstLooks f new
   pub looks : n + 1 ≤ new.seen → AllNoted new looked
@@ -46,7 +46,7 @@ module _ (f : Answers) (old new : Noted) (n refused refuses : ℕ) (st : Partial
   or_both true b h = h refl
   or_both false b h = refl
 
-  -- what was looked at is what was before, and what is new
+  -- The looks are the earlier ones and the new ones.
   more_looked : (q : Question) → looked_at after_step q ≡ (looked_at looked q || looked_at (since (length looked.cells) after_step) q)
   more_looked (Cell a) =
       ap (is_among a) (sym (take-append-drop (length looked.cells) after_step.cells))
@@ -55,13 +55,13 @@ module _ (f : Answers) (old new : Noted) (n refused refuses : ℕ) (st : Partial
   more_looked (Script k) = or_both (is_within looked.places k) (is_within after_step.places k) (extends.places k)
   more_looked (OfHost a) = or_both (is_looked looked.files a) (is_looked after_step.files a) (extends.files.kept a)
 
-  -- where no place and no question is left, what is left was looked at
+  -- If no offset and no question is left, the looks that are left are among the looks of the step.
   left_looked : NoPlaces left.places → NoAsks left.files → (q : Question) → looked_at left q ≡ true → looked_at after_step q ≡ true
   left_looked none drained (Cell a) e = ap (is_among a) (sym same_cells) ∙ e
   left_looked none drained (Script k) e = let no : is_within left.places k ≡ false = none k in absurd (let both : false ≡ true = sym no ∙ e in cc)
   left_looked none drained (OfHost a) e = let no : is_looked left.files a ≡ false = drained a in absurd (let both : false ≡ true = sym no ∙ e in cc)
 
-  -- they stay
+  -- The first looks stay the same.
   stays : new ≡ old → refuses ≡ refused → NoPlaces left.places → NoAsks left.files → (n ≡ old.seen → ⊥) → (n + 1 ≤ old.seen → AllNoted old after_step) → Notes f old new n left refused refuses
   stays same none drained answered apart noted_all = record {
     noted = subst (λ (t : Noted). IsFirstLooks f t) (sym same) known;
@@ -72,7 +72,7 @@ module _ (f : Answers) (old new : Noted) (n refused refuses : ℕ) (st : Partial
     all = λ _ low. let e : new.seen ≡ old.seen = ap (λ (t : Noted). t.seen) same in elim (eq-or-lt_of_le {n = n} {m = old.seen} low) [ inl same_step ↦ absurd (apart same_step) | inr l ↦ omega (arith, l, e) ];
   }
 
-  -- the step was seen before
+  -- The step was seen before.
   seen_before : n < old.seen → AllNoted old after_step
   seen_before below q asked none = elim (or_cases (looked_at looked q) (is_in q (looks_at f st)) (sym (asks q) ∙ asked)) [
     | inl h ↦ all (omega arith) q h none
@@ -84,7 +84,7 @@ module _ (f : Answers) (old new : Noted) (n refused refuses : ℕ) (st : Partial
           let (m, there, low) = noted_by f q old.seen n below (ap (is_in q) (looks_here f n st at) ∙ asked) in
           let e : Some m ≡ None = sym there ∙ sym (known.entry q) ∙ none in cc
 
-  -- or it is noted now
+  -- The step is noted now.
   seen_now : n ≡ old.seen → IsNoted old new (since (length looked.cells) after_step) → refuses ≡ refused → NoPlaces left.places → NoAsks left.files → Notes f old new n left refused refuses
   seen_now here now none drained answered = record {
     noted = record { entry = λ q. entry q ∙ sym (ap (first f q) now.seen ∙ ap (first f q) (add-one old.seen)) };
@@ -108,7 +108,7 @@ module _ (f : Answers) (old new : Noted) (n refused refuses : ℕ) (st : Partial
         ∙ ap (λ qs. or_else (first f q old.seen) (mark (is_in q qs) old.seen)) (sym (looks_here f old.seen st (ap (after f) (sym here) ∙ at)))
         ∙ sym (first-suc f q old.seen)
 
-  -- or memory for it was refused
+  -- An allocation for noting the step failed.
   left_behind : n ≡ old.seen → IsLeftBehind old new → refuses ≡ refused + 1 → Notes f old new n left refused refuses
   left_behind here behind one = record {
     noted = erased_known f old new known behind.entries behind.seen;

@@ -1,4 +1,4 @@
--- What is new of what was looked at, once a place and a question were taken out.
+-- The new looks, once an offset and a question were taken out.
 use Rattle.std.proofs.Common.{◌≡◌, ℕ, Bool, true, false, ◌||◌, ◌&&◌, ◌==◌, not, drop, List, Option, Some, None, Result, Ok, Err, OnOk, IfSome, IfNone, refl, sym, ap, ◌∙◌, inl, inr}
 use Rattle.std.proofs.lemmas.Bool.Decides.{eqb_tells}
 use Rattle.machine.specs.Memory.{is_among}
@@ -12,7 +12,7 @@ use Rattle.machine.specs.Machine.{Question, Cell, Script, OfHost, looked_at}
 use Rattle.replay.specs.FirstLooks.{since, is_left, is_left_ask, is_new}
 use Rattle.replay.proofs.AskLemmas.{TakesAsk}
 
--- a place that was taken is one of those before
+-- An offset that was taken out is among the earlier ones.
 left_places : (taken : Option ℕ) (old new : Places) → IfSome taken (λ k. is_within old k ≡ true) → IfSome taken (λ k. (j : ℕ) → is_within new j ≡ (is_within old j && not (j == k))) → IfNone taken (new ≡ old)
     → (j : ℕ) → is_within old j ≡ is_left taken new j
 left_places None old new one gone same j = ap (λ p. is_within p j) (sym same)
@@ -44,7 +44,7 @@ if_nothing : {P Q : Type 0} (o : Option ℕ) → (P → Q) → IfNone o P → If
 if_nothing None f h = f h
 if_nothing (Some k) f h = tt
 
--- the looks that are noted after a place and a question were taken are those before
+-- The looks that are noted after an offset and a question were taken out are the earlier ones.
 pub noted_new : (n : ℕ) (old taken_one taken_both : StateView) (taken : Option ℕ) (asked : Option Ask) → IfSome taken (λ k. is_within old.looked.places k ≡ true)
     → IfSome taken (λ k. (j : ℕ) → is_within taken_one.looked.places j ≡ (is_within old.looked.places j && not (j == k))) → IfNone taken (taken_one ≡ old)
     → taken_one.looked.cells ≡ old.looked.cells → taken_one.looked.files ≡ old.looked.files

@@ -1,4 +1,4 @@
--- Clauses of an answer, by its kind.
+-- Clauses about a result, by its kind.
 use Rattle.std.specs.Prelude.{Result, Ok, Err, IfOk, IsErr, MatchResult}
 
 pub if_err : {T E : Type 0} (r : Result T E) (P : T → Type 0) → IsErr r → IfOk r P

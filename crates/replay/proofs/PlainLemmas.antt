@@ -45,7 +45,7 @@ pub plain_run_is_cold : PlainRunIsCold
 unfolding plain_run cold
 plain_run_is_cold s limits = ap (plain_from s s.limit 0) (loaded_is_laid s) ∙ along s limits s.limit 0 start (after_none (ask s) start refl)
 
--- a report of the cold run is one of the plain run
+-- A report on the cold run is a report on the plain run.
 pub reports_run : (s t : Session) (st : PartialState) (steps : ℕ) (cause : Cause) → IsSession s → t ≡ s → cold s ≡ record { state = st; steps = steps; cause = cause }
     → plainly t (record { state = st; steps = steps; cause = cause }) ≡ plain_run t
 reports_run s t st steps cause limits same is =

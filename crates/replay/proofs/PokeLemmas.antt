@@ -1,4 +1,4 @@
--- What a poke changes.
+-- The questions whose answer changes with a poke.
 use Rattle.std.proofs.Common.{◌≡◌, ℕ, ◌+◌, ◌-◌, ◌<◌, ◌≤◌, List, ◌++◌, length, get_or, take, drop, ◌==◌, true, false, eqb-true, eq-eqb, ◌⊎◌, inl, inr, refl, ap, sym, ◌∙◌, arith, length-append, length-drop}
 use Rattle.std.specs.Prelude.{slice_index}
 use Rattle.std.proofs.Math.ListN.{get_or-append}
@@ -46,14 +46,14 @@ module _ (p bytes : List ℕ) (at : ℕ) (h : at + length bytes ≤ length p) wh
 
 -- ---- the questions that a poke is about
 
--- the byte of a place of the program
+-- The byte at an index of the program.
 byte_there : (low program : List ℕ) (i : ℕ) → i < length program → image_at low program (256 + i) ≡ slice_index program i
 byte_there low program i h =
     let inside : 256 + i < 256 + length program = omega arith in
     let place : 256 + i - 256 ≡ i = omega arith in
     rw (le-ltb (256 + i) 256 (omega arith), lt-ltb (256 + i) (256 + length program) inside, place) refl
 
--- a cell of one of the first n places that are poked
+-- The question is a cell of one of the first n bytes that are poked.
 abbrev pub IsPoked : ℕ → ℕ → Question → Type 0
 IsPoked at n q = (j : ℕ) × (j < n) × (q ≡ Cell (256 + (at + j)))
 
@@ -66,14 +66,14 @@ module _ (s : Session) (at : ℕ) (bytes : List ℕ) (h : at + length bytes ≤ 
       byte_there (page_zero s.tail) (written_over s.program at bytes) (at + i) (omega (arith, long_over s.program bytes at h))
       ∙ over_there s.program bytes at h i k
 
-  -- a cell whose place keeps its byte
+  -- A cell whose byte of the program stays has the same answer.
   same_place : (a : ℕ) → (256 ≤ a → slice_index (written_over s.program at bytes) (a - 256) ≡ slice_index s.program (a - 256)) → ask s (Cell a) ≡ ask (with_poke s at bytes) (Cell a)
   same_place a same = elim (cases_lt a 256) [
     | inl low ↦ rw (lt-ltb a 256 low) refl
     | inr high ↦ rw (le-ltb a 256 high, long_over s.program bytes at h, same high) refl
   ]
 
-  -- every other question has the answer that it had
+  -- Every other question has the same answer as before.
   pub others_same : (q : Question) → IsPoked at (length bytes) q ⊎ (ask s q ≡ ask (with_poke s at bytes) q)
   others_same (Script k) = inr refl
   others_same (OfHost a) = inr refl
@@ -88,7 +88,7 @@ module _ (s : Session) (at : ℕ) (bytes : List ℕ) (h : at + length bytes ≤ 
   pub poke_touched : (k : Noted) (t : ℕ) → IsLeast (IsPoked at (length bytes)) (ask s) (ask (with_poke s at bytes)) k t → IsNotedTouch (ask s) (ask (with_poke s at bytes)) k t
   poke_touched k t least = least_of_all (IsPoked at (length bytes)) (ask s) (ask (with_poke s at bytes)) k t least others_same
 
-  -- a byte is another one where the answer is
+  -- A byte changes exactly if its answer changes.
   pub changes : (i : ℕ) → i < length bytes
       → ((slice_index s.program (at + i) == slice_index bytes i) ≡ true → ask s (Cell (256 + (at + i))) ≡ ask (with_poke s at bytes) (Cell (256 + (at + i))))
       × ((slice_index s.program (at + i) == slice_index bytes i) ≡ false → ask s (Cell (256 + (at + i))) ≡ ask (with_poke s at bytes) (Cell (256 + (at + i))) → ⊥)

@@ -7,12 +7,12 @@ use Rattle.machine.specs.StateView.{Looked}
 use Rattle.replay.specs.FirstLooks.{Noted, seen_to, IsNoted, IsLeftBehind}
 use Rattle.replay.specs.RefusalCount.{CountsThisRun, RefusesLooksOnce}
 
--- none yet
+-- None is counted yet.
 pub none_counted : (seen from count : ℕ) → RefusesLooksOnce seen from count seen from count
 none_counted seen from count = record { once = omega arith; caught_up = λ h. omega arith; behind = λ h. (omega arith, omega arith) }
 
 module _ (seen from count n m : ℕ) (old : Noted) (refused : ℕ) (before : RefusesLooksOnce seen from count old.seen n refused) (low : from ≤ n) where
-  -- after a stretch from the step n to the step m, whose last looks were noted or left behind
+  -- After a stretch from step n to step m, whose last looks were noted or not.
   pub once_on : (new : Noted) (refuses : ℕ) (looked : Looked) (P Q : Type 0) → n < m
       → ((n ≡ old.seen → ⊥) → (new ≡ old) × (refuses ≡ refused))
       → (n ≡ old.seen → (IsNoted (seen_to old (m - 1)) new looked × (refuses ≡ refused) × P × Q) ⊎ (IsLeftBehind (seen_to old (m - 1)) new × (refuses ≡ refused + 1)))
@@ -42,7 +42,7 @@ module _ (seen from count n m : ℕ) (old : Noted) (refused : ℕ) (before : Ref
         behind = before.behind;
       })
 
-  -- after steps before a stop, none of which looked at anything new
+  -- After steps before a stop, none of which looked at anything new.
   pub once_at_stop : (new : Noted) → n ≤ m → (n ≡ old.seen → new ≡ seen_to old m) → ((n ≡ old.seen → ⊥) → new ≡ old)
       → RefusesLooksOnce seen from count new.seen m refused
   once_at_stop new more here other = elim (eqb_tells n old.seen) [ inl e ↦ passed e.1 (here e.1) | inr ne ↦ apart (other ne.1) ]
@@ -61,13 +61,13 @@ module _ (seen from count n m : ℕ) (old : Noted) (refused : ℕ) (before : Ref
         behind = before.behind;
       })
 
--- what keeping a checkpoint counts
+-- What making a checkpoint counts.
 pub counted_above : (A D : Type 0) (m seen noted refuses : ℕ) → (refuses ≡ noted) ⊎ (A × (m ≤ seen) × (refuses ≡ noted + 1) × D)
     → (refuses ≡ noted) ⊎ ((m ≤ seen) × (refuses ≡ noted + 1))
 counted_above A D m seen noted refuses (inl e) = inl e
 counted_above A D m seen noted refuses (inr h) = inr (h.1, h.2)
 
--- multiples of the spacing
+-- Multiples of the spacing.
 pub later_multiples : (s n m : ℕ) → 0 < s → n ≤ m → n / s ≤ m / s
 later_multiples s n m some le = le-div (n / s) m s some (omega (arith, div-mul-le_self n s))
 
@@ -77,8 +77,8 @@ next_multiple s n m more whole =
     let turns : n / s < m / s = lt_of_mul-lt-mul_right s (omega (arith, parts, whole, more, div-mul-le_self n s)) in
     omega arith
 
--- in the middle of a run, where the next step is no last one: one for each multiple so far, and one more where the first looks
--- are behind
+-- In the middle of a run, if the next step is not the last: at most one for each multiple so far, and one more if the first looks do
+-- not reach that far.
 pub record CountsSoFar (from n seen spacing refused : ℕ) : Type 0 where
   pub caught_up : n ≤ seen → refused + from / spacing ≤ n / spacing
   pub behind : refused + from / spacing ≤ n / spacing + 1
@@ -88,7 +88,7 @@ counts_at_start from seen spacing refused e = record { caught_up = λ _. omega (
 
 module _ (from n m seen new_seen spacing refused noted refuses : ℕ) (some : 0 < spacing) (more : n ≤ m) (before : CountsSoFar from n seen spacing refused)
     (looks : RefusesLooksOnce seen n refused new_seen m noted) (kept : (refuses ≡ noted) ⊎ ((m ≤ new_seen) × (refuses ≡ noted + 1))) where
-  -- one more is counted for the steps from n to m: where the looks are behind, none but theirs
+  -- Up to step m at most one more is counted than for the multiples up to n; if the first looks do not reach n, it is theirs.
   one_counted : (refuses + from / spacing ≤ n / spacing + 1) × (m ≤ new_seen → n ≤ seen)
   one_counted = by_seen (cases_lt seen n) kept
     where
@@ -99,17 +99,17 @@ module _ (from n m seen new_seen spacing refused noted refuses : ℕ) (some : 0 
       by_seen (inr up) (inl e) = (omega (arith, before.caught_up up, looks.once, e), λ _. up)
       by_seen (inr up) (inr k) = (omega (arith, before.caught_up up, looks.caught_up k.0, k.1), λ _. up)
 
-  -- at a multiple of the spacing
+  -- At a multiple of the spacing.
   pub counts_on : n < m → m % spacing ≡ 0 → CountsSoFar from m new_seen spacing refuses
   counts_on steps whole =
       let next = next_multiple spacing n m steps whole in
       record { caught_up = λ _. omega (arith, one_counted.0, next); behind = omega (arith, one_counted.0, next) }
 
-  -- at any step that ends the run
+  -- At any step that ends the run.
   pub counts_at_end : refuses + from / spacing ≤ m / spacing + 2
   counts_at_end = omega (arith, one_counted.0, later_multiples spacing n m some more)
 
--- where the run wanted memory on its way to the limit
+-- If an allocation for the run fails before the limit.
 pub counts_cut_short : (from n limit seen spacing refused noted : ℕ) → 0 < spacing → n < limit → CountsSoFar from n seen spacing refused
     → refused + 2 * from ≤ 2 * n → noted ≤ refused + 1 → CountsThisRun from limit spacing noted
 counts_cut_short from n limit seen spacing refused noted some more before few once = record {
@@ -117,7 +117,7 @@ counts_cut_short from n limit seen spacing refused noted some more before few on
   by_steps = omega (arith, few, once, more);
 }
 
--- no step was carried out
+-- No step was executed.
 pub counts_none : (from upto spacing refused : ℕ) → 0 < spacing → from ≤ upto → refused ≡ 0 → CountsThisRun from upto spacing refused
 counts_none from upto spacing refused some low e = record {
   by_due_steps = omega (arith, e, later_multiples spacing from upto some low);

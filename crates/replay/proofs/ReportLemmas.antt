@@ -1,4 +1,4 @@
--- What a report tells, by the run that it is of.
+-- What a report returns, by the run that it reports.
 use Rattle.std.proofs.Common.{◌≡◌, Bool, true, false, cond, is_some, Option, Some, None, IfSome, IfNone, refl, sym, ap, subst, ◌∙◌}
 use Rattle.std.specs.declared.cmp.Ordering.TheVariants.{Less}
 use Rattle.std.specs.Ordering.{nat_cmp}
@@ -26,7 +26,7 @@ module _ (host : Host) (own : Own) (all : Files) (is : files host own ≡ all) w
   pub changed_is : is_changed_name host own ≡ is_changed_name_in host all
   changed_is = λ i key. (sym (changed_name_laid host own key) ∙ ap (λ (m : Files). is_changed_name_in host m key) is) i
 
--- the same of a test in other words
+-- The same for a test that is equal.
 module _ (t u : Key → Bool) (is : t ≡ u) where
   pub some_is : (found : Option Key) → IfSome found (λ k. t k ≡ true) → IfSome found (λ k. u k ≡ true)
   some_is found h = subst (λ (p : Key → Bool). IfSome found (λ k. p k ≡ true)) is h

@@ -74,7 +74,7 @@ Rising-drop zero xs r = r
 Rising-drop (suc n) [] r = tt
 Rising-drop (suc n) (x ∷ xs) r = Rising-drop n xs r.1
 
--- the last of a rising list is the greatest
+-- The last step of a rising list is the greatest.
 pub last_greatest : (xs : List Checkpoint) (c : Checkpoint) → Rising xs → last_item xs ≡ Some c → Each (λ d. d.step ≤ c.step) xs
 last_greatest [] c r e = tt
 last_greatest (x ∷ []) c r e = let same : x ≡ c = cc in (rw same (omega arith), tt)
@@ -97,14 +97,14 @@ none_last P (x ∷ xs) e =
     let one : suc (length xs) - 1 ≡ length xs = omega arith in
     absurd (none_there x xs (rw one at e))
 
--- the same in the middle of a run, whose newest checkpoint is at `newest`
+-- What was added in the middle of a run, whose newest checkpoint is at `newest`.
 pub record Adding (old new : List Checkpoint) (slots from upto last spacing newest : ℕ) : Type 0 where
   pub adds : Adds old new slots from upto last spacing
   pub old_below : Each (λ c. c.step ≤ newest) old
   pub made_below : Each (λ c. c.step ≤ newest) adds.made
   pub start_below : from ≤ newest
 
--- a due step is due whatever is reached later
+-- A due step stays due if the run goes further.
 pub widen : (old new : List Checkpoint) (slots from upto further last spacing : ℕ) → upto ≤ further → Adds old new slots from upto last spacing → Adds old new slots from further last spacing
 widen old new slots from upto further last spacing up a = record {
   made = a.made;
@@ -120,7 +120,7 @@ pub due_relast : (old : List Checkpoint) (from upto last other spacing step : �
 due_relast old from upto last other spacing step below h (inl m) = record { reached = h.reached; above = h.above; marked = inl m }
 due_relast old from upto last other spacing step below h (inr e) = absurd (omega (arith, h.reached.1))
 
--- no step below the limit was made as the limit's
+-- No step below the limit was made because it is the limit.
 unfoldable pub relast_adding : (old new : List Checkpoint) (slots from upto last other spacing newest : ℕ) → upto < last → Adding old new slots from upto last spacing newest → Adding old new slots from upto other spacing newest
 relast_adding old new slots from upto last other spacing newest below g = record {
   adds = record {
@@ -135,7 +135,7 @@ relast_adding old new slots from upto last other spacing newest below g = record
 }
 
 module _ (old : List Checkpoint) (from last spacing newest upto : ℕ) (ring : Buffer Checkpoint) (c : Checkpoint) where
-  -- one more checkpoint, above all others
+  -- One more checkpoint, above all others.
   unfoldable pub push_made : (slots : ℕ) → Adding old ring.items slots from upto last spacing newest → upto ≤ c.step → newest < c.step → (c.step % spacing ≡ 0) ⊎ (c.step ≡ last)
       → Adding old (keep_last slots (ring.items ++ c ∷ [])) slots from c.step last spacing (max newest c.step)
   push_made slots g up above mark =
@@ -183,7 +183,7 @@ module _ (newest : ℕ) (ring : Buffer Checkpoint) (c : Checkpoint) where
   kept_each P next (inl e) h here = rw e h
   kept_each P next (inr k) h here = rw k.1 (Each-keep_last P ring.capacity (ring.items ++ c ∷ []) (Each-append P ring.items (c ∷ []) h (here k.0, tt)))
 
-  -- nothing is kept past what was seen
+  -- No checkpoint is past the step `seen`.
   pub kept_known : (seen : ℕ) (next : Buffer Checkpoint) → Keeps newest ring next c → (seen < c.step → next ≡ ring) → Each (λ d. d.step ≤ seen) ring.items → Each (λ d. d.step ≤ seen) next.items
   kept_known seen next keeps past low = by_order (cases_lt seen c.step)
     where
@@ -191,7 +191,7 @@ module _ (newest : ℕ) (ring : Buffer Checkpoint) (c : Checkpoint) where
       by_order (inl l) = rw (past l) low
       by_order (inr h) = kept_each (λ d. d.step ≤ seen) next keeps low (λ _. h)
 
--- no checkpoint is made below the newest
+-- No checkpoint is made below the newest.
 pub kept_same : (newest : ℕ) (ring next : Buffer Checkpoint) (c : Checkpoint) → Keeps newest ring next c → c.step ≤ newest → next ≡ ring
 kept_same newest ring next c (inl e) low = e
 kept_same newest ring next c (inr k) low = absurd (let h : newest < c.step = k.0 in omega arith)
@@ -201,16 +201,16 @@ some_below from newest [] h b = absurd h
 some_below from newest (x ∷ xs) (inl e) b = omega (arith, b.0)
 some_below from newest (x ∷ xs) (inr h) b = some_below from newest xs h b.1
 
--- where a run begins is no later than a bound of all kept steps
+-- The step where a run begins is within any bound of all kept steps.
 pub begins_below : (from newest : ℕ) (xs : List Checkpoint) → (from ≡ 0) ⊎ SomeStep xs from → Each (λ c. c.step ≤ newest) xs → from ≤ newest
 begins_below from newest xs (inl e) b = omega arith
 begins_below from newest xs (inr h) b = some_below from newest xs h b
 
--- nothing is added
+-- Nothing is added.
 pub none_added : (old : List Checkpoint) (slots from upto last spacing : ℕ) → length old ≤ slots → Adds old old slots from upto last spacing
 none_added old slots from upto last spacing short = record { made = []; kept = rw append-nil (sym (keep_last-all slots old short)); due = tt; rising = tt }
 
--- a run begins with nothing made
+-- A run begins with nothing added.
 pub none_made : (old : List Checkpoint) (slots from last spacing newest : ℕ) → length old ≤ slots → Each (λ c. c.step ≤ newest) old → (from ≡ 0) ⊎ SomeStep old from → Adding old old slots from from last spacing newest
 unfolding none_added
 none_made old slots from last spacing newest short below start = record {

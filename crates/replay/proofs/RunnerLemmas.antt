@@ -1,4 +1,4 @@
--- What always holds of a runner's parts, through edits and drops.
+-- What always holds for the parts of a runner, through edits and drops.
 use Rattle.std.proofs.Common.{◌≡◌, ◌==◌, ◌||◌, Bool, true, false, cond, nat_lt, ℕ, zero, suc, ◌-◌, ◌<◌, ◌≤◌, List, [], ◌∷◌, length, map, Option, Some, None, sym, ◌∙◌, refl, ap, arith}
 use Rattle.std.specs.Prelude.{slice_get, slice_index_or}
 use Rattle.std.proofs.lemmas.Bool.{eqb-false, ltb-false}
@@ -18,12 +18,12 @@ use Rattle.replay.specs.RunnerView.{IsSound, IsAt, KeepsUntouched, seen_with}
 use Rattle.replay.proofs.RingLemmas.{Rising-left, Rising-drop, Each-left, Each-keep_last}
 use Rattle.replay.proofs.TouchLemmas.{untouched, edited_known, keeps_untouched, still_stand}
 
--- each checkpoint is the state of the session after its step
+-- Each checkpoint is the state of the session after its step.
 pub all_stand : (f : Answers) (text : List ℕ) (xs : List KeptCheckpoint) → Each (Stands f text) xs → Each (IsAt f) (map (seen_with text) xs)
 all_stand f text [] h = tt
 all_stand f text (x ∷ xs) h = (record { later = h.0.later; state = h.0.state }, all_stand f text xs h.1)
 
--- nothing is noted, and no step is seen
+-- Nothing is noted, and no step is seen.
 pub record IsEmpty (looks : Noted) : Type 0 where
   pub cells : looks.cells ≡ []
   pub places : looks.places ≡ []
@@ -39,7 +39,7 @@ nothing_noted f looks e = record { entry = λ q. empty q ∙ ap (first f q) (sym
     empty (Script k) = ap (λ (steps : List (Option ℕ)). slice_index_or steps k None) e.places
     empty (OfHost a) = e.files a
 
--- options that are not refused have a spacing within its range
+-- Options that are not refused have a spacing within its range.
 pub spacing_within : (o : Options) → refusal_of o ≡ None → (0 < o.spacing) × (o.spacing ≤ 1000000000)
 spacing_within o h =
     let tests = by_tests (o.spacing == 0) (nat_lt 1000000000 o.spacing) (o.slots == 0 || nat_lt 4096 o.slots) h in
@@ -62,7 +62,7 @@ sound_start s text made e k within = record {
   seen_in = let z : made.notes.looks.seen ≡ 0 = k.seen in omega (arith, z);
 }
 
--- an edit of the session, with the checkpoints and the looks cut at the noted touch
+-- An edit of the session, with the checkpoints and the looks cut at the noted touch.
 pub sound_edit : (s s' : Session) (text : List ℕ) (t : ℕ) (old new : Checkpoints) → IsSound s text old
     → IsNotedTouch (ask s) (ask s') old.notes.looks t → KeptUpTo t old.ring.items new.ring.items
     → ((q : Question) → step_of new.notes.looks q ≡ erased t (step_of old.notes.looks q)) → new.notes.looks.seen ≡ t → new.spacing ≡ old.spacing → IsSound s' text new
@@ -93,7 +93,7 @@ sound_last s text n old ring slots sound e = record {
   seen_in = sound.seen_in;
 }
 
--- the steps of checkpoints as they are seen
+-- The steps of the checkpoints as contracts see them.
 pub seen_steps : (text : List ℕ) (xs : List KeptCheckpoint) → map (λ c. c.step) (map (seen_with text) xs) ≡ map (λ c. c.step) xs
 seen_steps text [] = refl
 seen_steps text (x ∷ xs) = ap (λ (l : List ℕ). x.step ∷ l) (seen_steps text xs)

@@ -1,4 +1,4 @@
--- What a splice of the script changes.
+-- The questions whose answer changes with a splice of the script.
 use Rattle.std.proofs.Common.{◌≡◌, ℕ, ◌+◌, ◌<◌, ◌≤◌, ◌==◌, cond, min, List, length, Option, Some, None, ◌⊎◌, inl, inr, refl, ap, sym, ◌∙◌, arith, eqb-true}
 use Rattle.std.specs.Prelude.{slice_get, slice_index_or}
 use Rattle.std.proofs.lemmas.Bool.{cases_lt, cases_Bool, lt-ltb, le-ltb}
@@ -26,9 +26,9 @@ module _ (list bytes : List ℕ) (at removed : ℕ) (inside : at + removed ≤ l
   pub stays_behind : removed ≡ length bytes → (k : ℕ) → at + removed ≤ k → slice_get list k ≡ slice_get (spliced list at removed bytes) k
   stays_behind same k h = grind (arith, common_steps, gets)
 
--- ---- the places that are gone over
+-- ---- the offsets that are visited
 
--- a place from one on, below another
+-- The question is an offset of the script between two offsets.
 abbrev pub IsPlace : ℕ → ℕ → Question → Type 0
 IsPlace from n q = (j : ℕ) × (from ≤ j) × (j < n) × (q ≡ Script j)
 
@@ -41,12 +41,12 @@ one_more_place from i q (j, later, below, is) = elim (cases_lt j i) [
 no_entry : (entries : List (Option ℕ)) (k m : ℕ) → length entries ≤ k → slice_index_or entries k None ≡ Some m → ⊥
 no_entry entries k m past there = let none : slice_index_or entries k None ≡ None = get_or_past entries k None past in let both : None ≡ Some m = sym none ∙ there in cc
 
--- the rest of the places keep their bytes, or have no step that is earlier than this one
+-- From n on, an offset with a step before t keeps its byte.
 abbrev pub IsRestLater : Session → ℕ → ℕ → List ℕ → Noted → ℕ → ℕ → Type 0
 IsRestLater s at removed bytes k n t = (j m : ℕ) → n ≤ j → step_in k.places j ≡ Some m → m < t → slice_get s.script j ≡ slice_get (spliced s.script at removed bytes) j
 
 module _ (s : Session) (at removed : ℕ) (bytes : List ℕ) (inside : at + removed ≤ length s.script) (k : Noted) (n t : ℕ) where
-  -- behind the end of the changes a place keeps its byte, or was looked at by no step
+  -- From the end of the changes on, an offset keeps its byte or was looked at by no step.
   pub rest_unchanged : cond (removed == length bytes) (min (length k.places) (at + removed)) (length k.places) ≤ n → IsRestLater s at removed bytes k n t
   rest_unchanged all j m past there low = elim (cases_Bool (removed == length bytes)) [
     | inl same ↦
@@ -60,7 +60,7 @@ module _ (s : Session) (at removed : ℕ) (bytes : List ℕ) (inside : at + remo
         absurd (no_entry k.places j m (omega arith) there)
   ]
 
-  -- a place before the first that is gone over keeps its byte, and no other question has another answer
+  -- An offset before the splice keeps its byte, and no other question has another answer.
   pub splice_touched : IsRestLater s at removed bytes k n t
       → IsLeast (IsPlace at n) (ask s) (ask (with_splice s at removed bytes)) k t → IsNotedTouch (ask s) (ask (with_splice s at removed bytes)) k t
   splice_touched rest least = record {
@@ -80,11 +80,11 @@ module _ (s : Session) (at removed : ℕ) (bytes : List ℕ) (inside : at + remo
     ]
 
 module _ (s : Session) (at removed : ℕ) (bytes : List ℕ) (k : Noted) (i t : ℕ) (least : IsLeast (IsPlace at i) (ask s) (ask (with_splice s at removed bytes)) k t) where
-  -- one place more, which has the same byte
+  -- One more offset, with the same byte.
   pub same_place : ask s (Script i) ≡ ask (with_splice s at removed bytes) (Script i) → IsLeast (IsPlace at (i + 1)) (ask s) (ask (with_splice s at removed bytes)) k t
   same_place = more_same (IsPlace at i) (IsPlace at (i + 1)) (ask s) (ask (with_splice s at removed bytes)) k (Script i) (one_more_place at i) t least
 
-  -- or another
+  -- One more offset, with another byte.
   pub changed_place : IsFirstLooks (ask s) k → (ask s (Script i) ≡ ask (with_splice s at removed bytes) (Script i) → ⊥)
       → IsLeast (IsPlace at (i + 1)) (ask s) (ask (with_splice s at removed bytes)) k (lesser (step_in k.places i) t)
   changed_place noted differs =
@@ -93,7 +93,7 @@ module _ (s : Session) (at removed : ℕ) (bytes : List ℕ) (k : Noted) (i t : 
 lesser_low : (o : Option ℕ) (m t : ℕ) → o ≡ Some m → lesser o t ≤ m
 lesser_low o m t e = rw e (elim (cases_lt m t) [ inl low ↦ rw (lt-ltb m t low) (omega arith) | inr high ↦ rw (le-ltb m t high) high ])
 
--- no place behind one whose byte changes has an earlier step
+-- No offset past one whose byte changes has an earlier step, if the looks were in order.
 pub rest_later : (s : Session) (at removed : ℕ) (bytes : List ℕ) (k : Noted) (place t : ℕ) → IsEarliestFrom k.places place → IsRestLater s at removed bytes k (place + 1) (lesser (step_in k.places place) t)
 rest_later s at removed bytes k place t (m, here, later) j n behind there low =
     absurd (omega (arith, lesser_low (step_in k.places place) m t here, later j n (omega arith) there, low))

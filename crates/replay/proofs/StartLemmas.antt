@@ -61,7 +61,7 @@ none_get [] i e = omega arith
 none_get (x ∷ xs) zero e = cc
 none_get (x ∷ xs) (suc i) e = let r = none_get xs i e in omega arith
 
--- a rerun begins at a step that the run reaches
+-- A rerun begins at a step that the run reaches.
 pub start_reached : (f : Answers) (limit : ℕ) (text : List ℕ) (xs : List Checkpoint) → Each (Stands f text) xs → (st : PartialState) × (after f (start_step limit xs) ≡ Some st)
 start_reached f limit text [] h = (start, after_none f start refl)
 start_reached f limit text (x ∷ xs) h = elim (cases_lt limit x.step) [

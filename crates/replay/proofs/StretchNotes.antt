@@ -1,4 +1,4 @@
--- The looks of steps of which none but the last looks at anything new.
+-- The looks of steps of which only the last looks at anything new.
 use Rattle.std.proofs.Common.{◌≡◌, ℕ, zero, suc, ◌+◌, ◌-◌, ◌<◌, ◌≤◌, Bool, true, false, ◌||◌, List, length, Option, Some, None, Ok, ◌⊎◌, inl, inr, refl, ap, sym, ◌∙◌, subst, arith}
 use Rattle.std.proofs.lemmas.Bool.{cases_lt}
 use Rattle.std.proofs.Math.Nat.{eq-or-lt_of_le}
@@ -17,7 +17,7 @@ kept_by (Some m) b n h = refl
 kept_by None true n h = absurd (h refl refl)
 kept_by None false n h = refl
 
--- steps that look at nothing new make no first look
+-- Steps that look at nothing new have no first look.
 same_first_looks : (f : Answers) (t : Noted) (looked : Looked) (q : Question) → IsFirstLooks f t → AllNoted t looked → (k : ℕ) → LooksAtNothingNew f looked t.seen (t.seen + k) → first f q (t.seen + k) ≡ first f q t.seen
 same_first_looks f t looked q known all zero quiet = ap (first f q) (omega arith)
 same_first_looks f t looked q known all (suc k) quiet =
@@ -42,7 +42,7 @@ before_step : (f : Answers) (k : ℕ) (st : PartialState) → after f (suc k) �
 unfolding dependence.after
 before_step f k st at = let (b, there, went) = step_before f (after f k) st at in (b, there)
 
--- what the first looks are after a stretch from the step n to the step m
+-- The first looks after a stretch from step n to step m.
 pub record NotesStretch (f : Answers) (old new : Noted) (n m : ℕ) (looked : Looked) (refused refuses : ℕ) : Type 0 where
   pub noted : IsFirstLooks f new
   pub looks : m ≤ new.seen → AllNoted new looked
@@ -53,7 +53,7 @@ pub record NotesStretch (f : Answers) (old new : Noted) (n m : ℕ) (looked : Lo
 
 module _ (s : Session) (end n m : ℕ) (old new : Noted) (refused refuses : ℕ) (st : PartialState) (looked after_step left : Looked) (stretch : Stretches s n end looked m (Ok None) (record { state = st; looked = after_step })) (more : n < m)
     (known : IsFirstLooks (ask s) old) (all : n ≤ old.seen → AllNoted old looked) (seen : n < old.seen → m ≤ old.seen) (same_cells : left.cells ≡ after_step.cells) where
-  -- the state before the last step
+  -- The state before the last step.
   before_last_step : (b : PartialState) × (after (ask s) (m - 1) ≡ Some b)
   before_last_step = before_step (ask s) (m - 1) st (ap (after (ask s)) (let e : suc (m - 1) ≡ m = omega arith in e) ∙ stretch.at)
 

@@ -60,7 +60,7 @@ same_itself (Cell a) = eq-eqb a a refl
 same_itself (Script k) = eq-eqb k k refl
 same_itself (OfHost a) = same_ask_itself a
 
--- two sessions agree on a list where they agree on each of its questions
+-- Two sessions agree on a list if they agree on each of its questions.
 agree_each : (f g : Answers) (qs : List Question) → ((q : Question) → is_in q qs ≡ true → f q ≡ g q) → AgreeOn qs f g
 agree_each f g [] h = tt
 agree_each f g (x ∷ xs) h =
@@ -88,7 +88,7 @@ noted_here : (n : ℕ) (a : Option ℕ) (b : Bool) → b ≡ true → IsBelow n 
 noted_here n None b e h = (n, rw e refl, omega arith)
 noted_here n (Some m) b e h = (m, refl, omega (arith, h m refl))
 
--- a question that a step below n asks is noted at that step or before
+-- A question that a step below n asks is noted at that step or before it.
 pub noted_by : (f : Answers) (q : Question) (n i : ℕ) → i < n → is_in q (looks f i) ≡ true → (m : ℕ) × (first f q n ≡ Some m) × (m ≤ i)
 noted_by f q zero i b h = absurd (omega arith)
 noted_by f q (suc n) i b h = elim (eq-or-lt_of_le {n = i} {m = n} (omega arith)) [
@@ -103,7 +103,7 @@ marked_there n None true m e = inr (refl, (cc))
 marked_there n None false m e = absurd (cc)
 marked_there n (Some x) b m e = inl e
 
--- a noted step asks the question
+-- The noted step of a question asks it.
 asked_there : (f : Answers) (q : Question) (n m : ℕ) → first f q n ≡ Some m → is_in q (looks f m) ≡ true
 unfolding first
 asked_there f q zero m e = absurd (cc)
@@ -118,13 +118,13 @@ untouched f g k t known touch i below =
     let (m, at, low) = noted_by f q k.seen i (omega (arith, touch.within)) asked in
     touch.below q m (known.entry q ∙ at) (omega arith))
 
--- what is left of the table is that of the edited session
+-- What is left of the table is the table of the edited session.
 pub edited_known : (f g : Answers) (old new : Noted) (t : ℕ) → IsFirstLooks f old → IsNotedTouch f g old t
     → ((q : Question) → step_of new q ≡ erased t (step_of old q)) → new.seen ≡ t → IsFirstLooks g new
 edited_known f g old new t known touch steps seen =
     record { entry = λ q. steps q ∙ rw (known.entry q, seen) (erased_first f q t old.seen touch.within ∙ sym (same_first f g q t (untouched f g old t known touch))) }
 
--- where the noted touch is below `seen`, it is the touch
+-- If the noted touch is below `seen`, it is the touch.
 pub touch_here : (f g : Answers) (k : Noted) (t : ℕ) → IsFirstLooks f k → IsNotedTouch f g k t → t < k.seen → AgreeOn (looks f t) f g → ⊥
 touch_here f g k t known touch below agree = differs touch.here
   where
@@ -142,7 +142,7 @@ pub each_map : {X Y : Type 0} (h : X → Y) (P : Y → Type 0) (xs : List X) →
 each_map h P [] e = tt
 each_map h P (x ∷ xs) e = (e.0, each_map h P xs e.1)
 
--- the checkpoints up to the noted touch are those up to the touch
+-- The checkpoints up to the noted touch are exactly the checkpoints up to the touch.
 pub keeps_untouched : (f g : Answers) (text : List ℕ) (k : Noted) (t : ℕ) (old new gone : List Checkpoint) → IsFirstLooks f k → IsNotedTouch f g k t
     → Each (λ c. c.step ≤ k.seen) old → old ≡ new ++ gone → Each (λ c. c.step ≤ t) new → Each (λ c. t < c.step) gone
     → KeepsUntouched f g (map (seen_with text) old) (map (seen_with text) new)
@@ -153,7 +153,7 @@ keeps_untouched f g text k t old new gone known touch low parts here past = reco
   touched = each_map (seen_with text) (λ c. Untouched f g c.step → ⊥) gone (gone_touched f g k t gone known touch (Each-right _ new gone (rw parts at low)) past);
 }
 
--- and stand for the edited session
+-- The checkpoints that are left are valid for the edited session.
 pub still_stand : (f g : Answers) (text : List ℕ) (t : ℕ) (xs : List Checkpoint) → Untouched f g t → Each (λ c. c.step ≤ t) xs → Each (Stands f text) xs → Each (Stands g text) xs
 still_stand f g text t [] same low valid = tt
 still_stand f g text t (x ∷ xs) same low valid =

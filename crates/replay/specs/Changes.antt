@@ -1,4 +1,4 @@
--- What an edit that fits the session is to change. (This project's own.)
+-- The change that an accepted edit makes to the session. (This project's own.)
 use Rattle.std.specs.Prelude.{◌≡◌, ◌+◌, ◌<◌, ◌≤◌, length, true, Some, None, Ok}
 use Rattle.hostfiles.specs.Hosts.{has_room}
 use Rattle.machine.specs.declared.session.TheConstants.{SCRIPT_LIMIT, STEP_LIMIT}
@@ -8,7 +8,7 @@ use Rattle.replay.specs.declared.change.Change.TheVariants.{Splice, Poke, SetFil
 use Rattle.replay.specs.declared.edit.Edit.{Edit}
 use Rattle.replay.specs.Edits.{edited, with_host_file, with_poke, with_splice}
 
--- the session after a change
+-- The session after a change.
 abbrev pub changed : Session → Change → Session
 changed s (Splice at removed bytes) = with_splice s at removed bytes
 changed s (Poke at bytes) = with_poke s at bytes
@@ -16,11 +16,11 @@ changed s (SetFile name file) = with_host_file s name (Some file)
 changed s (RemoveFile name) = with_host_file s name None
 changed s (Limit n) = record s { limit = n }
 
--- a change is what an edit makes of a session
+-- A change has the same result for a session as the edit.
 abbrev pub Makes : Session → Edit → Change → Type 0
 Makes s edit change = edited s edit ≡ Ok (changed s change)
 
--- it stays within the session and its limits
+-- A change stays within the session and its limits.
 abbrev pub IsAllowed : Session → Change → Type 0
 IsAllowed s (Splice at removed bytes) = (at + removed ≤ length s.script) × (length s.script + length bytes ≤ SCRIPT_LIMIT + removed)
 IsAllowed s (Poke at bytes) = at + length bytes ≤ length s.program
@@ -28,7 +28,7 @@ IsAllowed s (SetFile name file) = has_room s.files name ≡ true
 IsAllowed s (RemoveFile name) = Unit {0}
 IsAllowed s (Limit n) = n ≤ STEP_LIMIT
 
--- the changes that may want memory: what makes the script longer, and a file that is set
+-- The changes that may run out of memory: a splice that makes the script longer, and a file that is set.
 abbrev pub MayTakeMemory : Change → Type 0
 MayTakeMemory (Splice at removed bytes) = removed < length bytes
 MayTakeMemory (Poke at bytes) = ⊥

@@ -1,4 +1,4 @@
--- How the first steps of questions of the host files are stored. (This project's own.)
+-- An encoding of the first steps of questions about the host files. (This project's own.)
 use Rattle.std.specs.Prelude.{refl, ℕ, List, Option}
 use Rattle.std.specs.Ordering.{nat_cmp}
 use Rattle.std.specs.Cmp.Lexicographic.{slice_cmp}

@@ -7,17 +7,17 @@ use Rattle.machine.specs.Given.{Session}
 use Rattle.machine.specs.StateView.{PartialState}
 use Rattle.machine.specs.Machine.{Answers, ask, start, outcome}
 
--- a run's last state, its count of steps and why it ended
+-- The last state of a run, its number of steps and why it ended.
 pub record Cold : Type 0 where
   pub state : PartialState
   pub steps : ℕ
   pub cause : Cause
 
--- at most k more steps from the state after n; the limit is decided before every other stop
+-- At most k more steps from the state after n steps. The limit is checked before every other stop.
 abbrev pub cold_from : Answers → ℕ → ℕ → PartialState → Cold
 cold_from f zero n st = record { state = st; steps = n; cause = Limit }
 cold_from f (suc k) n st = elim (outcome f st) [ Step next ↦ cold_from f k (suc n) next | Stop cause ↦ record { state = st; steps = n; cause = cause } ]
 
--- the run of a session from its start
+-- The run of a session from its start.
 unfoldable pub cold : Session → Cold
 cold s = cold_from (ask s) s.limit 0 start

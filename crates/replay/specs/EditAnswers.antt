@@ -1,4 +1,4 @@
--- What a call of edit answers: the refusals with their numbers, and which edits may want memory. (This project's own.)
+-- The result of an edit: the refusals with their numbers, and which edits may run out of memory. (This project's own.)
 use Rattle.std.specs.Prelude.{◌≡◌, ℕ, Result, Ok, Err}
 use Rattle.machine.specs.Given.{Session}
 use Rattle.replay.specs.declared.edit.Edit.{Edit}
@@ -16,17 +16,17 @@ number_of OutsideProgram = 6
 number_of LimitTooLarge = 7
 number_of OutOfMemory = 8
 
--- why an edit is refused; memory is wanted only for one that is not refused otherwise
+-- The refusal that applies. Out of memory is the refusal only of an edit that is not refused otherwise.
 abbrev pub Refuses : Result Session ℕ → EditError → Type 0
 Refuses wanted OutOfMemory = (t : Session) × (wanted ≡ Ok t)
 Refuses wanted e = wanted ≡ Err (number_of e)
 
--- what a call of edit answered, and the session after it
+-- The result of `edit`, and the session after it.
 abbrev pub AnswersEdit : {U : Type 0} → Result Session ℕ → Result U EditError → Session → Type 0
 AnswersEdit wanted (Ok _) after = wanted ≡ Ok after
 AnswersEdit wanted (Err e) after = Refuses wanted e
 
--- the edits that may want memory: insertions and files that are set
+-- The edits that may run out of memory: insertions and files that are set.
 abbrev pub TakesMemory : Edit → Type 0
 TakesMemory (Insert at bytes) = Unit {0}
 TakesMemory (Replace at bytes) = ⊥

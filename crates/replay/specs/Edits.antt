@@ -1,4 +1,4 @@
--- What an edit makes of a session. (This project's own.)
+-- The session after an edit. (This project's own.)
 use Rattle.std.specs.Prelude.{ℕ, ◌+◌, ◌-◌, ◌||◌, List, [], length, nat_lt, if◌then◌else◌, Option, Some, None, Result, Ok, Err}
 use Rattle.std.specs.FinMap.{contains_key}
 use Rattle.hostfiles.specs.Hosts.{Key, Record, has_room, records_in}
@@ -9,32 +9,33 @@ use Rattle.machine.specs.Session.{spliced, written_over}
 use Rattle.replay.specs.declared.edit.Edit.{Edit}
 use Rattle.replay.specs.declared.edit.Edit.TheVariants.{Insert, Replace, Remove, Poke, SetFile, RemoveFile, SetLimit}
 
--- the program's bytes replaced from a place on
+-- The session with bytes of its program replaced from an offset on, counted from the program's first byte.
 abbrev pub with_poke : Session → ℕ → List ℕ → Session
 with_poke s at bytes = record s { program = written_over s.program at bytes }
 
--- the program's bytes replaced from an address on, where all of them lie in the program
+-- The session with bytes of its program replaced from an address on, if all of them are inside the program.
 abbrev pub poked : Session → ℕ → List ℕ → Result Session ℕ
 poked s at bytes =
     if nat_lt at 256 || nat_lt (256 + length s.program) (at + length bytes) then Err 6
     else Ok (with_poke s (at - 256) bytes)
 
--- so many bytes of the script from a place on exchanged for others
+-- The session with `removed` bytes of its script, from an offset on, exchanged for others.
 abbrev pub with_splice : Session → ℕ → ℕ → List ℕ → Session
 with_splice s at removed bytes = record s { script = spliced s.script at removed bytes }
 
--- these records at a host file's key, or no file there
+-- The session with these records as the host file of a key, or with no host file there.
 abbrev pub with_host_file : Session → Key → Option (List Record) → Session
 with_host_file s key file = record s { files = with_file s.files key file }
 
--- a host file set to these bytes, filled up to whole records, where they are not too many and there is room for the file
+-- The session with a host file set to these bytes, padded to whole records, if they are not too many and there is room for the
+-- file.
 abbrev pub with_set_file : Session → Key → List ℕ → Result Session ℕ
 with_set_file s key bytes =
     if nat_lt 8388608 (length bytes) then Err 4
     else if has_room s.files key then Ok (with_host_file s key (Some (records_in bytes)))
     else Err 5
 
--- the session after an edit, or the number of its refusal
+-- The session after an edit, or the number of the refusal.
 abbrev pub edited : Session → Edit → Result Session ℕ
 edited s (Insert at bytes) =
     if nat_lt (length s.script) at then Err 1

@@ -2,7 +2,7 @@
 use Rattle.std.specs.Prelude.{ℕ, Option, Some, None}
 use Rattle.machine.specs.Kept.{Kept}
 
--- the text is there, as far as it is kept
+-- The number of bytes of the text that belong to a kept state, 0 without one.
 abbrev pub kept_length : Option Kept → ℕ
 kept_length None = 0
 kept_length (Some kept) = kept.length

@@ -5,7 +5,7 @@ use Rattle.machine.specs.Kept.{Kept, whole}
 use Rattle.machine.specs.Machine.{start}
 use Rattle.replay.specs.declared.report.LastRun.{LastRun}
 
--- the state that was left, where there is one, with its beginning of the text
+-- The kept state with the prefix of the text that belongs to it, or the start if no state is kept.
 abbrev pub last_state : Option Kept → List ℕ → PartialState
 last_state None text = start
 last_state (Some kept) text = whole kept (take kept.length text)

@@ -1,4 +1,4 @@
--- What a runner is once a report that borrows it is gone. (This project's own.)
+-- The state of a runner once a report that borrows it is gone. (This project's own.)
 use Rattle.std.specs.Prelude.{⊤}
 use Rattle.std.specs.Borrow.{follows_so, MutBor, Fml}
 use mathlib.Core.Option.{none}

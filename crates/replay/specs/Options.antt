@@ -9,19 +9,19 @@ number_of Spacing = 1
 number_of Slots = 2
 number_of OutOfMemory = 3
 
--- the refusal of options outside 1 to 1,000,000,000 steps and 1 to 4,096 slots; none for all others
+-- The refusal of options outside 1 to 1,000,000,000 steps and 1 to 4,096 slots, or none.
 abbrev pub refusal_of : Options → Option ℕ
 refusal_of o =
     if o.spacing == 0 || nat_lt 1000000000 o.spacing then Some 1
     else if o.slots == 0 || nat_lt 4096 o.slots then Some 2
     else None
 
--- the refusal fits; want of memory is one of options that are within their ranges
+-- The refusal that applies. Out of memory is a refusal of options that are within their ranges.
 abbrev pub RefusedBy : Options → OptionsError → Type 0
 RefusedBy o Spacing = refusal_of o ≡ Some 1
 RefusedBy o Slots = refusal_of o ≡ Some 2
 RefusedBy o OutOfMemory = refusal_of o ≡ None
 
--- the options of a runner for one run: no slots, so no checkpoint is ever kept, and the greatest spacing
+-- The options of a runner for one run: no slots, so no checkpoint is ever kept, and the greatest spacing.
 abbrev pub once : Options
 once = record { spacing = 1000000000; slots = 0 }

@@ -1,4 +1,4 @@
--- The run of the plain machine beside the run that tells apart what it wrote. (This project's own.)
+-- The run of the plain machine and the run that keeps apart what it wrote. (This project's own.)
 use Rattle.std.specs.Prelude.{◌≡◌}
 use Rattle.std.specs.FinMap.{code}
 use Rattle.std.specs.Coded.{Coded, Coded-set, codes, coded_ℕ, coded_list, coded_option}
@@ -9,17 +9,17 @@ use Rattle.machine.specs.WholeFiles.{Files}
 use Rattle.replay.specs.Cold.{Cold, cold}
 use Rattle.replay.specs.Plain.{PlainRun, plain_run}
 
--- a cold run as the plain machine has it
+-- A cold run, seen on the plain machine.
 abbrev pub plainly : Session → Cold → PlainRun
 plainly s c = record { machine = laid_over s c.state; steps = c.steps; cause = c.cause }
 
--- The cold run, which tells apart what the run wrote, is the run of the plain machine.
+-- The cold run, which keeps apart what the run wrote, is the run of the plain machine.
 abbrev pub PlainRunIsCold : Type 0
 PlainRunIsCold = (s : Session) → IsSession s → plain_run s ≡ plainly s (cold s)
 
 abbrev pub all_files_code : Coded Files
 all_files_code = code (coded_list coded_ℕ) (coded_list (coded_option (coded_list coded_ℕ)))
 
--- runs are equal in one way at most
+-- Any two proofs that two runs are equal are the same.
 pub equal_runs-prop : (x y : PlainRun) → IsProp (x ≡ y)
 equal_runs-prop x y = Coded-set (Prim.hlevel (codes, all_files_code)) x y

@@ -1,8 +1,8 @@
--- That input which was not read has no influence on a run. (This project's own.)
+-- Input that was not read has no influence on a run. (This project's own.)
 --
--- A step asks its session for bytes of the loaded memory, for bytes of the script and for facts of the host files. If a second
--- session answers alike all that the first n steps of a session ask, its first n steps do and ask the same. Elsewhere the two may
--- differ: in program, tail, script, host files and limit.
+-- A step asks its session for bytes of the loaded memory, for bytes of the script and for facts about the host files. If a second
+-- session gives the same answers to all that the first n steps of a session ask, its first n steps do and ask the same. In all
+-- else the two may differ: in program, tail, script, host files and limit.
 use Rattle.std.specs.Prelude.{◌≡◌, ℕ, ◌<◌, Some}
 use Rattle.machine.specs.Given.{Session}
 use Rattle.machine.specs.StateView.{PartialState}
@@ -11,23 +11,23 @@ use Rattle.machine.specs.Machine.{ask, after, looks}
 use Rattle.machine.specs.LaidOver.{whole_after, laid_over}
 use Rattle.replay.specs.Touch.{Untouched}
 
--- n steps of the session s lead to the state st, and n steps of the session t do the same
+-- n steps of the session s lead to the state st, and n steps of the session t lead to the same.
 pub record RunsAlike (s t : Session) (n : ℕ) (st : PartialState) : Type 0 where
-  -- the state of t after n steps: no stop comes before
+  -- The state of t after n steps; t does not stop before.
   pub other : PartialState
   pub there : after (ask t) n ≡ Some other
-  -- both have the same registers, and the same text, cursor, column, buffer address, search place and current drive
+  -- Both have the same registers, and the same text, cursor, column, buffer address, search place and current drive.
   pub regs : other.core.regs ≡ st.core.regs
   pub desk : other.core.desk ≡ st.core.desk
-  -- the steps wrote the same bytes to the same cells, and did the same to the files
+  -- The steps wrote the same bytes to the same cells, and did the same to the files.
   pub own : other.own ≡ st.own
-  -- on the plain machine, the whole memory and all files of each are what its steps wrote, laid over its own session
+  -- On the plain machine, the whole memory and all files of each are what its steps wrote, laid over its own session.
   pub plain : whole_after s n ≡ Some (laid_over s st)
   pub other_plain : whole_after t n ≡ Some (laid_over t other)
-  -- each of the steps asked the same questions, in the same order
+  -- Each of the steps asked the same questions, in the same order.
   pub looks : (i : ℕ) → i < n → looks (ask t) i ≡ looks (ask s) i
 
--- If n steps of s lead to a state, and t answers alike all that they ask, n steps of t run alike.
+-- If n steps of s lead to a state, and t gives the same answers to all that they ask, n steps of t run alike.
 abbrev pub PrefixDependence : Type 0
 PrefixDependence = (s t : Session) → IsSession s → IsSession t → (n : ℕ) (st : PartialState) → after (ask s) n ≡ Some st
     → Untouched (ask s) (ask t) n → RunsAlike s t n st

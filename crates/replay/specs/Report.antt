@@ -1,4 +1,4 @@
--- What a report is of. (This project's own.)
+-- The session and the run that a report is about. (This project's own.)
 use Rattle.std.specs.Prelude.{Bool}
 use Rattle.hostfiles.specs.Hosts.{Key}
 use Rattle.machine.specs.ChangedFiles.{is_changed_name_in}
@@ -6,14 +6,14 @@ use Rattle.machine.specs.Given.{Session}
 use Rattle.replay.specs.declared.report.Report.{Report}
 use Rattle.replay.specs.Plain.{PlainRun, plain_run}
 
--- the session that was run
+-- The session that was run.
 abbrev pub session_of : Report → Session
 session_of report = report.last_run.now.session
 
--- its run
+-- The run of that session.
 abbrev pub run_of : Report → PlainRun
 run_of report = plain_run (session_of report)
 
--- whether a key is that of a name, and the run left its file otherwise than the host files have it
+-- Whether a key has a valid name, and the run left its file different from the host file.
 abbrev pub is_left_changed : Report → Key → Bool
 is_left_changed report key = is_changed_name_in (session_of report).files (run_of report).machine.files key

@@ -1,4 +1,4 @@
--- What contracts see of a runner. (This project's own.)
+-- A runner as contracts see it. (This project's own.)
 use Rattle.std.specs.Prelude.{◌≡◌, ℕ, ◌+◌, ◌<◌, ◌≤◌, List, [], ◌++◌, Some, drop, map, take}
 use Rattle.machine.specs.declared.session.TheConstants.{STEP_LIMIT}
 use Rattle.machine.specs.Given.{Session}
@@ -13,13 +13,13 @@ use Rattle.replay.specs.RefusalCount.{CountsThisRun}
 use Rattle.replay.specs.Ring.{Each, Rising, RisingBy, Stands, AddsBy, AddsAllBy, start_by}
 use Rattle.replay.specs.Touch.{Untouched}
 
--- a step that a run reached, and the state there
+-- A step that a run reached, and the state there.
 pub record Checkpoint : Type 0 where
   pub step : ℕ
   pub state : PartialState
 
--- a session, options, checkpoints, the oldest first, and how often the last rerun was refused memory for a checkpoint, or for
--- what it notes to keep one
+-- A session, options, checkpoints, the oldest first, and how many allocations for a checkpoint, or for the notes that it needs,
+-- failed in the last rerun.
 pub record RunnerView : Type 0 where
   pub session : Session
   pub spacing : ℕ
@@ -27,24 +27,24 @@ pub record RunnerView : Type 0 where
   pub checkpoints : List Checkpoint
   pub refused : ℕ
 
--- a runner of a session that made no checkpoint yet
+-- A runner for a session, with no checkpoint yet.
 abbrev pub with_no_checkpoint : Session → Options → RunnerView
 with_no_checkpoint s options = record { session = s; spacing = options.spacing; slots = options.slots; checkpoints = []; refused = 0 }
 
--- the options stay
+-- The options stay the same.
 pub record SameOptions (old new : RunnerView) : Type 0 where
   pub spacing : new.spacing ≡ old.spacing
   pub slots : new.slots ≡ old.slots
 
--- a checkpoint with its text, which is a beginning of this one
+-- A checkpoint with its text, which is a prefix of the given one.
 abbrev pub seen_with : List ℕ → KeptCheckpoint → Checkpoint
 seen_with text c = record { step = c.step; state = whole c.state (take c.state.length text) }
 
--- the steps of the checkpoints
+-- The steps of the checkpoints.
 abbrev pub kept_steps : RunnerView → List ℕ
 kept_steps r = map (λ c. c.step) r.checkpoints
 
--- each checkpoint is the state of the session after its step, which is not the start
+-- The checkpoint is the state of the session after its step, which is not 0.
 pub record IsAt (f : Answers) (c : Checkpoint) : Type 0 where
   pub later : 1 ≤ c.step
   pub state : after f c.step ≡ Some c.state
@@ -52,46 +52,46 @@ pub record IsAt (f : Answers) (c : Checkpoint) : Type 0 where
 abbrev pub AllStand : RunnerView → Type 0
 AllStand r = Each (IsAt (ask r.session)) r.checkpoints
 
--- exactly the checkpoints up to the touch are left, in their order; all where there is no touch
+-- Exactly the checkpoints up to the touch are left, in order, or all if there is no touch.
 pub record KeepsUntouched (f g : Answers) (old new : List Checkpoint) : Type 0 where
   pub gone : List Checkpoint
   pub parts : old ≡ new ++ gone
   pub untouched : Each (λ c. Untouched f g c.step) new
   pub touched : Each (λ c. Untouched f g c.step → ⊥) gone
 
--- so many of the oldest checkpoints are gone, and all else stays
+-- The `count` oldest checkpoints are gone, and all else stays.
 abbrev pub DropsOldest : ℕ → RunnerView → RunnerView → Type 0
 DropsOldest count old new = new ≡ record old { checkpoints = drop count old.checkpoints }
 
--- where a rerun begins
+-- The step from which a rerun begins.
 abbrev pub rerun_start : RunnerView → ℕ
 rerun_start r = start_by (λ c. c.step) r.session.limit r.checkpoints
 
--- the checkpoints after a rerun that reached this step, or was to reach it: the new steps are the last of the old ones and of
--- some due steps after them, and they rise
+-- The checkpoints after a rerun that reached this step, or was to reach it: the new steps are the last of the old ones followed
+-- by some due steps, and they rise.
 abbrev pub Reran : RunnerView → RunnerView → ℕ → Type 0
 Reran old new upto =
     AddsBy (λ k. k) (kept_steps old) (kept_steps new) old.slots (rerun_start old) upto upto old.spacing
     × RisingBy (λ k. k) (kept_steps new)
 
--- and where no memory was refused, no due step was left out
+-- If no allocation failed, no due step was left out.
 abbrev pub LeavesNoneOut : RunnerView → RunnerView → ℕ → Type 0
 LeavesNoneOut old new upto =
     new.refused ≡ 0 → AddsAllBy (λ k. k) (kept_steps old) (kept_steps new) old.slots (rerun_start old) upto upto old.spacing
 
--- the count of refusals is of a rerun that reached this step, or was to reach it, alone
+-- The count of refusals is for a rerun, alone, that reached this step, or was to reach it.
 abbrev pub CountsAnew : RunnerView → RunnerView → ℕ → Type 0
 CountsAnew old new upto = CountsThisRun (rerun_start old) upto old.spacing new.refused
 
--- what a rerun leaves that reached this step
+-- What a rerun that reached this step leaves.
 abbrev pub RanTo : RunnerView → RunnerView → ℕ → Type 0
 RanTo old new steps = Reran old new steps × LeavesNoneOut old new steps × CountsAnew old new steps
 
--- the steps of a run from this step on, up to some step that it reaches within the limit, are ticked, and no others
+-- The meter counts the steps of a run from this step on, up to some step that it reaches within the limit, and no others.
 abbrev pub TicksTo : Answers → ℕ → ℕ → ℕ → ℕ → Type 0
 TicksTo f limit from ticks ticked = (n : ℕ) × (st : PartialState) × (after f n ≡ Some st) × (n ≤ limit) × (ticked + from ≡ ticks + n)
 
--- what always holds of a runner's parts
+-- What always holds for the parts of a runner.
 pub record IsSound (s : Session) (text : List ℕ) (checkpoints : Checkpoints) : Type 0 where
   pub stands : Each (Stands (ask s) text) checkpoints.ring.items
   pub rising : Rising checkpoints.ring.items

@@ -4,11 +4,11 @@ use Rattle.machine.specs.Tree.{AgreeOn}
 use Rattle.machine.specs.Machine.{Question, Answers, looks}
 use Rattle.replay.specs.FirstLooks.{Noted, step_of}
 
--- no step below n asks a question that g answers in another way: n is at most the touch, or there is none
+-- No step below n asks a question that g answers differently: n is at most the touch, or there is no touch.
 abbrev pub Untouched : Answers → Answers → ℕ → Type 0
 Untouched f g n = (i : ℕ) → i < n → AgreeOn (looks f i) f g
 
--- the least step among the noted questions with another answer, or the step below which all are noted
+-- The first noted step that asked a question with another answer, or the step below which all looks are noted.
 pub record IsNotedTouch (f g : Answers) (k : Noted) (t : ℕ) : Type 0 where
   pub within : t ≤ k.seen
   pub below : (q : Question) (m : ℕ) → step_of k q ≡ Some m → m < t → f q ≡ g q

@@ -19,29 +19,33 @@ use std::alloc::{AllocError, Global};
 /// The address of a program's first byte.
 const PROGRAM_START: usize = 0x0100;
 
-/// What an edit that fits the session is to change.
+/// A change that an accepted edit makes to the session.
 #[derive(Drop)]
 pub enum Change {
-    /// So many bytes of the script, from a place on, are exchanged for others: `Splice(place, removed, bytes)`.
+    /// An exchange of `removed` bytes of the script from an offset on for other bytes: `Splice(offset, removed, bytes)`.
     Splice(usize, usize, Bytes),
-    /// The program's bytes from a place on are replaced; the place counts from the program's first byte.
+    /// A replacement of bytes of the program; the offset counts from the program's first byte.
     Poke(usize, Bytes),
-    /// The host file of a name is set to these records.
+    /// A host file of this name with these records, new or instead of the present one.
     SetFile(Name, HostFile),
-    /// The host file of a name is removed.
+    /// The removal of a host file.
     RemoveFile(Name),
-    /// The limit becomes this many steps.
+    /// A new limit, in steps.
     Limit(u64),
 }
 
-// Whether so many bytes from a place on end past a length.
+// Returns whether `count` bytes from offset `at` on end past `length`.
 fn is_past(at: u64, count: u64, length: u64) -> bool
     ensures { result ≡ nat_lt length (at + count) }
 {
     at > length || count > length - at
 }
 
-/// What an edit is to change, or its first refusal that fits.
+/// Checks an edit and returns the change that it makes.
+///
+/// # Errors
+///
+/// Returns the first refusal that applies. Only insertions and files that are set can run out of memory.
 pub fn accept(alloc: Global, session: &Session, edit: Edit) -> Result<Change, EditError>
     ensures makes { IfOk result (Makes session.now edit) }
     ensures allowed { IfOk result (IsAllowed session.now) }
@@ -90,7 +94,7 @@ pub fn accept(alloc: Global, session: &Session, edit: Edit) -> Result<Change, Ed
     }
 }
 
-// The same for the bytes of a program from an address on.
+// Checks a poke from the address `at` on. Takes no memory.
 fn accept_poke(session: &Session, at: u16, bytes: Bytes) -> Result<Change, EditError>
     ensures makes { IfOk result (Makes session.now (of_edit.Poke at bytes)) }
     ensures allowed { IfOk result (IsAllowed session.now) }
@@ -106,7 +110,7 @@ fn accept_poke(session: &Session, at: u16, bytes: Bytes) -> Result<Change, EditE
     Ok(Change::Poke(at - PROGRAM_START, bytes))
 }
 
-// The same for a host file that is to be set, whose records are made here.
+// Checks a host file that is to be set, and makes its records.
 fn accept_file(
     alloc: Global,
     session: &Session,
@@ -127,7 +131,7 @@ fn accept_file(
     Ok(Change::SetFile(name, file))
 }
 
-/// The least noted step that looked at what is changed, or the step below which all looks are noted.
+/// Returns the first noted step with a look that the change answers differently, or step `seen` if there is none.
 pub fn touch_of(looks: &FirstLooks, session: &Session, change: &Change) -> u64
     requires noted { IsFirstLooks (ask session.now) looks.now }
     requires allowed { IsAllowed session.now change.now }
@@ -144,7 +148,11 @@ pub fn touch_of(looks: &FirstLooks, session: &Session, change: &Change) -> u64
     }
 }
 
-/// Changes the session. At `Err` it is as it was.
+/// Applies a change to the session.
+///
+/// # Errors
+///
+/// Returns `Err` if an allocation fails; the session is then unchanged.
 pub fn carry_out(session: &mut Session, change: Change) -> Result<(), AllocError>
     requires { IsAllowed session.old change }
     ensures ok { OnOk result (session.new ≡ changed session.old change) }

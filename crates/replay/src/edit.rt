@@ -4,29 +4,29 @@ use machine::{Bytes, Name};
 use std::alloc::AllocError;
 use thiserror::Error;
 
-/// A change of the session.
+/// An edit of the session.
 #[derive(Drop)]
 pub enum Edit {
-    /// These bytes are put into the script before a place.
+    /// An insertion of bytes into the script before an offset.
     Insert(u64, Bytes),
-    /// The script's bytes from a place on are replaced; its length stays.
+    /// A replacement of the script's bytes from an offset on; the length of the script stays the same.
     Replace(u64, Bytes),
-    /// So many bytes of the script are removed, from a place on: `Remove(place, count)`.
+    /// A removal of bytes from the script: `Remove(offset, count)`.
     Remove(u64, u64),
-    /// The program's bytes from an address on are replaced.
+    /// A replacement of the program's bytes from an address on.
     Poke(u16, Bytes),
-    /// A host file is set or exchanged: these bytes, filled up with 1AH to whole records.
+    /// A host file, new or replaced, with these bytes, padded with 1AH to whole records.
     SetFile(Name, Bytes),
-    /// A host file is removed.
+    /// The removal of a host file.
     RemoveFile(Name),
-    /// The limit becomes this many steps.
+    /// A new limit, in steps.
     SetLimit(u64),
 }
 
-/// Why an edit is refused.
+/// The reason why an edit is refused.
 #[derive(Clone, Copy, Debug, PartialEq, Eq, Error)]
 pub enum EditError {
-    /// The place, or the end of what is replaced or removed, is past the script's end.
+    /// The offset, or the end of the bytes to replace or remove, is past the end of the script.
     #[error("past the end of the script")]
     PastEnd,
     /// The script would have more than 1,048,576 bytes.
@@ -38,16 +38,16 @@ pub enum EditError {
     /// The file has more than 8,388,608 bytes.
     #[error("the file is too long")]
     FileTooLong,
-    /// There are 512 host files, and this would be one more.
+    /// There are 512 host files already.
     #[error("there are too many files")]
     TooManyFiles,
-    /// The bytes of a poke do not all lie in the program.
+    /// The bytes of a poke are not all inside the program.
     #[error("outside the program")]
     OutsideProgram,
     /// The limit is more than 4,000,000,000 steps.
     #[error("the limit is too large")]
     LimitTooLarge,
-    /// A growth was refused. Only insertions and files that are set are refused so.
+    /// An allocation failed. Only insertions and files that are set can fail in this way.
     #[error("out of memory")]
     OutOfMemory,
 }
@@ -65,7 +65,7 @@ impl From<AllocError> for EditError {
 impl EditError {
     ghost use Rattle.replay.specs.EditAnswers.{number_of};
 
-    /// The refusal's number: 1 to 8.
+    /// Returns the number of the refusal, 1 to 8.
     pub fn number(self) -> u8
         ensures { result ≡ number_of self }
     {

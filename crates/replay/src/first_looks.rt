@@ -11,7 +11,7 @@ use machine::{Ask, STEP_LIMIT, State};
 use std::alloc::{AllocError, Global};
 use std::marker::Model;
 
-/// The first looks: for each question the least step that asked it, among the steps below one that is `seen`.
+/// The first looks: for each question the first step that asked it, for all steps below `seen`.
 #[derive(Drop)]
 pub struct FirstLooks {
     cells: FirstSteps,
@@ -43,7 +43,7 @@ impl Model for FirstLooks {
 }
 
 impl FirstLooks {
-    /// No step is seen. It takes no memory.
+    /// Returns an empty table with `seen` = 0. Allocates nothing.
     pub fn new(alloc: Global) -> FirstLooks
         ensures cells { result.cells ≡ [] }
         ensures places { result.places ≡ [] }
@@ -59,14 +59,14 @@ impl FirstLooks {
         }
     }
 
-    /// From now on no look is noted: each is answered as one for which memory is refused. What is noted stays.
+    /// Stops noting: from now on each attempt to note looks fails as if out of memory. What is noted already is kept.
     pub fn shut(&mut self)
         ensures { self.new ≡ self.old }
     {
         self.is_shut = true;
     }
 
-    /// Below this step every look is noted.
+    /// Returns the step below which every look is noted.
     #[inline(always)]
     pub fn seen(&self) -> u64
         ensures { result ≡ self.now.seen }
@@ -74,44 +74,50 @@ impl FirstLooks {
         self.seen
     }
 
-    /// The first step that looked at a cell, where that is noted.
+    /// Returns the first step that looked at a cell, if that is noted.
     pub fn cell(&self, at: u16) -> Option<u64>
         ensures { result ≡ step_of self.now (Cell at) }
     {
         self.cells.of(usize::from(at))
     }
 
-    /// The first step that looked at a place of the script, where that is noted.
+    /// Returns the first step that looked at an offset of the script, if that is noted.
     pub fn place(&self, at: usize) -> Option<u64>
         ensures { result ≡ step_of self.now (Script at) }
     {
         self.places.of(at)
     }
 
-    /// No place of the script from this one on was looked at.
+    /// Returns the end of the noted offsets: no noted look is at this offset of the script or past it.
     pub fn places_end(&self) -> usize
         ensures { result ≡ length self.now.places }
     {
         self.places.end()
     }
 
-    /// Whether this place of the script was looked at, and no place behind it earlier; told only where places were
-    /// looked at in turn, else `false`.
+    /// Returns `true` only if this offset of the script was looked at and no offset past it was looked at earlier. It may return
+    /// `false` if the offsets were not looked at in order.
     pub fn is_earliest_from(&self, place: usize) -> bool
         ensures { result ≡ true → IsEarliestFrom self.now.places place }
     {
         self.places.is_earliest_from(place)
     }
 
-    /// The first steps of the questions of the host files.
+    /// Returns the first steps of the questions about the host files.
     pub fn files(&self) -> &FileSteps
         ensures { result.now ≡ self.now.files }
     {
         &self.files
     }
 
-    /// Notes what was looked at as looks of the step `seen`: the cells from the one of this index on, the place and the question
-    /// that were taken out of the others, and these, which are taken too. At `Err` only entries from that step on are gone.
+    /// Notes new looks as looks of step `seen`: the cells from index `from` on; the offset `taken` and the question `asked`,
+    /// which were taken out of `running` before; and the offsets and questions that are left in `running`, which are taken out
+    /// too.
+    ///
+    /// # Errors
+    ///
+    /// Returns `Err` if an allocation fails. The entries of step `seen` and of later steps are then gone; the others are
+    /// unchanged.
     #[cold]
     #[inline(never)]
     pub fn note(
@@ -165,7 +171,7 @@ impl FirstLooks {
         self.note_asks(running, asked)
     }
 
-    // Notes the cells that were looked at, from the one of this index on.
+    // Notes the cells that were looked at, from index `from` on.
     fn note_cells(&mut self, running: &State, from: usize) -> Result<(), AllocError>
         requires { self.old.seen ≤ STEP_LIMIT }
         ensures ok { OnOk result (Notes self.old self.new (is_cell_of (drop from running.now.looked.cells))) }
@@ -181,7 +187,7 @@ impl FirstLooks {
         Ok(())
     }
 
-    // Notes the script place that was taken, and then each that is left.
+    // Notes the offset `taken`, then takes out and notes each offset that is left.
     fn note_places(&mut self, running: &mut State, taken: Option<usize>) -> Result<(), AllocError>
         requires seen { self.old.seen ≤ STEP_LIMIT }
         requires taken { taken ≡ None → NoPlaces running.old.looked.places }
@@ -201,7 +207,7 @@ impl FirstLooks {
         Ok(())
     }
 
-    // Notes the question of the host files that was taken, and then each that is left.
+    // Notes the question `asked`, then takes out and notes each question about the host files that is left.
     #[tactic(auto)]
     fn note_asks(&mut self, running: &mut State, asked: Option<Ask>) -> Result<(), AllocError>
         requires seen { self.old.seen ≤ STEP_LIMIT }
@@ -222,7 +228,7 @@ impl FirstLooks {
         Ok(())
     }
 
-    /// Goes on to the next step.
+    /// Advances `seen` by one step.
     #[inline(always)]
     pub fn go_on(&mut self)
         requires { self.old.seen + 1 < 2 ^ 64 }
@@ -231,7 +237,7 @@ impl FirstLooks {
         self.seen += 1;
     }
 
-    /// Forgets the looks of the steps from this one on. It takes no memory, and goes over no other look.
+    /// Forgets the looks of step `from` and of later steps. Allocates nothing and visits no other look.
     pub fn cut(&mut self, from: u64)
         ensures entries { (q : Question) → step_of self.new q ≡ erased from (step_of self.old q) }
         ensures seen { self.new.seen ≡ from }
@@ -242,7 +248,7 @@ impl FirstLooks {
         self.seen = from;
     }
 
-    /// Below this step every look is noted from now on: steps were passed that look at nothing new.
+    /// Moves `seen` up to a step, after steps that looked at nothing new.
     pub fn pass_to(&mut self, step: u64)
         requires { self.old.seen ≤ step }
         ensures { self.new ≡ record self.old { seen = step } }
@@ -250,7 +256,7 @@ impl FirstLooks {
         self.seen = step;
     }
 
-    // Notes a cell at the step `seen`, unless it has a step.
+    // Notes a cell at step `seen`, unless it has a step already.
     fn enter_cell(&mut self, at: u16) -> Result<(), AllocError>
         requires { self.old.seen ≤ STEP_LIMIT }
         ensures ok { OnOk result (Notes self.old self.new (λ q. same_question q (Cell at))) }
@@ -261,7 +267,7 @@ impl FirstLooks {
         self.cells.note(usize::from(at), step)
     }
 
-    // Notes a script place at the step `seen`, unless it has a step.
+    // Notes an offset of the script at step `seen`, unless it has a step already.
     fn enter_place(&mut self, place: usize) -> Result<(), AllocError>
         requires { self.old.seen ≤ STEP_LIMIT }
         ensures ok { OnOk result (Notes self.old self.new (λ q. same_question q (Script place))) }
@@ -272,7 +278,7 @@ impl FirstLooks {
         self.places.note(place, step)
     }
 
-    // Notes a question of the host files at the step `seen`, unless it has a step.
+    // Notes a question about the host files at step `seen`, unless it has a step already.
     fn enter_ask(&mut self, ask: &Ask) -> Result<(), AllocError>
         requires { self.old.seen ≤ STEP_LIMIT }
         ensures ok { OnOk result (Notes self.old self.new (λ q. same_question q (OfHost ask.now))) }
@@ -283,7 +289,7 @@ impl FirstLooks {
         self.files.note(ask, step)
     }
 
-    // Erases what is noted as looks of the step `seen`.
+    // Erases the entries of step `seen` and of later steps.
     fn erase_step(&mut self)
         ensures entries { ErasesLast self.old self.new }
         ensures seen { self.new.seen ≡ self.old.seen }

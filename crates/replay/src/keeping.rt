@@ -8,7 +8,7 @@ use machine::{Ask, Kept, STEP_LIMIT, State};
 use std::alloc::AllocError;
 use std::marker::Model;
 
-/// How often memory for a checkpoint or for first looks was refused. Nothing but `keep` and `note` counts on.
+/// The number of failed allocations for checkpoints and for first looks. Only `keep` and `note` increment it.
 #[derive(Drop)]
 pub struct Refusals {
     count: u64,
@@ -23,14 +23,14 @@ impl Model for Refusals {
 }
 
 impl Refusals {
-    /// None yet.
+    /// Returns a count of 0.
     pub fn new() -> Refusals
         ensures { result ≡ 0 }
     {
         Refusals { count: 0 }
     }
 
-    /// How many there were.
+    /// Returns the count.
     pub fn count(&self) -> u64
         ensures { result ≡ self.now }
     {
@@ -38,7 +38,7 @@ impl Refusals {
     }
 }
 
-/// What is kept of the state, or none where memory is refused, which is counted.
+/// Returns what is kept of the state, or `None` if an allocation fails, which is counted.
 pub fn keep(running: &mut State, refusals: &mut Refusals) -> Option<Kept>
     requires { refusals.old < 2 ^ 63 }
     ensures kept { IfSome result (λ k. k ≡ kept_of running.old.state) }
@@ -55,16 +55,20 @@ pub fn keep(running: &mut State, refusals: &mut Refusals) -> Option<Kept>
     }
 }
 
-/// What runs noted beside the checkpoints: the first looks, and how often memory was refused.
+/// What runs note besides checkpoints: the first looks, and the number of failed allocations.
 #[derive(Drop)]
 pub struct RunNotes {
     pub looks: FirstLooks,
     pub refusals: Refusals,
 }
 
-/// Notes what was looked at as looks of the step `seen`: the cells from the one of this index on, the place and the question that
-/// were taken out of the others, and these, which are taken too. `Err` where memory is refused, which is counted; only entries from
-/// that step on are gone then.
+/// Notes new looks as looks of step `seen`: the cells from index `from` on; the offset `taken` and the question `asked`, which
+/// were taken out of `running` before; and the offsets and questions that are left in `running`, which are taken out too.
+///
+/// # Errors
+///
+/// Returns `Err` if an allocation fails, which is counted. The entries of step `seen` and of later steps are then gone; the
+/// others are unchanged.
 #[inline(always)]
 pub fn note(
     notes: &mut RunNotes,

@@ -1,12 +1,12 @@
-//! Edits and reruns of a session: each rerun gives what a cold run of the session, as it then is, would give.
+//! Edits and reruns of a session. Each rerun has the result of a cold run of the current session.
 //!
-//! - `edit`, `change`, `touch`: an edit and its refusals; what an edit that fits is to change, checked once, touched
-//!   and carried out; the touch of changed bytes
-//! - `first_looks`: the first step that looked at each cell, at each script place and at each question of the host files,
-//!   and the step `seen`
-//! - `ring`, `keeping`: checkpoints, and which are due; what may be refused memory, with a count of refusals
+//! - `edit`, `change`, `touch`: edits and their refusals; the change that an accepted edit makes; the first step that a change
+//!   touches
+//! - `first_looks`: the first step that looked at each cell, at each script offset and at each question about the host files, and
+//!   the step `seen`
+//! - `ring`, `keeping`: checkpoints and the steps at which they are due; what may run out of memory, with a count of refusals
 //! - `run`, `rerun`: the loop from one due step to the next; where a rerun begins, and what it leaves
-//! - `runner`, `options`, `report`: `Runner`; how checkpoints are made; what a rerun came to
+//! - `runner`, `options`, `report`: `Runner`; how often and how many checkpoints are made; the result of a rerun
 #![tactic(auto)]
 
 mod change;

@@ -6,22 +6,22 @@ use thiserror::Error;
 /// How checkpoints are made.
 #[derive(Clone, Copy, Debug, PartialEq, Eq)]
 pub struct Options {
-    /// A checkpoint is due at each multiple of this many steps, 1 to 1,000,000,000.
+    /// The number of steps from one due checkpoint to the next, 1 to 1,000,000,000. A checkpoint is due at each multiple.
     pub spacing: u64,
-    /// The most checkpoints that are kept, 1 to 4,096.
+    /// The largest number of checkpoints that are kept, 1 to 4,096.
     pub slots: usize,
 }
 
-/// Why options are refused.
+/// The reason why options are refused.
 #[derive(Clone, Copy, Debug, PartialEq, Eq, Error)]
 pub enum OptionsError {
     /// The spacing is not 1 to 1,000,000,000 steps.
     #[error("the spacing is out of range")]
     Spacing,
-    /// The slots are not 1 to 4,096.
+    /// The number of slots is not 1 to 4,096.
     #[error("the count of slots is out of range")]
     Slots,
-    /// A growth was refused.
+    /// An allocation failed.
     #[error("out of memory")]
     OutOfMemory,
 }
@@ -39,7 +39,7 @@ impl From<AllocError> for OptionsError {
 impl OptionsError {
     ghost use Rattle.replay.specs.Options.{number_of};
 
-    /// The refusal's number: 1, 2 or 3.
+    /// Returns the number of the refusal, 1 to 3.
     pub fn number(self) -> u8
         ensures { result ≡ number_of self }
     {

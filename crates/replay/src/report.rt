@@ -15,8 +15,8 @@ ghost use Rattle.replay.specs.PlainIsCold.{equal_runs-prop, plainly};
 use hostfiles::{Record, joined, next_changed, told_count, told_record};
 use machine::{BlankMarks, Cause, HostFiles, Journal, Kept, Name, Regs, Session};
 
-/// A session, the console text of its runs, and what is kept of the state in which the last run ended, until the
-/// next one begins; and memory for the marks of that next run, once there was one.
+/// A session and its last run: the console text of its runs; what is kept of the state in which the last run ended, `None` before
+/// the first run and once the next run begins; and memory for the marks of the next run, `None` before the first run.
 #[derive(Drop)]
 pub struct LastRun {
     pub session: Session,
@@ -25,7 +25,7 @@ pub struct LastRun {
     pub marks: Option<BlankMarks>,
 }
 
-/// What a rerun came to: the end of the run of the session. It borrows the runner, and owns no memory.
+/// The result of a rerun: the end of the run of the session. It borrows the runner and owns no memory.
 #[derive(Clone, Copy)]
 pub struct Report<'a> {
     pub(crate) last_run: &'a LastRun,
@@ -41,21 +41,21 @@ pub struct Report<'a> {
 impl Report<'_> {
     ghost use Rattle.replay.specs.Report.{is_left_changed, run_of, session_of};
 
-    /// Why the run ended.
+    /// Returns why the run ended.
     pub fn cause(&self) -> Cause
         ensures { result ≡ (run_of self.now).cause }
     {
         self.cause
     }
 
-    /// How many steps were carried out from the start.
+    /// Returns the number of steps of the run, counted from its start.
     pub fn steps(&self) -> u64
         ensures { result ≡ (run_of self.now).steps }
     {
         self.steps
     }
 
-    /// The registers at the end.
+    /// Returns the registers at the end.
     pub fn regs(&self) -> Regs
         ensures { result ≡ (run_of self.now).machine.core.regs }
     {
@@ -65,7 +65,7 @@ impl Report<'_> {
         }
     }
 
-    /// All bytes that were sent to the console.
+    /// Returns all bytes that were sent to the console.
     pub fn text(&self) -> &[u8]
         ensures { result.now ≡ (run_of self.now).machine.core.desk.text }
     {
@@ -75,7 +75,7 @@ impl Report<'_> {
         }
     }
 
-    /// The byte of a cell at the end.
+    /// Returns the byte of a cell at the end.
     pub fn cell(&self, a: u16) -> u8
         ensures { result ≡ slice_index (run_of self.now).machine.memory a }
     {
@@ -85,21 +85,21 @@ impl Report<'_> {
         }
     }
 
-    /// Whether there is a file of a name at the end.
+    /// Returns whether there is a file of this name at the end.
     pub fn has(&self, name: &Name) -> bool
         ensures { result ≡ contains_key (run_of self.now).machine.files name.now }
     {
         joined::has(self.files(), self.journal(), &name.key())
     }
 
-    /// How many records a file has at the end, if it is there.
+    /// Returns the number of records of a file at the end, or `None` if there is no such file.
     pub fn records(&self, name: &Name) -> Option<u32>
         ensures { result ≡ option_map length (told_in (run_of self.now).machine.files name.now) }
     {
         told_count(self.files(), self.journal(), &name.key())
     }
 
-    /// A record of a file at the end, zeros in a hole; none where the file is not there or has fewer.
+    /// Returns a record of a file at the end, zeros for a hole, or `None` if there is no such file or it has fewer records.
     pub fn record(&self, name: &Name, place: u32) -> Option<Record>
         ensures { result
             ≡ option_and_then (λ records. slice_get records place)
@@ -108,12 +108,12 @@ impl Report<'_> {
         told_record(self.files(), self.journal(), &name.key(), place)
     }
 
-    /// The least name by key of a file that the run left otherwise than the host files have it, after the one given
-    /// if there is one.
+    /// Returns the name of the next file, in the order of keys, that the run left different from its host file: the first one after
+    /// `after`, or the first of all if that is `None`.
     ///
     /// # Example
     ///
-    /// All changed files, in order; one that the run deleted is no longer there:
+    /// All changed files, in order; a file that the run deleted has no records:
     ///
     /// ```text
     /// let mut after: Option<Name> = None;
@@ -137,14 +137,14 @@ impl Report<'_> {
         next_changed(self.files(), self.journal(), after)
     }
 
-    /// The host files of the session.
+    /// Returns the host files of the session.
     pub fn files(&self) -> &HostFiles
         ensures { result.now ≡ (session_of self.now).files }
     {
         self.last_run.session.files()
     }
 
-    /// What the run did to the files: laid over the host files, it gives the files at the end.
+    /// Returns what the run did to the files. Laid over the host files, it is the files at the end.
     pub fn journal(&self) -> &Journal
         ensures { files (session_of self.now).files result.now.entries ≡ (run_of self.now).machine.files }
     {

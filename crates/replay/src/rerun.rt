@@ -18,7 +18,8 @@ use machine::{BlankMarks, Cause, Kept, Meter, STEP_LIMIT, Session, State};
 use std::alloc::{AllocError, Global};
 use std::mem;
 
-// The beginning of a text: a copy where the whole is needed, else the text itself, cut. At `Err` the text stays.
+// Returns the first `length` bytes of a text: a copy if `is_needed`, else the text itself, moved out and cut. At `Err` the text
+// is unchanged.
 fn beginning_of(
     alloc: Global,
     text: &mut Vec<u8>,
@@ -38,7 +39,7 @@ fn beginning_of(
     Ok(own)
 }
 
-// The memory for the marks of a run: that of the run before, where it is there.
+// Returns memory for the marks of a run: the memory that the last run left, if there is any.
 fn marks_for(alloc: Global, spare: &mut Option<BlankMarks>) -> Result<BlankMarks, AllocError> {
     match spare.take() {
         Some(marks) => Ok(marks),
@@ -46,8 +47,8 @@ fn marks_for(alloc: Global, spare: &mut Option<BlankMarks>) -> Result<BlankMarks
     }
 }
 
-// The greatest kept step that is not past the limit, with its state; else the start. The text is moved into the state, but
-// where a kept step past the limit needs it.
+// Returns the greatest kept step that is not past the limit, with its state, or else the start. The text is moved into the state
+// unless `is_needed`: a kept step past the limit needs it. At `Err` the text is unchanged.
 fn begin(
     alloc: Global,
     session: &Session,
@@ -81,8 +82,8 @@ fn begin(
     ))
 }
 
-// What is kept of a state that a run left. Its text becomes the text, but where that is needed as it is; the memory for its marks is
-// for the next run.
+// Returns what is kept of the state that a run left. Its text replaces `text` unless `is_needed`; the memory for its marks goes
+// to the next run.
 fn put_by(
     text: &mut Vec<u8>,
     spare: &mut Option<BlankMarks>,
@@ -102,8 +103,12 @@ fn put_by(
     kept
 }
 
-/// Runs a session from the greatest kept step that is not past its limit, and keeps the state in which the run ends. The count of
-/// refusals is begun anew.
+/// Runs a session from the greatest kept step that is not past its limit, or else from the start, and keeps the state in which
+/// the run ends. Returns the number of steps and why the run ended. The count of refusals starts again at 0.
+///
+/// # Errors
+///
+/// Returns `Err` if an allocation for the run fails. Checkpoints that the run made up to then are kept.
 pub fn rerun(
     alloc: Global,
     last_run: &mut LastRun,

@@ -12,7 +12,7 @@ pub struct Checkpoint {
     pub state: Kept,
 }
 
-/// The checkpoints of runs, the oldest first, with the steps from one due checkpoint to the next, and what the runs noted for them.
+/// The checkpoints of runs, the oldest first; the number of steps from one due checkpoint to the next; and the notes of the runs.
 #[derive(Drop)]
 pub struct Checkpoints {
     pub spacing: u64,
@@ -20,7 +20,7 @@ pub struct Checkpoints {
     pub notes: RunNotes,
 }
 
-/// The next step at which a checkpoint is due, or the limit.
+/// Returns the next step after `n` at which a checkpoint is due, or the limit if that comes first.
 pub fn due_after(n: u64, spacing: u64, limit: u64) -> u64
     requires { (n < limit) × (limit ≤ STEP_LIMIT) × (0 < spacing) × (spacing ≤ 1000000000) }
     ensures later { (n < result) × (result ≤ limit) }
@@ -32,7 +32,7 @@ pub fn due_after(n: u64, spacing: u64, limit: u64) -> u64
     if next < limit { next } else { limit }
 }
 
-/// The greatest kept step, or 0.
+/// Returns the greatest kept step, or 0 if there is none.
 pub fn newest_step(ring: &HeapCircularBuffer<Checkpoint>) -> u64
     requires { Rising ring.now.items }
     ensures { IsNewest result ring.now.items }
@@ -43,7 +43,7 @@ pub fn newest_step(ring: &HeapCircularBuffer<Checkpoint>) -> u64
     }
 }
 
-/// The checkpoint of the greatest kept step that is not past the limit.
+/// Returns the checkpoint of the greatest kept step that is not past the limit, if there is one.
 pub fn latest_within(ring: &HeapCircularBuffer<Checkpoint>, limit: u64) -> Option<&Checkpoint>
     requires { Rising ring.now.items }
     ensures none { IfNone result (start_step limit ring.now.items ≡ 0) }
@@ -63,8 +63,8 @@ pub fn latest_within(ring: &HeapCircularBuffer<Checkpoint>, limit: u64) -> Optio
     None
 }
 
-/// Keeps a checkpoint above the newest, unless a step before it is past what was seen, or memory is refused, which is
-/// counted. Answers the newest step then.
+/// Makes a checkpoint at `step` if that is above `newest` and not past `seen`, and returns the greater of `newest` and `step`. If
+/// an allocation fails, that is counted and the ring is unchanged.
 pub fn keep_above(
     ring: &mut HeapCircularBuffer<Checkpoint>,
     newest: u64,
@@ -95,7 +95,7 @@ pub fn keep_above(
     step
 }
 
-/// Drops the checkpoints past the step `touch`.
+/// Drops the checkpoints past step `touch`.
 pub fn keep_up_to(ring: &mut HeapCircularBuffer<Checkpoint>, touch: u64)
     requires { Rising ring.old.items }
     ensures parts { KeptUpTo touch ring.old.items ring.new.items }

@@ -14,8 +14,8 @@ use crate::ring::{Checkpoints, due_after, keep_above};
 use machine::{Cause, Meter, STEP_LIMIT, Session, State, run_from};
 use std::alloc::AllocError;
 
-// Notes the looks that are new: the cells from the one of this index on, and the script places and the questions of the host files,
-// which are taken out.
+// Notes the new looks: the cells from index `noted` on, and the script offsets and the questions about the host files, which are
+// taken out of `running`.
 #[inline(always)]
 fn note_new(notes: &mut RunNotes, running: &mut State, noted: usize) -> Result<(), AllocError>
     requires few { noted ≤ length running.old.looked.cells }
@@ -37,9 +37,9 @@ fn note_new(notes: &mut RunNotes, running: &mut State, noted: usize) -> Result<(
     note(notes, running, noted, taken, asked)
 }
 
-// After the steps from n on and below the one that was `reached`, of which only the last looked at anything new: notes its looks,
-// where exactly the steps below n are seen, and else forgets those of the script and of the host files. Where memory for that is
-// refused, the first looks stay behind, and no later step of the run is noted.
+// Notes the looks of the steps from `n` to `reached - 1`, of which only the last looked at anything new. If `n` is not the step
+// `seen`, nothing is noted, and the looks at the script and at the host files are forgotten. If an allocation fails, `seen` stays
+// below `reached`, and no later step of the run is noted.
 fn keep_looks(notes: &mut RunNotes, running: &mut State, noted: usize, n: u64, reached: u64)
     requires few { noted ≤ length running.old.looked.cells }
     requires room { notes.old.refusals < 2 ^ 63 }
@@ -66,7 +66,7 @@ fn keep_looks(notes: &mut RunNotes, running: &mut State, noted: usize, n: u64, r
     }
 }
 
-// After steps from n on that looked at nothing new, and before a stop.
+// Moves `seen` from `n` up to `reached`, if it is at `n`: the steps between looked at nothing new, and a stop follows.
 fn keep_seen(looks: &mut FirstLooks, n: u64, reached: u64)
     requires { n ≤ reached }
     ensures here { n ≡ looks.old.seen → looks.new ≡ seen_to looks.old reached }
@@ -77,7 +77,7 @@ fn keep_seen(looks: &mut FirstLooks, n: u64, reached: u64)
     }
 }
 
-// How far to go on from the step n: where later steps were seen before, no further than those.
+// Returns the step up to which to run next from step `n`: `seen` if it is between `n` and `end`, else `end`.
 fn bound_of(n: u64, seen: u64, end: u64) -> u64
     requires { n < end }
     ensures within { (n < result) × (result ≤ end) }
@@ -86,7 +86,7 @@ fn bound_of(n: u64, seen: u64, end: u64) -> u64
     if n < seen && seen < end { seen } else { end }
 }
 
-// Runs from the step `from` up to the step `end`, or to a stop. Answers the step that it reached.
+// Runs from step `from` up to step `end` or to a stop. Returns the step that it reached, and the cause of the stop.
 fn advance(
     running: &mut State,
     notes: &mut RunNotes,
@@ -125,9 +125,13 @@ fn advance(
     Ok((n, None))
 }
 
-/// Runs on from the step `from` to the limit or a stop, and keeps a checkpoint at each due step above `newest`. Answers the
-/// count of steps and why the run ended. The state is then the last one that was reached, also at `Err`. Memory is refused once at
-/// most for each due step, and once for the first looks.
+/// Runs from step `from` to the limit or a stop, and makes a checkpoint at each due step above `newest`. Returns the number of
+/// steps and why the run ended. `running` is then the last state that was reached, also at `Err`. At most one failed allocation
+/// is counted for each due step, and one for the first looks.
+///
+/// # Errors
+///
+/// Returns `Err` if an allocation for the run fails.
 pub fn resume(
     session: &Session,
     checkpoints: &mut Checkpoints,

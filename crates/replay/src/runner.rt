@@ -22,12 +22,12 @@ use machine::{Meter, STEP_LIMIT, Session};
 use std::alloc::{AllocError, Global};
 use std::marker::Model;
 
-/// A session that is edited and run again, with checkpoints of its runs.
+/// A session that can be edited and run again, with checkpoints of its runs.
 ///
 /// # Example
 ///
-/// A session is run, its first typed byte is replaced, and it is run again from the last checkpoint before the step that took that
-/// byte. The crate `embedding` is a whole program of this kind.
+/// Runs a session, replaces the first byte of its script, and runs it again from the last checkpoint before the step that read that
+/// byte. The crate `embedding` is a complete program of this kind.
 ///
 /// ```text
 /// let mut runner = Runner::new(alloc, session, Options { spacing: 10_000, slots: 64 })?;
@@ -35,7 +35,7 @@ use std::marker::Model;
 /// let first = runner.rerun(&mut meter)?.steps();
 /// runner.edit(Edit::Replace(0, Bytes::new(b"N".to_vec(alloc)?)))?;
 /// let report = runner.rerun(&mut meter)?;
-/// let carried_out = meter.count() - first; // report.steps() less the step of that checkpoint
+/// let executed = meter.count() - first; // report.steps() minus the step of that checkpoint
 /// ```
 #[derive(Drop)]
 pub struct Runner {
@@ -69,7 +69,11 @@ impl Runner {
     ghost use Rattle.replay.specs.Options.{RefusedBy, once, refusal_of};
     ghost use Rattle.replay.specs.Report.{run_of, session_of};
 
-    /// A runner of the session with no checkpoint, or the first refusal that fits.
+    /// Returns a runner for the session, with no checkpoint.
+    ///
+    /// # Errors
+    ///
+    /// Returns the first refusal that applies to the options.
     pub fn new(alloc: Global, session: Session, options: Options) -> Result<Runner, OptionsError>
         ensures ok { IfOk result (λ r. r ≡ with_no_checkpoint session options) }
         ensures accepted { OnOk result (refusal_of options ≡ None) }
@@ -84,7 +88,7 @@ impl Runner {
         Ok(Runner::within(alloc, session, options)?)
     }
 
-    /// The same with options that are known to be within their ranges. `Err` where memory is refused.
+    /// Returns a runner for options that are known to be within their ranges. `Err` means out of memory.
     pub fn within(alloc: Global, session: Session, options: Options) -> Result<Runner, AllocError>
         requires { refusal_of options ≡ None }
         ensures { IfOk result (λ r. r ≡ with_no_checkpoint session options) }
@@ -92,7 +96,7 @@ impl Runner {
         Runner::with_spacing_in_range(alloc, session, options)
     }
 
-    // The same with any count of slots, also none.
+    // Returns a runner for options with any number of slots, including 0. `Err` means out of memory.
     fn with_spacing_in_range(
         alloc: Global,
         session: Session,
@@ -134,14 +138,14 @@ impl Runner {
         Ok(runner)
     }
 
-    /// The session as it is now.
+    /// Returns the current session.
     pub fn session(&self) -> &Session
         ensures { result.now ≡ self.now.session }
     {
         &self.last_run.session
     }
 
-    /// The step of the checkpoint that has so many before it, the oldest first.
+    /// Returns the step of the checkpoint at `index`, counted from 0 for the oldest.
     pub fn kept(&self, index: usize) -> Option<u64>
         ensures { result ≡ slice_get (kept_steps self.now) index }
     {
@@ -151,15 +155,15 @@ impl Runner {
         }
     }
 
-    /// How often the last rerun was refused memory for a checkpoint, or for the first looks that one needs. Each rerun counts from 0
-    /// on, and nothing else changes the count.
+    /// Returns how many allocations for checkpoints, or for the first looks that these need, failed in the last rerun. Each rerun
+    /// starts the count at 0, and nothing else changes it.
     pub fn refusals(&self) -> u64
         ensures { result ≡ self.now.refused }
     {
         self.checkpoints.notes.refusals.count()
     }
 
-    /// Drops so many of the oldest checkpoints, or all where there are fewer.
+    /// Drops the `count` oldest checkpoints, or all if there are fewer.
     pub fn drop_oldest(&mut self, count: u64)
         ensures dropped { DropsOldest count self.old self.new }
         ensures stand { AllStand self.new }
@@ -172,8 +176,12 @@ impl Runner {
         }
     }
 
-    /// Carries out an edit, or refuses it by the first refusal that fits. A refusal changes nothing. Exactly the checkpoints
-    /// up to the first step are left that looks at what the edit changes. The count of refusals stays.
+    /// Applies an edit. Exactly the checkpoints up to the touch are left: up to the first step with a look that the edited session
+    /// answers differently. The count of refusals stays the same.
+    ///
+    /// # Errors
+    ///
+    /// Returns the first refusal that applies; the runner is then unchanged.
     pub fn edit(&mut self, edit: Edit) -> Result<(), EditError>
         ensures answer { AnswersEdit (edited self.old.session edit) result self.new.session }
         ensures memory { result ≡ Err EditError.OutOfMemory → TakesMemory edit }
@@ -197,10 +205,14 @@ impl Runner {
         Ok(())
     }
 
-    /// Runs the session from the greatest kept step that is not past its limit, else from its start, and reports
-    /// of it. Where no memory was refused, each due step that it reached has a checkpoint, of which the newest stay.
-    /// `Err` where memory for the run is refused: the session stays, and so do the checkpoints, but for new ones in
-    /// a full ring. The count of refusals is of this rerun alone.
+    /// Runs the session from the greatest kept step that is not past its limit, or else from its start, and returns a report. If
+    /// no allocation failed, each due step that the run reached above the old checkpoints has been given a checkpoint, of which
+    /// the newest remain. The count of refusals is for this rerun alone.
+    ///
+    /// # Errors
+    ///
+    /// Returns `Err` if an allocation for the run fails. The session stays the same; new checkpoints may have been added, which
+    /// replace the oldest in a full ring.
     pub fn rerun(&mut self, meter: &mut Meter) -> Result<Report<'_>, AllocError>
         requires { meter.old ≤ 2 ^ 63 }
         ensures* ends { sem 𝓛 (EndsAs self.entry (λ n.
@@ -226,13 +238,13 @@ impl Runner {
     }
 }
 
-/// A law: input that the first n steps did not read has no influence on them. Two sessions that answer alike what these steps asked
-/// have the same registers, desk and writes after n steps, each over its own memory and files.
+/// Input that the first `n` steps did not read has no influence on them. If two sessions answer alike what these steps ask, they
+/// have the same registers, desk and writes after `n` steps, each over its own memory and files.
 pub fn prefix_dependence()
     ensures { PrefixDependence }
 {}
 
-/// A law: the run of the plain machine, with all memory as one list and all files as one map, is the cold run.
+/// The run of the plain machine, with all memory as one list and all files as one map, is the cold run.
 pub fn plain_run_is_cold()
     ensures { PlainRunIsCold }
 {}

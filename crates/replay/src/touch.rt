@@ -10,8 +10,8 @@ use crate::first_looks::FirstLooks;
 use hostfiles::Key;
 use machine::{HostFile, PROGRAM_LIMIT, Session};
 
-/// The least noted step that looked at a byte which a poke changes, or the step below which all looks are noted. The place
-/// counts from the program's first byte.
+/// Returns the first noted step that looked at a byte which a poke changes, or step `seen` if there is none. `at` counts from the
+/// program's first byte.
 pub fn poke_touch(looks: &FirstLooks, session: &Session, at: usize, bytes: &[u8]) -> u64
     requires noted { IsFirstLooks (ask session.now) looks.now }
     requires inside { at + length bytes.now ≤ length session.now.program }
@@ -25,7 +25,8 @@ pub fn poke_touch(looks: &FirstLooks, session: &Session, at: usize, bytes: &[u8]
     touch
 }
 
-// The lesser of a step and the first that looked at a byte of the program, where that byte changes.
+// Returns the lesser of `least` and the first step that looked at byte `at` of the program, or `least` if the byte does not
+// change.
 fn lesser_if_changed(looks: &FirstLooks, old: u8, new: u8, at: usize, least: u64) -> u64
     requires { at < PROGRAM_LIMIT }
     ensures { result ≡ (if old == new then least else lesser (step_of looks.now (Cell (256 + at))) least) }
@@ -36,8 +37,8 @@ fn lesser_if_changed(looks: &FirstLooks, old: u8, new: u8, at: usize, least: u64
     lesser_step(looks.cell(256 + at as u16), least)
 }
 
-/// The least noted step that looked at a place of the script which has another byte, or none, once so many bytes from a place on
-/// are exchanged for others; or the step below which all looks are noted.
+/// Returns the first noted step that looked at an offset of the script which has another byte, or none, after a splice: `removed`
+/// bytes from offset `at` on are exchanged for `bytes`. Returns step `seen` if there is none.
 pub fn splice_touch(
     looks: &FirstLooks,
     session: &Session,
@@ -64,8 +65,8 @@ pub fn splice_touch(
     touch
 }
 
-// No place from this one on, of those that were looked at, has another byte after a splice: where as many bytes are
-// put in as are taken out, none behind them moves.
+// Returns an offset from which on no look reads another byte after a splice. If as many bytes are inserted as are removed, the
+// bytes after them do not move.
 fn changes_end(looks: &FirstLooks, at: usize, removed: usize, added: usize) -> usize
     requires { at + removed < 2 ^ 64 }
     ensures { result ≡ (if removed == added then min (length looks.now.places) (at + removed)
@@ -78,8 +79,8 @@ fn changes_end(looks: &FirstLooks, at: usize, removed: usize, added: usize) -> u
     end
 }
 
-/// The least noted step that asked something of the host files which has another answer, once the file of a key is set to these
-/// records, or removed; or the step below which all looks are noted.
+/// Returns the first noted step that asked the host files a question with another answer once the file of a key is set to `new`,
+/// or removed if that is `None`. Returns step `seen` if there is none.
 pub fn file_touch(looks: &FirstLooks, session: &Session, key: &Key, new: Option<&HostFile>) -> u64
     ensures { IsNotedTouch (ask session.now)
         (ask (with_host_file session.now key.now (option_copied new.entry))) looks.now result }
@@ -89,7 +90,7 @@ pub fn file_touch(looks: &FirstLooks, session: &Session, key: &Key, new: Option<
         .touch_of_change(looks.seen(), session.files(), key, new)
 }
 
-// Whether a place, from that of the splice on, has the same byte, or none, before and after.
+// Returns whether the offset `place`, which is not before the splice, has the same byte, or none, before and after it.
 fn is_same_byte(script: &[u8], at: usize, removed: usize, bytes: &[u8], place: usize) -> bool
     requires inside { at + removed ≤ length script.now }
     requires later { at ≤ place }
@@ -99,7 +100,7 @@ fn is_same_byte(script: &[u8], at: usize, removed: usize, bytes: &[u8], place: u
     script.get(place).copied() == byte_after(script, at, removed, bytes, place)
 }
 
-// The byte of a place, once so many bytes from it, or from one before it, on are exchanged for others.
+// Returns the byte at the offset `place`, which is not before `at`, once `removed` bytes from `at` on are exchanged for `bytes`.
 fn byte_after(script: &[u8], at: usize, removed: usize, bytes: &[u8], place: usize) -> Option<u8>
     requires inside { at + removed ≤ length script.now }
     requires later { at ≤ place }
@@ -112,7 +113,7 @@ fn byte_after(script: &[u8], at: usize, removed: usize, bytes: &[u8], place: usi
     end.get(place - at - bytes.len()).copied()
 }
 
-// The lesser of two steps, the first of which may not be there.
+// Returns the lesser of two steps, or the second if there is no first.
 fn lesser_step(step: Option<u64>, least: u64) -> u64
     ensures { result ≡ lesser step least }
 {

@@ -22,14 +22,14 @@ use Rattle.hostfiles.specs.Files.{files}
 use Rattle.report_lines.specs.Writing.{WritesOrFails}
 use Rattle.report_lines.specs.Writing.{Writes}
 
--- some first part of a text is one of a longer text
+-- A prefix of a text is a prefix of a longer text.
 first_part : (n : ℕ) (x y : List ℕ) → (m : ℕ) × (take m (x ++ y) ≡ take n x)
 first_part n x y = elim (cases_lt n (length x)) [
   | inl below ↦ (n, take-append-le n x y (le_of_lt below))
   | inr past ↦ (length x, take-append_seam x y ∙ sym (take_all n x past))
 ]
 
--- all of a text was taken; or some first part of it, with one failure more
+-- All of a text is taken, or a prefix of it, with one failure more.
 abbrev pub All : Option (List ℕ) → Option (List ℕ) → ℕ → ℕ → List ℕ → Type 0
 All a b before after x = Appends a b x × (after ≡ before)
 
@@ -47,23 +47,23 @@ part_then a b c before middle after x y p q =
 pub part_more : (a b : Option (List ℕ)) (before after : ℕ) (x y : List ℕ) → Part a b before after x → Part a b before after (x ++ y)
 part_more a b before after x y p = let m = first_part p.0.0 x y in ((m.0, subst (Appends a b) (sym m.1) p.0.1), p.1)
 
--- a failure at a part of the text
+-- A failure after a prefix of the text.
 pub writes_part : {U E : Type 0} (a b : Option (List ℕ)) (before after : ℕ) (x : List ℕ) (r : Result U E) → IsErr r → Part a b before after x → Writes a b before after x r
 writes_part a b before after x (Ok u) h p = absurd (cc)
 writes_part a b before after x (Err e) h p = p
 
--- one piece was taken, and then another or a part of it
+-- One piece is taken, and then another or a prefix of it.
 pub writes_then : {U E : Type 0} (a b c : Option (List ℕ)) (before middle after : ℕ) (x y : List ℕ) (r : Result U E)
     → All a b before middle x → Writes b c middle after y r → Writes a c before after (x ++ y) r
 writes_then a b c before middle after x y (Ok u) p q = all_then a b c before middle after x y p q
 writes_then a b c before middle after x y (Err e) p q = part_then a b c before middle after x y p q
 
--- the same text in other words
+-- The same for an equal text.
 pub writes_same : {U E : Type 0} (a b : Option (List ℕ)) (before after : ℕ) (x y : List ℕ) (r : Result U E)
     → x ≡ y → Writes a b before after x r → Writes a b before after y r
 writes_same a b before after x y r e w = subst (λ t. Writes a b before after t r) e w
 
--- a failure that is passed over
+-- A failure that is ignored.
 pub writes_or_fails : {U E : Type 0} (a b : Option (List ℕ)) (before after : ℕ) (x : List ℕ) (r : Result U E) → Writes a b before after x r → WritesOrFails a b before after x
 writes_or_fails a b before after x (Ok u) w = inl w.0
 writes_or_fails a b before after x (Err e) w = let more = w.1 in inr (omega (arith, more), w.0)
@@ -89,7 +89,7 @@ within rs i r h = elim (cases_lt i (length rs)) [
   | inr past ↦ absurd (let none : slice_get rs i ≡ None = slice_get_past rs i past in cc)
 ]
 
--- one record more
+-- One more record.
 pub one_record_more : (rs : List Record) (i : ℕ) (r first block : List ℕ) → slice_get rs i ≡ Some r → first ++ block ≡ concat (take i rs)
     → first ++ (block ++ r) ≡ concat (take (i + 1) rs)
 one_record_more rs i r first block h split =
@@ -101,12 +101,12 @@ concat-append : (xs ys : List Record) → concat (xs ++ ys) ≡ concat xs ++ con
 concat-append [] ys = refl
 concat-append (x ∷ xs) ys = ap (λ t. x ++ t) (concat-append xs ys) ∙ sym (append_assoc x (concat xs) (concat ys))
 
--- the digits of all records, of which there are some
+-- The digits of all records, if there are any.
 whole_digits : (rs : List Record) → (length rs ≡ 0 → ⊥) → encode_lower (concat rs) ≡ records_text rs
 whole_digits [] some = absurd (some refl)
 whole_digits (r ∷ rs) some = refl
 
--- they are those of the first records, in two parts, and of the others
+-- The digits of all records are the digits of the first ones, in two parts, and of the others.
 pub first_digits : (rs : List Record) (n : ℕ) (first block : List ℕ) → first ++ block ≡ concat (take n rs) → (length rs ≡ 0 → ⊥)
     → (encode_lower first ++ encode_lower block) ++ encode_lower (concat (drop n rs)) ≡ records_text rs
 first_digits rs n first block split some =
@@ -136,12 +136,12 @@ some_text (x ∷ xs) some = refl
 
 -- ---- a name
 
--- its pieces, one after another
+-- A name is its pieces, one after the other.
 pub name_of_pieces : (drive name dot kind drive' name' dot' kind' whole : List ℕ) → drive' ≡ drive → name' ≡ name → dot' ≡ dot → kind' ≡ kind
     → ((drive ++ name) ++ dot) ++ kind ≡ whole → ((drive' ++ name') ++ dot') ++ kind' ≡ whole
 name_of_pieces drive name dot kind drive' name' dot' kind' whole d n t k e = cc
 
--- ---- a file as it is told
+-- ---- the contents of a file
 
 record_of : (t : Option (List Record)) (k : ℕ) → option_and_then (λ f. slice_get f k) t ≡ slice_get (unwrap_or t []) k
 record_of None k = sym (slice_get_past [] k zero-le)
@@ -168,7 +168,7 @@ pub file_line : (key : Key) (t told : Option (List Record)) → t ≡ told → t
     → (((codes "file " ++ printed key) ++ codes " ") ++ records_text (unwrap_or t [])) ++ 10 ∷ [] ≡ changed_line key told
 file_line key t told same some = sym (ap (λ t. line (file_text key t)) (sym same ∙ some))
 
--- the same file is told alike
+-- Equal files have equal contents.
 pub same_told : {host host' : Host} {own own' : Own} {key key' : Key} → host ≡ host' → own ≡ own' → key ≡ key' → told host own key ≡ told host' own' key'
 same_told h o k = cc
 
@@ -180,7 +180,7 @@ parts_above part host own after = concat (map part (keys_above (changed_names ho
 abbrev pub all_parts : (Key → List ℕ) → Host → Own → List ℕ
 all_parts part host own = concat (map part (changed_keys host own))
 
--- the line of a file, by what was done to the host files
+-- The line of a file, by what the run did to the host files.
 abbrev pub own_line : FileFilter → Host → Own → Key → List ℕ
 own_line filter host own key = line_of_file filter key (told host own key)
 

@@ -1,4 +1,4 @@
--- The lines that tell the changed files: of a report, and those that tell the ones that are gone alone. (This project's own.)
+-- The lines of the changed files in a report, and the lines of the deleted files alone. (This project's own.)
 use Rattle.std.specs.Prelude.{ℕ, List, [], ◌∷◌, ◌++◌, map, Option, Some, None, codes}
 use Rattle.std.specs.List.{concat}
 use Rattle.hex.specs.Hex.{encode_lower}
@@ -10,31 +10,31 @@ use Rattle.report_lines.specs.FirstLines.{line}
 use Rattle.report_lines.specs.declared.changed_lines.FileFilter.{FileFilter}
 use Rattle.report_lines.specs.declared.changed_lines.FileFilter.TheVariants.{All, GoneOnly}
 
--- `-` for no record, else two digits in lower case for each byte
+-- `-` for no record, or else two lower-case digits for each byte.
 abbrev pub records_text : List Record → List ℕ
 records_text [] = codes "-"
 records_text (r ∷ rs) = encode_lower (concat (r ∷ rs))
 
--- a changed file as it is told: all of its records, or that it is gone
+-- The text of a changed file: all of its records, or that it is gone.
 abbrev pub file_text : Key → Option (List Record) → List ℕ
 file_text key None = codes "gone " ++ printed key
 file_text key (Some records) = codes "file " ++ printed key ++ codes " " ++ records_text records
 
--- its line
+-- The line of a changed file.
 abbrev pub changed_line : Key → Option (List Record) → List ℕ
 changed_line key told = line (file_text key told)
 
--- the line of a changed file that is gone; nothing for one that is there
+-- The line of a changed file that is gone; nothing for a file that is there.
 abbrev pub gone_line : Key → Option (List Record) → List ℕ
 gone_line key None = line (codes "gone " ++ printed key)
 gone_line key (Some records) = []
 
--- the line of a changed file as it is told, where it is filter for
+-- The line of a changed file if it passes the filter.
 abbrev pub line_of_file : FileFilter → Key → Option (List Record) → List ℕ
 line_of_file All = changed_line
 line_of_file GoneOnly = gone_line
 
--- the lines of the changed files that are filter for, in the order of their names
+-- The lines of the changed files that pass the filter, in the order of their names.
 abbrev pub lines_of_files : FileFilter → Host → Files → List ℕ
 lines_of_files filter host files = concat (map (λ key. line_of_file filter key (told_in files key)) (changed_keys_in host files))
 

@@ -7,20 +7,20 @@ use Rattle.machine.specs.Regs.{Regs}
 use Rattle.machine.specs.Cause.{Cause}
 use Rattle.machine.specs.Cause.TheVariants.{WarmBoot, Halt, Limit, Undefined, SystemArea, ConsoleExhausted, NoDollar, Unsupported, BadDrive}
 
--- `-` for no byte, else two digits in lower case for each
+-- `-` for no byte, or else two lower-case digits for each byte.
 abbrev pub hex_text : List ℕ → List ℕ
 hex_text [] = codes "-"
 hex_text (b ∷ bs) = encode_lower (b ∷ bs)
 
--- two digits in upper case
+-- Two upper-case digits.
 abbrev pub byte_text : ℕ → List ℕ
 byte_text b = encode_upper (b ∷ [])
 
--- four digits in upper case, the high byte first
+-- Four upper-case digits, the high byte first.
 abbrev pub word_text : ℕ → List ℕ
 word_text w = encode_upper (w / 256 ∷ w % 256 ∷ [])
 
--- a line with its end
+-- A line with its end.
 abbrev pub line : List ℕ → List ℕ
 line text = text ++ 10 ∷ []
 
@@ -35,7 +35,7 @@ cause_text NoDollar = codes "NoDollar"
 cause_text (Unsupported number) = codes "Unsupported " ++ decimal number
 cause_text (BadDrive number) = codes "BadDrive " ++ decimal number
 
--- each register after its name, F for the flag byte
+-- Each register after its name, with F for the flag byte.
 abbrev pub regs_text : Regs → List ℕ
 regs_text r =
     codes "regs A=" ++ byte_text r.a ++ codes " F=" ++ byte_text (byte_of r.flags)
@@ -44,10 +44,10 @@ regs_text r =
     ++ codes " H=" ++ byte_text r.h ++ codes " L=" ++ byte_text r.l
     ++ codes " SP=" ++ word_text r.sp ++ codes " PC=" ++ word_text r.pc
 
--- why a run stopped, after how many steps, and with which registers
+-- Why a run stopped, after how many steps, and with which registers.
 abbrev pub report_head : Cause → ℕ → Regs → List ℕ
 report_head cause steps regs = line (codes "stop " ++ cause_text cause) ++ line (codes "steps " ++ decimal steps) ++ line (regs_text regs)
 
--- the line of the console text
+-- The line of the console text.
 abbrev pub text_line : List ℕ → List ℕ
 text_line text = line (codes "text " ++ hex_text text)

@@ -8,7 +8,7 @@ use crate::steps::{
 };
 use std::test::Fail;
 
-// Drive byte 0 is the current drive, 1 is A and 2 is B. Function 14 counts from 0, and function 13 goes back to A.
+// Drive byte 0 is the current drive, 1 is A and 2 is B. Function 14 counts from 0, and function 13 returns to A.
 const CURRENT: &[Step<'_>] = &[
     Put(BLOCK, ANN),
     Put(OTHER, BEN),
@@ -25,7 +25,7 @@ const CURRENT: &[Step<'_>] = &[
     Call(CLOSE, OTHER, 0),
 ];
 
-// Drive byte 4 is D, and a file of one name may be on each drive.
+// Drive byte 4 is D, and files with the same name may be on each drive.
 const EACH: &[Step<'_>] = &[
     Put(BLOCK, b"\x04ANN        "),
     Call(MAKE, BLOCK, 0),
@@ -52,7 +52,7 @@ const RENAMED: &[Step<'_>] = &[
     Call(CLOSE, BLOCK, 0),
 ];
 
-// A search keeps its drive, whatever is current then. An entry doesn't tell the drive.
+// A search keeps its drive, even if the current drive changes. An entry does not show the drive.
 const SEARCHED: &[Step<'_>] = &[
     Put(BLOCK, ALL_NAMES),
     Call(SEARCH_FIRST, BLOCK, 0),
@@ -89,7 +89,7 @@ const NO_DRIVE: &[Step<'_>] = &[
     All(BUFFER, 128, b'-'),
 ];
 
-// A call that stops leaves the current drive, the buffer address and the search.
+// A call that stops leaves the current drive, the buffer address and the search unchanged.
 const LEFT: &[Step<'_>] = &[
     Call(SELECT_DISK, 1, 0),
     Put(OTHER, ALL_NAMES),
@@ -103,7 +103,7 @@ const LEFT: &[Step<'_>] = &[
     Call(CLOSE, BLOCK, 0),
 ];
 
-// Function 13 goes back to the buffer at 0080H.
+// Function 13 sets the buffer back to 0080H.
 const BUFFERS: &[Step<'_>] = &[
     Put(BLOCK, ANN),
     Call(SET_BUFFER, 0x0400, 0),

@@ -7,7 +7,7 @@ use crate::steps::{
 };
 use std::test::Fail;
 
-// A control block whose bytes from 16 on lie in page zero.
+// A control block whose bytes from 16 on are in page zero.
 const HIGH_BLOCK: u16 = 0xfff0;
 
 // Its bytes ex, s1, s2 and rc.
@@ -16,10 +16,10 @@ const HIGH_EX: u16 = 0xfffc;
 // Its byte cr.
 const HIGH_CR: u16 = 0x0010;
 
-// A buffer whose second half lies in page zero, and within which that control block lies.
+// A buffer whose second half is in page zero, and which contains that control block.
 const HIGH_BUFFER: u16 = 0xffc0;
 
-// The buffer is written first, and then the place in the control block.
+// The buffer is written first, and then the record number in the control block.
 const READ_OVER: &[Step<'_>] = &[
     Put(HIGH_BLOCK, ANN),
     Put(HIGH_CR, b"\x01"),
@@ -63,7 +63,7 @@ const ENTRY: &[Step<'_>] = &[
     Are(0x0040, b"\0"),
 ];
 
-// The byte cr is the first cell of memory, and the random place is in the three after it.
+// The byte cr is the first cell of memory, and the random record number is in the three after it.
 const PLACE: &[Step<'_>] = &[
     Put(0x0000, b"\xc3\x11\x22\x33\x44"),
     Call(SET_RANDOM, 0xffe0, 0),

@@ -1,12 +1,11 @@
-//! The tests of the calls of files, over a plain memory, host files and a desk. Expected values are worked out by hand from
+//! The tests of the file calls, over a plain memory, host files and a desk. Expected values are worked out by hand from
 //! [Interface Guide 1979, operating system call conventions] and this project's profile.
 //!
-//! - `sequential`, `random`: tests of files that are opened, made, read and written, one record after another or at
-//!   random places
-//! - `naming`, `searches`: tests of what is made, renamed and deleted by name, and of searches
-//! - `drives`, `edges`: tests of drives and of the buffer address, and of control blocks and buffers across the end
-//!   of memory
-//! - `steps`, `scene`: calls with their values and what they leave in memory; what they work on
+//! - `sequential`, `random`: tests of files that are opened, made, read and written, one record after the other or at random
+//!   record numbers
+//! - `naming`, `searches`: tests of making, renaming and deleting files by name, and of searches
+//! - `drives`, `edges`: tests of drives and of the buffer address, and of control blocks and buffers across the end of memory
+//! - `steps`, `scene`: calls with their values and what they leave in memory; what they act on
 #![tactic(auto)]
 
 #[cfg(test)]

@@ -27,7 +27,7 @@ const NOT_MADE: &[Step<'_>] = &[
     All(EX, 24, 0x77),
 ];
 
-// ANN has 130 bytes, and so CAT has two records then. Byte 16 of the control block is not used.
+// ANN has 130 bytes, so CAT then has two records. Byte 16 of the control block is not used.
 const RENAMED: &[Step<'_>] = &[
     Put(BLOCK, ANN),
     Put(NEW_NAME, b"\x09CAT        "),
@@ -44,7 +44,7 @@ const RENAMED: &[Step<'_>] = &[
     Are(R0, b"\x02\0\0"),
 ];
 
-// A name that is there, the file's own name, a pattern, and names that can't be said.
+// A name that is there, the file's own name, a pattern, and names that are not valid.
 const NOT_A_NEW_NAME: &[Step<'_>] = &[
     Put(BLOCK, ANN),
     Put(NEW_NAME, BEN),
@@ -63,7 +63,7 @@ const NOT_A_NEW_NAME: &[Step<'_>] = &[
     Call(CLOSE, OTHER, 0),
 ];
 
-// A name that no file has, and patterns that a file's name matches.
+// A name that no file has, and patterns that match a file's name.
 const NOT_AN_OLD_NAME: &[Step<'_>] = &[
     Put(NEW_NAME, CAT),
     Put(BLOCK, BEN),
@@ -78,7 +78,7 @@ const NOT_AN_OLD_NAME: &[Step<'_>] = &[
     Call(CLOSE, BLOCK, 0),
 ];
 
-// A deletion alone takes `?` for any letter: no file is named so.
+// Only a deletion takes `?` for any letter: no file has such a name.
 const DELETED: &[Step<'_>] = &[
     Put(BLOCK, ANN),
     Fill(EX, 24, 0x77),
@@ -95,7 +95,7 @@ const DELETED: &[Step<'_>] = &[
     Call(CLOSE, BLOCK, 0xff),
 ];
 
-// BEN matches alone: ANN has another first letter, and BEN.TXT another type.
+// BEN alone matches: ANN has another first letter, and BEN.TXT another type.
 const SOME_DELETED: &[Step<'_>] = &[
     Put(BLOCK, b"\0B??        "),
     Call(DELETE, BLOCK, 0),

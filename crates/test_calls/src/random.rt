@@ -1,4 +1,4 @@
-// The calls of random places: what stands there, and how long a file is.
+// The calls for random records: what is there, and how long a file is.
 
 use crate::steps::Step::{All, Are, Call, Fill, Put};
 use crate::steps::{
@@ -7,7 +7,8 @@ use crate::steps::{
 };
 use std::test::Fail;
 
-// The last place that a file can have is 65,535. Its extent is 511, whose low five bits are in ex. Places above can't be told.
+// The largest record number is 65,535. Its extent is 511, whose low five bits are in ex. For a larger one, the calls
+// return 6.
 const LONGEST: &[Step<'_>] = &[
     Put(BLOCK, ANN),
     Call(MAKE, BLOCK, 0),
@@ -26,7 +27,7 @@ const LONGEST: &[Step<'_>] = &[
     All(BUFFER, 128, b'w'),
 ];
 
-// A place that was not written: 1 where its extent holds a record, else 4; buffer and control block stay.
+// A record that was not written: 1 if its extent has a record, else 4; buffer and control block are unchanged.
 const HOLE: &[Step<'_>] = &[
     Put(BLOCK, ANN),
     Call(MAKE, BLOCK, 0),
@@ -80,7 +81,7 @@ const FILLED: &[Step<'_>] = &[
     Call(READ_RANDOM, BLOCK, 1),
 ];
 
-// A hole that an earlier write left stays where function 40 fills the places after it.
+// A hole that an earlier write left stays when function 40 fills the records after it.
 const OLDER_HOLE: &[Step<'_>] = &[
     Put(BLOCK, ANN),
     Call(MAKE, BLOCK, 0),
@@ -111,7 +112,7 @@ const PAST_THE_END: &[Step<'_>] = &[
     Call(READ_RANDOM, BLOCK, 4),
 ];
 
-// Place 300 is told by 2 in ex and 44 in cr, and no other extent holds a record.
+// Record 300 has 2 in ex and 44 in cr, and no other extent has a record.
 const FAR: &[Step<'_>] = &[
     Put(BLOCK, ANN),
     Call(MAKE, BLOCK, 0),
@@ -127,7 +128,7 @@ const FAR: &[Step<'_>] = &[
     Are(R0, b"\x2d\x01\0"),
 ];
 
-// Where no file has the name, all else of the control block is without effect, but for its length, which becomes 0.
+// If no file has the name, the rest of the control block does not matter, and the file size is reported as 0.
 const ABSENT: &[Step<'_>] = &[
     Put(BLOCK, BEN),
     Put(CR, b"\x11\x22\x33\x01"),
@@ -140,7 +141,7 @@ const ABSENT: &[Step<'_>] = &[
     Are(CR, b"\x11\0\0\0"),
 ];
 
-// The sequential place is 4,096 times s2 and 128 times ex and cr, whether there is a file or not.
+// The sequential record number is 4,096 times s2 plus 128 times ex plus cr, whether there is a file or not.
 const PLACES: &[Step<'_>] = &[
     Put(BLOCK, ANN),
     Put(EX, b"\x05\x77\x01"),

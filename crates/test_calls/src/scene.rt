@@ -1,4 +1,4 @@
-// What a call works on: memory, files and the desk.
+// What a call acts on: memory, files and the desk.
 
 use bdos::call;
 use console_calls::{Desk, Served};
@@ -8,13 +8,13 @@ use pagemem::PlainMemory;
 use std::alloc::{AllocError, Global};
 use std::test::Fail;
 
-/// Where each call goes back to.
+/// The address to which each call returns.
 const CALLER: u16 = 0x0345;
 
-/// Where the address of the caller lies.
+/// The address of that return address.
 const STACK: u16 = 0xfdfe;
 
-/// A memory with the caller's address on the stack, host files with what was done to them, and a desk.
+/// A memory with the return address on the stack, host files with what was done to them, and a desk.
 #[derive(Drop)]
 pub struct Scene {
     pub memory: PlainMemory,
@@ -24,7 +24,7 @@ pub struct Scene {
 }
 
 impl Scene {
-    /// A scene over a memory, with nothing else.
+    /// Returns a scene over a memory, with nothing else.
     pub fn new(alloc: Global, memory: PlainMemory) -> Scene {
         Scene {
             memory,
@@ -34,7 +34,7 @@ impl Scene {
         }
     }
 
-    /// Puts the caller's address on the stack, and sets the buffer address and host files, each of so many bytes `x`.
+    /// Puts the return address on the stack, and sets the buffer address and host files, each of a number of bytes `x`.
     pub fn begin(
         &mut self,
         alloc: Global,
@@ -55,7 +55,7 @@ impl Scene {
         Ok(())
     }
 
-    /// Carries out a call with a word in DE.
+    /// Makes a call with a word in DE.
     pub fn call(&mut self, number: u8, word: u16) -> Result<(Served, Regs), AllocError> {
         let mut regs = calling(number, word);
         let Scene {
@@ -77,7 +77,7 @@ impl Scene {
         }
     }
 
-    /// Writes a byte into so many cells from an address on.
+    /// Writes a byte into `count` cells from an address on.
     pub fn fill(&mut self, at: u16, count: u16, byte: u8) {
         for i in 0..count {
             self.memory.write(at.wrapping_add(i), byte);
@@ -85,7 +85,7 @@ impl Scene {
     }
 }
 
-// Carries out the call of the registers.
+// Makes the call of the registers.
 fn serve(
     regs: &mut Regs,
     memory: &mut PlainMemory,
@@ -97,12 +97,12 @@ fn serve(
     call(regs, memory, &mut table, desk, &[])
 }
 
-/// A memory of zeros.
+/// Returns a memory of zeros.
 pub fn blank_memory(alloc: Global) -> Result<PlainMemory, AllocError> {
     Ok(PlainMemory::new(vec![in alloc; 0; 65_536]?))
 }
 
-/// The registers before a call with a word in DE.
+/// Returns the registers before a call with a word in DE.
 pub fn calling(number: u8, word: u16) -> Regs {
     Regs {
         a: 0x11,
@@ -124,7 +124,7 @@ pub fn calling(number: u8, word: u16) -> Regs {
     }
 }
 
-/// The registers after such a call went back with a value of one byte, which is in A and L.
+/// Returns the registers after such a call returned a value of one byte, which is in A and L.
 pub fn returned(number: u8, word: u16, value: u8) -> Regs {
     Regs {
         a: value,

@@ -1,4 +1,4 @@
-// Searches of the directory: an entry is put into the buffer, and three unused ones after it.
+// Searches of the directory: an entry is put into the buffer, with three unused ones after it.
 
 use crate::steps::Step::{All, Are, Call, Fill, Put};
 use crate::steps::{
@@ -7,7 +7,7 @@ use crate::steps::{
 };
 use std::test::Fail;
 
-// A search goes on in the files as they are now. Function 18 reads no control block, so that any word may be in DE.
+// A search continues in the current files. Function 18 reads no control block, so any word may be in DE.
 const GOES_ON: &[Step<'_>] = &[
     Put(BLOCK, ALL_NAMES),
     Call(SEARCH_FIRST, BLOCK, 0),
@@ -45,7 +45,7 @@ const ENDED: &[Step<'_>] = &[
     Are(BLOCK, ALL_NAMES),
 ];
 
-// A search that finds nothing ends that before it.
+// A search that finds nothing ends the search before it.
 const NONE_FOUND: &[Step<'_>] = &[
     Put(BLOCK, ALL_NAMES),
     Call(SEARCH_FIRST, BLOCK, 0),
@@ -56,7 +56,7 @@ const NONE_FOUND: &[Step<'_>] = &[
     All(BUFFER, 128, b'-'),
 ];
 
-// 16,385 bytes are a full extent and one record more. The ex of a pattern is that of an entry, or `?` for each.
+// 16,385 bytes are a full extent and one record more. A pattern's ex must equal an entry's, or be `?` for every extent.
 const ALL_EXTENTS: &[Step<'_>] = &[
     Put(BLOCK, ANN),
     Put(EX, b"?"),
@@ -80,7 +80,7 @@ const ONE_EXTENT: &[Step<'_>] = &[
     Call(SEARCH_FIRST, BLOCK, 0xff),
 ];
 
-// Place 4,096 is the first of extent 32, whose entry has 0 in ex and 1 in s2. Extents without a record have no entry.
+// Record 4,096 is the first of extent 32, whose entry has 0 in ex and 1 in s2. Extents without a record have no entry.
 const HIGH_EXTENT: &[Step<'_>] = &[
     Put(BLOCK, ANN),
     Call(MAKE, BLOCK, 0),

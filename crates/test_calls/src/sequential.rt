@@ -1,4 +1,4 @@
-// Files that are opened, made, read and written one record after another.
+// Files that are opened, made, read and written one record after the other.
 
 use crate::steps::Step::{All, Are, Call, Fill, Put};
 use crate::steps::{
@@ -7,7 +7,7 @@ use crate::steps::{
 };
 use std::test::Fail;
 
-// 130 bytes are two records. Of the control block the bytes 13 to 31 are written, and no other.
+// 130 bytes are two records. Of the control block only the bytes 13 to 31 are written.
 const OPENED: &[Step<'_>] = &[
     Put(BLOCK, ANN),
     Fill(EX, 24, 0x77),
@@ -35,7 +35,7 @@ const EXTENTS: &[Step<'_>] = &[
     Are(EX, b"\x02\0\0\0"),
 ];
 
-// The last record is filled up with 1AH, and past it nothing is read.
+// The last record is padded with 1AH, and past it nothing is read.
 const ALL_READ: &[Step<'_>] = &[
     Put(BLOCK, ANN),
     Call(READ, BLOCK, 0),
@@ -68,7 +68,7 @@ const NEXT_EXTENT: &[Step<'_>] = &[
     Call(READ, BLOCK, 1),
 ];
 
-// A file that is made has no record; of the control block the bytes 13 to 31 become zeros.
+// A file that is made has no record; the bytes 13 to 31 of the control block become zeros.
 const MADE: &[Step<'_>] = &[
     Put(BLOCK, ANN),
     Fill(EX, 24, 0x77),
@@ -102,7 +102,7 @@ const READ_BACK: &[Step<'_>] = &[
     Are(CR, b"\x02"),
 ];
 
-// A hole gives the value of the end, and the place stays.
+// A hole returns the value of the end, and the record number is unchanged.
 const HOLE: &[Step<'_>] = &[
     Put(BLOCK, ANN),
     Call(MAKE, BLOCK, 0),
@@ -116,7 +116,7 @@ const HOLE: &[Step<'_>] = &[
     All(BUFFER, 128, b'-'),
 ];
 
-// After place 4,095 the next one is told by s2.
+// After record 4,095 the next one is in s2.
 const NEXT_S2: &[Step<'_>] = &[
     Put(BLOCK, ANN),
     Call(MAKE, BLOCK, 0),
@@ -127,7 +127,7 @@ const NEXT_S2: &[Step<'_>] = &[
     Are(CR, b"\0"),
 ];
 
-// After the last place the control block has place 65,536, where no record can be written.
+// After the last record the control block has record number 65,536, where no record can be written.
 const LAST_PLACE: &[Step<'_>] = &[
     Put(BLOCK, ANN),
     Call(MAKE, BLOCK, 0),
@@ -144,7 +144,7 @@ const LAST_PLACE: &[Step<'_>] = &[
     Are(R0, b"\0\0\x01"),
 ];
 
-// That no file has the name is decided before the place, which would give 2 to a write.
+// A missing file is reported before its record number is checked, which would return 2 for a write.
 const ABSENT: &[Step<'_>] = &[
     Put(BLOCK, BEN),
     Fill(EX, 24, 0x77),

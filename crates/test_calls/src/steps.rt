@@ -1,4 +1,4 @@
-// Calls one after another, with their values and what they leave in memory.
+// Calls one after the other, with their values and what they leave in memory.
 
 use crate::scene::{Scene, blank_memory, calling, returned};
 use console_calls::Cause::BadDrive;
@@ -46,25 +46,25 @@ pub const FILL_RANDOM: u8 = 40;
 /// The first control block of page zero.
 pub const BLOCK: u16 = 0x005c;
 
-/// Its bytes ex, s1 and s2; ex and s2 belong to the sequential place.
+/// Its bytes ex, s1 and s2; ex and s2 belong to the sequential record number.
 pub const EX: u16 = 0x0068;
 
 /// Its byte rc, the count of an extent.
 pub const RC: u16 = 0x006b;
 
-/// Its byte 16, after which the new name of a rename stands.
+/// Its byte 16, which comes before the new name of a rename.
 pub const NEW_NAME: u16 = 0x006c;
 
-/// Its byte cr, the last of the sequential place.
+/// Its byte cr, the last of the sequential record number.
 pub const CR: u16 = 0x007c;
 
-/// Its random place: r0, r1 and r2, the low one first.
+/// Its random record number: r0, r1 and r2, the low byte first.
 pub const R0: u16 = 0x007d;
 
 /// Another control block.
 pub const OTHER: u16 = 0x0200;
 
-/// Where records go, unless a test says otherwise.
+/// The address of records, unless a test sets another.
 pub const BUFFER: u16 = 0x0300;
 
 /// Names in control blocks, on the current drive.
@@ -77,26 +77,26 @@ pub const CAT: &[u8] = b"\0CAT        ";
 /// The pattern of all names, on the current drive.
 pub const ALL_NAMES: &[u8] = b"\0???????????";
 
-/// What a test does, and what it compares.
+/// An act of a test, or a comparison.
 #[derive(Clone, Copy)]
 pub enum Step<'a> {
-    /// Bytes are put into the cells from an address on.
+    /// Bytes that are put into the cells from an address on.
     Put(u16, &'a [u8]),
-    /// So many cells from an address on get this byte.
+    /// A byte that is put into a number of cells: `Fill(address, count, byte)`.
     Fill(u16, u16, u8),
-    /// A call with a word in DE goes back with a value.
+    /// A call with a word in DE that returns a value.
     Call(u8, u16, u8),
-    /// A call with a word in DE stops, for there is no drive of this number.
+    /// A call with a word in DE that stops, as there is no drive of this number.
     NoDrive(u8, u16, u8),
-    /// These bytes stand in the cells from an address on.
+    /// The expected bytes of the cells from an address on.
     Are(u16, &'a [u8]),
-    /// This byte stands in so many cells from an address on.
+    /// The expected byte of a number of cells: `All(address, count, byte)`.
     All(u16, u16, u8),
 }
 
 use Step::{All, Are, Call, Fill, NoDrive, Put};
 
-/// Steps over host files, each of so many bytes `x`. The buffer begins at 0300H.
+/// Steps over host files, each of a number of bytes `x`. The buffer begins at 0300H.
 #[derive(Clone, Copy)]
 pub struct Case<'a> {
     /// What the steps show.
@@ -105,7 +105,7 @@ pub struct Case<'a> {
     pub steps: &'a [Step<'a>],
 }
 
-/// Carries out the steps of each case.
+/// Executes the steps of each case.
 pub fn play(rt: &impl Abort, alloc: Global, cases: &[Case<'_>]) -> Result<(), Fail> {
     for case in cases {
         play_case(rt, alloc, case)?;
@@ -131,7 +131,7 @@ fn carry_out(
     Ok(())
 }
 
-// The number of the first step, counted from 1, that is not as it says; 0 if there is none.
+// Returns the number of the first step, counted from 1, that differs from what it expects, or 0 if there is none.
 fn first_wrong(scene: &mut Scene, steps: &[Step<'_>]) -> Result<u32, AllocError> {
     let mut number: u32 = 0;
     for step in steps {
@@ -143,7 +143,7 @@ fn first_wrong(scene: &mut Scene, steps: &[Step<'_>]) -> Result<u32, AllocError>
     Ok(0)
 }
 
-// Carries out a step, and gives whether what it says is so.
+// Executes a step, and returns whether it is as expected.
 fn holds(scene: &mut Scene, step: Step<'_>) -> Result<bool, AllocError> {
     match step {
         Put(at, bytes) => scene.put(at, bytes),

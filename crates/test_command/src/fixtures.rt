@@ -1,4 +1,4 @@
-// What is done in the folder of a test, and what the command answers to words there.
+// Acts in the folder of a test, and the results of the command for words there.
 
 ghost use Rattle.std.specs.Prelude.{None};
 
@@ -17,37 +17,37 @@ pub const HI: &[u8] = b"\x0e\x09\x11\x09\x01\xcd\x05\x00\xc9Hi$";
 /// A program that takes a byte of the console by call 1 and returns.
 pub const TAKE: &[u8] = b"\x0e\x01\xcd\x05\x00\xc9";
 
-/// What is wanted of the command: its status, and what stands on standard output and standard error.
+/// The expected result of the command: its status, and the texts of standard output and standard error.
 #[derive(Clone, Copy, Debug)]
 pub enum Wanted<'a> {
     /// These texts, the second with the folder's path in place of its first `@`.
     Answer(u8, &'a str, &'a str),
-    /// Texts that hold these parts, and no text where there are none.
+    /// Texts that contain these parts, or empty texts if there are no parts.
     Parts(u8, &'a [&'a str], &'a [&'a str]),
-    /// Standard output takes so many bytes and then fails, and that is told.
+    /// A standard output that takes this many bytes and then fails, which is reported.
     NoRoom(usize),
-    /// Standard error takes so many bytes and then fails, which is passed over.
+    /// A standard error that takes this many bytes and then fails, which is ignored.
     Untold(usize, u8),
 }
 
-/// What is done in a folder.
+/// An act in a folder.
 #[derive(Clone, Copy)]
 pub enum Act<'a> {
-    /// A file is written.
+    /// A file with these bytes.
     Put(&'a str, &'a [u8]),
-    /// A file of zeros of this length is made, which takes no room.
+    /// A sparse file of zeros of this length.
     PutZeros(&'a str, u64),
-    /// The command has these words, each with the folder's path in place of its first `@`.
+    /// A call of the command with these words, each with the folder's path in place of its first `@`.
     Ask(&'a [&'a str], Wanted<'a>),
-    /// The command has the words of this text, each with the folder's path in place of its first `@`, and its runs execute this many
-    /// steps.
+    /// A call of the command with the words of this text, each with the folder's path in place of its first `@`; its runs execute
+    /// this many steps.
     Count(&'a str, u64),
-    /// The command has words of a program, the folders of A to D, a script, and a file of edit lines that is not there, and this
-    /// is told.
+    /// A call of the command with a program, the folders of A to D, a script, and a file of edit lines that is not there; and the
+    /// message.
     Load(&'a [&'a str; 6], &'a str),
 }
 
-// Takes so many bytes, and then fails.
+// A writer that takes a number of bytes, and then fails.
 #[derive(Drop)]
 struct Narrow {
     room: usize,
@@ -70,7 +70,7 @@ impl Writer for Narrow {
     }
 }
 
-// A text with the folder's path in place of its first `@`.
+// Returns a text with the folder's path in place of its first `@`.
 fn in_folder(alloc: Global, folder: &str, text: &str) -> Result<String, AllocError> {
     match text.split_once('@') {
         Some((before, after)) => format!(in alloc; "{before}{folder}{after}"),
@@ -78,7 +78,7 @@ fn in_folder(alloc: Global, folder: &str, text: &str) -> Result<String, AllocErr
     }
 }
 
-// Words that own their texts, with the folder's path in place of `@`.
+// Returns words that own their texts, with the folder's path in place of `@`.
 fn owned(alloc: Global, folder: &str, words: &[&str]) -> Result<Vec<String>, AllocError> {
     let mut list = Vec::new(alloc);
     for word in words {
@@ -87,7 +87,7 @@ fn owned(alloc: Global, folder: &str, words: &[&str]) -> Result<Vec<String>, All
     Ok(list)
 }
 
-// Whether a text is this one, with the folder's path in place of its first `@`.
+// Returns whether a text is this one, with the folder's path in place of its first `@`.
 fn is_in_folder(text: &str, folder: &str, wanted: &str) -> bool {
     let Some((before, after)) = wanted.split_once('@') else {
         return text == wanted;
@@ -98,7 +98,7 @@ fn is_in_folder(text: &str, folder: &str, wanted: &str) -> bool {
     }
 }
 
-// Whether a text holds each of these parts, and is empty where there are none.
+// Returns whether a text contains each of these parts, and is empty if there are none.
 fn holds(text: &str, parts: &[&str]) -> bool {
     for part in parts {
         if !text.contains(*part) {
@@ -108,7 +108,7 @@ fn holds(text: &str, parts: &[&str]) -> bool {
     text.is_empty() == parts.is_empty()
 }
 
-// What the command told: its status, and what stands on standard output and standard error.
+// The result of the command: its status, and the texts of standard output and standard error.
 type Told<'a> = (u8, &'a [u8], &'a [u8]);
 
 fn is_wanted(folder: &str, told: Told<'_>, wanted: Wanted<'_>) -> bool {
@@ -135,7 +135,7 @@ fn compare(rt: &impl Abort, folder: &str, told: Told<'_>, wanted: Wanted<'_>) {
     );
 }
 
-// What the command answers to words, of which both outputs take all.
+// Returns the result of the command for words, with outputs that never fail.
 fn answer<R: Files + AllocGlobal + Clone + Drop + Abort>(
     rt: &R,
     folder: &str,
@@ -202,7 +202,7 @@ fn ask_in<R: Files + AllocGlobal + Clone + Drop + Abort>(
     Ok(())
 }
 
-// How many steps the runs of the command execute, which has these words and ends with the status 0.
+// Checks how many steps the runs of the command execute with these words, and that it ends with status 0.
 fn count<R: Files + AllocGlobal + Clone + Drop + Abort>(rt: &R, words: &[String], wanted: u64) {
     let mut meter = Meter::new();
     let mut out = Over::new(Vec::new(rt.alloc()));
@@ -298,7 +298,7 @@ fn carry_out_all<R: Files + AllocGlobal + Clone + Drop + Abort>(
     Ok(())
 }
 
-/// Carries out acts in an empty folder of this name, which is taken away then.
+/// Executes acts in an empty folder of this name, and removes the folder.
 pub fn in_folder_of<R: Files + AllocGlobal + Clone + Drop + Abort>(
     rt: &R,
     process: Process,
@@ -322,7 +322,7 @@ fn in_empty_folder<R: Files + AllocGlobal + Clone + Drop + Abort>(
     Ok(())
 }
 
-/// Carries out acts without a folder.
+/// Executes acts without a folder.
 pub fn without_folder<R: Files + AllocGlobal + Clone + Drop + Abort>(
     rt: &R,
     acts: &[Act<'_>],

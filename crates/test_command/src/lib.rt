@@ -1,11 +1,10 @@
 //! The tests of the whole command, over files and folders that they write.
 //!
-//! - `runs`, `edits`, `information`: tests of one run, of edit lines over files, of help and of faults of use
+//! - `runs`, `edits`, `information`: tests of one run, of edit lines over files, of help and of usage errors
 //! - `steps`: tests of how many steps the replies to edit lines take, by the options
-//! - `messages`: tests of the message of each fault
-//! - `loading`, `devices`: tests of files that are not read, in the order in which they are told; of outputs that
-//!   fail
-//! - `fixtures`: what is done in the folder of a test, and what the command answers there
+//! - `messages`: tests of the message of each error
+//! - `loading`, `devices`: tests of files that are not read, in the order in which they are reported; of outputs that fail
+//! - `fixtures`: acts in the folder of a test, and the results of the command there
 #![tactic(auto)]
 
 #[cfg(test)]

@@ -1,11 +1,11 @@
-// Files that can't be read, and sessions that are refused, in the order in which they are told.
+// Files that cannot be read, and sessions that are refused, in the order in which they are reported.
 
 use crate::fixtures::Act::{Ask, Load, Put, PutZeros};
 use crate::fixtures::Wanted::Answer;
 use crate::fixtures::{Act, HI, in_folder_of};
 use std::test::Fail;
 
-// Each fault, behind all that are told before it.
+// Each error with all later ones present: only the first is reported.
 const ORDER: &[Act<'_>] = &[
     Put("short", HI),
     PutZeros("long", 64_513),
@@ -81,7 +81,7 @@ fn a_host_file_may_be_refused(rt: HostRuntime) -> Result<(), Fail> {
     in_folder_of(&rt, rt.process(), "big", BIG)
 }
 
-// A tail of 127 bytes that no tail may have.
+// A tail of 127 tabs: it is too long, and no tail may have a tab.
 const LONG_TAIL: &str =
     "\t\t\t\t\t\t\t\t\t\t\t\t\t\t\t\t\t\t\t\t\t\t\t\t\t\t\t\t\t\t\t\t\t\t\t\t\t\t\t\t\t\t\t\t\t\t\t\t\t\t\t\t\t\t\t\t\t\t\t\t\t\t\t\t\t\t\t\t\t\t\t\t\t\t\t\t\t\t\t\t\t\t\t\t\t\t\t\t\t\t\t\t\t\t\t\t\t\t\t\t\t\t\t\t\t\t\t\t\t\t\t\t\t\t\t\t\t\t\t\t\t\t\t\t\t\t\t";
 

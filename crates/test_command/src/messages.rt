@@ -1,4 +1,4 @@
-// The message and the status of each fault.
+// The message and the status of each error.
 
 use cpmrun::{Fault, Over, complain};
 use filenames::Name;
@@ -12,7 +12,7 @@ const LONG: &str =
 b234567890123456789012345678901234567890123456789012345678901234567890123456789012345678901234567890\
 c234567890123456789012345678901234567890123456789012345678901234567890123456789012345678901234567890";
 
-// Wants this message of a fault, between `cpmrun: ` and the end of its line, and this status.
+// Checks that an error has this message, between `cpmrun: ` and the end of its line, and this status.
 fn is_told(rt: &impl Abort, alloc: Global, fault: Fault<'_>, wanted: (&str, &str, u8)) {
     let (before, after, code) = wanted;
     let mut err = Over::new(Vec::new(alloc));

@@ -4,9 +4,9 @@ use crate::fixtures::Act::{Count, Put};
 use crate::fixtures::{Act, TAKE, in_folder_of};
 use std::test::Fail;
 
-// A run takes six steps, and the fourth reads the script. Checkpoints are due at each multiple of the spacing and at the
-// stop. A run after the edit resumes from the last one at one of the first three steps, if one is kept; a run without an
-// edit resumes from the stop.
+// A run takes six steps, and the fourth reads the script. Checkpoints are due at each multiple of the spacing and at the stop. A
+// run after the edit resumes from the last one at one of the first three steps, if one is kept; a run without an edit resumes
+// from the stop.
 const EDITED: &[Act<'_>] = &[
     Put("take.com", TAKE),
     Put("typed", b"x"),

@@ -1,4 +1,4 @@
-// Which checkpoints stand after edits and runs, and how many steps each run carries out.
+// Which checkpoints are kept after edits and runs, and how many steps each run executes.
 
 use machine::{Cause, Regs};
 use replay::Options;
@@ -44,7 +44,7 @@ fn an_edit_keeps_what_it_does_not_touch(rt: HostRuntime) -> Result<(), Trouble> 
     play_all(rt.alloc(), EDITED)
 }
 
-// The program that prints `Hi`, and a byte behind it.
+// The program that prints `Hi`, with a byte after it.
 const ONE_MORE: Given<'_> = Given {
     program: b"\x0e\x09\x11\x09\x01\xcd\x05\x00\xc9Hi$\x00",
     ..PRINTS
@@ -208,7 +208,7 @@ fn a_full_ring_drops_its_oldest(rt: HostRuntime) -> Result<(), Trouble> {
     play_all(rt.alloc(), FULL_RING)
 }
 
-// Call 2 in the place of call 9, from the loaded state on.
+// Call 2 in place of call 9, from the loaded state on.
 const POKED: &[Case<'_>] = &[
     BYTE_WRITTEN_BEFORE,
     HALT_WRITTEN,

@@ -10,7 +10,7 @@ use test_sessions::worked::{
 };
 use test_sessions::{Case, Given, Trouble, Wanted, play};
 
-// A session is run twice with a spacing, the second time without a step.
+// Runs a session twice with a spacing; the second run executes no step.
 fn is_kept(
     alloc: Global,
     given: &Given<'_>,
@@ -29,7 +29,7 @@ fn is_kept(
     play(alloc, spacing as usize, &case)
 }
 
-// The first run of each of these sessions, with each spacing.
+// Executes the first run of each of these sessions, with each spacing.
 fn all_are_kept(alloc: Global, cases: &[Case<'_>]) -> Result<(), Trouble> {
     for i in 0..cases.len() {
         let Some(Run(_, wanted)) = cases[i].acts.first() else {

@@ -1,7 +1,7 @@
-//! Which checkpoints stand after edits and runs, and how many steps each run carries out; and edit texts with their replies.
+//! Which checkpoints are kept after edits and runs, and how many steps each run executes; and edit texts with their replies.
 //! Expected values are worked out by hand.
 //!
-//! - `checkpoints`, `due_steps`: tests of which checkpoints stand, and how many steps each run carries out
+//! - `checkpoints`, `due_steps`: tests of which checkpoints are kept, and how many steps each run executes
 //! - `texts`, `replaying`: tests of edit texts; their replays, with devices that fail
 #![tactic(auto)]
 

@@ -9,23 +9,23 @@ use std::alloc::Global;
 use test_sessions::worked::PRINTS;
 use test_sessions::{Given, Trouble, make};
 
-/// A replay of an edit text over a program, and what is wanted of it.
+/// A replay of an edit text over a program, and the expected result.
 #[derive(Clone, Copy)]
 pub struct Replay<'a> {
     pub program: &'a [u8],
     pub text: &'a [u8],
-    /// The most bytes that are read at once.
+    /// The largest number of bytes that are read at once.
     pub longest: usize,
-    /// Whether the reader fails where the text ends.
+    /// Whether the reader fails at the end of the text.
     pub fails: bool,
-    /// How many bytes can be written.
+    /// The number of bytes that can be written.
     pub room: usize,
     pub replies: &'a [u8],
-    /// The count of lines, or the fault.
+    /// The number of lines, or the error.
     pub answer: Result<u64, ReplayFault>,
 }
 
-// The bytes of an edit text in pieces. Where they end, it may fail.
+// The bytes of an edit text in pieces, with a failure at the end if `fails` is set.
 #[derive(Drop)]
 struct Pieces<'a> {
     rest: &'a [u8],
@@ -52,7 +52,7 @@ impl Reader for Pieces<'_> {
     }
 }
 
-// What was written, until there is no more room.
+// A writer with limited room, and what was written to it.
 #[derive(Drop)]
 struct Screen {
     text: Vec<u8>,
@@ -94,7 +94,7 @@ fn replays_over(alloc: Global, runner: &mut Runner, wanted: &Replay<'_>) -> bool
     answer.map(|ending| ending.lines) == wanted.answer && screen.text.as_slice() == wanted.replies
 }
 
-/// Whether a replay answers and writes what is wanted.
+/// Returns whether a replay has the expected result and writes the expected replies.
 pub fn replays(alloc: Global, wanted: &Replay<'_>) -> Result<bool, Trouble> {
     let given = Given {
         program: wanted.program,
@@ -112,7 +112,7 @@ fn takes_steps_over(alloc: Global, runner: &mut Runner, text: &[u8], steps: u64)
     answer.is_ok() && meter.count() == steps
 }
 
-/// Whether a replay of an edit text over the program that prints `Hi` ends without a fault, after so many steps.
+/// Returns whether a replay of an edit text over the program that prints `Hi` ends without an error, after this many steps.
 pub fn takes_steps(alloc: Global, text: &[u8], steps: u64) -> Result<bool, Trouble> {
     let mut runner = make(alloc, &PRINTS)?;
     Ok(takes_steps_over(alloc, &mut runner, text, steps))

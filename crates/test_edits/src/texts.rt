@@ -1,4 +1,4 @@
-// Edit texts and their replies, and the faults of readers and writers in mid-stream.
+// Edit texts and their replies, and failures of readers and writers in mid-stream.
 
 ghost use Rattle.std.specs.Prelude.{vec_len};
 
@@ -24,7 +24,7 @@ const NO_DOLLAR: &[u8] =
 const FORGETFUL: &[u8] =
     b"ok\nstop WarmBoot\nsteps 7\nregs A=00 F=02 B=00 C=09 D=01 E=09 H=00 L=00 SP=FE00 PC=FF03\ntext 4869\nend\nok\n";
 
-// A replay of an edit text over the program that prints `Hi`, which is read and written to its end.
+// Returns a replay of an edit text over the program that prints `Hi`, read and written to its end.
 fn whole<'a>(text: &'a [u8], replies: &'a [u8], answer: Result<u64, ReplayFault>) -> Replay<'a> {
     Replay {
         program: PRINTS.program,
@@ -43,7 +43,7 @@ fn replayed(rt: &impl Abort, alloc: Global, replay: &Replay<'_>) -> Result<(), F
     Ok(())
 }
 
-// Each row is an edit text, its replies, and the count of its lines or the fault.
+// Each row is an edit text, its replies, and the number of its lines or the error.
 const TEXTS: [(&[u8], &[u8], Result<u64, ReplayFault>); 12] = [
     (b"run\n", REPORT, Ok(1)),
     (b"", b"", Ok(0)),
@@ -81,7 +81,7 @@ fn edit_texts_have_their_replies(rt: HostRuntime) -> Result<(), Fail> {
     Ok(())
 }
 
-// Edit texts, and how many steps their replays carry out.
+// Edit texts, and the number of steps that their replays execute.
 const AGAIN: [(&[u8], u64); 4] = [
     (b"run\npoke 010A 6F\nrun\n", 10),
     (b"run\nrun\n", 7),
@@ -115,7 +115,7 @@ fn devices_fail_in_mid_stream(rt: HostRuntime) -> Result<(), Fail> {
     Ok(())
 }
 
-// Each fault of a replay, and its text.
+// Each error of a replay, and its message.
 const FAULTS: [(ReplayFault, &str); 5] = [
     (ReplayFault::Malformed(3), "line 3 is malformed"),
     (
@@ -143,13 +143,13 @@ fn a_line_may_be_too_long(rt: HostRuntime) -> Result<(), Fail> {
     replayed(&rt, rt.alloc(), &replay)
 }
 
-// What stands before the string of the program that prints `Hi`, and before the digits of its report.
+// The bytes before the string of the program that prints `Hi`, and the lines before the digits of its report.
 const BEFORE_STRING: &[u8] = b"\x0e\x09\x11\x09\x01\xcd\x05\x00\xc9";
 
 const BEFORE_DIGITS: &[u8] =
     b"stop WarmBoot\nsteps 7\nregs A=00 F=02 B=00 C=09 D=01 E=09 H=00 L=00 SP=FE00 PC=FF03\ntext ";
 
-// What stands before, a part so many times over, and what stands behind.
+// Returns `before`, then `part` repeated `count` times, then `behind`.
 fn repeated(
     alloc: Global,
     before: &[u8],
@@ -165,7 +165,7 @@ fn repeated(
     Ok(text)
 }
 
-// `Hi` is printed so many times over by one call. A report of 1024 bytes has 926 digits.
+// `Hi` is printed many times by one call. A report of 1024 bytes has 926 digits.
 #[test]
 fn a_text_is_told_whole_however_long(rt: HostRuntime) -> Result<(), Fail> {
     for count in [2, 231, 232, 512, 1023, 1024, 1025, 2048, 3000] {

@@ -71,7 +71,7 @@ const CASES: &[Case<'_>] = &[
         acts: ASKED,
         rows: &[(Touch(9, ANN, 2), &[])],
     },
-    // One question each was asked at step 4.
+    // Each time a single question was asked at step 4.
     Case {
         name: "a new file touches all that asked of it",
         files: &[],

@@ -9,7 +9,7 @@ use crate::finding::{finds, finds_bytes, finds_full, finds_next};
 use cpmfiles::{Key, Record, Table};
 use std::alloc::AllocError;
 
-/// Whether a table is asked, and answers so.
+/// Returns whether the result of a question to a table is as expected.
 pub fn ask(table: &mut Table<'_>, act: Act<'_>) -> Result<bool, AllocError> {
     Ok(match act {
         Has(key, there) => table.has(&key)? == there,
@@ -20,7 +20,7 @@ pub fn ask(table: &mut Table<'_>, act: Act<'_>) -> Result<bool, AllocError> {
     })
 }
 
-// Whether a record is read so: where it can't be read, what was there before stays.
+// Returns whether a record is read as expected. If it cannot be read, the bytes that were there before stay.
 fn reads(
     table: &mut Table<'_>,
     key: &Key,
@@ -32,7 +32,7 @@ fn reads(
     Ok(is_read == wanted.is_some() && found == filled(wanted.unwrap_or(0xee)))
 }
 
-/// Whether a table does something to files, and answers so.
+/// Returns whether the result of a change through a table is as expected.
 pub fn change(table: &mut Table<'_>, act: Act<'_>) -> Result<bool, AllocError> {
     Ok(match act {
         Write(key, place, byte, done) => writes(table, &key, place, &filled(byte), done)?,
@@ -65,7 +65,7 @@ fn fills(
     Ok(place < 65_536 && table.write_filled(key, place, &filled(byte))? == done)
 }
 
-/// Whether a search of a table finds this.
+/// Returns whether a search of a table finds this.
 pub fn search(table: &mut Table<'_>, act: Act<'_>) -> Result<bool, AllocError> {
     match act {
         Find(pattern, ex, entries) => finds(table, &pattern, ex, entries),

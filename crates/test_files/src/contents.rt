@@ -1,13 +1,13 @@
-// Records that are told by a byte.
+// Records that are given by a byte.
 
 use cpmfiles::Record;
 
-/// A record of one byte over and over.
+/// Returns a record with the same byte throughout.
 pub fn filled(byte: u8) -> Record {
     [byte; 128]
 }
 
-/// A record of bytes `x`, but for one byte `y` here.
+/// Returns a record of bytes `x`, except one byte `y` at this index.
 pub fn filled_but(at: usize) -> Record {
     let mut record = filled(b'x');
     if at < 128 {
@@ -16,7 +16,7 @@ pub fn filled_but(at: usize) -> Record {
     record
 }
 
-/// A record of so many bytes `x`, filled up with 1AH.
+/// Returns a record of `count` bytes `x`, padded with 1AH.
 pub fn filled_up(count: usize) -> Record {
     let mut record = filled(0x1a);
     for i in 0..128 {

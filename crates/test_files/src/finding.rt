@@ -1,4 +1,4 @@
-// What searches of the directory find.
+// The results of directory searches.
 
 use crate::keys::ALL;
 use cpmfiles::{Key, Table};
@@ -7,7 +7,7 @@ use std::alloc::AllocError;
 /// An entry: the file's key, the extent, and its count.
 pub type Found = (Key, u16, u8);
 
-// The bytes of an entry.
+// Returns the bytes of an entry.
 fn entry((key, extent, count): &Found) -> [u8; 32] {
     let mut bytes = [0; 32];
     for i in 1..12 {
@@ -19,7 +19,7 @@ fn entry((key, extent, count): &Found) -> [u8; 32] {
     bytes
 }
 
-/// Whether a pattern finds these entries, one after another, and no other.
+/// Returns whether a pattern finds exactly these entries, in this order.
 pub fn finds(
     table: &mut Table<'_>,
     pattern: &Key,
@@ -37,7 +37,7 @@ pub fn finds(
     Ok(table.next_entry(pattern, ex, last)?.is_none())
 }
 
-/// Whether a pattern finds one entry, of these bytes.
+/// Returns whether a pattern finds one entry, of these bytes.
 pub fn finds_bytes(
     table: &mut Table<'_>,
     pattern: &Key,
@@ -48,7 +48,7 @@ pub fn finds_bytes(
     Ok(found == Some(*wanted) && table.next_entry(pattern, ex, found)?.is_none())
 }
 
-/// Whether a file has so many full extents, one after another, and no other entry.
+/// Returns whether a file has exactly this many full extents, in order, and no other entry.
 pub fn finds_full(table: &mut Table<'_>, key: &Key, count: u16) -> Result<bool, AllocError> {
     let mut last = None;
     for extent in 0..count {
@@ -61,7 +61,7 @@ pub fn finds_full(table: &mut Table<'_>, key: &Key, count: u16) -> Result<bool, 
     Ok(table.next_entry(key, b'?', last)?.is_none())
 }
 
-/// Whether the search for all entries of drive A goes on so from an entry.
+/// Returns whether the search for all entries of drive A continues from an entry as expected.
 pub fn finds_next(
     table: &mut Table<'_>,
     last: &Found,

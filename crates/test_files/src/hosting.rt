@@ -1,4 +1,4 @@
-// Host files that are set, and what they answer.
+// Host files that are set, and the results.
 
 use crate::acts::Act::{self, HostCount, HostKeys, HostRecord, HostRecords, Remove, Set, SetMany};
 use crate::contents::filled_up;
@@ -7,7 +7,7 @@ use cpmfiles::{Changes, FilesError, HostFiles, Key, Name};
 use std::alloc::{AllocError, Global};
 use std::test::Fail;
 
-/// Bytes, told by each byte and how often it comes.
+/// Bytes, each with the number of its repetitions.
 pub type Bytes<'a> = &'a [(u8, usize)];
 
 fn bytes_of(alloc: Global, bytes: Bytes<'_>) -> Result<Vec<u8>, AllocError> {
@@ -19,7 +19,7 @@ fn bytes_of(alloc: Global, bytes: Bytes<'_>) -> Result<Vec<u8>, AllocError> {
     Ok(list)
 }
 
-/// Sets a file of these bytes, or gives the refusal.
+/// Sets a file of these bytes.
 pub fn set(
     host: &mut HostFiles,
     alloc: Global,
@@ -31,7 +31,7 @@ pub fn set(
     Ok(host.set(name, list.as_slice()))
 }
 
-// The number of a refusal; 0 where the file was set.
+// Returns the number of a refusal, or 0 if the file was set.
 fn number_of(answer: Result<(), FilesError>) -> u8 {
     match answer {
         Ok(()) => 0,
@@ -39,7 +39,7 @@ fn number_of(answer: Result<(), FilesError>) -> u8 {
     }
 }
 
-// One of a thousand names, on all four drives.
+// Returns one of a thousand names, spread over all four drives.
 fn numbered(n: usize) -> Key {
     let mut key = *b"\0F          ";
     key[0] = (n % 4) as u8;
@@ -49,7 +49,7 @@ fn numbered(n: usize) -> Key {
     key
 }
 
-// Sets so many files of one record, and gives whether each has a name.
+// Sets `count` files of one record, and returns whether each has a name.
 fn set_many(host: &mut HostFiles, count: usize) -> Result<bool, FilesError> {
     for n in 0..count {
         let Some(name) = Name::from_key(&numbered(n)) else {
@@ -60,7 +60,7 @@ fn set_many(host: &mut HostFiles, count: usize) -> Result<bool, FilesError> {
     Ok(true)
 }
 
-/// Whether host files are set, removed or asked, and answer so.
+/// Returns whether the result of setting, removing or reading host files is as expected.
 pub fn serve(
     host: &mut HostFiles,
     alloc: Global,

@@ -1,11 +1,11 @@
-//! The words in which tests tell files: what is done with them and with host files, what that answers, and what then stands; and
-//! a player of tables of them.
+//! The vocabulary in which tests describe files: acts on files and host files, the expected results, and what is then there; and
+//! a player for tables of them.
 //!
-//! - `acts`, `playing`: acts with their answers, and cases of them; cases carried out
-//! - `keys`, `contents`, `hosting`: keys of files; records that are told by a byte; host files that are set, and what they answer
-//! - `calling`, `finding`, `questions`: the calls of a table; what its searches find; the questions that were asked
-//! - `telling`, `stepping`: what is told of files without a question, and which are changed; first steps of questions, and
-//!   what the change of a host file touches
+//! - `acts`, `playing`: acts with their expected results, and cases of them; the execution of cases
+//! - `keys`, `contents`, `hosting`: keys of files; records that are given by a byte; host files that are set, and the results
+//! - `calling`, `finding`, `questions`: the calls of a table; the results of its searches; the questions that were asked
+//! - `telling`, `stepping`: what the files have without a question, and which are changed; first steps of questions, and what the
+//!   change of a host file touches
 #![tactic(auto)]
 
 mod acts;

@@ -1,4 +1,4 @@
-// Cases carried out, act by act.
+// Cases executed act by act.
 
 use crate::acts::Act::{
     Anew, Changed, ChangedAfter, Copy, Delete, EraseFrom, Exchange, Extent, Fill, Find, FindBytes,
@@ -16,7 +16,7 @@ use std::alloc::{AllocError, Global};
 use std::mem;
 use std::test::Fail;
 
-// Host files, what was done, and a copy of it; first steps, and what the host files are to become.
+// Host files, what was done, and a copy of it; first steps, and the next host files.
 #[derive(Drop)]
 struct Scene {
     host: HostFiles,
@@ -26,7 +26,7 @@ struct Scene {
     next: HostFiles,
 }
 
-/// Carries out the acts of each case, and then its rows. `Err` names the case and the first act that answers otherwise, counted from 1.
+/// Executes the acts of each case, and then its rows. `Err` names the case and the first act with another result, counted from 1.
 pub fn play(alloc: Global, cases: &[Case<'_>]) -> Result<(), Fail> {
     for case in cases {
         play_case(alloc, case)?;
@@ -34,7 +34,7 @@ pub fn play(alloc: Global, cases: &[Case<'_>]) -> Result<(), Fail> {
     Ok(())
 }
 
-// Owns what the others are lent.
+// Owns the parts that the other functions borrow.
 fn play_case(alloc: Global, case: &Case<'_>) -> Result<(), Fail> {
     let mut scene = Scene {
         host: HostFiles::new(alloc),
@@ -57,7 +57,7 @@ fn carry_out(alloc: Global, scene: &mut Scene, case: &Case<'_>) -> Result<(), Fa
     Ok(())
 }
 
-// The number of the first act or row, counted from 1, whose answer is another one; 0 if there is none.
+// Returns the number of the first act or row, counted from 1, that has another result, or 0 if there is none.
 fn first_wrong(scene: &mut Scene, alloc: Global, case: &Case<'_>) -> Result<u32, Fail> {
     let mut number: u32 = 0;
     for act in case.acts {
@@ -75,7 +75,7 @@ fn first_wrong(scene: &mut Scene, alloc: Global, case: &Case<'_>) -> Result<u32,
     Ok(0)
 }
 
-// Whether an act answers as it is to.
+// Returns whether the result of an act is as expected.
 fn answers(scene: &mut Scene, alloc: Global, act: Act<'_>) -> Result<bool, Fail> {
     let Scene {
         host,

@@ -5,13 +5,13 @@ use cpmfiles::Ask::{Directory, Length, Rec};
 use cpmfiles::{Ask, Changes};
 use std::alloc::AllocError;
 
-/// Whether these are all questions that were asked, where each stands once.
+/// Returns whether exactly these questions were asked. Each is listed once.
 pub fn are_asked(changes: &Changes, asks: &[Ask]) -> Result<bool, AllocError> {
     let mut left = changes.snapshot()?;
     Ok(are_taken(changes, &mut left, asks))
 }
 
-// Whether these were asked, and as many can be taken from a copy and no more.
+// Returns whether these were asked, and exactly as many can be taken out of a copy.
 fn are_taken(changes: &Changes, left: &mut Changes, asks: &[Ask]) -> bool {
     for ask in asks {
         if !changes.looked(ask) || left.take_look().is_none() {
@@ -21,7 +21,7 @@ fn are_taken(changes: &Changes, left: &mut Changes, asks: &[Ask]) -> bool {
     left.take_look().is_none()
 }
 
-/// Takes so many questions, and adds up what stands for each.
+/// Takes out `count` questions, and returns the sum of their digits.
 pub fn sum_taken(changes: &mut Changes, count: u32) -> u32 {
     let mut sum: u32 = 0;
     for _ in 0..count {
@@ -30,7 +30,7 @@ pub fn sum_taken(changes: &mut Changes, count: u32) -> u32 {
     sum
 }
 
-// Takes a question, and tells what stands for it.
+// Takes out a question, and returns its digit.
 fn next_taken(changes: &mut Changes) -> u32 {
     match changes.take_look() {
         Some(ask) => digit(!changes.looked(&ask), places(&ask)),
@@ -38,7 +38,7 @@ fn next_taken(changes: &mut Changes) -> u32 {
     }
 }
 
-// A digit for each of these four questions.
+// Returns a digit at a place of its own for each of these four questions.
 fn places(ask: &Ask) -> u32 {
     match *ask {
         Ask::Has(key) => digit(key == ANN, 1),

@@ -6,7 +6,7 @@ use file_steps::FileSteps;
 use std::alloc::{AllocError, Global};
 use std::marker::Model;
 
-/// First steps of questions, and one that none of them is past.
+/// First steps of questions, and a step that none of them is past.
 #[derive(Drop)]
 pub struct Steps {
     files: FileSteps,
@@ -24,7 +24,7 @@ impl Model for Steps {
 }
 
 impl Steps {
-    /// No question has a step.
+    /// Returns a table in which no question has a step.
     pub fn new(alloc: Global) -> Steps {
         Steps {
             files: FileSteps::new(alloc),
@@ -32,7 +32,7 @@ impl Steps {
         }
     }
 
-    // Gives a question a step. `false` where another is later, or none can be later.
+    // Notes a question at a step. Returns `false` if another step is later, or none could be later.
     fn note(&mut self, ask: &Ask, step: u64) -> Result<bool, AllocError> {
         if step < self.latest || step >= u64::from(u32::MAX) {
             return Ok(false);
@@ -48,7 +48,7 @@ impl Steps {
     }
 }
 
-/// Whether steps are noted, erased or asked, and are as they are to be. A step that is noted is not below one before it.
+/// Returns whether steps that are noted, erased or read are as expected. Steps are noted in order.
 pub fn step(
     steps: &mut Steps,
     host: &HostFiles,

@@ -1,4 +1,4 @@
-// What is told of files after changes, without a question, and which are changed.
+// What the files have after changes, without a question, and which are changed.
 
 use crate::acts::Act::{self, Changed, ChangedAfter, Same, TellKeys, TellRecord, TellRecords};
 use crate::contents::filled;
@@ -6,18 +6,18 @@ use cpmfiles::{Changes, HostFiles, Key, Name};
 use hostfiles::{is_changed, next_changed};
 use std::test::Fail;
 
-/// Which names are told, in their order.
+/// Names that are listed, in order.
 #[derive(Clone, Copy)]
 pub enum Names {
-    /// Those of the host files.
+    /// The names of the host files.
     Host,
-    /// Those of all files after changes.
+    /// The names of all files after changes.
     All,
-    /// Those of the changed files.
+    /// The names of the changed files.
     Changed,
 }
 
-/// Whether this is told.
+/// Returns whether the files are as expected.
 pub fn tell(host: &HostFiles, changes: &Changes, act: Act<'_>) -> Result<bool, Fail> {
     Ok(match act {
         TellRecords(text, count) => host.records_with(changes, &Name::parse(text)?) == count,
@@ -37,7 +37,7 @@ pub fn tell(host: &HostFiles, changes: &Changes, act: Act<'_>) -> Result<bool, F
     })
 }
 
-// The name after one, or the first.
+// Returns the name after one, or the first.
 fn next_name(
     host: &HostFiles,
     changes: &Changes,
@@ -55,7 +55,7 @@ fn has_key(name: Option<Name>, key: &Key) -> bool {
     name.map(|name: Name| name.key()) == Some(*key)
 }
 
-/// Whether these are the keys of all names that are told, in their order.
+/// Returns whether these are the keys of all names that are listed, in order.
 pub fn are_keys(host: &HostFiles, changes: &Changes, names: Names, keys: &[Key]) -> bool {
     let mut after: Option<Name> = None;
     for key in keys {

@@ -1,4 +1,4 @@
-// What is done in the folder of a test, and what is told of it then.
+// Acts in the folder of a test, and the expected results.
 
 use crate::listed::{Telling, told};
 use crate::written::{How, has_a_hole, holds, lacks, wrote};
@@ -7,35 +7,35 @@ use std::os::unix::fs::symlink;
 use std::test::Fail;
 use std::{fs, process};
 
-/// What a test does or asks. Each begins with a path in the folder of the test; an empty one is that folder.
+/// An act or a question of a test. Each begins with a path in the folder of the test; an empty path is that folder.
 #[derive(Clone, Copy)]
 pub enum Act<'a> {
-    /// A file of these bytes is written.
+    /// A file of these bytes.
     Put(&'a str, &'a [u8]),
-    /// A file of so many zeros is made, which takes no room.
+    /// A sparse file of this many zeros.
     PutSparse(&'a str, u64),
-    /// A folder of so many empty files is made.
+    /// A folder of this many empty files.
     PutMany(&'a str, u32),
     MakeFolder(&'a str),
-    /// A folder in which nothing is left is removed.
+    /// The removal of an empty folder.
     RemoveFolder(&'a str),
-    /// A folder is removed with all that is in it.
+    /// The removal of a folder with all that is in it.
     RemoveAll(&'a str),
-    /// A symbolic link, which leads here.
+    /// A symbolic link that leads to the second path.
     Link(&'a str, &'a str),
-    /// What is told of a folder that is read as that of a drive, from 0 on; with none, where no folder is read.
+    /// The text for a folder that is read as the folder of a drive, counted from 0, or of no drive.
     Tells(&'a str, Option<usize>, Text<'a>),
-    /// What is told where another folder is read as that of drive B.
+    /// The text if another folder is read as the folder of drive B.
     TellsBoth(&'a str, &'a str, Text<'a>),
-    /// On drive C there are a file `two` of two records and a file `none` of none.
+    /// A folder for drive C with a file `two` of two records and a file `none` of none.
     HasBoth(&'a str),
-    /// What is told where the file of this name, which a run made, is written.
+    /// The text after the file of this name, which a run made, is written.
     Writes(&'a str, &'a str, How, Text<'a>),
-    /// The written file has two records, and zeros in the hole between them.
+    /// A written file that has two records, and zeros for the hole between them.
     HasAHole(&'a str),
-    /// A file has these bytes.
+    /// A file with these bytes.
     Holds(&'a str, &'a [u8]),
-    /// Nothing stands there.
+    /// A path where nothing is.
     Lacks(&'a str),
 }
 
@@ -44,28 +44,28 @@ use Act::{
     RemoveFolder, Tells, TellsBoth, Writes,
 };
 
-/// What is to be told.
+/// The expected text.
 #[derive(Clone, Copy)]
 pub enum Text<'a> {
-    /// This.
+    /// This text.
     Is(&'a str),
-    /// The path of the test's folder between these two.
+    /// The path of the test's folder between these two texts.
     Around(&'a str, &'a str),
 }
 
-// An act, counted from 1, after which other than what is wanted is told.
+// The number of an act, counted from 1, with another text than expected.
 #[derive(Clone, Copy, Debug)]
 struct NotAsWanted {
     act: u32,
 }
 
-/// Carries out acts in an empty folder of this name.
+/// Executes acts in an empty folder of this name.
 pub fn play(rt: &HostRuntime, name: &str, acts: &[Act<'_>]) -> Result<(), Fail> {
     let folder = make_folder(rt, name)?;
     all(rt, folder.as_str(), acts)
 }
 
-// Makes an empty folder for a test of this name, and gives its path.
+// Makes an empty folder for a test of this name, and returns its path.
 fn make_folder(rt: &HostRuntime, name: &str) -> Result<String, Fail> {
     let id = process::id(rt.process());
     let path = format!(in rt.alloc(); "/tmp/vembrusk-{id}-{name}")?;
@@ -90,7 +90,7 @@ fn all(rt: &HostRuntime, folder: &str, acts: &[Act<'_>]) -> Result<(), Fail> {
     Ok(())
 }
 
-// Carries out an act, and gives whether what is told is as wanted.
+// Executes an act, and returns whether the result is as expected.
 fn carry_out(rt: &HostRuntime, folder: &str, act: Act<'_>) -> Result<bool, Fail> {
     let path = path_in(rt.alloc(), folder, place_of(act))?;
     carry_out_at(rt, folder, path.as_str(), act)
@@ -158,7 +158,7 @@ fn answers(rt: &HostRuntime, folder: &str, path: &str, act: Act<'_>) -> Result<b
     }
 }
 
-// A folder as that of a drive, with none for the others.
+// Returns a folder as the folder of a drive, with none for the others.
 fn on_drive(drive: Option<usize>, path: &str) -> [Option<&str>; 4] {
     let mut folders = [None; 4];
     if let Some(place) = drive
@@ -190,7 +190,7 @@ fn tells_both(
     tells(rt, folder, on_two_drives(first, second.as_str()), wanted)
 }
 
-// Folders as those of drives A and B.
+// Returns two folders as the folders of drives A and B.
 fn on_two_drives<'a>(first: &'a str, second: &'a str) -> [Option<&'a str>; 4] {
     [Some(first), Some(second), None, None]
 }
@@ -219,7 +219,7 @@ fn is_text(found: &str, folder: &str, wanted: Text<'_>) -> bool {
     }
 }
 
-// Whether a text is these three, one after another.
+// Returns whether a text is these three, one after the other.
 fn are_joined(found: &[u8], first: &str, second: &str, third: &str) -> bool {
     match found.strip_prefix(first.as_bytes()) {
         Some(rest) => rest.strip_prefix(second.as_bytes()) == Some(third.as_bytes()),

@@ -1,8 +1,8 @@
 //! The tests of host folders, over files and folders that they write.
 //!
 //! - `reading`, `writing`, `faults`: tests over folders and files that they write
-//! - `acts`: what is done in the folder of a test, and what is told then
-//! - `listed`, `written`: what is told of folders that are read; files that a run made, and that are written
+//! - `acts`: acts in the folder of a test, and the expected results
+//! - `listed`, `written`: texts for folders that are read; files that a run made, and that are written
 #![tactic(auto)]
 
 #[cfg(test)]

@@ -1,4 +1,4 @@
-// What is told of folders that are read.
+// Texts for folders that are read.
 
 use filenames::Name;
 use folders::{Failure, SystemFiles, read_folders};
@@ -6,16 +6,16 @@ use hostfiles::HostFiles;
 use std::alloc::{AllocError, Global};
 use std::test::Fail;
 
-/// What is told of host files.
+/// A kind of text for host files.
 #[derive(Clone, Copy)]
 pub enum Telling {
-    /// Their names, each printed behind a blank.
+    /// Their names, each printed after a blank.
     Names,
-    /// `both`, where drive C has a file `two` of 130 bytes `y`, and a file `none` of none.
+    /// `both`, if drive C has a file `two` of 130 bytes `y`, and a file `none` of none.
     Both,
 }
 
-/// What is told of the host files of four folders, or of their fault.
+/// Returns the text for the host files of four folders, or for the error.
 pub fn told(
     rt: &HostRuntime,
     folders: [Option<&str>; 4],
@@ -45,7 +45,7 @@ fn both(alloc: Global, files: &HostFiles) -> Result<String, Fail> {
     Ok(String::from_str(alloc, told)?)
 }
 
-/// What is told of a failure.
+/// Returns the text for a failure.
 pub fn text(alloc: Global, failure: &Failure) -> Result<String, AllocError> {
     match failure {
         Failure::AtFault(fault) => format!(in alloc; "{fault}"),

@@ -22,7 +22,7 @@ fn records_are_written_with_holes_as_zeros(rt: HostRuntime) -> Result<(), Fail> 
     play(&rt, "written", ACTS)
 }
 
-// A folder stands where the file is to be written first, so that nothing can be written there.
+// A folder is at the path where the file is first written, so that nothing can be written there.
 #[test]
 fn an_older_file_stands_where_the_new_one_is_not_written(rt: HostRuntime) -> Result<(), Fail> {
     const ACTS: &[Act<'_>] = &[
@@ -37,7 +37,7 @@ fn an_older_file_stands_where_the_new_one_is_not_written(rt: HostRuntime) -> Res
     play(&rt, "older", ACTS)
 }
 
-// What was left where the file is written first is no hindrance, and a link that was left is not followed.
+// A file left at the path where the file is first written does no harm, and a link left there is not followed.
 #[test]
 fn what_was_left_is_not_written_into(rt: HostRuntime) -> Result<(), Fail> {
     const ACTS: &[Act<'_>] = &[

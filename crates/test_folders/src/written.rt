@@ -11,16 +11,16 @@ use std::fs;
 use std::io::ErrorKind;
 use std::test::Fail;
 
-/// What is written, and where.
+/// The contents that are written, and the place.
 #[derive(Clone, Copy)]
 pub enum How {
-    /// Two records, a hole between them, into the folder.
+    /// Two records with a hole between them, into the folder.
     WithAHole,
     /// No record, into the folder of the file's drive: this one for drive B, none for A and C, and for D one that is not there.
     ToItsDrive,
 }
 
-/// Writes a file that a run made, and gives what is told of a fault; nothing where there is none.
+/// Writes a file that a run made, and returns the text for the error, empty if there is none.
 pub fn wrote(rt: &HostRuntime, folder: &str, name: &str, how: How) -> Result<String, Fail> {
     let name = Name::parse(name)?;
     let mut journal = Journal::new(rt.alloc());
@@ -76,7 +76,7 @@ fn write(
     text_of(rt.alloc(), answer)
 }
 
-// What is told of a fault; nothing where there is none.
+// Returns the text for an error, empty if there is none.
 fn text_of(alloc: Global, answer: Result<(), Failure>) -> Result<String, AllocError> {
     match answer {
         Ok(()) => Ok(String::new(alloc)),
@@ -84,7 +84,7 @@ fn text_of(alloc: Global, answer: Result<(), Failure>) -> Result<String, AllocEr
     }
 }
 
-/// Whether a file has two records, and zeros in the hole between them.
+/// Returns whether a file has two records, and zeros for the hole between them.
 pub fn has_a_hole(rt: &HostRuntime, path: &str) -> Result<bool, Fail> {
     let bytes = fs::read(rt, path)?;
     Ok(are_apart(bytes.as_slice()))
@@ -97,13 +97,13 @@ fn are_apart(bytes: &[u8]) -> bool {
     bytes == wanted.as_slice()
 }
 
-/// Whether a file has these bytes.
+/// Returns whether a file has these bytes.
 pub fn holds(rt: &HostRuntime, path: &str, wanted: &[u8]) -> Result<bool, Fail> {
     let bytes = fs::read(rt, path)?;
     Ok(bytes.as_slice() == wanted)
 }
 
-/// Whether nothing stands at a path, and no link either.
+/// Returns whether nothing is at a path, not even a link.
 pub fn lacks(rt: &HostRuntime, path: &str) -> Result<bool, Fail> {
     match fs::symlink_metadata(rt, path) {
         Ok(_) => Ok(false),
@@ -112,7 +112,7 @@ pub fn lacks(rt: &HostRuntime, path: &str) -> Result<bool, Fail> {
     }
 }
 
-/// Whether a file is written under this name at first, which is passed over where a folder is read.
+/// Returns whether a file is first written under this name, which is ignored when a folder is read.
 pub fn is_passed_over(alloc: Global, name: &str, file: &str) -> Result<bool, Fail> {
     let name = Name::parse(name)?;
     let temporary = temporary_name(alloc, &name)?;

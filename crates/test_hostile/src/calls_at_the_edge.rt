@@ -1,14 +1,14 @@
-// Calls whose control blocks, buffers and strings lie across the end of memory: the cell after 0FFFFH is 0000H.
+// Calls whose control blocks, buffers and strings are across the end of memory: the cell after 0FFFFH is 0000H.
 
 use crate::parts::Part::{Call, Put};
 use crate::parts::{Row, all_halt};
 use test_sessions::Left::{Cells, Changed, Filled, Gone, Record, Records};
 use test_sessions::Trouble;
 
-// A control block whose bytes from 16 on lie in page zero.
+// A control block whose bytes from 16 on are in page zero.
 const HALF: u16 = 0xfff0;
 
-// A control block whose random place lies in page zero.
+// A control block whose random record number is in page zero.
 const PLACE: u16 = 0xffdf;
 
 // A name on the current drive, and the pattern of all names.
@@ -131,7 +131,7 @@ fn a_record_is_written_from_both_ends_of_memory(rt: HostRuntime) -> Result<(), T
     all_halt(rt.alloc(), WRITTEN)
 }
 
-// The bytes 13 to 31 are cleared where a file is made, and its place is counted on in 0010H.
+// The bytes 13 to 31 are cleared when a file is made, and its record number is incremented in 0010H.
 const MADE: &[Row<'_>] = &[Row {
     parts: &[
         Put(HALF, A),
@@ -155,7 +155,7 @@ fn a_file_is_made_and_written_by_a_block_across_the_end(rt: HostRuntime) -> Resu
     all_halt(rt.alloc(), MADE)
 }
 
-// The first eight bytes of the pattern stand before the end.
+// The first eight bytes of the pattern are before the end.
 const PATTERN: &[Row<'_>] = &[Row {
     parts: &[Put(0xfff8, ALL_NAMES), Call(17, 0xfff8), Call(18, 0xffff)],
     hosts: &[("a", b"1"), ("b", b"2")],
@@ -185,7 +185,7 @@ fn files_are_deleted_by_a_pattern_across_the_end(rt: HostRuntime) -> Result<(), 
     all_halt(rt.alloc(), DELETED)
 }
 
-// The new name stands from 0001H on. Before it is put there, the bytes of page zero are no name.
+// The new name is at 0001H and after. Before it is put there, the bytes of page zero are no valid name.
 const NEW_NAME: &[Row<'_>] = &[
     Row {
         parts: &[Put(HALF, A), Put(0x0001, b"B       TXT"), Call(23, HALF)],
@@ -212,7 +212,7 @@ fn a_new_name_stands_in_page_zero(rt: HostRuntime) -> Result<(), Trouble> {
     all_halt(rt.alloc(), NEW_NAME)
 }
 
-// Read, with the place 1; and with the bytes of the jump at 0000H, whose last is r2 and not 0.
+// Read at record number 1; then with the bytes of the jump at 0000H, the last of which is r2 and not 0.
 const READ_AT: &[Row<'_>] = &[
     Row {
         parts: &[Put(PLACE, A), Put(0x0000, b"\x01\0\0"), Call(33, PLACE)],
@@ -300,7 +300,7 @@ fn a_size_is_put_in_page_zero(rt: HostRuntime) -> Result<(), Trouble> {
     all_halt(rt.alloc(), SIZE)
 }
 
-// The place is 4,096 times s2, 128 times ex, and cr: 4,096 * 1 + 128 * 2 + 3 is 1103H.
+// The record number is 4,096 times s2 plus 128 times ex plus cr: 4,096 * 1 + 128 * 2 + 3 is 1103H.
 const SEQUENTIAL: &[Row<'_>] = &[Row {
     parts: &[
         Put(0xffeb, b"\x02\0\x01"),
@@ -335,7 +335,7 @@ fn a_string_goes_on_in_page_zero(rt: HostRuntime) -> Result<(), Trouble> {
     all_halt(rt.alloc(), STRING)
 }
 
-// The capacity stands in 0FFFEH, the count in 0FFFFH and the line from 0000H on; or the capacity in 0FFFFH.
+// The capacity is at 0FFFEH, the count at 0FFFFH and the line from 0000H on; or the capacity is at 0FFFFH.
 const LINE: &[Row<'_>] = &[
     Row {
         parts: &[Put(0xfffe, b"\x03"), Call(10, 0xfffe)],
@@ -363,7 +363,7 @@ fn a_line_is_stored_in_page_zero(rt: HostRuntime) -> Result<(), Trouble> {
     all_halt(rt.alloc(), LINE)
 }
 
-// The byte cr is the high byte of the return address of call 20, 0144H: record 1 is read where it is there.
+// The byte cr is the high byte of the return address of call 20, 0144H: record 1 is read if it is there.
 const RETURN_ADDRESS: &[Row<'_>] = &[
     Row {
         parts: &[Put(0xfddd, A), Call(20, 0xfddd)],
@@ -389,7 +389,7 @@ fn a_place_is_in_the_return_address(rt: HostRuntime) -> Result<(), Trouble> {
     all_halt(rt.alloc(), RETURN_ADDRESS)
 }
 
-// The file goes away between two writes, and then the drive of its control block is another.
+// The file is deleted between two writes, and then its control block has another drive.
 const LOST: &[Row<'_>] = &[
     Row {
         parts: &[

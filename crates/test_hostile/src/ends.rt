@@ -5,10 +5,10 @@ use test_sessions::Act::{Edit, Leave, Run, Stop};
 use test_sessions::Change::Limit;
 use test_sessions::{Case, Given, Left, Trouble, Wanted, play};
 
-/// A run of at most so many steps is also broken off after each of them.
+/// The largest number of steps of a run that is also broken off after each of them.
 const SHORT: u64 = 150;
 
-/// What a program is run on, how its run ends, and what it leaves.
+/// The session of a program, how its run ends, and what it leaves.
 #[derive(Clone, Copy)]
 pub struct Trial<'a> {
     pub given: Given<'a>,
@@ -26,7 +26,7 @@ fn ends_at_once<'a>(
     play(alloc, 0, &Case { given, acts: &acts })
 }
 
-// A session is broken off after so many steps, has its limit again, and goes on from the checkpoint there.
+// Breaks a session off after a number of steps, sets its limit back, and resumes it from the checkpoint there.
 fn goes_on<'a>(
     alloc: Global,
     given: Given<'_>,
@@ -54,8 +54,8 @@ fn goes_on<'a>(
     )
 }
 
-/// Runs a session at once, and a short one also broken off after each of its steps, to go on from the checkpoint there. It ends
-/// and leaves what is wanted each time.
+/// Runs a session at once. A short one is also broken off after each of its steps, and resumed from the checkpoint there. Each
+/// time it has to end as wanted, and to leave what is wanted.
 pub fn ends<'a>(
     alloc: Global,
     given: Given<'_>,
@@ -71,7 +71,7 @@ pub fn ends<'a>(
     Ok(())
 }
 
-/// A trial ends and leaves what is wanted, at once and broken off.
+/// Executes a trial, at once and broken off.
 pub fn comes_out(alloc: Global, trial: &Trial<'_>) -> Result<(), Trouble> {
     ends(alloc, trial.given, trial.wanted, trial.left)
 }

@@ -1,5 +1,5 @@
-// Every number of a call, each with four words in DE at which its control block, its buffer or its string lies over page zero, over
-// the program or across the end of memory. There is no host file, no tail and no script.
+// Every number of a call, each with four words in DE, at which its control block, its buffer or its string is over page zero,
+// over the program or across the end of memory. There is no host file, no tail and no script.
 
 ghost use Rattle.std.specs.Prelude.{◌≤◌};
 
@@ -9,10 +9,10 @@ use test_sessions::Act::{Edit, Run};
 use test_sessions::Change::Limit;
 use test_sessions::{Case, EMPTY, Given, LOADED, Trouble, Wanted, play};
 
-/// The words in DE: the first cell, the one before the program, and two from which a control block goes on at 0000H.
+/// The words in DE: the first cell, the one before the program, and two from which a control block continues at 0000H.
 const WORDS: [u16; 4] = [0x0000, 0x00ff, 0xffe0, 0xffff];
 
-/// So many steps a run may take: more than a round through page zero.
+/// The largest number of steps of a run: more than a round through page zero.
 const LIMIT: u64 = 1_000;
 
 /// The byte at 0000H, the first of a jump.
@@ -22,13 +22,13 @@ fn low(word: u16) -> u8 {
     (word % 256) as u8
 }
 
-// Whether a call reads a control block.
+// Returns whether a call reads a control block.
 fn has_block(number: u8) -> bool {
     matches!(number, 15..=17 | 19..=23 | 33..=36 | 40)
 }
 
-// Why a call stops, if it does: no byte is typed, no `$` is in memory, and the drive byte is that of the cell at DE, which is a
-// jump at 0000H and 0 at the others. The capacity of a line is that cell too.
+// Returns why a call stops, if it does: the script is empty, no `$` is in memory, and the drive byte is the cell at DE, which is
+// a jump at 0000H and 0 at the others. The capacity of a line is that cell too.
 fn stop_of(number: u8, word: u16) -> Option<Cause> {
     match number {
         0 => Some(Cause::WarmBoot),
@@ -42,7 +42,7 @@ fn stop_of(number: u8, word: u16) -> Option<Cause> {
     }
 }
 
-// What a call gives in A and L: no file is there, and no name is one that can be said. The I/O byte is 0.
+// Returns the value of a call in A and L: there is no file, and no name is valid. The I/O byte is 0.
 fn value_of(number: u8) -> u8 {
     match number {
         12 => 0x22,
@@ -52,7 +52,7 @@ fn value_of(number: u8) -> u8 {
     }
 }
 
-// How many bytes a call prints: call 2 its byte, and call 6 too where that is not 0FFH.
+// Returns how many bytes a call prints: call 2 prints the byte in E, and so does call 6 unless it is 0FFH.
 fn count_printed(number: u8, word: u16) -> usize
     ensures { result ≤ 1 }
 {
@@ -63,7 +63,7 @@ fn count_printed(number: u8, word: u16) -> usize
     }
 }
 
-// The registers at a call.
+// Returns the registers at a call.
 fn at_call(number: u8, word: u16) -> Regs {
     Regs {
         c: number,
@@ -75,7 +75,7 @@ fn at_call(number: u8, word: u16) -> Regs {
     }
 }
 
-// The registers where a run comes to the warm start after a call.
+// Returns the registers of a run at the warm start after a call.
 fn back(number: u8, word: u16) -> Regs {
     let value = value_of(number);
     Regs {
@@ -98,7 +98,7 @@ fn astray() -> (Cause, u64, Regs) {
     (Cause::Undefined(0x20), 46, regs)
 }
 
-// The size 0 makes the jump at 0000H one to itself.
+// The size 0 makes the jump at 0000H a jump to itself.
 fn on_the_spot() -> (Cause, u64, Regs) {
     let regs = Regs {
         pc: 0,
@@ -107,7 +107,7 @@ fn on_the_spot() -> (Cause, u64, Regs) {
     (Cause::Limit, LIMIT, regs)
 }
 
-// The place 00C3H makes it one to 61 NOPs before the program: 14 rounds of 68 steps, and 48 steps more.
+// The record number 00C3H makes it a jump to 61 NOPs before the program: 14 rounds of 68 steps, and 48 steps more.
 fn in_rounds() -> (Cause, u64, Regs) {
     let regs = Regs {
         sp: 0xfe1c,
@@ -117,7 +117,7 @@ fn in_rounds() -> (Cause, u64, Regs) {
     (Cause::Limit, LIMIT, regs)
 }
 
-// How a run ends that makes a call and returns.
+// Returns how a run ends that makes a call and returns.
 fn end_of(number: u8, word: u16) -> (Cause, u64, Regs) {
     if let Some(cause) = stop_of(number, word) {
         return (cause, 4, at_call(number, word));
@@ -134,7 +134,7 @@ fn end_of(number: u8, word: u16) -> (Cause, u64, Regs) {
     (Cause::WarmBoot, 7, back(number, word))
 }
 
-// A run is broken off at its call, and goes on from the checkpoint there. Then it is run again from its end.
+// Breaks a run off at its call, and resumes it from the checkpoint there. Then runs it again from its end.
 fn calls(alloc: Global, number: u8, word: u16) -> Result<(), Trouble> {
     let program = [
         0x0e,

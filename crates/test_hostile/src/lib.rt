@@ -1,14 +1,13 @@
-//! Programs that do what no program should: they write over page zero, over themselves and over what a call is given, or leave
-//! all of these across the end of memory. Expected values are worked out by hand from the two manuals and this project's profile
-//! of them.
+//! Programs that do what no program should: they write over page zero, over themselves and over what a call is given, or have all
+//! of these across the end of memory. Expected values are worked out by hand from the two manuals and this project's profile of
+//! them.
 //!
-//! - `page_zero`, `stacks`: tests of programs that write over page zero, come to the system's area, or have their
-//!   stack across the end of memory or over themselves
+//! - `page_zero`, `stacks`: tests of programs that write over page zero, reach the system's area, or have their stack across the
+//!   end of memory or over themselves
 //! - `self_changing`: tests of programs that write over themselves, or over what a call is given while it is in use
-//! - `every_number`, `calls_at_the_edge`: tests of every number of a call, and of control blocks, buffers and strings
-//!   across the end of memory
-//! - `ends`, `parts`: how a run ends, at once and broken off after each of its steps; programs that are put together
-//!   of parts
+//! - `every_number`, `calls_at_the_edge`: tests of every number of a call, and of control blocks, buffers and strings across the
+//!   end of memory
+//! - `ends`, `parts`: how a run ends, at once and broken off after each of its steps; programs that are put together from parts
 #![tactic(auto)]
 
 #[cfg(test)]

@@ -1,4 +1,4 @@
-// Programs that write over page zero, or come to the system's area.
+// Programs that write over page zero, or reach the system's area.
 
 use crate::ends::{Trial, comes_out, ends};
 use i8080::Flags;
@@ -6,7 +6,8 @@ use machine::{Cause, Regs};
 use test_sessions::Left::{Cells, Filled};
 use test_sessions::{EMPTY, Given, LOADED, NO_FLAGS, Trouble, Wanted, alone};
 
-// The random place is put over the jump to the warm start, which then leads into page zero, over 61 NOPs back to the program.
+// The random record number is put over the jump to the warm start, which then leads into page zero, over 61 NOPs back to the
+// program.
 const ROUND: [u8; 9] = [0x0e, 0x24, 0x11, 0xe0, 0xff, 0xcd, 0x05, 0x00, 0xc9];
 
 const TO_PAGE_ZERO: &Trial<'_> = &Trial {
@@ -35,7 +36,7 @@ fn a_jump_to_the_warm_start_is_made_one_to_page_zero(rt: HostRuntime) -> Result<
     comes_out(rt.alloc(), TO_PAGE_ZERO)
 }
 
-// Each round takes 68 steps and leaves the stack two cells higher. In the 243rd the return address, 0108H, comes to lie in the
+// Each round takes 68 steps and leaves the stack two cells higher. In the 243rd the return address, 0108H, is written into the
 // control block, and 8 is no drive.
 const CLIMBING: &Trial<'_> = &Trial {
     given: Given {
@@ -102,7 +103,7 @@ fn a_directory_record_is_carried_out(rt: HostRuntime) -> Result<(), Trouble> {
     comes_out(rt.alloc(), DIRECTORY)
 }
 
-// RET at 0005H: a call goes back at once, and nothing is printed.
+// RET at 0005H: a call returns at once, and nothing is printed.
 const AT_THE_ENTRY: &Trial<'_> = &Trial {
     given: Given {
         program: &[

@@ -1,4 +1,4 @@
-// Programs that are put together of parts, where page zero is written over and each call goes to the system's entry itself.
+// Programs that are put together from parts, in which page zero is written over and each call goes to the system's entry itself.
 
 use crate::ends::ends;
 use machine::{Cause, Regs};
@@ -8,14 +8,14 @@ use test_sessions::{Given, LOADED, Left, Trouble, Wanted, alone};
 /// A part of a program.
 #[derive(Clone, Copy)]
 pub enum Part<'a> {
-    /// Bytes are put into the cells from an address on: `MVI A` and `STA` for each.
+    /// Bytes that are put into the cells from an address on: `MVI A` and `STA` for each.
     Put(u16, &'a [u8]),
     /// A call with a word in DE: `MVI C`, `LXI D`, `CALL` and the call itself.
     Call(u8, u16),
 }
 
-/// Parts of a program, its host files and its script; and the byte in A and L that the last call gives, what is printed, and what
-/// is left.
+/// Parts of a program, its host files and its script; and the byte in A and L that the last call returns, what is printed, and
+/// what is left.
 #[derive(Clone, Copy)]
 pub struct Row<'a> {
     pub parts: &'a [Part<'a>],
@@ -51,7 +51,7 @@ fn write_part(program: &mut Vec<u8>, part: Part<'_>) -> Result<(), AllocError> {
     Ok(())
 }
 
-// How many steps a part takes.
+// Returns how many steps a part takes.
 fn steps_of(part: Part<'_>) -> u64 {
     match part {
         Part::Put(_, bytes) => (bytes.len() as u64).wrapping_mul(2),
@@ -59,7 +59,7 @@ fn steps_of(part: Part<'_>) -> u64 {
     }
 }
 
-// The registers after a part, where PC is not yet what it is at the end.
+// Returns the registers after a part; PC is not yet its final value.
 fn after(regs: Regs, part: Part<'_>, value: u8) -> Regs {
     match part {
         Part::Put(_, _) => regs,

@@ -7,7 +7,7 @@ use test_sessions::Change::{Poke, SetFile};
 use test_sessions::Left::{Cells, Changed, Filled};
 use test_sessions::{Case, EMPTY, Given, LOADED, Trouble, Wanted, alone, play};
 
-// HLT is stored over a NOP. What stood there in the program is never looked at.
+// HLT is stored over a NOP. The byte that the program had there is never looked at.
 const STORES_HALT: Given<'_> = Given {
     program: &[0x3e, 0x76, 0x32, 0x06, 0x01, 0x00, 0x00],
     ..EMPTY
@@ -46,7 +46,7 @@ fn a_byte_that_the_program_wrote_outlasts_an_edit(rt: HostRuntime) -> Result<(),
 }
 
 // With the stack at its end, CALL 5 at 0103H writes its return address, 0106H, over its own first bytes: MVI B,1. The jump after
-// it goes back there. The program begins behind it and sets C to 12.
+// it goes back there. The program begins after it and sets C to 12.
 const OVER_ITSELF: &Trial<'_> = &Trial {
     given: Given {
         program: &[
@@ -78,7 +78,7 @@ fn a_call_writes_over_its_own_instruction(rt: HostRuntime) -> Result<(), Trouble
     comes_out(rt.alloc(), OVER_ITSELF)
 }
 
-// The stack lies where the call goes back to, so that the low byte of its return address is carried out: 08H.
+// The stack is where the call returns to, so that the low byte of its return address is executed: 08H.
 const RETURN_ADDRESS: &Trial<'_> = &Trial {
     given: Given {
         program: &[0x0e, 0x0c, 0x31, 0x0a, 0x01, 0xcd, 0x05, 0x00, 0x76],
@@ -105,8 +105,8 @@ fn a_return_address_is_carried_out(rt: HostRuntime) -> Result<(), Trouble> {
     comes_out(rt.alloc(), RETURN_ADDRESS)
 }
 
-// The line is stored from the middle of CALL 5 on, whose first byte is its capacity; its second byte, HLT, is where the call goes
-// back to.
+// The line is stored from the middle of CALL 5 on, whose first byte is its capacity; its second byte, HLT, is where the call
+// returns to.
 const TYPED: &Trial<'_> = &Trial {
     given: Given {
         program: &[0x11, 0x05, 0x01, 0x0e, 0x0a, 0xcd, 0x05, 0x00],
@@ -144,12 +144,12 @@ const LOADS: Given<'_> = Given {
     ..EMPTY
 };
 
-// 21 NOPs, and where the program goes on then MVI A,5AH and HLT; or HLT alone.
+// 21 NOPs, and then, where the program continues, MVI A,5AH and HLT; or HLT alone.
 const FIRST_LOADED: &[u8] = b"\0\0\0\0\0\0\0\0\0\0\0\0\0\0\0\0\0\0\0\0\0\x3e\x5a\x76";
 
 const THEN_LOADED: &[u8] = b"\0\0\0\0\0\0\0\0\0\0\0\0\0\0\0\0\0\0\0\0\0\x76";
 
-// How a run ends that comes to the HLT of the one record or of the other.
+// How a run ends that reaches the HLT of the one record or of the other.
 const FIRST_ENDED: Wanted<'_> = Wanted {
     cause: Cause::Halt,
     steps: 15,
@@ -190,7 +190,7 @@ fn a_record_is_loaded_over_the_program(rt: HostRuntime) -> Result<(), Trouble> {
     comes_out(rt.alloc(), LOADED_RECORD)
 }
 
-// The record is looked at in the step after 13: the run goes on from the checkpoint at 12.
+// The record is looked at in the step after 13: the run resumes from the checkpoint at 12.
 const LOADED_ANEW: &Case<'_> = &Case {
     given: LOADS,
     acts: &[
@@ -205,7 +205,7 @@ fn another_program_is_loaded_after_an_edit_of_the_file(rt: HostRuntime) -> Resul
     play(rt.alloc(), 0, LOADED_ANEW)
 }
 
-// A record whose last two bytes lie on the stack then: 126 letters x, and the word 0005H.
+// A record whose last two bytes are then on the stack: 126 letters x, and the word 0005H.
 const STACK: &[u8] =
     b"xxxxxxxxxxxxxxxxxxxxxxxxxxxxxxxxxxxxxxxxxxxxxxxxxxxxxxxxxxxxxxxxxxxxxxxxxxxxxxxxxxxxxxxxxxxxxxxxxxxxxxxxxxxxxxxxxxxxxxxxxxxxxx\x05\0";
 
@@ -246,7 +246,8 @@ fn a_record_is_read_over_the_stack(rt: HostRuntime) -> Result<(), Trouble> {
     comes_out(rt.alloc(), OVER_THE_STACK)
 }
 
-// The buffer lies over the control block: the record is written there first, and then the place. The next call finds the drive 41H.
+// The buffer is over the control block: the record is written there first, and then the record number. The next call finds drive
+// byte 41H.
 const OVER_ITS_BLOCK: &Trial<'_> = &Trial {
     given: Given {
         program: &[
@@ -284,7 +285,7 @@ fn a_record_is_read_over_its_control_block(rt: HostRuntime) -> Result<(), Troubl
     comes_out(rt.alloc(), OVER_ITS_BLOCK)
 }
 
-// The entry found is put over the pattern, and the search goes on by the pattern as it was.
+// The entry found is put over the pattern, and the search continues with the earlier pattern.
 const OVER_ITS_PATTERN: &Trial<'_> = &Trial {
     given: Given {
         program: &[

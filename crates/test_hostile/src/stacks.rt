@@ -5,7 +5,7 @@ use machine::{Cause, Regs};
 use test_sessions::Left::{Cells, Filled};
 use test_sessions::{EMPTY, Given, LOADED, Trouble, Wanted};
 
-// PUSH B at 0001H writes 0000H and 0FFFFH; the return goes to the address 0FF03H that stands in 0001H and 0002H.
+// PUSH B at 0001H writes 0000H and 0FFFFH; the return goes to the address 0FF03H that is in 0001H and 0002H.
 const ACROSS_THE_END: &Trial<'_> = &Trial {
     given: Given {
         program: &[0x31, 0x01, 0x00, 0x01, 0x34, 0x12, 0xc5, 0xc1, 0xc9],
@@ -82,7 +82,8 @@ fn a_word_is_stored_across_the_end_of_memory(rt: HostRuntime) -> Result<(), Trou
     comes_out(rt.alloc(), STORED)
 }
 
-// 7676H is pushed over the address of the entry, and a call keeps its return address below it. The entry is an address and no code.
+// 7676H is pushed over the address of the entry, and a call keeps its return address below it. The entry is an address and no
+// code.
 const IN_THE_AREA: &Trial<'_> = &Trial {
     given: Given {
         program: &[
@@ -111,7 +112,7 @@ fn a_stack_in_the_area_of_the_system_stops_no_call(rt: HostRuntime) -> Result<()
     comes_out(rt.alloc(), IN_THE_AREA)
 }
 
-// The address of the entry is pushed, and RET goes there: call 2 prints, and goes back to 0000H.
+// The address of the entry is pushed, and RET goes there: call 2 prints, and returns to 0000H.
 const RETURN_TO_THE_ENTRY: &Trial<'_> = &Trial {
     given: Given {
         program: &[0x21, 0x06, 0xfe, 0xe5, 0x0e, 0x02, 0x1e, 0x41, 0xc9],
@@ -162,7 +163,7 @@ fn a_jump_to_the_warm_start_ends_the_run(rt: HostRuntime) -> Result<(), Trouble>
     comes_out(rt.alloc(), JUMP_TO_THE_START)
 }
 
-// PUSH B and JMP 0100H: the 32,382nd zero word falls on the address of the jump, which then goes to 0000H.
+// PUSH B and JMP 0100H: the 32,382nd zero word is written over the address of the jump, which then goes to 0000H.
 const DOWN_TO_THE_PROGRAM: &Trial<'_> = &Trial {
     given: Given {
         program: &[0xc5, 0xc3, 0x00, 0x01],
@@ -186,8 +187,8 @@ fn a_stack_grows_down_to_the_program(rt: HostRuntime) -> Result<(), Trouble> {
     comes_out(rt.alloc(), DOWN_TO_THE_PROGRAM)
 }
 
-// RST 7 is put at 0038H, where it goes to itself, and fills memory from the top down to 0038H with the words 0039H. These are
-// then carried out as 32,482 times DAD SP and NOP, with SP at 0038H, up to the first return address, 0106H, which is MVI B,1.
+// RST 7 is put at 0038H, where it calls itself, and fills memory from the top down to 0038H with the words 0039H. These are then
+// executed as 32,482 times DAD SP and NOP, with SP at 0038H, up to the first return address, 0106H, which is MVI B,1.
 const RESTART: &Trial<'_> = &Trial {
     given: Given {
         program: &[0x3e, 0xff, 0x32, 0x38, 0x00, 0xff],

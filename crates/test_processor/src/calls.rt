@@ -16,7 +16,7 @@ fn a_tab_fills_eight_columns(rt: HostRuntime) -> Result<(), Fail> {
     tabs_are_printed(&rt, &mut desk)
 }
 
-// What was printed before a copy was made is in both.
+// The text printed before a copy was made is in both.
 fn tabs_are_printed(rt: &impl Abort, desk: &mut Desk) -> Result<(), Fail> {
     print_all(desk, b"a\tb")?;
     assert!(rt; desk.text() == b"a       b".as_slice());
@@ -68,12 +68,12 @@ fn write_cells(memory: &mut PlainMemory) {
     }
 }
 
-// A call by its number, and what is wanted of it.
+// A call by its number, and the expected result.
 #[derive(Clone, Copy)]
 enum Row<'a> {
-    // The byte behind the string, the stop if there is one, and all that was printed so far.
+    // The byte after the string, the stop if there is one, and all that was printed so far.
     Prints(u8, u8, Option<Cause>, &'a [u8]),
-    // E, and the value or the drive that is not there, and then the current drive and the buffer address.
+    // E, then the value or the drive that is not there, and then the current drive and the buffer address.
     Selects(u8, u8, Result<u8, u8>, Drive, u16),
 }
 
@@ -111,7 +111,7 @@ fn answer_of(
     })
 }
 
-// Whether a call does what is wanted.
+// Returns whether a call has the expected result.
 fn holds(memory: &mut PlainMemory, desk: &mut Desk, row: Row<'_>) -> Result<bool, AllocError> {
     match row {
         Row::Prints(number, end, stop, text) => {

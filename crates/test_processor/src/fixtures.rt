@@ -9,7 +9,7 @@ pub const HI: [u8; 12] = [
     0x0e, 0x09, 0x11, 0x09, 0x01, 0xcd, 0x05, 0x00, 0xc9, 0x48, 0x69, 0x24,
 ];
 
-/// The loaded registers after a return that led to the warm start.
+/// The loaded registers after a return to the warm start.
 pub const WARM_BOOT: Regs = Regs {
     a: 0,
     b: 0,
@@ -35,12 +35,12 @@ fn zeros(alloc: Global, count: usize) -> Result<Vec<u8>, AllocError>
     Ok(vec![in alloc; 0; count]?)
 }
 
-/// A plain memory of zeros.
+/// Returns a plain memory of zeros.
 pub fn blank(alloc: Global) -> Result<PlainMemory, AllocError> {
     Ok(PlainMemory::new(zeros(alloc, 65_536)?))
 }
 
-/// A and the flag byte, BC, DE, HL, SP and PC.
+/// Returns A and the flag byte, BC, DE, HL, SP and PC.
 pub fn words_of(regs: Regs) -> [u16; 6] {
     [
         word_of(regs.flags.byte(), regs.a),

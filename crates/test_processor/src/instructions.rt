@@ -1,4 +1,5 @@
-// What the contracts leave to the reader: that the definitions are the 8080's, by the manual's examples and by second ways.
+// What the contracts leave to the reader: that the definitions are the 8080's, shown by the manual's examples and by computing in
+// a second way.
 
 use crate::fixtures::{blank, words_of};
 use i8080::opcode::Arithmetic::{self, Adc, Add, Ana, Cmp, Ora, Sbb, Sub, Xra};
@@ -14,7 +15,7 @@ const UNDEFINED: [u8; 12] = [
     0x08, 0x10, 0x18, 0x20, 0x28, 0x30, 0x38, 0xcb, 0xd9, 0xdd, 0xed, 0xfd,
 ];
 
-// Registers that are 0 but for A, AC and CY.
+// Returns registers that are 0 except A, AC and CY.
 fn start(a: u8, ac: bool, cy: bool) -> Regs {
     let mut regs = Regs::default();
     regs.a = a;
@@ -39,7 +40,7 @@ fn each_byte_ends_as_wanted(rt: &impl Abort, memory: &mut PlainMemory) -> Result
     Ok(())
 }
 
-// Whether the instruction of a byte ends as is wanted, and changes the registers only where it went on.
+// Returns whether the instruction of a byte ends as expected, and changes the registers exactly if it is executed.
 fn ends_as_wanted(memory: &mut PlainMemory, byte: u8) -> Result<bool, AllocError> {
     memory.write(0x100, byte);
     let mut before = start(1, false, false);
@@ -56,7 +57,7 @@ fn ends_as_wanted(memory: &mut PlainMemory, byte: u8) -> Result<bool, AllocError
     Ok(did == wanted && decode(byte).is_none() == undefined && is_same == (wanted != Did::Went))
 }
 
-// S, Z, AC, P, CY, with the first, second and fourth counted anew.
+// Returns S, Z, AC, P, CY, with S, Z and P computed from the value.
 fn flags_of(value: u8, ac: bool, cy: bool) -> Flags {
     let mut even = true;
     let mut rest = value;
@@ -73,7 +74,7 @@ fn flags_of(value: u8, ac: bool, cy: bool) -> Flags {
     }
 }
 
-// The sum of two bytes and a carry, a bit at a time, with the carries out of bit 3 and bit 7.
+// Returns the sum of two bytes and a carry, computed bit by bit, with the carries out of bit 3 and bit 7.
 fn sum_by_bits(a: u8, b: u8, carry_in: bool) -> (u8, bool, bool) {
     let (mut sum, mut carry, mut half) = (0, carry_in, false);
     let mut bit: u8 = 1;
@@ -91,7 +92,7 @@ fn sum_by_bits(a: u8, b: u8, carry_in: bool) -> (u8, bool, bool) {
     (sum, half, carry)
 }
 
-// The accumulator and the flags after an operation on it.
+// Returns the accumulator and the flags after an operation on it.
 fn second_way(function: Arithmetic, a: u8, value: u8, cy: bool) -> (u8, Flags) {
     let borrow = match function {
         Sbb => i16::from(cy),
@@ -115,7 +116,7 @@ fn second_way(function: Arithmetic, a: u8, value: u8, cy: bool) -> (u8, Flags) {
     }
 }
 
-// The registers after the instruction of one byte.
+// Returns the registers after the instruction of one byte.
 fn after(memory: &mut PlainMemory, byte: u8, before: Regs) -> Result<Regs, AllocError> {
     memory.write(0, byte);
     let mut regs = before;
@@ -145,7 +146,7 @@ fn arithmetic_agrees(rt: &impl Abort, memory: &mut PlainMemory) -> Result<(), Al
     Ok(())
 }
 
-// Each instruction of the operation has a byte and a length.
+// Checks each instruction of the operation, which has a byte and a length.
 fn operation_agrees(
     rt: &impl Abort,
     memory: &mut PlainMemory,
@@ -167,7 +168,7 @@ fn operation_agrees(
     Ok(())
 }
 
-// Whether each of two instructions leaves this accumulator and these flags.
+// Returns whether each of two instructions leaves this accumulator and these flags.
 fn both_agree(
     memory: &mut PlainMemory,
     instructions: [(u8, u16); 2],
@@ -203,7 +204,7 @@ fn one_operand_agrees(rt: &impl Abort, memory: &mut PlainMemory) -> Result<(), A
     Ok(())
 }
 
-// The accumulator and its flags after a decimal adjustment.
+// Returns the accumulator and its flags after a decimal adjustment.
 fn adjusted(before: Regs) -> (u8, Flags) {
     let low = if before.a & 15 > 9 || before.flags.ac {
         6
@@ -216,7 +217,7 @@ fn adjusted(before: Regs) -> (u8, Flags) {
     (decimal, flags_of(decimal, half, high))
 }
 
-// For the byte of each instruction the accumulator and the flags after it.
+// Returns, for the byte of each instruction, the accumulator and the flags after it.
 fn second_ways(before: Regs) -> [(u8, u8, Flags); 10] {
     let (a, cy) = (before.a, before.flags.cy);
     let (more, more_half, _) = sum_by_bits(a, 1, false);
@@ -244,7 +245,7 @@ fn second_ways(before: Regs) -> [(u8, u8, Flags); 10] {
     ]
 }
 
-// Registers of which each pair, and the stack pointer, is one word.
+// Returns registers in which each pair and the stack pointer have the same word.
 fn filled(low: u8, high: u8, cy: bool) -> Regs {
     let mut regs = start(1, true, cy);
     (regs.b, regs.c) = (high, low);
@@ -254,7 +255,7 @@ fn filled(low: u8, high: u8, cy: bool) -> Regs {
     regs
 }
 
-// The sum of two words, by their bytes, with the carry.
+// Returns the sum of two words, computed by their bytes, with the carry.
 fn sum_of_words(a: u16, b: u16) -> (u16, bool) {
     let (low, _, carry) = sum_by_bits((a % 256) as u8, (b % 256) as u8, false);
     let (high, _, over) = sum_by_bits((a / 256) as u8, (b / 256) as u8, carry);
@@ -274,7 +275,7 @@ fn pairs_count(rt: &impl Abort, memory: &mut PlainMemory) -> Result<(), AllocErr
     Ok(())
 }
 
-// Whether each pair alone counts up and down.
+// Returns whether each pair counts up and down, and nothing else changes.
 fn counts(memory: &mut PlainMemory, word: u16) -> Result<bool, AllocError> {
     let before = filled((word % 256) as u8, (word / 256) as u8, true);
     let kept = word_of(before.flags.byte(), before.a);
@@ -318,7 +319,7 @@ fn pairs_are_added(rt: &impl Abort, memory: &mut PlainMemory) -> Result<(), Allo
     Ok(())
 }
 
-// Whether the word of the other pairs, and then a word itself, is added to this word in HL.
+// Returns whether the word of the other pairs, and then a word itself, is added to this word in HL.
 fn is_added(memory: &mut PlainMemory, others: Regs, word: u16) -> Result<bool, AllocError> {
     let mut before = others;
     (before.h, before.l) = ((word / 256) as u8, (word % 256) as u8);

@@ -1,8 +1,8 @@
-//! What a run stands on: the 8080's instructions by the manual's examples and by second ways, the pages of memory that a run wrote
-//! and looked at, and the calls of the console and of drives over a plain memory.
+//! The parts of a run: the 8080's instructions by the manual's examples and by computing in a second way, the pages of memory
+//! that a run wrote and looked at, and the calls of the console and of drives over a plain memory.
 //!
-//! - `instructions`, `calls`, `pages`, `fixtures`: tests of instructions and of calls over a plain memory, and of
-//!   pages and looks; what they begin with
+//! - `instructions`, `calls`, `pages`, `fixtures`: tests of instructions and of calls over a plain memory, and of pages and
+//!   looks; their starting values
 #![tactic(auto)]
 
 #[cfg(test)]

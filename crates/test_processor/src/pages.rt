@@ -14,12 +14,12 @@ fn put(overlay: &mut Overlay, a: u16, value: u8) -> Result<(), AllocError> {
     Ok(())
 }
 
-// Three cells, read in turn.
+// Reads three cells in order.
 fn three<B: Bus>(bus: &mut B) -> Result<[u8; 3], AllocError> {
     Ok([fetch(bus, 0x0100), fetch(bus, 0x0101), fetch(bus, 0xffff)])
 }
 
-// Three cells of an overlay laid over an image.
+// Reads three cells of an overlay laid over an image.
 fn three_laid(image: Image<'_>, overlay: &mut Overlay) -> Result<[u8; 3], AllocError> {
     three(&mut View::new(image, overlay))
 }
@@ -39,7 +39,7 @@ fn reads_are_looks(rt: &impl Abort, image: Image<'_>, overlay: &mut Overlay) -> 
     later_looks(rt, image, overlay, &mut earlier)
 }
 
-// What is read and written after a snapshot.
+// Checks what is read and written after a snapshot.
 fn later_looks(
     rt: &impl Abort,
     image: Image<'_>,

@@ -1,4 +1,4 @@
-// Which files are changed ones: by their records, and where they come, go, and change their names.
+// Which files are changed: by their records, and when they are made, deleted and renamed.
 
 use cpmfiles::Key;
 use std::test::Fail;
@@ -119,7 +119,7 @@ const CASES: &[Case<'_>] = &[
         ],
         rows: &[],
     },
-    // Each of the two has the records of the other, and these are the same.
+    // Each of the two files has the records of the other, and these are the same.
     Case {
         name: "files are renamed onto one another",
         files: &[("ann", 256), ("ben", 256)],

@@ -1,4 +1,4 @@
-// What stands after a run's changes, without a question; copies of them; and the questions, one by one.
+// The files after a run's changes, without a question; copies of the changes; and the questions, one by one.
 
 use cpmfiles::Ask;
 use cpmfiles::Ask::{Length, Rec};
@@ -9,7 +9,7 @@ use test_files::Act::{
 };
 use test_files::{ALL, ANN, Act, BEN, CAT, Case, play};
 
-// ANN has a hole at 2 then, BEN is CAT, and there is a new file on drive B.
+// Then ANN has a hole at 2, BEN is CAT, and there is a new file on drive B.
 const LONGER: Act<'_> = Write(ANN, 3, b'a', true);
 
 const RENAMED: Act<'_> = Rename(BEN, CAT, true);
@@ -37,7 +37,7 @@ const CASES: &[Case<'_>] = &[
         ],
         rows: &[],
     },
-    // A hole is told as zeros, and past the end there is no record.
+    // A hole is reported as zeros, and past the end there is no record.
     Case {
         name: "a record after changes",
         files: &[("ann", 256), ("ben", 130)],
@@ -76,7 +76,7 @@ const CASES: &[Case<'_>] = &[
         ],
         rows: &[(TellKeys(&[ANN, BEN]), &[])],
     },
-    // What is done to a run's changes, or asked through them, shows in no copy that was made before.
+    // A copy does not show what is later done to a run's changes or asked through them.
     Case {
         name: "a copy stays as it was",
         files: &[("ann", 256)],
@@ -112,7 +112,7 @@ const CASES: &[Case<'_>] = &[
             (Read(ANN, 3, None), ASKED),
         ],
     },
-    // What was done stays, and no question is given twice.
+    // What was done stays, and each question is taken out once.
     Case {
         name: "questions are taken one by one",
         files: &[("ann", 256)],

@@ -12,7 +12,7 @@ const ASKS: &[Ask] = &[Ask::Has(CAT), Ask::Directory(0)];
 const BOTH: &[Ask] = &[Ask::Has(CAT), Ask::Directory(0), Ask::Directory(1)];
 
 const CASES: &[Case<'_>] = &[
-    // The directory alone is asked, and each file that matches is told, whether the host or the program made it.
+    // Only the directory is asked, and each file that matches is deleted, whether the host or the program made it.
     Case {
         name: "all files that match are deleted",
         files: &[("ann", 1), ("ben", 1), ("b:ann", 1)],

@@ -1,4 +1,4 @@
-// Which entries the directory of files has, in which order, and which of them a pattern finds.
+// The entries of the directory, their order, and which of them a pattern finds.
 
 use cpmfiles::Key;
 use std::test::Fail;
@@ -52,7 +52,7 @@ const CASES: &[Case<'_>] = &[
         acts: &[FindFull(ANN, 512)],
         rows: &[],
     },
-    // The byte is compared with the whole extent, though an entry shows the extent by two; 63 is `?`.
+    // The byte is compared with the whole extent, though an entry shows the extent in two bytes; 63 is `?`.
     Case {
         name: "an extent byte finds one extent",
         files: &[("ann", 8_388_608)],
@@ -94,7 +94,7 @@ const CASES: &[Case<'_>] = &[
         ],
         rows: &[],
     },
-    // The count of an extent is its greatest place with a record, plus one.
+    // The count of an extent is its greatest index with a record, plus one.
     Case {
         name: "holes before a record are counted",
         files: &[("ann", 200)],
@@ -151,7 +151,7 @@ const CASES: &[Case<'_>] = &[
         ],
         rows: &[],
     },
-    // A `?` fits each byte of a name, a blank too; the drive is compared as it is, and an entry does not show it.
+    // A `?` matches each byte of a name, even a blank. The drive must be equal, and an entry does not show it.
     Case {
         name: "patterns find files of one drive",
         files: &[("a.txt", 1), ("ab.txt", 1), ("b.txt", 1), ("b:a.txt", 1)],

@@ -1,12 +1,13 @@
-//! The tests of files that cross crates: names, host files, what a program does to files, their directory, and which are
-//! changed. Expected values are worked out by hand from [Interface Guide 1979, operating system call conventions] and this
-//! project's profile.
+//! The tests of files that cross crates: names, host files, what a program does to files, their directory, and which are changed.
+//! Expected values are worked out by hand from [Interface Guide 1979, operating system call conventions] and this project's
+//! profile.
 //!
-//! - `names`, `hosts`, `messages`: tests of names and file control blocks, of host files, and of what their refusals print
-//! - `tables`, `renames`, `deletions`: tests of what is made, written, read, renamed and deleted, with the questions
-//!   that each call asks
-//! - `entries`, `searches`: tests of the directory's entries, and of searches that go on while files change
-//! - `changes`, `changed`: tests of what stands after a run, of its copies, and of its questions; of which files it changed
+//! - `names`, `hosts`, `messages`: tests of names and file control blocks, of host files, and of the messages of their refusals
+//! - `tables`, `renames`, `deletions`: tests of files that are made, written, read, renamed and deleted, with the questions that
+//!   each call asks
+//! - `entries`, `searches`: tests of the directory's entries, and of searches that continue while files change
+//! - `changes`, `changed`: tests of the files after a run, of copies of its changes, and of its questions; of which files it
+//!   changed
 #![tactic(auto)]
 
 #[cfg(test)]

@@ -1,4 +1,4 @@
-// What each refusal of a name and of a host file prints.
+// The message of each refusal of a name and of a host file.
 
 use cpmfiles::{FilesError, NameError};
 use std::test::Fail;

@@ -4,7 +4,7 @@ use filenames::{Fcb, Key, Name};
 use std::alloc::Global;
 use std::test::Fail;
 
-// Texts, the keys that they say, and what is printed for these.
+// Texts that are valid names, their keys, and what is printed for the keys.
 const SAID: &[(&str, Key, &str)] = &[
     ("note.txt", *b"\0NOTE    TXT", "NOTE.TXT"),
     ("A.", *b"\0A          ", "A"),
@@ -28,7 +28,7 @@ fn texts_say_keys_and_are_printed(rt: HostRuntime) -> Result<(), Fail> {
     Ok(())
 }
 
-// Texts that are no names, and the numbers of their refusals.
+// Texts that are no valid names, and the numbers of their refusals.
 const REFUSED: &[(&str, u8)] = &[
     ("", 1),
     (".TXT", 1),
@@ -46,7 +46,7 @@ const REFUSED: &[(&str, u8)] = &[
     ("1:abcdefghi", 4),
 ];
 
-// The number of a text's refusal; 0 where it is a name.
+// Returns the number of a text's refusal, or 0 if it is a valid name.
 fn refusal(text: &str) -> u8 {
     match Name::parse(text) {
         Ok(_) => 0,
@@ -80,7 +80,7 @@ const UNSAYABLE: &[Key] = &[
     *b"\0A        \xd4 ",
 ];
 
-// The key of the name that a key gives.
+// Returns the key of the name that a key has, if it has one.
 fn named(key: &Key) -> Option<Key> {
     Name::from_key(key).map(|name: Name| name.key())
 }
@@ -95,7 +95,7 @@ fn keys_of_names_give_names(rt: HostRuntime) {
     }
 }
 
-// Each byte its own place.
+// Returns bytes that are each equal to their index.
 fn counted() -> [u8; 36] {
     let mut bytes = [0; 36];
     for i in 0..36 {
@@ -120,7 +120,7 @@ fn fields_of_a_control_block(rt: HostRuntime) {
     );
 }
 
-// Places with the bytes ex, s2 and cr that tell them.
+// Record numbers with the bytes ex, s2 and cr for them.
 const PLACES: &[(u32, u8, u8, u8)] = &[
     (0, 0, 0, 0),
     (129, 1, 0, 1),
@@ -129,7 +129,7 @@ const PLACES: &[(u32, u8, u8, u8)] = &[
     (65_536, 0, 0x10, 0),
 ];
 
-// Whether a place that is set is in these bytes, and all others stay.
+// Returns whether a record number that is set has these bytes, and all other bytes are unchanged.
 fn is_told_by(place: u32, ex: u8, s2: u8, cr: u8) -> bool {
     if place > 65_536 {
         return false;

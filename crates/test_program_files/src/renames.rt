@@ -1,4 +1,4 @@
-// Files under other keys, and which questions of host files they ask.
+// Files under other keys, and the questions about host files that they ask.
 
 use cpmfiles::Ask::{Length, Rec};
 use cpmfiles::{Ask, Key};
@@ -6,7 +6,7 @@ use std::test::Fail;
 use test_files::Act::{Anew, Delete, Has, Make, Read, Records, Rename, Write};
 use test_files::{ANN, BEN, CAT, Case, play};
 
-// Whether both are there; then the length of the one, and records of it.
+// Whether both are there; then the length of the first, and records of it.
 const BOTH: &[Ask] = &[Ask::Has(ANN), Ask::Has(BEN)];
 
 const LONG: &[Ask] = &[Ask::Has(ANN), Ask::Has(BEN), Length(ANN)];
@@ -28,7 +28,7 @@ const ANY: Key = *b"\0AN?        ";
 const SMALL: Key = *b"\0ben        ";
 
 const CASES: &[Case<'_>] = &[
-    // It keeps standing on its own host file, whose length and records are asked for by the first key.
+    // The file keeps its own host file, whose length and records are asked for by the first key.
     Case {
         name: "a file is renamed away and back",
         files: &[("ann", 384)],
@@ -61,7 +61,7 @@ const CASES: &[Case<'_>] = &[
             (Read(BEN, 2, Some(b'x')), READ_2),
         ],
     },
-    // What was written goes with the file, and so does how it has grown.
+    // What was written moves with the file, and so does its growth.
     Case {
         name: "a written file is renamed",
         files: &[("ann", 384)],
@@ -93,7 +93,7 @@ const CASES: &[Case<'_>] = &[
             (Records(ANN, Some(0)), BOTH),
         ],
     },
-    // Both keys are asked for, whatever the first answers.
+    // Both keys are asked for, whatever the first answer is.
     Case {
         name: "a rename wants the old key and not the new",
         files: &[("ann", 1), ("ben", 1)],
@@ -110,7 +110,7 @@ const CASES: &[Case<'_>] = &[
             (Rename(BEN, CAT, true), ABSENT),
         ],
     },
-    // No question is asked where a key has a `?`, or the new one is no name's.
+    // No question is asked if a key has a `?`, or if the new one is no valid name's.
     Case {
         name: "keys that no rename takes",
         files: &[("ann", 1)],
@@ -125,7 +125,7 @@ const CASES: &[Case<'_>] = &[
             (Rename(SMALL, ANN, false), &[Ask::Has(ANN), Ask::Has(SMALL)]),
         ],
     },
-    // Each onto the key that the one before left.
+    // Each moves to the key that the one before left.
     Case {
         name: "two files change keys",
         files: &[("ann", 128), ("ben", 256)],

@@ -1,4 +1,4 @@
-// Searches that go on while files change, and what a search asks of host files.
+// Searches that continue while files change, and the questions about host files that a search asks.
 
 use cpmfiles::Ask::Directory;
 use std::test::Fail;
@@ -14,7 +14,7 @@ const BEN_0: Found = (BEN, 0, 1);
 const LONGER: Act<'_> = Write(ANN, 256, 1, true);
 
 const CASES: &[Case<'_>] = &[
-    // It takes the files as they are now: those that were made, made longer, renamed and deleted since.
+    // The search sees the current files: those made, extended, renamed and deleted since.
     Case {
         name: "a search goes on from the entry given",
         files: &[("ann", 1), ("ben", 1)],

@@ -1,4 +1,4 @@
-// What a program makes, writes and reads, and which questions of host files these ask.
+// Files that a program makes, writes and reads, and the questions about host files that this asks.
 
 use cpmfiles::Ask::{Length, Rec};
 use cpmfiles::{Ask, Key};
@@ -6,7 +6,7 @@ use std::test::Fail;
 use test_files::Act::{Anew, Delete, Extent, Fill, Has, Make, Read, Records, Write};
 use test_files::{ANN, B_ANN, BEN, Case, play};
 
-// The questions of one file each: whether it is there; its length too; and records of it.
+// The questions about one file: whether it is there; its length too; and records of it.
 const THERE: &[Ask] = &[Ask::Has(ANN)];
 
 const LONG: &[Ask] = &[Ask::Has(ANN), Length(ANN)];
@@ -112,7 +112,7 @@ const CASES: &[Case<'_>] = &[
             (Read(ANN, 3, Some(b'b')), THERE),
         ],
     },
-    // What was read of a host file is asked once; what was written answers for itself.
+    // A record of a host file is asked for once; a record that was written is not asked for.
     Case {
         name: "a host file is asked for what was not written",
         files: &[("ann", 384)],
@@ -130,7 +130,7 @@ const CASES: &[Case<'_>] = &[
             (Read(ANN, 0, Some(b'x')), READ_0),
         ],
     },
-    // Its records are asked for where a write made it longer, too; its length no more, and no hole.
+    // If a write made the file longer, its host file's records are still asked for, but its length no longer is, and no hole.
     Case {
         name: "a longer file still stands on its host file",
         files: &[("ann", 384)],
@@ -149,7 +149,7 @@ const CASES: &[Case<'_>] = &[
             (Read(ANN, 2, Some(b'x')), READ_ALL),
         ],
     },
-    // A file that is not there is asked for its presence alone, by each call.
+    // For a file that is not there, each call asks only whether it is.
     Case {
         name: "an absent file has no length",
         files: &[("ben", 1)],
@@ -170,7 +170,7 @@ const CASES: &[Case<'_>] = &[
             (Delete(ANN, 0), THERE),
         ],
     },
-    // Each byte may stand in a key that is asked for; only a key that can be said is made.
+    // A key that is asked for may have any bytes; only a valid key is made.
     Case {
         name: "keys that no name has are asked but not made",
         files: &[("ann", 1)],

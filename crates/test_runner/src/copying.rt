@@ -1,4 +1,4 @@
-// A program that reads the longest file to its end, and is run again after its last byte was changed.
+// A program that reads the longest file to its end, and is run again after the last byte of the file was changed.
 
 use crate::standing::SLOTS;
 use crate::trouble::Trouble;
@@ -8,16 +8,17 @@ use std::alloc::{AllocError, Global};
 use std::time::{CpuClock, Duration};
 use test_sessions::{Difference, name_of, runner_of};
 
-// Opens the file of the tail and reads records until call 20 gives another value than 0.
+// Opens the file of the tail and reads records until call 20 returns another value than 0.
 const READS: &[u8] = b"\x0e\x0f\x11\x5c\x00\xcd\x05\x00\x0e\x14\xcd\x05\x00\xb7\xca\x0a\x01\xc9";
 
-/// The most bytes of a file, which are 65,536 records.
+/// The largest number of bytes of a file, which are 65,536 records.
 const LENGTH: usize = 8_388_608;
 
-/// The steps of the whole run: 6 up to the first CALL 5 of the loop, 5 for each record and for the end, RET, and the jump at 0000H.
+/// The steps of the whole run: 6 up to the first CALL 5 of the loop, 5 for each record and for the end, RET, and the jump at
+/// 0000H.
 const STEPS: u64 = 6 + 5 * 65_537 + 2;
 
-/// The last step of a checkpoint before the last record is read, and after which steps the others stand.
+/// A checkpoint every 10,000 steps, and the step of the last one before the last record is read.
 const OPTIONS: Options = Options {
     spacing: 10_000,
     slots: SLOTS,
@@ -25,7 +26,7 @@ const OPTIONS: Options = Options {
 
 const LAST_USABLE: u64 = 320_000;
 
-// The longest file, whose last byte is this and all others are letters x.
+// Returns the bytes of the longest file: letters x, except the last byte.
 fn contents(alloc: Global, last: u8) -> Result<Vec<u8>, AllocError> {
     let mut bytes = vec![in alloc; b'x'; LENGTH - 1]?;
     bytes.push(last)?;
@@ -47,7 +48,7 @@ fn begin(alloc: Global) -> Result<Runner, Trouble> {
     }
 }
 
-// Runs the session. So many steps are carried out, and this is the last byte of the buffer.
+// Runs the session. The run has to execute `added` steps and to leave `last` as the last byte of the buffer.
 fn run(runner: &mut Runner, added: u64, last: u8) -> Result<(), Trouble> {
     let mut meter = Meter::new();
     let report = runner.rerun(&mut meter)?;
@@ -63,7 +64,7 @@ fn run(runner: &mut Runner, added: u64, last: u8) -> Result<(), Trouble> {
     Ok(())
 }
 
-// Prints what was done, of how many steps, and how long it took since a time.
+// Prints what was done, the number of steps, and how long it took since a time.
 fn tell(
     rt: &(impl Print + CpuClock),
     since: Duration,
@@ -95,7 +96,7 @@ fn timed_run(
     tell(rt, start, what, added)
 }
 
-// The edit that changes the last byte of the file.
+// Returns the edit that changes the last byte of the file.
 fn change(alloc: Global) -> Result<Edit, Trouble> {
     let bytes = contents(alloc, b'z')?;
     Ok(Edit::SetFile(name_of("BIG")?, Bytes::new(bytes)))

@@ -1,9 +1,9 @@
-//! Runs sessions over `Runner`, each named by a word, and compares every answer with what is wanted. Where memory is refused, what
-//! stood must stand, and the call is made again.
+//! Runs sessions over `Runner`, each named by a word, and compares every result with the expected one. If an allocation fails,
+//! the runner must be unchanged, and the call is made again.
 //!
 //! - `sessions`: the sessions by their words
-//! - `playing`: a session carried out, with each call made again where memory is refused
-//! - `standing`, `trouble`: what stands in a runner; why a session is given up
+//! - `playing`: the execution of a session, in which each call is made again if an allocation fails
+//! - `standing`, `trouble`: a snapshot of a runner; why a session is given up
 //! - `programs`, `copying`: sessions of programs in files; the longest file, read to its end, changed and read again
 #![tactic(auto)]
 
@@ -21,12 +21,12 @@ use std::time::CpuClock;
 use std::{env, io};
 use trouble::Trouble;
 
-// The words after the program's name.
+// Returns the words after the program's name.
 fn words_of<R: Env + AllocGlobal>(rt: &R) -> io::Result<Vec<String>> {
     Ok(env::args(rt)?.skip(1).collect::<Vec<String>>(rt.alloc())?)
 }
 
-// The words after the program's name, asked for again where memory is refused.
+// Returns the words after the program's name. If an allocation fails, asks for them again.
 fn words_in_memory<R: Env + Print + AllocGlobal>(rt: &R) -> Result<Vec<String>, Trouble> {
     if let Ok(words) = words_of(rt) {
         return Ok(words);
@@ -35,7 +35,7 @@ fn words_in_memory<R: Env + Print + AllocGlobal>(rt: &R) -> Result<Vec<String>, 
     Ok(words_of(rt)?)
 }
 
-// `list` prints the words of the sessions, `copy` measures, and another word is that of a session.
+// Executes a word: `list` prints the words of the sessions, `copy` measures, and any other word names a session.
 fn answer_word(rt: &(impl Print + CpuClock), alloc: Global, word: &str) -> Result<(), Trouble> {
     if word == "list" {
         return sessions::list(rt);
@@ -46,7 +46,7 @@ fn answer_word(rt: &(impl Print + CpuClock), alloc: Global, word: &str) -> Resul
     sessions::carry_out(rt, alloc, word)
 }
 
-// `program` has the words of a session behind it.
+// Executes the words. After `program` come the words of a session.
 fn answer<R: Print + Files + CpuClock + AllocGlobal>(
     rt: &R,
     words: &[String],
@@ -60,7 +60,7 @@ fn answer<R: Print + Files + CpuClock + AllocGlobal>(
     answer_word(rt, rt.alloc(), first.as_str())
 }
 
-/// The status is 0 where every answer is as it is wanted, else 1.
+/// Exits with status 0 if every result is as expected, and 1 otherwise.
 fn main(rt: HostRuntime) -> io::Result<ExitCode> {
     let trouble = match words_in_memory(&rt) {
         Ok(words) => match answer(&rt, words.as_slice()) {

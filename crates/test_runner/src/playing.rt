@@ -1,4 +1,4 @@
-// Sessions that are carried out act by act. Where memory is refused, what stood must stand, and the call is made again.
+// Sessions executed act by act. If an allocation fails, the runner must be unchanged, and the call is made again.
 
 use crate::standing::{Standing, rises};
 use crate::trouble::Trouble;
@@ -8,7 +8,7 @@ use test_sessions::{
     Act, Case, Change, Difference, Given, added_by, compare, edit_of, make, run_once,
 };
 
-// A runner of a session, made again where memory is refused.
+// Returns a runner for a session. If an allocation fails, tries again.
 fn begin(rt: &impl Print, alloc: Global, given: &Given<'_>) -> Result<Runner, Trouble> {
     match make(alloc, given) {
         Err(test_sessions::Trouble::OutOfMemory) => println!(rt; "session: out of memory")?,
@@ -17,12 +17,12 @@ fn begin(rt: &impl Print, alloc: Global, given: &Given<'_>) -> Result<Runner, Tr
     Ok(make(alloc, given)?)
 }
 
-// Only insertions and files that are set may want memory.
+// Returns whether an edit may need memory: only insertions and files that are set may.
 fn takes_memory(change: Change<'_>) -> bool {
     matches!(change, Change::Insert(_, _) | Change::SetFile(_, _))
 }
 
-// Makes an edit. Where memory is refused, session and checkpoints must be as before.
+// Makes an edit. If an allocation fails, session and checkpoints must be unchanged.
 fn edit_once(alloc: Global, runner: &mut Runner, change: Change<'_>) -> Result<(), Trouble> {
     let edit = edit_of(alloc, change)?;
     let before = Standing::of(runner);
@@ -41,7 +41,7 @@ fn edit_once(alloc: Global, runner: &mut Runner, change: Change<'_>) -> Result<(
     }
 }
 
-// Makes an edit, again where memory is refused.
+// Makes an edit. If an allocation fails, tries again.
 fn edit(
     rt: &impl Print,
     alloc: Global,
@@ -55,8 +55,8 @@ fn edit(
     edit_once(alloc, runner, change)
 }
 
-// Runs a session. Unless memory was refused to a run before, exactly the wanted steps are carried out. Where memory is refused,
-// the session must be as before, and each checkpoint that stood must stand.
+// Runs a session. Unless an allocation failed in an earlier run, exactly the expected steps must be executed. If an allocation
+// fails, the session must be unchanged, and each checkpoint must still be kept.
 fn try_run(runner: &mut Runner, act: Act<'_>, is_whole: bool) -> Result<(), Trouble> {
     let before = Standing::of(runner);
     let Ok((added, difference)) = run_once(runner, act) else {
@@ -74,7 +74,7 @@ fn try_run(runner: &mut Runner, act: Act<'_>, is_whole: bool) -> Result<(), Trou
     }
 }
 
-// Runs a session, again where memory is refused. It gives whether none was: each due checkpoint is then made.
+// Runs a session. If an allocation fails, tries again. Returns whether none failed: then each due checkpoint is made.
 fn run(
     rt: &impl Print,
     runner: &mut Runner,
@@ -90,8 +90,8 @@ fn run(
     Ok(false)
 }
 
-// What is not as it is wanted, where an act is neither a run nor an edit. Where memory was refused to a run, the checkpoints
-// are not those that are wanted, but their steps rise.
+// Compares the runner with an act that is neither a run nor an edit. If an allocation failed in a run, the checkpoints need not
+// be the expected ones, but their steps must rise.
 fn stands(runner: &Runner, act: Act<'_>, is_whole: bool) -> Result<(), Trouble> {
     if !rises(runner) {
         return Err(Trouble::Differs(Difference::Checkpoints));
@@ -116,7 +116,7 @@ fn tell(rt: &impl Print, act: Act<'_>) -> Result<(), Trouble> {
     Ok(())
 }
 
-// Carries out an act, and gives whether no memory was refused to a run so far.
+// Executes an act, and returns whether no allocation has failed in a run so far.
 fn carry_out(
     rt: &impl Print,
     alloc: Global,
@@ -133,7 +133,7 @@ fn carry_out(
     Ok(was_whole)
 }
 
-// Carries out acts, tells their answers, and gives whether no memory was refused to a run.
+// Executes acts, prints their results, and returns whether no allocation failed in a run.
 fn carry_out_all(
     rt: &impl Print,
     alloc: Global,
@@ -160,7 +160,7 @@ fn play_on(
     Ok(())
 }
 
-/// Carries out the acts of a session, and tells the answers.
+/// Executes the acts of a session, and prints the results.
 pub fn play(rt: &impl Print, alloc: Global, case: &Case<'_>) -> Result<(), Trouble> {
     let mut runner = begin(rt, alloc, &case.given)?;
     play_on(rt, alloc, &mut runner, case.acts)

@@ -10,16 +10,16 @@ use std::rt::Files;
 use std::{fs, io};
 use test_sessions::{Difference, name_of, runner_of};
 
-/// The steps of a run that comes to its end.
+/// The largest number of steps of a run that comes to its end.
 const LIMIT: u64 = 1_000_000;
 
-/// A checkpoint each hundred steps.
+/// The options, with a checkpoint every hundred steps.
 const OPTIONS: Options = Options {
     spacing: 100,
     slots: SLOTS,
 };
 
-// The host files of pairs of words: a name, and the path of its bytes.
+// Returns the host files of pairs of words: a name, and the path of its bytes.
 fn hosts_of<R: Files + AllocGlobal>(rt: &R, words: &[String]) -> Result<HostFiles, Trouble> {
     let mut hosts = HostFiles::new(rt.alloc());
     for pair in words.chunks(2) {
@@ -37,7 +37,7 @@ fn hosts_of<R: Files + AllocGlobal>(rt: &R, words: &[String]) -> Result<HostFile
     Ok(hosts)
 }
 
-// The session of the words: a program, a tail, a script or the empty word, and host files.
+// Returns the session of the words: a program, a tail, a script or the empty word, and host files.
 fn session_of<R: Files + AllocGlobal>(rt: &R, words: &[String]) -> Result<Session, Trouble> {
     let [program, tail, script, others @ ..] = words else {
         return Err(Trouble::Words);
@@ -82,7 +82,7 @@ fn tell(rt: &impl Print, alloc: Global, report: &Report<'_>) -> Result<(), Troub
     }
 }
 
-// Runs a session, runs it up to half its steps, and again to its end from the checkpoint there.
+// Runs a session to its end, then up to half its steps, and then again to its end from the checkpoint there.
 fn run_in_parts(runner: &mut Runner) -> Result<(), Trouble> {
     let steps = steps_of(runner, LIMIT)?;
     if steps_of(runner, steps / 2)? != steps / 2 || steps_of(runner, LIMIT)? != steps {
@@ -97,7 +97,7 @@ fn run_and_tell(rt: &impl Print, alloc: Global, runner: &mut Runner) -> Result<(
     tell(rt, alloc, &runner.rerun(&mut meter)?)
 }
 
-/// Runs the session of the words in parts, and tells how it ends.
+/// Runs the session of the words in parts, and prints how it ends.
 pub fn run_program<R: Print + Files + AllocGlobal>(
     rt: &R,
     words: &[String],

@@ -42,7 +42,7 @@ pub fn list(rt: &impl Print) -> Result<(), Trouble> {
     Ok(())
 }
 
-// Carries out every session, each after its word.
+// Executes every session, each after printing its word.
 fn carry_out_all(rt: &impl Print, alloc: Global) -> Result<(), Trouble> {
     for (word, case) in SESSIONS {
         println!(rt; "{word}")?;
@@ -51,7 +51,7 @@ fn carry_out_all(rt: &impl Print, alloc: Global) -> Result<(), Trouble> {
     Ok(())
 }
 
-/// Carries out the session of a word, or every one where it is `every-session`.
+/// Executes the session of a word, or every session if the word is `every-session`.
 pub fn carry_out(rt: &impl Print, alloc: Global, wanted: &str) -> Result<(), Trouble> {
     if wanted == "every-session" {
         return carry_out_all(rt, alloc);

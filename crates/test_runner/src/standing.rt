@@ -1,19 +1,19 @@
-// What stands in a runner: its session, told by a sum, and its checkpoints.
+// A snapshot of a runner: its session, as a sum, and its checkpoints.
 
 use machine::{HostFiles, Name, Session};
 use replay::Runner;
 
-/// The most checkpoints of a session of this program.
+/// The largest number of checkpoints of a session of this program.
 pub const SLOTS: usize = 64;
 
-/// A runner's session and checkpoints, as they were once.
+/// A snapshot of a runner's session and checkpoints.
 #[derive(Clone, Copy)]
 pub struct Standing {
     session: u64,
     kept: [Option<u64>; SLOTS],
 }
 
-// The sum of Fowler, Noll and Vo (FNV-1a) over a length and its bytes.
+// Returns the sum of Fowler, Noll and Vo (FNV-1a) over a length and its bytes.
 fn with_bytes(sum: u64, bytes: &[u8]) -> u64 {
     let mut sum = (sum ^ bytes.len() as u64).wrapping_mul(0x0100_0000_01b3);
     for byte in bytes {
@@ -49,7 +49,7 @@ fn sum_of(session: &Session) -> u64 {
 }
 
 impl Standing {
-    /// What stands now.
+    /// Takes a snapshot.
     pub fn of(runner: &Runner) -> Standing {
         let mut kept = [None; SLOTS];
         for i in 0..SLOTS {
@@ -61,7 +61,7 @@ impl Standing {
         }
     }
 
-    /// Whether the session is as it was, and each checkpoint stands that stood.
+    /// Returns whether the session is unchanged, and each checkpoint of the snapshot is still kept.
     pub fn is_left(&self, runner: &Runner) -> bool {
         for i in 0..SLOTS {
             if self.kept[i].is_some() && runner.kept(i) != self.kept[i] {
@@ -71,7 +71,7 @@ impl Standing {
         sum_of(runner.session()) == self.session
     }
 
-    /// Whether the session is as it was, and exactly the checkpoints stand that stood.
+    /// Returns whether the session is unchanged, and exactly the checkpoints of the snapshot are kept.
     pub fn is_same(&self, runner: &Runner) -> bool {
         for i in 0..SLOTS {
             if runner.kept(i) != self.kept[i] {
@@ -82,7 +82,7 @@ impl Standing {
     }
 }
 
-/// Whether the steps of the checkpoints rise.
+/// Returns whether the steps of the checkpoints rise.
 pub fn rises(runner: &Runner) -> bool {
     let mut last = 0;
     for i in 0..SLOTS {

@@ -8,25 +8,25 @@ use test_sessions::Difference;
 /// Why a session is given up.
 #[derive(Clone, Copy, PartialEq, Eq)]
 pub enum Trouble {
-    /// Memory was refused, twice for one call.
+    /// An allocation failed twice for one call.
     OutOfMemory,
-    /// A file or the standard output failed.
+    /// A file or standard output failed.
     Device,
-    /// The words are none that this program takes.
+    /// This program has no such words.
     Words,
     /// A name, a host file, a session or its options are refused.
     Refused,
-    /// A host file that was refused for want of memory is there.
+    /// A host file is there although memory for it ran out.
     RefusedFileThere,
-    /// An edit that takes no memory names want of it.
+    /// An edit that needs no memory reported out of memory.
     EditWantsMemory,
-    /// An edit that was refused memory left another session or other checkpoints.
+    /// An edit that ran out of memory left another session or other checkpoints.
     EditLeftOther,
-    /// A run that was refused memory left another session, or lost a checkpoint.
+    /// A run that ran out of memory left another session, or lost a checkpoint.
     RunLeftOther,
-    /// A session begins with no run, though one is to be repeated.
+    /// A session begins with no run, but a run is needed to repeat it.
     NoRunFirst,
-    /// Something is not as it is wanted.
+    /// Something differs from the expected result.
     Differs(Difference),
 }
 
@@ -58,7 +58,7 @@ impl From<test_sessions::Trouble> for Trouble {
     }
 }
 
-// What is told of something that is not as it is wanted.
+// Returns the message for something that differs.
 fn text_of(difference: Difference) -> &'static str {
     match difference {
         Difference::Count => "a run carries out more steps, or fewer",
@@ -74,7 +74,7 @@ fn text_of(difference: Difference) -> &'static str {
 }
 
 impl Trouble {
-    /// What is told of it.
+    /// Returns the message.
     pub fn text(self) -> &'static str {
         match self {
             Trouble::OutOfMemory => "memory was refused twice",

@@ -13,14 +13,14 @@ use test_sessions::{Act, Case, EMPTY, Given, RETURNED, Trouble, Wanted, play, pl
 // Takes a byte by call 6.
 const TAKES_SILENTLY: [u8; 8] = [0x0e, 0x06, 0x1e, 0xff, 0xcd, 0x05, 0x00, 0xc9];
 
-// Takes a line by call 10 into 0109H and on, of at most the last byte's count.
+// Takes a line by call 10 into 0109H and on; the last byte is its capacity.
 const LINE_OF_0: &[u8] = &[0x11, 0x09, 0x01, 0x0e, 0x0a, 0xcd, 0x05, 0x00, 0xc9, 0];
 
 const LINE_OF_3: &[u8] = &[0x11, 0x09, 0x01, 0x0e, 0x0a, 0xcd, 0x05, 0x00, 0xc9, 3];
 
 const LINE_OF_5: &[u8] = &[0x11, 0x09, 0x01, 0x0e, 0x0a, 0xcd, 0x05, 0x00, 0xc9, 5];
 
-// Takes a line of two bytes at most, twice, into 010CH and on.
+// Takes a line of at most two bytes, twice, into 010CH and on.
 const TAKES_TWO_LINES: [u8; 13] = [
     0x11, 0x0c, 0x01, 0x0e, 0x0a, 0xcd, 0x05, 0x00, 0xcd, 0x05, 0x00, 0xc9, 2,
 ];
@@ -47,7 +47,7 @@ fn a_line_is_taken_as_far_as_it_fits(rt: HostRuntime) -> Result<(), Trouble> {
     play_all(rt.alloc(), &[TYPED_LINE, SHORT_LINE])
 }
 
-// A program that takes a line, the script, what is printed, and the cells of the count and the line.
+// A program that takes a line, the script, the printed text, and the cells of the count and the line.
 macro_rules! line {
     ($program:expr, $script:expr, $text:expr, $cells:expr) => {
         Case {
@@ -102,14 +102,14 @@ fn a_line_is_corrected(rt: HostRuntime) -> Result<(), Trouble> {
 
 const EACH_BYTE: &[Case<'_>] = &[
     line!(LINE_OF_0, b"", b"", b"\x00"),
-    // where nothing is stored
+    // nothing is stored yet
     line!(LINE_OF_3, b"\r", b"\r", b"\x00"),
     line!(LINE_OF_3, b"\n", b"\r", b"\x00"),
     line!(LINE_OF_3, b"\x08\r", b"\r", b"\x00"),
     line!(LINE_OF_3, b"\x7f\r", b"\r", b"\x00"),
     line!(LINE_OF_3, b"\x01\r", b"^A\r", b"\x01\x01"),
     line!(LINE_OF_3, b"a\r", b"a\r", b"\x01a"),
-    // where one byte is stored, and room is left for two
+    // one byte is stored, and there is room for two
     line!(LINE_OF_3, b"a\n", b"a\r", b"\x01a"),
     line!(LINE_OF_3, b"a\x08\r", b"a\x08 \x08\r", b"\x00"),
     line!(LINE_OF_3, b"a\x7f\r", b"aa\r", b"\x00"),
@@ -117,7 +117,7 @@ const EACH_BYTE: &[Case<'_>] = &[
     line!(LINE_OF_3, b"\x01\x7f\r", b"^A^A\r", b"\x00"),
     line!(LINE_OF_3, b"a\x03\r", b"a^C\r", b"\x02a\x03"),
     line!(LINE_OF_3, b"a\xff\r", b"a\xff\r", b"\x02a\xff"),
-    // at the last free place
+    // one byte more fits
     line!(LINE_OF_3, b"ab\r", b"ab\r", b"\x02ab"),
     line!(LINE_OF_3, b"ab\x08\r", b"ab\x08 \x08\r", b"\x01a"),
     line!(LINE_OF_3, b"ab\x7f\r", b"abb\r", b"\x01a"),

@@ -1,4 +1,4 @@
-// Records at random places, and the holes between them.
+// Records at random record numbers, and the holes between them.
 
 use machine::{Cause, Regs};
 use test_sessions::Act::{Edit, Keep, Leave, Run};
@@ -25,7 +25,7 @@ const WRITES_AND_READS: &[u8] = &[
     0x00, 0x22, 0x7d, 0x00, 0x0e, 0x21, 0xcd, 0x05, 0x00, 0xc9,
 ];
 
-// The record at the place is one of a hole.
+// The record is in a hole.
 const FINDS_A_HOLE: Wanted<'_> = Wanted {
     cause: Cause::WarmBoot,
     steps: 19,
@@ -38,13 +38,13 @@ const FINDS_A_HOLE: Wanted<'_> = Wanted {
     text: b"",
 };
 
-// The record at the place was written, if only by zeros.
+// The record was written, even if only with zeros.
 const FINDS_A_RECORD: Wanted<'_> = Wanted {
     regs: Regs { c: 0x21, ..CALLED },
     ..FINDS_A_HOLE
 };
 
-// The extent of the place was not written.
+// The extent of the record was not written.
 const FINDS_NO_EXTENT: Wanted<'_> = Wanted {
     regs: Regs {
         a: 0x04,
@@ -72,7 +72,7 @@ const HOLE: Case<'_> = Case {
             Record("h", 2, b"\x02 H", 0),
         ]),
         Keep(&[4, 8, 12, 16, 19]),
-        // call 40 in the place of call 34
+        // call 40 in place of call 34
         Edit(Poke(0x010f, &[0x28])),
         Keep(&[4]),
         Run(15, FINDS_A_RECORD),

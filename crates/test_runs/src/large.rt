@@ -1,4 +1,5 @@
-// Texts of more bytes than a word counts, lines of more typed bytes than a byte counts, and more files than a session may have.
+// Texts with more bytes than a word counts, lines with more typed bytes than a byte counts, and more files than a session may
+// have.
 
 use i8080::Flags;
 use machine::{Cause, Regs};
@@ -50,7 +51,7 @@ fn a_long_text_has_its_checkpoints(rt: HostRuntime) -> Result<(), Trouble> {
     play(rt.alloc(), 0, &LONG_TEXT)
 }
 
-// Makes the files AA to TZ, and halts where one is not made:
+// Makes the files AA to TZ, and halts if one is not made:
 //
 //     LXI D,5CH; MVI C,22
 //     L: CALL 5; ORA A; JNZ H; LXI H,5EH; INR M; MOV A,M; CPI `Z`+1; JNZ L
@@ -147,7 +148,7 @@ fn a_program_makes_more_files_than_a_session_has(rt: HostRuntime) -> Result<(), 
     play(rt.alloc(), 0, &MANY_FILES)
 }
 
-// Each part so many times over, one after another.
+// Returns each part repeated by its count, one after the other.
 fn repeated(alloc: Global, parts: &[(&[u8], usize)]) -> Result<Vec<u8>, AllocError> {
     let mut bytes = Vec::new(alloc);
     for (part, count) in parts {
@@ -164,7 +165,7 @@ const TAKES_LONGEST_LINE: Given<'_> = Given {
     ..EMPTY
 };
 
-// 200 bytes are stored, 80 and 20 are taken back, and 155 more fill the line. The byte behind them is looked at by nothing.
+// 200 bytes are stored, 80 and 20 are taken back, and 155 more fill the line. The byte after them is never looked at.
 const TYPED: &[(&[u8], usize)] = &[
     (b"a", 200),
     (b"\x08", 80),
@@ -177,7 +178,7 @@ const SENT: &[(&[u8], usize)] = &[(b"a", 200), (b"\x08 \x08", 80), (b"a", 20), (
 
 const STORED: &[(&[u8], usize)] = &[(b"\xff", 1), (b"a", 100), (b"b", 155), (b"\x00", 1)];
 
-// Takes a line that fills the buffer. Then the byte behind it is replaced, and the last one that was taken.
+// Takes a line that fills the buffer. Then the byte after it is replaced, and the last one that was taken.
 fn takes_line<'a>(
     alloc: Global,
     script: &'a [u8],

@@ -1,4 +1,4 @@
-// What each refusal prints.
+// The message of each refusal.
 
 use machine::SessionError;
 use replay::{EditError, OptionsError};

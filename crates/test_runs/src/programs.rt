@@ -70,7 +70,7 @@ fn regs_of([af, bc, de, hl, sp, pc]: [u16; 6]) -> Regs {
     }
 }
 
-// Plays a program that has this number among others, and compares the cells from an address on.
+// Executes the program with this number, and compares the cells from an address on.
 fn ends(
     alloc: Global,
     number: usize,

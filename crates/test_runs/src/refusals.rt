@@ -1,4 +1,4 @@
-// Sessions that are refused, and what is handed to one that is made.
+// Sessions that are refused, and the parts given to one that is made.
 
 use hostfiles::{HostFiles, Name};
 use machine::Session;
@@ -10,7 +10,7 @@ fn zeros(alloc: Global, count: usize) -> Result<Vec<u8>, AllocError> {
     Ok(vec![in alloc; 0; count]?)
 }
 
-// What is handed to a session: the tail is so many blanks and then these bytes.
+// The parts given to a session. The tail is a number of blanks and then these bytes.
 #[derive(Clone, Copy, Debug)]
 struct Sizes<'a> {
     program: usize,
@@ -26,7 +26,7 @@ fn tail_of(alloc: Global, sizes: Sizes<'_>) -> Result<Vec<u8>, AllocError> {
     Ok(tail)
 }
 
-// The number of a refusal; 0 where the session is made.
+// Returns the number of a refusal, or 0 if the session is made.
 fn answer_of(alloc: Global, sizes: Sizes<'_>) -> Result<u8, AllocError> {
     let program = zeros(alloc, sizes.program)?;
     let tail = tail_of(alloc, sizes)?;
@@ -68,7 +68,7 @@ fn sessions_are_refused_in_order(rt: HostRuntime) -> Result<(), Fail> {
     Ok(())
 }
 
-// A session with this host file, and its name as the tail.
+// Returns a session with this host file, and with its name as the tail.
 fn session_of_a_file(alloc: Global, name: Name) -> Result<Session, Fail> {
     let tail = b"a.txt".to_vec(alloc)?;
     let mut files = HostFiles::new(alloc);

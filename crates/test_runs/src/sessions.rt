@@ -81,7 +81,7 @@ fn a_refused_edit_leaves_the_checkpoints(rt: HostRuntime) -> Result<(), Trouble>
     play(rt.alloc(), 0, &REFUSED_BETWEEN_RUNS)
 }
 
-// The string loses its `$`; then the limit comes before, with and after the last step.
+// The string loses its `$`; then the limit is set before, at and after the last step.
 const EDITED: Case<'_> = Case {
     given: PRINTS,
     acts: &[
@@ -136,7 +136,7 @@ fn a_report_tells_how_the_run_ended(rt: HostRuntime) -> Result<(), Trouble> {
     Ok(())
 }
 
-// The number of the refusal of a runner; 0 where it is made.
+// Returns the number of the refusal of a runner, or 0 if it is made.
 fn number_of(alloc: Global, options: Options) -> Result<u8, Trouble> {
     let session = session_of(alloc, &EMPTY)?;
     match Runner::new(alloc, session, options) {

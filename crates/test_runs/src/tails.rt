@@ -9,7 +9,7 @@ use test_sessions::{Case, EMPTY, Given, RETURNED, Trouble, Wanted, play, play_al
 /// A name that is not there.
 const NO_NAME: &[u8; 11] = b"           ";
 
-// The drive bytes and the names of both words that a tail gives.
+// The drive bytes and the names of both words of a tail.
 macro_rules! gives {
     ($tail:expr, $first_drive:expr, $first_name:expr, $second_drive:expr, $second_name:expr) => {
         Case {
@@ -29,7 +29,7 @@ macro_rules! gives {
     };
 }
 
-// What stands from two addresses on before a program of one byte with a tail.
+// The bytes from two addresses on, before a program of one byte with a tail.
 macro_rules! stands {
     ($tail:expr, $first:expr, $first_cells:expr, $second:expr, $second_cells:expr) => {
         Case {
@@ -159,7 +159,7 @@ const READS_DRIVE: Wanted<'_> = Wanted {
     ..READS_NAME
 };
 
-// LDA 005DH; RET. An edit leaves the tail as it was handed in.
+// LDA 005DH; RET. An edit leaves the tail unchanged.
 const READING: Case<'_> = Case {
     given: Given {
         program: &[0x3a, 0x5d, 0x00, 0xc9],

@@ -1,4 +1,4 @@
-// What is done to a session, and what is then wanted.
+// Acts on a session, and the expected results.
 
 use crate::given::Given;
 use crate::left::Left;
@@ -16,30 +16,30 @@ pub enum Change<'a> {
     Limit(u64),
 }
 
-/// What is done, and what is then wanted.
+/// An act on a session, and the expected result.
 #[derive(Clone, Copy)]
 pub enum Act<'a> {
-    /// It runs: so many steps are carried out, and it ends so.
+    /// A run that executes this many steps and ends as wanted.
     Run(u64, Wanted<'a>),
-    /// It runs, and ends after so many steps.
+    /// A run that ends after this many steps.
     Stop(u64),
-    /// It runs again, carries out no step, and leaves all this.
+    /// A second run that executes no step and leaves all this.
     Leave(&'a [Left<'a>]),
-    /// It is edited.
+    /// An edit that is applied.
     Edit(Change<'a>),
-    /// The edit is refused by this number.
+    /// An edit that is refused with this number.
     Refuse(u8, Change<'a>),
-    /// So many checkpoints are dropped, the oldest first.
+    /// A removal of this many checkpoints, the oldest first.
     Drop(u64),
-    /// Exactly these checkpoints stand.
+    /// A check that exactly these checkpoints are kept.
     Keep(&'a [u64]),
-    /// Exactly the multiples of the spacing and the last step are kept, and no memory was refused.
+    /// A check that exactly the multiples of the spacing and the last step are kept, and that no allocation failed.
     KeepDue(u64, u64),
-    /// The session has this program, tail, script and limit.
+    /// A check that the session has this program, tail, script and limit.
     Hold(&'a Given<'a>),
 }
 
-/// A session, and what is done to it.
+/// A session, and the acts on it.
 #[derive(Clone, Copy)]
 pub struct Case<'a> {
     pub given: Given<'a>,

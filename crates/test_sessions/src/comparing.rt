@@ -1,4 +1,4 @@
-// What stands, against what is wanted.
+// Comparisons with the expected results.
 
 use crate::acts::Act;
 use crate::given::Given;
@@ -24,7 +24,7 @@ fn end_of(report: &Report<'_>, wanted: Wanted<'_>) -> Option<Difference> {
     None
 }
 
-/// What of the report of an act's run is not as it is wanted, if something is not.
+/// Returns what differs in the report of an act's run, if anything does.
 pub fn difference(report: &Report<'_>, act: Act<'_>) -> Option<Difference> {
     match act {
         Act::Run(_, wanted) => end_of(report, wanted),
@@ -34,7 +34,7 @@ pub fn difference(report: &Report<'_>, act: Act<'_>) -> Option<Difference> {
     }
 }
 
-/// Whether exactly these checkpoints stand.
+/// Returns whether exactly these checkpoints are kept.
 pub fn keeps(runner: &Runner, kept: &[u64]) -> bool {
     for i in 0..kept.len() {
         if runner.kept(i) != Some(kept[i]) {
@@ -44,7 +44,7 @@ pub fn keeps(runner: &Runner, kept: &[u64]) -> bool {
     runner.kept(kept.len()).is_none()
 }
 
-/// Whether exactly the multiples of the spacing and the last step are kept.
+/// Returns whether exactly the multiples of the spacing and the last step are kept.
 pub fn keeps_due(runner: &Runner, spacing: u64, last: u64) -> bool {
     let mut index = 0usize;
     for step in 1..=last {
@@ -58,7 +58,7 @@ pub fn keeps_due(runner: &Runner, spacing: u64, last: u64) -> bool {
     runner.kept(index).is_none()
 }
 
-/// Whether a session has this program, tail, script and limit.
+/// Returns whether a session has this program, tail, script and limit.
 pub fn holds(session: &Session, given: &Given<'_>) -> bool {
     session.program() == given.program
         && session.tail() == given.tail

@@ -14,7 +14,7 @@ pub const OPENS: Given<'_> = Given {
     ..EMPTY
 };
 
-/// The registers after a call for the control block at 005CH that gives 0, where the number of the call is still to come.
+/// The registers after a call for the control block at 005CH that returns 0, without the number of the call in C.
 pub const CALLED: Regs = Regs {
     e: 0x5c,
     ..RETURNED
@@ -62,7 +62,7 @@ const RENAMES: Wanted<'_> = Wanted {
     ..FINDS
 };
 
-/// A renamed file stands on its host file, which is set anew.
+/// A renamed file has the records of its host file, which is set again.
 pub const RENAMED_FILE: Case<'_> = Case {
     given: Given {
         program: &[0x0e, 0x17, 0x11, 0x5c, 0x00, 0xcd, 0x05, 0x00, 0xc9],
@@ -90,7 +90,7 @@ pub const RENAMED_FILE: Case<'_> = Case {
     ],
 };
 
-/// Makes a file, writes its last record, computes its size, and reads at a place past it.
+/// Makes a file, writes its last record, computes its size, and reads at a record number past it.
 pub const LONGEST_FILE: Case<'_> = Case {
     given: Given {
         program: &[

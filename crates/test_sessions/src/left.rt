@@ -6,17 +6,17 @@ use replay::Report;
 /// What a run leaves.
 #[derive(Clone, Copy)]
 pub enum Left<'a> {
-    /// These bytes stand in the cells from an address on.
+    /// These bytes in the cells from an address on.
     Cells(u16, &'a [u8]),
-    /// So many cells from an address on hold this byte.
+    /// This byte in a number of cells from an address on: `Filled(address, count, byte)`.
     Filled(u16, u16, u8),
-    /// Exactly these names are changed, in this order.
+    /// Exactly these changed names, in this order.
     Changed(&'a [&'a str]),
-    /// There is no file of this name.
+    /// No file of this name.
     Gone(&'a str),
-    /// A file has so many records.
+    /// A file with this many records.
     Records(&'a str, u32),
-    /// A record of a file begins with these bytes, and this one fills it up.
+    /// A record of a file that begins with these bytes, and is filled with this byte.
     Record(&'a str, u32, &'a [u8], u8),
 }
 
@@ -54,7 +54,7 @@ fn are_changed(report: &Report<'_>, names: &[&str]) -> bool {
     report.next_changed(after.as_ref()).is_none()
 }
 
-// Whether a file has so many records, or is not there.
+// Returns whether a file has this many records; `None` if there is to be no file.
 fn has_records(report: &Report<'_>, name: &str, count: Option<u32>) -> bool {
     match Name::parse(name) {
         Ok(name) => report.records(&name) == count && report.has(&name) == count.is_some(),
@@ -83,7 +83,7 @@ fn is_left(report: &Report<'_>, left: Left<'_>) -> bool {
     }
 }
 
-/// Whether a run leaves all this.
+/// Returns whether a run leaves all this.
 pub fn are_left(report: &Report<'_>, left: &[Left<'_>]) -> bool {
     for one in left {
         if !is_left(report, *one) {

@@ -1,12 +1,11 @@
-//! The words in which tests tell sessions: what a session is made of, what is done to it, and what is then wanted; a player of
-//! tables of them; and sessions that are worked out by hand.
+//! The vocabulary in which tests describe sessions: their parts, the acts on them, and the expected results; a player for tables
+//! of them; and sessions worked out by hand.
 //!
-//! - `given`, `acts`, `wanted`, `left`: what a session is made of; what is done to it; how its run ends; what that
-//!   leaves in memory and of files
-//! - `making`, `comparing`, `playing`, `trouble`: a session, a runner and an edit as they are told; a report against
-//!   what is wanted; acts carried out by one runner; why a session is given up
-//! - `worked`, `runs`, `typed`, `filed`: sessions that are worked out by hand: of limits and pokes, of the console,
-//!   and of files
+//! - `given`, `acts`, `wanted`, `left`: the parts of a session; the acts on it; how its run ends; what it leaves in memory and of
+//!   files
+//! - `making`, `comparing`, `playing`, `trouble`: making a session, a runner and an edit from their descriptions; comparing a
+//!   report with the expected one; executing acts with one runner; why a session is given up
+//! - `worked`, `runs`, `typed`, `filed`: sessions worked out by hand: with limits and pokes, with the console, and with files
 #![tactic(auto)]
 
 mod acts;

@@ -1,4 +1,4 @@
-// Sessions, runners and edits, as they are told in tests.
+// Sessions, runners and edits, made from their descriptions in tests.
 
 use crate::acts::Change;
 use crate::given::{Given, Host};
@@ -11,7 +11,7 @@ fn bytes_of(alloc: Global, bytes: &[u8]) -> Result<Bytes, AllocError> {
     Ok(Bytes::new(bytes.to_vec(alloc)?))
 }
 
-/// The name of a text.
+/// Parses the name of a file.
 pub fn name_of(text: &str) -> Result<Name, Trouble> {
     match Name::parse(text) {
         Ok(name) => Ok(name),
@@ -19,7 +19,7 @@ pub fn name_of(text: &str) -> Result<Name, Trouble> {
     }
 }
 
-// A host file is set, or memory is refused and it is not there.
+// Sets a host file. If an allocation fails, the file must not be there.
 fn set(hosts: &mut HostFiles, name: &str, bytes: &[u8]) -> Result<(), Trouble> {
     let name = name_of(name)?;
     if hosts.set(name, bytes).is_ok() {
@@ -39,7 +39,7 @@ fn hosts_of(alloc: Global, files: &[Host<'_>]) -> Result<HostFiles, Trouble> {
     Ok(hosts)
 }
 
-/// The session that is made of this.
+/// Returns the session of these parts.
 pub fn session_of(alloc: Global, given: &Given<'_>) -> Result<Session, Trouble> {
     let hosts = hosts_of(alloc, given.hosts)?;
     let program = given.program.to_vec(alloc)?;
@@ -51,7 +51,7 @@ pub fn session_of(alloc: Global, given: &Given<'_>) -> Result<Session, Trouble> 
     }
 }
 
-/// A runner of a session.
+/// Returns a runner for a session.
 pub fn runner_of(alloc: Global, session: Session, options: Options) -> Result<Runner, Trouble> {
     match Runner::new(alloc, session, options) {
         Ok(runner) => Ok(runner),
@@ -60,12 +60,12 @@ pub fn runner_of(alloc: Global, session: Session, options: Options) -> Result<Ru
     }
 }
 
-/// A runner of the session that is made of this.
+/// Returns a runner for the session of these parts.
 pub fn make(alloc: Global, given: &Given<'_>) -> Result<Runner, Trouble> {
     runner_of(alloc, session_of(alloc, given)?, given.options)
 }
 
-/// The edit, with bytes of its own.
+/// Returns the edit, with its own copy of the bytes.
 pub fn edit_of(alloc: Global, change: Change<'_>) -> Result<Edit, Trouble> {
     Ok(match change {
         Change::Insert(at, bytes) => Edit::Insert(at, bytes_of(alloc, bytes)?),

@@ -1,4 +1,4 @@
-// One runner, which is lent to whatever is done to it.
+// One runner, on which all acts are executed.
 
 use crate::acts::{Act, Case, Change};
 use crate::comparing::{difference, holds, keeps, keeps_due};
@@ -8,7 +8,7 @@ use machine::Meter;
 use replay::{EditError, Runner};
 use std::alloc::{AllocError, Global};
 
-/// How many steps an act's run carries out, where that is told.
+/// Returns how many steps the run of an act should execute, if the act says so.
 pub fn added_by(act: Act<'_>) -> Option<u64> {
     match act {
         Act::Run(wanted, _) => Some(wanted),
@@ -17,7 +17,7 @@ pub fn added_by(act: Act<'_>) -> Option<u64> {
     }
 }
 
-/// Carries out an act's run: how many steps that takes, and what of its report is not as it is wanted, if something is not.
+/// Executes the run of an act. Returns how many steps it executed, and what differs in its report, if anything does.
 pub fn run_once(
     runner: &mut Runner,
     act: Act<'_>,
@@ -27,7 +27,7 @@ pub fn run_once(
     Ok((meter.count(), difference(&report, act)))
 }
 
-// Carries out an act's run, and compares also how many steps that takes.
+// Executes the run of an act, and compares the number of executed steps too.
 fn run(runner: &mut Runner, act: Act<'_>) -> Result<Option<Difference>, AllocError> {
     let (added, difference) = run_once(runner, act)?;
     match added_by(act) {
@@ -36,7 +36,7 @@ fn run(runner: &mut Runner, act: Act<'_>) -> Result<Option<Difference>, AllocErr
     }
 }
 
-// The number of a refusal; 0 where the edit was carried out.
+// Returns the number of a refusal, or 0 if the edit was applied.
 fn number_of(answer: Result<(), EditError>) -> u8 {
     match answer {
         Ok(()) => 0,
@@ -44,7 +44,7 @@ fn number_of(answer: Result<(), EditError>) -> u8 {
     }
 }
 
-// Makes an edit, which is to be refused by this number, and by none where it is 0.
+// Makes an edit that should be refused with this number, or applied if the number is 0.
 fn edit(
     alloc: Global,
     runner: &mut Runner,
@@ -59,7 +59,7 @@ fn unless(is_as_wanted: bool, difference: Difference) -> Option<Difference> {
     if is_as_wanted { None } else { Some(difference) }
 }
 
-/// What stands otherwise than an act wants it, if something does, where the act is neither a run nor an edit.
+/// Returns what differs from an act that is neither a run nor an edit, if anything does.
 pub fn compare(runner: &Runner, act: Act<'_>) -> Option<Difference> {
     match act {
         Act::Keep(kept) => unless(keeps(runner, kept), Difference::Checkpoints),
@@ -72,7 +72,7 @@ pub fn compare(runner: &Runner, act: Act<'_>) -> Option<Difference> {
     }
 }
 
-// Carries out an act, and gives what is then not as it is wanted, if something is not.
+// Executes an act, and returns what then differs, if anything does.
 fn carry_out(
     alloc: Global,
     runner: &mut Runner,
@@ -104,13 +104,13 @@ fn play_on(
     Ok(())
 }
 
-/// Plays one case, which has this number among others.
+/// Executes one case. `number` names the case in a failure.
 pub fn play(alloc: Global, number: usize, case: &Case<'_>) -> Result<(), Trouble> {
     let mut runner = make(alloc, &case.given)?;
     play_on(alloc, &mut runner, number, case.acts)
 }
 
-/// Plays one case after another.
+/// Executes one case after the other.
 pub fn play_all(alloc: Global, cases: &[Case<'_>]) -> Result<(), Trouble> {
     for i in 0..cases.len() {
         play(alloc, i, &cases[i])?;

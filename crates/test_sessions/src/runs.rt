@@ -1,4 +1,4 @@
-// Sessions that are run once, or again under other limits and with bytes of the program replaced.
+// Sessions that are run once, or again with other limits and with replaced bytes of the program.
 
 use crate::acts::Act::{Drop, Edit, Keep, Leave, Run};
 use crate::acts::Case;
@@ -41,7 +41,7 @@ pub const FINDS_NO_DOLLAR: Wanted<'_> = Wanted {
     text: b"",
 };
 
-/// Stops where it begins, as no step may be carried out.
+/// Stops where it begins, as the limit allows no step.
 pub const STAYS: Wanted<'_> = Wanted {
     cause: Cause::Limit,
     steps: 0,
@@ -49,7 +49,7 @@ pub const STAYS: Wanted<'_> = Wanted {
     text: b"",
 };
 
-/// Stops where the warm start is reached, as no more steps may be carried out.
+/// Stops at the warm start, as the limit allows no further step.
 pub const SAYS_HI_AT_LIMIT: Wanted<'_> = Wanted {
     cause: Cause::Limit,
     ..SAYS_HI
@@ -70,7 +70,7 @@ pub const AT_CALL: Regs = Regs {
     ..PRINTED
 };
 
-/// Stops behind the call, at step 5.
+/// Stops after the call, at step 5.
 pub const STOPS_BEHIND_CALL: Wanted<'_> = Wanted {
     cause: Cause::Limit,
     steps: 5,
@@ -82,7 +82,7 @@ pub const STOPS_BEHIND_CALL: Wanted<'_> = Wanted {
     text: b"Hi",
 };
 
-// Passes all of memory up to the system's area.
+// Runs through all of memory up to the system's area.
 const PASSES_MEMORY: Wanted<'_> = Wanted {
     cause: Cause::SystemArea(0xfe00),
     steps: 64_768,
@@ -135,7 +135,7 @@ pub const PRINTED_TEXT: Case<'_> = Case {
     ],
 };
 
-/// The second letter is replaced, and then as it was.
+/// The second letter is replaced, and then set back.
 pub const REPLACED_LETTER: Case<'_> = Case {
     given: PRINTS,
     acts: &[
@@ -175,7 +175,7 @@ const STORES_5: Wanted<'_> = Wanted {
     text: b"",
 };
 
-/// MVI A,5; STA 010AH; LDA 010AH; RET: a byte is replaced that the program has written before it read it.
+/// MVI A,5; STA 010AH; LDA 010AH; RET: a byte is replaced that the program wrote before it read it.
 pub const BYTE_WRITTEN_BEFORE: Case<'_> = Case {
     given: Given {
         program: b"\x3e\x05\x32\x0a\x01\x3a\x0a\x01\xc9\x00\x77",
@@ -204,7 +204,7 @@ const HALTS: Wanted<'_> = Wanted {
     text: b"",
 };
 
-/// MVI A,76H; STA 0106H: HLT is stored over a NOP. What stood there in the program is never looked at.
+/// MVI A,76H; STA 0106H: HLT is stored over a NOP. The byte that the program had there is never looked at.
 pub const HALT_WRITTEN: Case<'_> = Case {
     given: Given {
         program: b"\x3e\x76\x32\x06\x01\x00\x00",
@@ -293,7 +293,7 @@ const SAYS_AC: Wanted<'_> = Wanted {
     ..SAYS_AB
 };
 
-/// MVI E,'a'; MVI C,2; CALL 5; MVI E,'b'; CALL 5; RET: a limit between both letters, and another second one.
+/// MVI E,'a'; MVI C,2; CALL 5; MVI E,'b'; CALL 5; RET: a limit between both letters, and another second letter.
 pub const TWO_LETTERS: Case<'_> = Case {
     given: Given {
         program: b"\x1ea\x0e\x02\xcd\x05\x00\x1eb\xcd\x05\x00\xc9",
@@ -345,7 +345,7 @@ pub const SUBTRACTION: Case<'_> = Case {
     ],
 };
 
-/// MVI A,9BH; DAA; RET: DAA of 9BH gives 01H and sets AC and CY.
+/// MVI A,9BH; DAA; RET: DAA of 9BH returns 01H and sets AC and CY.
 pub const ADJUSTMENT: Case<'_> = Case {
     given: Given {
         program: &[0x3e, 0x9b, 0x27, 0xc9],
@@ -373,7 +373,7 @@ pub const ADJUSTMENT: Case<'_> = Case {
     ],
 };
 
-/// A byte that stands for no instruction.
+/// A byte that is no instruction.
 pub const NO_OPCODE: Case<'_> = Case {
     given: Given {
         program: &[0x08],

@@ -2,14 +2,14 @@
 
 use std::alloc::AllocError;
 
-/// What is not as it is wanted.
+/// What differs from the expected result.
 #[derive(Clone, Copy, PartialEq, Eq, Debug)]
 pub enum Difference {
-    /// A run carried out more steps than it should, or fewer.
+    /// A run executed more or fewer steps than expected.
     Count,
     /// A run ended by another cause.
     Cause,
-    /// A run ended after other steps.
+    /// A run ended after another number of steps.
     Steps,
     /// A run ended with other registers.
     Registers,
@@ -17,9 +17,9 @@ pub enum Difference {
     Text,
     /// A run left other cells or files.
     Left,
-    /// An edit was answered otherwise.
+    /// An edit had another result.
     Answer,
-    /// Other checkpoints stand.
+    /// Other checkpoints are kept.
     Checkpoints,
     /// It is another session.
     Session,
@@ -28,15 +28,15 @@ pub enum Difference {
 /// Why a session is given up.
 #[derive(Clone, Copy, PartialEq, Eq, Debug)]
 pub enum Trouble {
-    /// Memory was refused.
+    /// An allocation failed.
     OutOfMemory,
     /// A name, a host file, a session or its options are refused.
     Refused,
-    /// A host file that was refused for want of memory is there.
+    /// A host file is there although memory for it ran out.
     RefusedFileThere,
-    /// The case and its act, each counted from 0, and what is not as it is wanted then.
+    /// The number of the case and of its act, each counted from 0, and what differs after that act.
     Differs(usize, usize, Difference),
-    /// The first act of the case, counted from 0, is no run, though one is to be repeated.
+    /// The first act of the case, counted from 0, is no run, but a run is needed to repeat it.
     NoRunFirst(usize),
 }
 

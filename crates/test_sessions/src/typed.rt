@@ -51,7 +51,7 @@ const TAKES_A: Wanted<'_> = Wanted {
     text: b"a",
 };
 
-/// A byte is waited for, and taken once it is there.
+/// The program waits for a byte, and takes it once it is there.
 pub const TYPED_BYTE: Case<'_> = Case {
     given: TAKES,
     acts: &[
@@ -132,7 +132,7 @@ pub const STATUS: Case<'_> = Case {
     ],
 };
 
-/// LXI D,0109H; MVI C,10; CALL 5; RET: takes a line into 0109H and on, of at most two bytes.
+/// LXI D,0109H; MVI C,10; CALL 5; RET: takes a line of at most two bytes into 0109H and on.
 pub const TAKES_LINE: Given<'_> = Given {
     program: &[0x11, 0x09, 0x01, 0x0e, 0x0a, 0xcd, 0x05, 0x00, 0xc9, 0x02],
     ..EMPTY
@@ -146,7 +146,7 @@ pub const LINE_TAKEN: Regs = Regs {
     ..RETURNED
 };
 
-/// The registers where no whole line is there.
+/// The registers if no whole line is there.
 pub const LINE_WAITED_FOR: Regs = Regs {
     sp: 0xfdfc,
     pc: 0xfe06,
@@ -160,7 +160,7 @@ const TAKES_AB: Wanted<'_> = Wanted {
     text: b"ab",
 };
 
-/// A line is taken as far as it fits. What is behind it is looked at by nothing.
+/// A line is taken as far as it fits. No look reads what follows it.
 pub const TYPED_LINE: Case<'_> = Case {
     given: Given {
         script: b"abc",

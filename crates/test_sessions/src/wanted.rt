@@ -26,18 +26,18 @@ pub const LOADED: Regs = Regs {
     flags: NO_FLAGS,
 };
 
-/// The registers after a return that led to the warm start, where nothing else changed them.
+/// The registers after a return to the warm start, if nothing else changed them.
 pub const RETURNED: Regs = Regs {
     sp: 0xfe00,
     pc: 0xff03,
     ..LOADED
 };
 
-/// How a run ends.
+/// The expected end of a run.
 #[derive(Clone, Copy)]
 pub struct Wanted<'a> {
     pub cause: Cause,
-    /// The steps from the loaded state on, whether they were carried out anew or not.
+    /// The number of steps from the loaded state on, executed by this run or by an earlier one.
     pub steps: u64,
     pub regs: Regs,
     /// All that was printed.

@@ -1,4 +1,4 @@
-//! Sessions that are worked out by hand from the two manuals and this project's profile of them.
+//! Sessions worked out by hand from the two manuals and this project's profile of them.
 
 pub use crate::filed::{CALLED, LONGEST_FILE, OPENED_FILE, OPENS, RENAMED_FILE};
 pub use crate::runs::{

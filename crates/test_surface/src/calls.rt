@@ -5,7 +5,7 @@ use cpmfiles::Table;
 use i8080::{Bus, Regs};
 use std::alloc::{AllocError, Global};
 
-/// Calls all of a desk once.
+/// Calls each function of a desk once.
 pub fn desk(alloc: Global) -> Result<Spot, AllocError> {
     let desk: Desk = Desk::new(alloc);
     let mut copy: Desk = desk.snapshot()?;
@@ -14,7 +14,7 @@ pub fn desk(alloc: Global) -> Result<Spot, AllocError> {
     copy.spot().snapshot()
 }
 
-/// Makes a call, and tells the number of the cause of a stop.
+/// Makes a call, and returns the number of the cause of a stop.
 pub fn make_call<B: Bus>(
     regs: &mut Regs,
     bus: &mut B,
@@ -28,7 +28,7 @@ pub fn make_call<B: Bus>(
     }
 }
 
-// Every cause.
+// Returns a number for each cause.
 fn number_of(cause: Cause) -> u8 {
     match cause {
         Cause::WarmBoot => 1,

@@ -3,7 +3,7 @@
 use cpmfiles::{Ask, Changes, Fcb, FilesError, HostFiles, Journal, Key, Name, NameError, Table};
 use std::alloc::{AllocError, Global};
 
-/// Calls all of a name and of a control block once.
+/// Calls each function of a name and of a control block once.
 pub fn names(text: &str, bytes: &[u8; 36]) -> Result<Option<Name>, NameError> {
     let name: Name = Name::parse(text)?;
     let key: Key = name.key();
@@ -16,7 +16,7 @@ pub fn names(text: &str, bytes: &[u8; 36]) -> Result<Option<Name>, NameError> {
     Ok(Name::from_key(&key))
 }
 
-/// Calls all of host files once.
+/// Calls each function of host files once.
 pub fn host_files(alloc: Global, name: Name, bytes: &[u8]) -> Result<bool, FilesError> {
     let mut files: HostFiles = HostFiles::new(alloc);
     files.set(name, bytes)?;
@@ -30,7 +30,7 @@ pub fn host_files(alloc: Global, name: Name, bytes: &[u8]) -> Result<bool, Files
     Ok(files.remove(&name))
 }
 
-/// Calls all of a table once.
+/// Calls each function of a table once.
 pub fn table(table: &mut Table<'_>, key: &Key, bytes: &mut [u8; 128]) -> Result<(), AllocError> {
     let _has: bool = table.has(key)?;
     let _count: Option<u32> = table.records(key)?;
@@ -45,7 +45,7 @@ pub fn table(table: &mut Table<'_>, key: &Key, bytes: &mut [u8; 128]) -> Result<
     Ok(())
 }
 
-/// Calls all of changes once.
+/// Calls each function of changes once.
 pub fn changes(alloc: Global, key: Key) -> Result<Journal, AllocError> {
     let host = HostFiles::new(alloc);
     let mut changes: Changes = Changes::new(alloc);

@@ -1,4 +1,4 @@
-//! Every public call with its arguments and its result, so that one that is missing or has another form does not compile.
+//! Every public call with its arguments and its result, so that a call that is missing or has another form does not compile.
 //!
 //! - `processor`, `memory`: `i8080`; `pagemem`
 //! - `files`, `calls`: `cpmfiles`; `bdos`

@@ -6,7 +6,7 @@ use i8080::Bus;
 use pagemem::{Cells, Image, Overlay, PlainMemory, View};
 use std::alloc::{AllocError, Global};
 
-/// Calls all of an overlay and its view once.
+/// Calls each function of an overlay and its view once.
 pub fn overlay(alloc: Global, page_zero: &[u8; 256], program: &[u8]) -> Result<(), AllocError>
     requires { length program.now ≤ 64512 }
 {

@@ -3,7 +3,7 @@
 use i8080::{Bus, Did, Flags, Op, Regs, decode, execute};
 use std::alloc::AllocError;
 
-/// Calls all of the processor once, over any memory.
+/// Calls each function of the processor once, over any memory.
 pub fn processor<B: Bus>(regs: &mut Regs, bus: &mut B, value: u8) -> Result<(), AllocError> {
     let flags: Flags = Flags::from_byte(value);
     let _byte: u8 = flags.byte();

@@ -28,7 +28,7 @@ pub fn lines<R: Reader, W: Writer>(
     Ok(lines)
 }
 
-/// A reader or writer over one of the standard library.
+/// Wraps a reader or writer of the standard library.
 pub fn over<T>(inner: T) -> Over<T> {
     Over::new(inner)
 }

@@ -18,7 +18,7 @@ pub fn session(alloc: Global, program: Vec<u8>) -> Result<Session, SessionError>
     )
 }
 
-/// Loads a state, and takes a step of it.
+/// Loads a state, and executes a step.
 pub fn steps(alloc: Global, session: &Session) -> Result<Option<Cause>, AllocError> {
     let mut meter: Meter = Meter::new();
     meter.tick();
@@ -46,7 +46,7 @@ pub fn runner(alloc: Global, session: Session) -> Result<Runner, OptionsError> {
     )
 }
 
-/// Every edit of the script.
+/// Makes every edit of the script.
 pub fn script_edits(
     runner: &mut Runner,
     inserted: Bytes,
@@ -57,7 +57,7 @@ pub fn script_edits(
     runner.edit(Edit::Remove(0, 0))
 }
 
-/// Every other edit.
+/// Makes every other edit.
 pub fn other_edits(
     runner: &mut Runner,
     name: Name,

@@ -1,4 +1,4 @@
-// Help, the version, and faults of use.
+// Help, the version, and usage errors.
 
 use crate::fixtures::Wanted::{self, Refused, Told};
 use crate::fixtures::{Row, come_to};

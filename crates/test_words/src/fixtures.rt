@@ -1,41 +1,41 @@
-// What words as a caller hands them in come to.
+// The results of words that a caller gives.
 
 use command_words::{Outcome, Words, outcome_of, read_words};
 use std::alloc::{AllocError, Global};
 use std::process::Abort;
 use std::test::Fail;
 
-/// What words are read as: the fields of `Words`.
+/// The result of reading words: the fields of `Words`.
 #[derive(Clone, Copy)]
 pub struct Fields<'a> {
     pub program: &'a str,
     pub tail: &'a str,
-    /// Of the drives A to D.
+    /// For the drives A to D.
     pub files: &'a [Option<&'a str>],
     pub console: Option<&'a str>,
     pub limit: u64,
-    /// Of the drives A to D.
+    /// For the drives A to D.
     pub out: &'a [Option<&'a str>],
     pub edits: Option<&'a str>,
     pub spacing: u64,
     pub slots: usize,
 }
 
-/// What is wanted of words.
+/// The expected result of words.
 #[derive(Clone, Copy)]
 pub enum Wanted<'a> {
-    /// They are read so.
+    /// Words that are read, with these values.
     Read(&'a Fields<'a>),
-    /// They are not read. What their error comes to, and parts of its text.
+    /// Words that are not read, with the meaning of their error, and parts of its text.
     Refused(Outcome, &'a [&'a str]),
-    /// They are not read. What their error comes to, and its text.
+    /// Words that are not read, with the meaning of their error, and its whole text.
     Told(Outcome, &'a str),
 }
 
-/// Words, and what is wanted of them.
+/// Words, and the expected result.
 pub type Row<'a> = (&'a [&'a str], Wanted<'a>);
 
-/// What the word `p.com` alone is read as.
+/// The values of the word `p.com` alone.
 pub const PROGRAM: Fields<'_> = Fields {
     program: "p.com",
     tail: "",
@@ -48,7 +48,7 @@ pub const PROGRAM: Fields<'_> = Fields {
     slots: 64,
 };
 
-// Words that own their texts.
+// Returns words that own their texts.
 fn owned(alloc: Global, words: &[&str]) -> Result<Vec<String>, AllocError> {
     let mut list = Vec::new(alloc);
     for word in words {
@@ -130,7 +130,7 @@ fn compare(
     Ok(())
 }
 
-/// The words of each row come to what is wanted of them.
+/// Checks that the words of each row have the expected result.
 pub fn come_to(rt: &impl Abort, alloc: Global, rows: &[Row<'_>]) -> Result<(), Fail> {
     for row in rows {
         let list = owned(alloc, row.0)?;

@@ -1,8 +1,7 @@
 //! The tests of the words of the command line.
 //!
-//! - `options`, `numbers`, `faults`: tests of each option, of numbers at the ends of their ranges, of help and of
-//!   faults of use
-//! - `fixtures`: what words come to, as a caller hands them in
+//! - `options`, `numbers`, `faults`: tests of each option, of numbers at the ends of their ranges, of help and of usage errors
+//! - `fixtures`: the results of words that a caller gives
 #![tactic(auto)]
 
 #[cfg(test)]

@@ -1,4 +1,4 @@
-// Each option, and what stands in its place.
+// Each option, and its default.
 
 use crate::fixtures::Wanted::Read;
 use crate::fixtures::{Fields, PROGRAM, Row, come_to};

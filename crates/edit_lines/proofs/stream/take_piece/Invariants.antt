@@ -6,7 +6,7 @@ use Rattle.edit_lines.specs.Effects.{EffectsSoFar}
 use Rattle.edit_lines.specs.Progress.{StandsAt}
 use Rattle.edit_lines.proofs.stream.take_piece.Given as goal
 
--- some first bytes of the piece were taken, and the others are left
+-- Some first bytes of the piece were taken, and the others are left.
 abbrev pub invariant-loop-at : goal.invariant-loop-at
 invariant-loop-at g l = record {
   taken : List ℕ;

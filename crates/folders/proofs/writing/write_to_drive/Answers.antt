@@ -8,7 +8,7 @@ use Rattle.folders.specs.Faults.{FailsBy, Unwritten}
 use Rattle.folders.specs.Folders.{FailsToWrite, folder_of}
 use Rattle.folders.proofs.writing.write_to_drive.Goals as goal
 
--- the file is not written into the folder of its drive
+-- The file is not written into the folder of its drive.
 fails_there : (folders : List (Option (Bor (List ℕ)))) (name : Key) (folder : List ℕ) (r : Result (Unit {0}) Failure) → folder_of folders (slice_index name 0) ≡ Some folder
     → IfErr r (FailsBy (Unwritten (path_text folder (file_text name)))) → IfErr r (FailsToWrite folders name)
 fails_there folders name folder (Ok u) there h = tt

@@ -5,12 +5,12 @@ use Rattle.replay.specs.Report.{run_of, session_of}
 use Rattle.one_run.proofs.Walking.{WritesOn}
 use Rattle.one_run.proofs.raw_run.write_changed.Given as goal
 
--- some first files were written, and those of the names above the last one are left
+-- Some first files were written, and the files with names above the last one are left.
 abbrev pub invariant-loop-name : goal.invariant-loop-name
 invariant-loop-name g l =
     (g.S.FileSystem.failures l.system ≡ g.S.FileSystem.failures l.initial.system)
     × WritesOn l.folders (session_of l.report).files (run_of l.report).machine.files (g.S.FileSystem.files l.initial.system) l.after (g.S.FileSystem.files l.system)
 
--- the changed names above the last one are left
+-- The changed names above the last one are left.
 abbrev pub decreases-loop-name : goal.decreases-loop-name
 decreases-loop-name g l = length (keys_above (changed_in (session_of l.report).files (run_of l.report).machine.files) l.after)

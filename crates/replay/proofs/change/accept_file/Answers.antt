@@ -10,7 +10,7 @@ use Rattle.replay.specs.Edits.{with_host_file, with_set_file}
 use Rattle.replay.specs.EditAnswers.{Refuses}
 use Rattle.replay.proofs.change.accept_file.Goals as goal
 
--- the edit can be carried out: the file is not too long, and there is room for it
+-- The edit is accepted: the file is not too long, and there is room for it.
 pub returns-in_err-file-clause-refused : goal.returns-in_err-file-clause-refused
 returns-in_err-file-clause-refused c =
     let s = c.args.session.now in

@@ -95,7 +95,7 @@ returns-in_err-from-clause-adds c =
       spacing = refl;
     })
 
--- what the count of refusals was before does not matter
+-- The earlier count of refusals does not matter.
 anew : (old : Checkpoints) (notes : RunNotes) (new : Checkpoints) (from upto : ℕ) → AddsDue (record old { notes = notes }) new from upto → AddsDue old new from upto
 anew old notes new from upto h = record { adds = h.adds; counted = h.counted; capacity = h.capacity; spacing = h.spacing }
 

@@ -6,7 +6,7 @@ use Rattle.hostfiles.proofs.ChangedWalk.{keys_above}
 use Rattle.report_lines.proofs.WrittenPieces.{all_parts, own_line}
 use Rattle.report_lines.proofs.changed_lines.write_changed_files.Given as goal
 
--- some first lines were written, and those of the names above the last one are left
+-- Some first lines are written, and the names above the last one are left.
 abbrev pub invariant-loop-name : goal.invariant-loop-name
 invariant-loop-name g l = record {
   text : List ℕ;

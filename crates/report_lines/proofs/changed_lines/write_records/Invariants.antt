@@ -6,7 +6,7 @@ use Rattle.hostfiles.specs.Files.{told}
 use Rattle.hostfiles.specs.Seen.{own_of}
 use Rattle.report_lines.proofs.changed_lines.write_records.Given as goal
 
--- of the first records some first bytes were written, and the others stand in the block
+-- Some first bytes of the first records are written, and their other bytes are in the block.
 abbrev pub invariant-loop-place : goal.invariant-loop-place
 invariant-loop-place g l = record {
   first : List ℕ;

@@ -3,7 +3,7 @@ use Rattle.hex.specs.Hex.{encode_with, upper_digits}
 use Rattle.report_lines.specs.FirstLines.{byte_text}
 use Rattle.report_lines.proofs.first_lines.push_byte.Goals as goal
 
--- the two digits of a byte
+-- The two digits of a byte.
 two_digits : (b high low : ℕ) → high ≡ slice_index upper_digits (b / 16) → low ≡ slice_index upper_digits (b % 16)
     → high ∷ low ∷ [] ≡ byte_text b
 unfolding encode_with

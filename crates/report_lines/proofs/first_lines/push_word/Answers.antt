@@ -3,7 +3,7 @@ use Rattle.hex.specs.Hex.{encode_with}
 use Rattle.report_lines.specs.FirstLines.{byte_text, word_text}
 use Rattle.report_lines.proofs.first_lines.push_word.Goals as goal
 
--- the four digits of a word
+-- The four digits of a word.
 four_digits : (w : ℕ) → byte_text (w / 256) ++ byte_text (w % 256) ≡ word_text w
 unfolding encode_with
 four_digits w = refl

@@ -4,11 +4,11 @@ use Rattle.hex.specs.Hex.{encode_lower}
 use Rattle.report_lines.proofs.WrittenPieces.{all_then, part_then, part_more, writes_part, writes_same, encode-append, no_bytes}
 use Rattle.report_lines.proofs.hex_writer.write_hex.Goals as goal
 
--- the digits of three parts
+-- The digits of three parts.
 three_parts : (x y z : List ℕ) → (encode_lower x ++ encode_lower y) ++ encode_lower z ≡ encode_lower ((x ++ y) ++ z)
 three_parts x y z = ap (λ (t : List ℕ). t ++ encode_lower z) (sym (encode-append x y)) ∙ sym (encode-append (x ++ y) z)
 
--- the first part of what is left goes to the parts before it
+-- The first part of the rest joins the parts before it.
 joined : (x y z rest all : List ℕ) → rest ≡ y ++ z → x ++ rest ≡ all → (x ++ y) ++ z ≡ all
 joined x y z rest all cut whole = append_assoc x y z ∙ ap (λ (t : List ℕ). x ++ t) (sym cut) ∙ whole
 

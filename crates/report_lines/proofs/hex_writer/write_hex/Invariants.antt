@@ -3,7 +3,7 @@ use Rattle.std.specs.Io.KnownBytes.{Appends}
 use Rattle.hex.specs.Hex.{encode_lower}
 use Rattle.report_lines.proofs.hex_writer.write_hex.Given as goal
 
--- some first bytes were written, and the others are left
+-- Some first bytes are written, and the others are left.
 abbrev pub invariant-loop-rest : goal.invariant-loop-rest
 invariant-loop-rest g l = record {
   first : List ℕ;
