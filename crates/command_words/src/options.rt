@@ -6,21 +6,21 @@ use clap::{Arg, Command, value_parser};
 use std::alloc::{AllocError, Global};
 
 /// The version that `--version` prints.
-const VERSION: &str = "0.1.0";
+const VERSION: &str = "1.0.0";
 
-const ABOUT: &str = "Runs a program of CP/M 2.2, or replays edits of its session.";
+const ABOUT: &str = "Runs a CP/M 2.2 program, or replays edit lines over its session.";
 
 const AFTER_HELP: &str = "\
 Example:
   cpmrun hello.com \"note.txt\" --files disk --out changed
-      runs hello.com with the tail note.txt over the files in the folder disk, and writes the
-      files that it changed into the folder changed
+      runs hello.com with the tail note.txt and the host files in the folder disk, and writes
+      the changed files to the folder changed
 
-Quote a TAIL of several words: 'a.txt b.txt'. One that begins with '-' comes last, after '--'.
+Quote a TAIL of several words: 'a.txt b.txt'. Put a TAIL that begins with '-' last, after '--'.
 
 Exit status:
-  0   the program came to the warm start, the edits were replayed, or help was asked for
-  1   a fault of use, of a device or of the host files, or a session that is refused
+  0   the program stopped by WarmBoot, the edit lines were replayed, or help was printed
+  1   usage error, I/O error, invalid host files, or a limit exceeded
   2   an edit line is malformed or too long
   3   the program stopped by Limit
   4   by Halt
@@ -30,10 +30,10 @@ Exit status:
   8   by NoDollar
   9   by Unsupported
   10  by BadDrive
-  12  memory was refused
+  12  out of memory
 
-The manual has each message, edit line and reply, and what the number of a refusal means: docs/MANUAL.md,
-or, where the program is installed, share/doc/cpmrun/MANUAL.md.";
+The manual has every message, edit line and reply, and the meaning of each refusal's number: docs/MANUAL.md,
+or share/doc/cpmrun/MANUAL.md of an installed program.";
 
 /// An option whose value is a path, with the name of the value and the help text.
 struct PathOption<'a> {
@@ -47,52 +47,52 @@ const PATHS: &[PathOption<'_>] = &[
     PathOption {
         name: "files",
         value: "DIR",
-        help: "The folder of the files of drive A [default: no files]",
+        help: "Directory with the host files of drive A [default: no files]",
     },
     PathOption {
         name: "files-b",
         value: "DIR",
-        help: "The same of drive B",
+        help: "The same for drive B",
     },
     PathOption {
         name: "files-c",
         value: "DIR",
-        help: "The same of drive C",
+        help: "The same for drive C",
     },
     PathOption {
         name: "files-d",
         value: "DIR",
-        help: "The same of drive D",
+        help: "The same for drive D",
     },
     PathOption {
         name: "console",
         value: "FILE",
-        help: "What is typed at the console, at most 1,048,576 bytes [default: nothing]",
+        help: "The console input, at most 1,048,576 bytes [default: empty]",
     },
     PathOption {
         name: "edits",
         value: "FILE",
-        help: "The edit lines to be replayed, each answered on standard output [default: the session is run once]",
+        help: "The edit lines to replay, each answered on standard output [default: one run]",
     },
     PathOption {
         name: "out",
         value: "DIR",
-        help: "The folder that changed files of drive A are written to; of no effect with --edits [default: they are not written]",
+        help: "Directory for the changed files of drive A (ignored with --edits) [default: not written]",
     },
     PathOption {
         name: "out-b",
         value: "DIR",
-        help: "The same of drive B",
+        help: "The same for drive B",
     },
     PathOption {
         name: "out-c",
         value: "DIR",
-        help: "The same of drive C",
+        help: "The same for drive C",
     },
     PathOption {
         name: "out-d",
         value: "DIR",
-        help: "The same of drive D",
+        help: "The same for drive D",
     },
 ];
 
@@ -130,10 +130,10 @@ fn with_places<'a>(alloc: Global, command: Command<'a>) -> Result<Command<'a>, A
         .arg(
             Arg::new(alloc, "PROGRAM")
                 .required(true)
-                .help("The .COM file to be run, of at most 64,512 bytes"),
+                .help("The .COM file to run, at most 64,512 bytes"),
         )?
         .arg(Arg::new(alloc, "TAIL").help(
-            "The command tail, as typed after the program's name: one word, which may hold blanks, of at most 126 bytes [default: none]",
+            "The command tail: one word of at most 126 bytes, which may contain blanks [default: empty]",
         ))
 }
 
@@ -167,7 +167,7 @@ fn spacing_option<'a>(alloc: Global) -> Arg<'a>
 {
     number_argument(alloc, "spacing", "10000")
         .value_parser(value_parser!(u64).range(1..=1_000_000_000))
-        .help("The steps from one checkpoint to the next, 1 to 1,000,000,000")
+        .help("The steps between checkpoints, 1 to 1,000,000,000")
 }
 
 /// Returns the option for the largest number of checkpoints.
@@ -177,7 +177,7 @@ fn slots_option<'a>(alloc: Global) -> Arg<'a>
 {
     number_argument(alloc, "slots", "64")
         .value_parser(value_parser!(u64).range(1..=4096))
-        .help("The most checkpoints that are kept, 1 to 4,096")
+        .help("The most checkpoints, 1 to 4,096")
 }
 
 /// Adds the options whose values are numbers to a command.

@@ -4,13 +4,13 @@
 //! for each run: the text, the cause of the stop, the number of steps, and how many of them the run executed. The second run
 //! resumes from the last checkpoint before the step that takes the byte.
 //!
-//! - `asking`: a session and its runner, a run, and an edit
+//! - `session`: a session and its runner, a run, and an edit
 #![tactic(auto)]
 
-mod asking;
+mod session;
 
-use asking::{Trouble, replace_typed, run, runner_of};
 use machine::Meter;
+use session::{Error, replace_script, run, runner_of};
 use std::process::ExitCode;
 
 /// `MVI B,250`; `DCR B`; `JNZ 0102H`; call 1, which takes a byte and prints it; call 2, which prints the byte in E; `RET`.
@@ -19,12 +19,12 @@ const PROGRAM: &[u8] = &[
     0x00, 0xc9,
 ];
 
-fn answer(rt: &(impl Print + AllocGlobal)) -> Result<(), Trouble> {
+fn answer(rt: &(impl Print + AllocGlobal)) -> Result<(), Error> {
     let alloc = rt.alloc();
     let mut runner = runner_of(alloc, PROGRAM, b"H")?;
     let mut meter = Meter::new();
     run(rt, &mut runner, &mut meter)?;
-    replace_typed(alloc, &mut runner, 0, b"I")?;
+    replace_script(alloc, &mut runner, 0, b"I")?;
     run(rt, &mut runner, &mut meter)
 }
 

@@ -1,4 +1,4 @@
-//! Runs a program of CP/M 2.2, or replays edits of its session.
+//! Runs a CP/M 2.2 program, or replays edit lines over its session.
 #![tactic(auto)]
 
 use cpmrun::{Fault, Over, SystemFiles, command, complain};

@@ -7,13 +7,13 @@ use std::test::Fail;
 
 const HELP: &[&str] = &[
     "\n\nUsage: cpmrun [OPTIONS] <PROGRAM> [TAIL]\n\n",
-    "12  memory was refused\n",
+    "12  out of memory\n",
 ];
 
 const INFORMED: &[Act<'_>] = &[
     Ask(&["--help"], Parts(0, HELP, &[])),
     Ask(&["-h"], Parts(0, HELP, &[])),
-    Ask(&["--version"], Answer(0, "cpmrun 0.1.0\n", "")),
+    Ask(&["--version"], Answer(0, "cpmrun 1.0.0\n", "")),
 ];
 
 #[test]

@@ -37,7 +37,7 @@ const HELP: Wanted<'_> = Refused(
         "1 to 1,000,000,000 [default: 10000]",
         "1 to 4,096 [default: 64]",
         "Exit status:",
-        "12  memory was refused",
+        "12  out of memory",
     ],
 );
 
@@ -48,7 +48,7 @@ fn help_names_each_option_and_status(rt: HostRuntime) -> Result<(), Fail> {
     come_to(&rt, rt.alloc(), HELPED)
 }
 
-const VERSION: &[Row<'_>] = &[(&["--version"], Told(Outcome::Information, "cpmrun 0.1.0\n"))];
+const VERSION: &[Row<'_>] = &[(&["--version"], Told(Outcome::Information, "cpmrun 1.0.0\n"))];
 
 #[test]
 fn the_version_is_told(rt: HostRuntime) -> Result<(), Fail> {

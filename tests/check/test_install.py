@@ -1,15 +1,13 @@
-#!/usr/bin/env python3
-"""Tests `make install`, `make uninstall` and `make dist`, the completion for bash, and the man page: `install PROGRAM`."""
+"""Tests `make install`, `make uninstall` and `make dist`, the completion for bash, and the man page."""
 import os
 import re
 import subprocess
-import sys
 import tempfile
 import unittest
 from pathlib import Path
 
-TOP = Path(__file__).resolve().parents[2]
-PROGRAM = Path(sys.argv.pop(1)).resolve()
+from helpers import PROGRAM, TOP
+
 HELP = subprocess.check_output([PROGRAM, '--help'], text=True)
 
 
@@ -90,5 +88,3 @@ class Install(unittest.TestCase):
         version = subprocess.check_output([PROGRAM, '--version'], text=True).strip()
         self.assertIn(f'.TH CPMRUN 1 "" "{version}"', (TOP / 'docs/cpmrun.1').read_text())
 
-
-unittest.main()

@@ -9,7 +9,7 @@ use std::io;
 
 /// Why the program ends early.
 #[derive(Drop)]
-pub enum Trouble {
+pub enum Error {
     /// An allocation failed.
     OutOfMemory,
     /// The session is refused.
@@ -24,44 +24,44 @@ pub enum Trouble {
     Text,
 }
 
-impl From<AllocError> for Trouble {
-    fn from(_error: AllocError) -> Trouble {
-        Trouble::OutOfMemory
+impl From<AllocError> for Error {
+    fn from(_: AllocError) -> Error {
+        Error::OutOfMemory
     }
 }
 
-impl From<SessionError> for Trouble {
-    fn from(error: SessionError) -> Trouble {
-        Trouble::Session(error)
+impl From<SessionError> for Error {
+    fn from(error: SessionError) -> Error {
+        Error::Session(error)
     }
 }
 
-impl From<OptionsError> for Trouble {
-    fn from(error: OptionsError) -> Trouble {
-        Trouble::Options(error)
+impl From<OptionsError> for Error {
+    fn from(error: OptionsError) -> Error {
+        Error::Options(error)
     }
 }
 
-impl From<EditError> for Trouble {
-    fn from(error: EditError) -> Trouble {
-        Trouble::Edit(error)
+impl From<EditError> for Error {
+    fn from(error: EditError) -> Error {
+        Error::Edit(error)
     }
 }
 
-impl From<io::Error> for Trouble {
-    fn from(_error: io::Error) -> Trouble {
-        Trouble::Output
+impl From<io::Error> for Error {
+    fn from(_: io::Error) -> Error {
+        Error::Output
     }
 }
 
-/// Returns a runner for a program with no tail and no files, and with `typed` as its script. A run makes a checkpoint every 100
+/// Returns a runner for a program with no tail and no files, and with this script. A run makes a checkpoint every 100
 /// steps, and the newest eight are kept.
-pub fn runner_of(alloc: Global, program: &[u8], typed: &[u8]) -> Result<Runner, Trouble> {
+pub fn runner_of(alloc: Global, program: &[u8], script: &[u8]) -> Result<Runner, Error> {
     let session = Session::new(
         program.to_vec(alloc)?,
         Vec::new(alloc),
         HostFiles::new(alloc),
-        typed.to_vec(alloc)?,
+        script.to_vec(alloc)?,
         1_000_000,
     )?;
     let options = Options {
@@ -72,29 +72,29 @@ pub fn runner_of(alloc: Global, program: &[u8], typed: &[u8]) -> Result<Runner, 
 }
 
 /// Replaces bytes of the script from an offset on.
-pub fn replace_typed(
+pub fn replace_script(
     alloc: Global,
     runner: &mut Runner,
-    place: u64,
-    typed: &[u8],
-) -> Result<(), Trouble> {
-    let typed = Bytes::new(typed.to_vec(alloc)?);
-    runner.edit(Edit::Replace(place, typed))?;
+    offset: u64,
+    bytes: &[u8],
+) -> Result<(), Error> {
+    let bytes = Bytes::new(bytes.to_vec(alloc)?);
+    runner.edit(Edit::Replace(offset, bytes))?;
     Ok(())
 }
 
 /// Runs the current session and prints the result.
-pub fn run(rt: &impl Print, runner: &mut Runner, meter: &mut Meter) -> Result<(), Trouble>
+pub fn run(rt: &impl Print, runner: &mut Runner, meter: &mut Meter) -> Result<(), Error>
     requires { meter.old ≤ 2 ^ 63 }
     ensures { meter.new ≤ meter.old + STEP_LIMIT }
 {
     let before = meter.count();
     let report = runner.rerun(meter)?;
-    tell(rt, &report, meter.count() - before)
+    print_report(rt, &report, meter.count() - before)
 }
 
 // Prints a report in one line, its text first.
-fn tell(rt: &impl Print, report: &Report<'_>, carried_out: u64) -> Result<(), Trouble> {
+fn print_report(rt: &impl Print, report: &Report<'_>, executed: u64) -> Result<(), Error> {
     let cause = match report.cause() {
         Cause::WarmBoot => "WarmBoot",
         Cause::Limit => "Limit",
@@ -102,8 +102,8 @@ fn tell(rt: &impl Print, report: &Report<'_>, carried_out: u64) -> Result<(), Tr
     };
     let steps = report.steps();
     let Ok(text) = str::from_utf8(report.text()) else {
-        return Err(Trouble::Text);
+        return Err(Error::Text);
     };
-    println!(rt; "{text}: {cause} after {steps} steps, of which {carried_out} were carried out")?;
+    println!(rt; "{text}: {cause} after {steps} steps, {executed} of them executed")?;
     Ok(())
 }

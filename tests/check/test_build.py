@@ -1,4 +1,3 @@
-#!/usr/bin/env python3
 """Has `cpmrun` build a tree of small crates, with a stand-in for rt that sleeps in place of a proof."""
 import os
 import shutil
@@ -9,7 +8,8 @@ import time
 import unittest
 from pathlib import Path
 
-TOP = Path(__file__).resolve().parents[2]
+from helpers import TOP
+
 CRATES = '''# a comment
 ground: std_library
 left: ground
@@ -131,6 +131,3 @@ class Build(unittest.TestCase):
         self.assertEqual(self.end(self.start(), 1), [])
         self.assertEqual(self.errors, 'cpmrun: the command rt of the Rattle kit is not on the PATH (README.md, "What it needs")\n')
 
-
-if __name__ == '__main__':
-    unittest.main()

@@ -1,0 +1,84 @@
+"""What the tests of the built program share. The environment variable PROGRAM names it."""
+import os
+import shutil
+import subprocess
+import tempfile
+import unittest
+from pathlib import Path
+
+TOP = Path(__file__).resolve().parents[2]
+PROGRAM = Path(os.environ.get('PROGRAM', TOP / 'crates/executable/out/executable')).resolve()
+HI = TOP / 'examples/hi/hi.com'
+OUT_OF_MEMORY = 'cpmrun: out of memory\n'
+
+RENAME = bytes.fromhex('0e17 115c00 cd0500 c9')
+"""Renames the first name of its tail to the second: MVI C,23; LXI D,5CH; CALL 5; RET."""
+
+DRIVES = bytes.fromhex('3e01 325c00 115c00 0e13 cd0500 0e16 cd0500 0e15 cd0500 3a5c00 3c fe05 c20201 c9')
+"""On each drive deletes the first name of its tail, makes it, and writes one record after the place where the drive before ended:
+MVI A,1; and then STA 5CH; LXI D,5CH; MVI C,19; CALL 5; MVI C,22; CALL 5; MVI C,21; CALL 5; LDA 5CH; INR A; CPI 5; JNZ to the STA; RET."""
+
+
+def file_of_drive(number: int) -> bytes:
+    """Returns the file that DRIVES makes on drive 1 to 4 if its tail is `x`: records of zeros, and the tail with its length."""
+    return bytes(128 * (number - 1)) + b'\x02 X' + bytes(125)
+
+
+def report_of_hi(text: str) -> str:
+    """Returns the report of hi.com if it prints these bytes, as hexadecimal digits."""
+    return f'stop WarmBoot\nsteps 7\nregs A=00 F=02 B=00 C=09 D=01 E=09 H=00 L=00 SP=FE00 PC=FF03\ntext {text}\nend\n'
+
+
+def words_of_case(case: Path) -> list[str]:
+    """Returns the arguments for a case of tests/programs, which is run in its folder."""
+    name = case.parent.parent.name
+    words = [f'../../{name}.com']
+    words += [(case / 'tail').read_text().removesuffix('\n')] if (case / 'tail').exists() else []
+    words += ['--files', 'files'] if (case / 'files').is_dir() else []
+    words += ['--console', 'console.bin'] if (case / 'console.bin').exists() else []
+    return words + ((case / 'args').read_text().splitlines() if (case / 'args').exists() else [])
+
+
+def build_library(source: str, folder: Path) -> Path:
+    """Compiles tests/lib/SOURCE.c to a library for LD_PRELOAD."""
+    made = folder / f'{source}.so'
+    subprocess.run(['gcc', '-O2', '-shared', '-fPIC', '-o', made, TOP / f'tests/lib/{source}.c'], check=True)
+    return made
+
+
+class ProgramTest(unittest.TestCase):
+    """A test with a folder of its own, `work`. Commands run at the top of the repository."""
+
+    def setUp(self) -> None:
+        self.work = Path(tempfile.mkdtemp())
+        self.addCleanup(self.remove_work)
+        self.work.chmod(0o755)
+
+    def remove_work(self) -> None:
+        for folder, _, _ in os.walk(self.work):
+            os.chmod(folder, 0o755)
+        shutil.rmtree(self.work)
+
+    def put(self, name: str, data: bytes | str) -> Path:
+        """Writes a file below `work`."""
+        path = self.work / name
+        path.write_bytes(data if isinstance(data, bytes) else data.encode())
+        return path
+
+    def run_command(self, *words: object, timeout: float = 120, **how) -> subprocess.CompletedProcess:
+        """Runs a command with nothing on standard input."""
+        how = {'stdin': subprocess.DEVNULL, 'stdout': subprocess.PIPE, 'stderr': subprocess.PIPE, 'cwd': TOP, **how}
+        return subprocess.run([os.fspath(word) if isinstance(word, Path) else word for word in words], timeout=timeout, **how)
+
+    def expect(self, status: int, out: bytes | str, err: bytes | str, *words: object, **how) -> None:
+        """Expects this status, standard output and standard error of the program with these arguments."""
+        self.expect_command(status, out, err, PROGRAM, *words, **how)
+
+    def expect_command(self, status: int, out: bytes | str, err: bytes | str, *words: object, **how) -> None:
+        done = self.run_command(*words, **how)
+        wanted = tuple(text if isinstance(text, bytes) else text.encode() for text in (out, err))
+        self.assertEqual((done.returncode, done.stdout, done.stderr), (status, *wanted), [str(word)[:200] for word in words])
+
+    def expect_names(self, folder: Path, *names: str) -> None:
+        """Expects exactly these names in a folder."""
+        self.assertEqual(sorted(os.listdir(folder)), sorted(names), folder)

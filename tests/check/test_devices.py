@@ -1,0 +1,45 @@
+"""Runs the built program with each of its system calls failing in turn, also when each read and each write moves one byte. It names the file or
+folder that failed, or standard output; its output is a prefix, and each file that it wrote is whole. At the path of a file is the older file,
+if there was one, or the whole new one."""
+from failures import FailureTest, Wanted
+from helpers import PROGRAM, TOP, report_of_hi
+
+GREETING = 'examples/greeting/greeting.com'
+EDITS = 'examples/greeting/edits.txt'
+
+
+class Devices(FailureTest):
+    library = 'fail'
+
+    def each_call_fails(self) -> None:
+        """Tries one run and a replay of the greeting, and a run with files on each drive, with and without older files."""
+        script = self.put('script', 'Ada\r')
+        console = {'fault_status': 1, 'may_pass': False}
+        unread, unwritten = f'cannot read {GREETING}', 'cannot write standard output'
+        one = Wanted(b'Name? Ada\r\nHello, Ada', b'stop WarmBoot\n', messages=(unread, f'cannot read {script}', unwritten), **console)
+        self.each_in_turn(one, GREETING, '--console', script)
+        replay = Wanted((TOP / 'examples/greeting/edits.out').read_bytes(), messages=(unread, f'cannot read {EDITS}', unwritten), **console)
+        self.each_in_turn(replay, GREETING, '--edits', EDITS)
+        words, files = self.drive_words()
+        messages = (f'cannot read {words[0]}', f'cannot read {self.work}/host', f'cannot read {self.work}/host/x',
+                    *(f'cannot write {self.work}/written/{name}' for name in files))
+        for older in None, b'o' * 1000:
+            self.each_in_turn(Wanted(b'', b'stop WarmBoot\n', messages=messages, files=files, older=older, **console), *words)
+
+    def test_each_call_fails(self) -> None:
+        self.environment = {'FAIL_CALLS': 'orwdsn'}
+        self.each_call_fails()
+
+    def test_each_read_or_write_of_one_byte_fails(self) -> None:
+        self.environment = {'FAIL_CALLS': 'rw', 'FAIL_PIECES': '1'}
+        self.each_call_fails()
+
+    def test_edit_lines_are_read_up_to_a_failure(self) -> None:
+        """The program of twelve bytes is read in thirteen calls, and then the edit lines byte by byte."""
+        self.environment = {'FAIL_CALLS': 'r', 'FAIL_PIECES': '1'}
+        edits = self.put('edits', 'run\nlimit 5\n')
+        for length in range(13):
+            out = (report_of_hi('4869') if length >= 4 else '') + ('ok\n' if length >= 12 else '')
+            done = self.run_with_failure(14 + length, PROGRAM, 'examples/hi/hi.com', '--edits', edits)
+            with self.subTest(length=length):
+                self.assertEqual((done.returncode, done.stdout.decode(), done.stderr.decode()), (1, out, f'cpmrun: cannot read {edits}\n'))
