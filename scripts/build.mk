@@ -9,7 +9,7 @@ MAKEFLAGS += --no-builtin-rules --no-print-directory --jobs=$(LANES)
 CRATES := $(notdir $(wildcard crates/*))
 # A build takes as long as its longest chain of crates. These are in no long chain: each gets one job, and the time that is left. Every
 # other crate gets as many jobs as there are lanes.
-SIDE := $(filter records command_words command_tail folders loading report_lines file_steps,$(CRATES))
+SIDE := $(filter records command_words command_tail folders loading report_lines file_steps one_run,$(CRATES))
 
 # how many crates the program needs
 export NEEDED := $(shell tac crates.txt | awk -F '[: ]+' \
@@ -20,6 +20,9 @@ export NEEDED := $(shell tac crates.txt | awk -F '[: ]+' \
 program: $(filter i8080,$(CRATES)) executable
 
 include crates.txt
+
+# These wait until there are idle cores: from here on each crate of the long chain waits for the one before.
+$(filter command_words folders,$(CRATES)): | $(filter bdos,$(CRATES))
 
 $(filter-out $(SIDE),$(CRATES)):
 	@scripts/prove $@ $(LANES) $(filter $(CRATES),$^)

@@ -99,7 +99,7 @@ pub enum Restart {
 
 /// An instruction, by its mnemonic. `Accumulate` is ADD to CMP and ADI to CPI, `Rotate` is RLC to RAR, and `JumpIf`, `CallIf`
 /// and `RetIf` are the conditional forms of JMP, CALL and RET.
-#[derive(Clone, Copy, Debug, PartialEq, Eq)]
+#[derive(Clone, Copy)]
 pub enum Op {
     Nop,
     Hlt,
