@@ -3,7 +3,7 @@
 //! - `runs`, `edits`, `information`: tests of one run, of edit lines over files, of help and of usage errors
 //! - `steps`: tests of how many steps the replies to edit lines take, by the options
 //! - `messages`: tests of the message of each error
-//! - `loading`, `devices`: tests of files that are not read, in the order in which they are reported; of outputs that fail
+//! - `load_errors`, `devices`: tests of files that are not read, in the order in which they are reported; of outputs that fail
 //! - `fixtures`: acts in the folder of a test, and the results of the command there
 #![tactic(auto)]
 
@@ -16,7 +16,7 @@ mod fixtures;
 #[cfg(test)]
 mod information;
 #[cfg(test)]
-mod loading;
+mod load_errors;
 #[cfg(test)]
 mod messages;
 #[cfg(test)]
