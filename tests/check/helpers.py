@@ -1,6 +1,8 @@
 """What the tests of the built program share. The environment variable PROGRAM names it."""
+import contextlib
 import os
 import shutil
+import signal
 import subprocess
 import tempfile
 import unittest
@@ -78,6 +80,26 @@ class ProgramTest(unittest.TestCase):
         done = self.run_command(*words, **how)
         wanted = tuple(text if isinstance(text, bytes) else text.encode() for text in (out, err))
         self.assertEqual((done.returncode, done.stdout, done.stderr), (status, *wanted), [str(word)[:200] for word in words])
+
+    def expect_long(self, status: int, out: bytes | str, err: str, *words: object, **how) -> None:
+        """Expects the same as `expect`, for long output: a failure shows only where it begins to differ."""
+        done = self.run_command(PROGRAM, *words, **how)
+        wanted = out if isinstance(out, bytes) else out.encode()
+        self.assertEqual((done.returncode, done.stderr[:1000].decode()), (status, err), [str(word)[:200] for word in words])
+        if done.stdout != wanted:
+            same = len(os.path.commonprefix([done.stdout, wanted]))
+            self.fail(f'{len(done.stdout)} bytes of output; at {same}: {done.stdout[same:same + 100]!r} != {wanted[same:same + 100]!r}')
+
+    def run_with_children(self, *words: object, timeout: float = 120, **how) -> subprocess.CompletedProcess:
+        """Runs a command with nothing on standard input, and kills what it started and left running."""
+        how = {'stdin': subprocess.DEVNULL, 'stdout': subprocess.PIPE, 'stderr': subprocess.PIPE, 'cwd': TOP, **how}
+        with subprocess.Popen(words, start_new_session=True, **how) as process:
+            try:
+                out, err = process.communicate(timeout=timeout)
+            finally:
+                with contextlib.suppress(ProcessLookupError):
+                    os.killpg(process.pid, signal.SIGKILL)
+        return subprocess.CompletedProcess(words, process.returncode, out, err)
 
     def expect_names(self, folder: Path, *names: str) -> None:
         """Expects exactly these names in a folder."""
