@@ -17,7 +17,7 @@ def without_failures(out: bytes) -> bytes:
 
 def wanted_of_case(case: Path) -> str:
     """Returns the text of a case, its stop and its changed files."""
-    files = sorted((case / 'expect/out').iterdir()) if (case / 'expect/out').is_dir() else []
+    files = sorted((case / 'expect/out').glob('[!.]*'))
     lines = [f'file {path.name} {path.read_bytes().hex() or "-"}\n' for path in files]
     text = (case / 'expect/stdout').read_bytes().decode('latin-1')
     return text + '\n' + (case / 'expect/stderr').read_text() + ''.join(lines) + 'ok\n'
@@ -50,7 +50,7 @@ class Runner(FailureTest):
             tail = (case / 'tail').read_text().removesuffix('\n') if (case / 'tail').exists() else ''
             console = case / 'console.bin'
             words = [case.parent.parent / f'{name}.com', tail, console if console.exists() else '']
-            for path in sorted((case / 'files').iterdir()) if (case / 'files').is_dir() else []:
+            for path in sorted((case / 'files').glob('[!.]*')):
                 words += [path.name, path]
             done = self.run_command(SESSIONS, 'program', *words)
             with self.subTest(case=case):
