@@ -2,7 +2,6 @@
 file. The program compares each answer with the wanted one, also after a failure; its last line is `ok`, or what differs. The environment
 variable SESSIONS names it."""
 import os
-import unittest
 from pathlib import Path
 
 from failures import FailureTest
@@ -60,6 +59,3 @@ class Runner(FailureTest):
         done = self.run_command(SESSIONS, 'copy')
         self.assertEqual((done.returncode, done.stdout.splitlines()[-1:]), (0, [b'ok']), done.stdout)
 
-
-if __name__ == '__main__':
-    unittest.main()
