@@ -50,7 +50,7 @@ class Words(unittest.TestCase):
 
     def test_pages_and_comments_have_plain_words(self) -> None:
         paths = [path for files in FILES for path in TOP.glob(files)]
-        self.assertGreater(len(paths), 1000)
+        self.assertGreater(len(paths), 500)
         for path in paths:
             name = path.relative_to(TOP).as_posix()
             self.check(name, comments(name, path.read_text()))
