@@ -7,10 +7,9 @@ LANES := $(shell cores=$$(nproc) lanes=$$(($(MEMORY) / 5000)); echo $$((lanes < 
 MAKEFLAGS += --no-builtin-rules --no-print-directory --jobs=$(LANES)
 
 CRATES := $(notdir $(wildcard crates/*))
-# A build takes as long as its longest chain of crates, whose proofs go first, with as many jobs as there are lanes. The processor comes
-# next. All others are needed later: each gets one job, and the time that is left.
-CHAIN := $(filter filenames keymaps records directory hostfiles cpmfiles file_calls bdos machine replay edit_lines cpmrun executable,$(CRATES))
-PROCESSOR := $(filter i8080 console_calls,$(CRATES))
+# A build takes as long as its longest chain of crates. These are in no long chain: each gets one job, and the time that is left. Every
+# other crate gets as many jobs as there are lanes.
+SIDE := $(filter records command_words command_tail folders loading report_lines file_steps,$(CRATES))
 
 # how many crates the program needs
 export NEEDED := $(shell tac crates.txt | awk -F '[: ]+' \
@@ -18,21 +17,15 @@ export NEEDED := $(shell tac crates.txt | awk -F '[: ]+' \
 
 .PHONY: program $(CRATES)
 
-program: $(PROCESSOR) executable
+program: $(filter i8080,$(CRATES)) executable
 
 include crates.txt
 
-# These wait until there are idle cores: from here on each crate of the chain waits for the one before.
-$(filter command_words folders,$(CRATES)): | $(filter bdos,$(CRATES))
-
-$(CHAIN):
+$(filter-out $(SIDE),$(CRATES)):
 	@scripts/prove $@ $(LANES) $(filter $(CRATES),$^)
 
-$(PROCESSOR):
-	@nice -n 5 scripts/prove $@ $(LANES) $(filter $(CRATES),$^)
-
-$(filter-out $(CHAIN) $(PROCESSOR),$(CRATES)):
-	@nice -n 10 scripts/prove $@ 1 $(filter $(CRATES),$^)
+$(SIDE):
+	@nice scripts/prove $@ 1 $(filter $(CRATES),$^)
 
 # a library of the kit
 .DEFAULT:

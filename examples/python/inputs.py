@@ -16,7 +16,7 @@ DRIVES = {"A": "files", "B": "files_b", "C": "files_c", "D": "files_d"}
 
 
 class Parser(argparse.ArgumentParser):
-    """Reads the arguments that name a session, and those that a program adds."""
+    """Reads the arguments that name a session, and the ones that a program adds."""
 
     def __init__(self, description: str, epilog: str) -> None:
         super().__init__(description=description, epilog=epilog, allow_abbrev=False)

@@ -52,10 +52,10 @@ class Shrink(CommandCase):
     def test_steps(self) -> None:
         # of `a)`, of nothing, of `a`, of `)`, and of nothing again, by what `nest` says
         steps = (1 + 12 + 14) + (1 + 4) + (1 + 12 + 4) + (1 + 14) + (1 + 4)
-        told = f"1 of 2 bytes left after 5 runs, whose steps are {steps} in cold runs\n"
+        message = f"1 of 2 bytes left after 5 runs, whose steps are {steps} in cold runs\n"
         words = self.typed(b"a)")
-        self.assertEqual(self.outcome(*words, "--cause", "Undefined"), (0, b")", told))
-        self.assertEqual(self.outcome(*words, "--cause", "Undefined ED"), (0, b")", told))
+        self.assertEqual(self.outcome(*words, "--cause", "Undefined"), (0, b")", message))
+        self.assertEqual(self.outcome(*words, "--cause", "Undefined ED"), (0, b")", message))
 
     def test_cause_and_text(self) -> None:
         # no byte but `(` raises the count
@@ -68,9 +68,9 @@ class Shrink(CommandCase):
 
         self.assertEqual(least(typed, halts), b"(((")
         counts = f"{len(tried)} runs, whose steps are {sum(nest(data)[2] for data in tried)}"
-        told = f"3 of {len(typed)} bytes left after {counts} in cold runs\n"
+        message = f"3 of {len(typed)} bytes left after {counts} in cold runs\n"
         words = [*self.typed(typed), "--cause", "Halt"]
-        self.assertEqual(self.outcome(*words), (0, b"(((", told))
+        self.assertEqual(self.outcome(*words), (0, b"(((", message))
         # what is typed is printed, and a `)` that comes first ends the run
         words = self.typed(b"(a)(b)\r")
         self.assertEqual(self.outcome(*words, "--text", ")(")[:2], (0, b"()("))
@@ -79,8 +79,8 @@ class Shrink(CommandCase):
 
     def test_output(self) -> None:
         output = self.room / "least"
-        told = self.outcome(*self.typed(b"a)"), "--cause", "Undefined", "-o", output)
-        self.assertEqual((told[:2], output.read_bytes()), ((0, b""), b")"))
+        message = self.outcome(*self.typed(b"a)"), "--cause", "Undefined", "-o", output)
+        self.assertEqual((message[:2], output.read_bytes()), ((0, b""), b")"))
 
     def test_files(self) -> None:
         program = self.put("scan.com", SCAN_CODE)
