@@ -25,6 +25,10 @@ SCAN_CODE = bytes.fromhex(
 LXI D,5CH; MVI C,15; CALL 5; LXI D,5CH; MVI C,20; CALL 5; LXI H,80H;
 0113: MOV A,M; CPI '#'; JZ 011E; INR L; JNZ 0113; RET; 011E: HLT"""
 
+SIZE_CODE = bytes.fromhex("115C00 0E23 CD0500 3A7D00 B7 C8 76")
+"""Halts if the count of records of the file of its tail is no multiple of 256:
+LXI D,5CH; MVI C,35; CALL 5; LDA 7DH; ORA A; RZ; HLT"""
+
 
 def nest(typed: bytes) -> tuple[str, bytes, int]:
     """Returns the stop cause, the text and the steps of nest.com, worked out from its source.

@@ -8,8 +8,7 @@ import random
 from collections.abc import Iterator
 from pathlib import Path
 
-from cpmrun import Session
-from inputs import Input, Parser, run_main, start
+from inputs import Inputs, Parser, run_main
 
 CHARACTERS = bytes(range(0x20, 0x7F)) + b"\r\x03\x1a"
 """The default alphabet: characters, and the bytes that end a line, a run and a text."""
@@ -37,21 +36,18 @@ class Chance(random.Random):
         return data
 
 
-def explore(session: Session, inputs: list[Input], words: argparse.Namespace,
-            alphabet: bytes) -> Iterator[tuple[int, list[bytes], list[str]]]:
+def explore(inputs: Inputs, words: argparse.Namespace, alphabet: bytes) -> Iterator[tuple[int, list[bytes], list[str]]]:
     """Runs the unchanged inputs, which is try 0, and those of each further try. Yields the number, the inputs and the news of each try
     that is kept."""
     chance = Chance(words.seed)
     seen: set[str] = set()
-    kept = [[each.data for each in inputs]]
+    kept = [inputs.data]
     for number in range(words.tries + 1):
         data = list(kept[chance.below(len(kept))])
         if number > 0:
             index = chance.below(len(data))
             data[index] = chance.edited(data[index], alphabet)
-        for each, content in zip(inputs, data):
-            each.become(content)
-        report = session.run()
+        report = inputs.run(data)
         facts = f"cause {report.cause}", f"text {report.text!r}"
         news = [each for each in facts if each not in seen]
         seen.update(news)
@@ -76,15 +72,13 @@ def main() -> None:
     if words.alphabet == "" or words.tries < 0:
         parser.error("--alphabet must have a byte, and --tries be 0 or more")
     alphabet = CHARACTERS if words.alphabet is None else os.fsencode(words.alphabet)
-    with start(words) as session:
-        inputs = [Input(session, words, name) for name in [None, *words.file]]
-        for number, data, news in explore(session, inputs, words,
-                                          bytes(range(256)) if words.any_byte else alphabet):
+    with Inputs(words, [None, *words.file]) as inputs:
+        for number, data, news in explore(inputs, words, bytes(range(256)) if words.any_byte else alphabet):
             if words.causes and not news[0].startswith("cause"):
                 continue
             print(f"try {number}: new {', '.join(news)}")
-            for each, content in zip(inputs, data):
-                name = each.name or "script"
+            for name, content in zip(inputs.names, data):
+                name = name or "script"
                 print(f"  {name} {content!r}")
                 if words.output is not None:
                     path = Path(words.output, f"{number}-{name.replace(':', '-')}")

@@ -6,11 +6,13 @@ import argparse
 import os
 import shutil
 import sys
+import tempfile
 from collections.abc import Callable
 from pathlib import Path
+from types import TracebackType
 from typing import NoReturn
 
-from cpmrun import Session, SessionError
+from cpmrun import LONGEST_DATA, Report, Session, SessionError
 
 DRIVES = {"A": "files", "B": "files_b", "C": "files_c", "D": "files_d"}
 
@@ -71,34 +73,72 @@ def run_main(main: Callable[[], None]) -> None:
         sys.exit(f"{Path(sys.argv[0]).name}: {' '.join(message.split())}")
 
 
-class Input:
-    """The script of a session, or the host file of a name; `data` has its bytes."""
+class Inputs:
+    """A session, and the inputs of it that change from run to run: the script, whose name is None, and host files by their names.
 
-    def __init__(self, session: Session, words: argparse.Namespace, name: str | None) -> None:
-        self._session = session
-        self.name = name
-        path = words.console if name is None else _path_of(name, words)
-        self.data = b"" if path is None else Path(path).read_bytes()
+    A host file that is too long for an edit line is written into a copy of its folder, and the session starts again over the copy; such a
+    run is a cold run.
+    """
 
-    def become(self, data: bytes) -> None:
-        """Sets its bytes. Of a script only the part between the unchanged ends is edited, so that no edit affects a step before
-        the first changed byte is read."""
-        if data == self.data:
-            return
-        if self.name is not None:
-            self._session.file(self.name, data)
+    def __init__(self, words: argparse.Namespace, names: list[str | None], **options: int) -> None:
+        """Starts the session that the arguments name; `options` override them."""
+        self._words, self._options = words, options
+        self.names = names
+        self._places = [_place_of(name, words) for name in names]
+        self.data = [b"" if path is None else path.read_bytes() for _, path in self._places]
+        self.session = start(words, **options)
+        self._room = tempfile.TemporaryDirectory()
+
+    def __enter__(self) -> Inputs:
+        return self
+
+    def __exit__(self, kind: type[BaseException] | None, error: BaseException | None, trace: TracebackType | None) -> None:
+        try:
+            self.session.__exit__(kind, error, trace)
+        finally:
+            self._room.cleanup()
+
+    def run(self, data: list[bytes]) -> Report:
+        """Runs the session on these bytes, an item for each input."""
+        changes = [each for each in zip(self.names, self.data, data) if each[1] != each[2]]
+        if any(name is not None and len(new) > LONGEST_DATA for name, _, new in changes):
+            self._start_again(data)
         else:
-            first = common(self.data, data)
-            last = common(self.data[first:][::-1], data[first:][::-1])
-            old, new = len(self.data) - last - first, data[first:len(data) - last]
-            if old == len(new):
-                self._session.replace(first, new)
-            else:
-                if old > 0:
-                    self._session.remove(first, old)
-                if new:
-                    self._session.insert(first, new)
+            for name, old, new in changes:
+                if name is None:
+                    self._edit_script(old, new)
+                else:
+                    self.session.file(name, new)
         self.data = data
+        return self.session.run()
+
+    def _edit_script(self, old: bytes, new: bytes) -> None:
+        """Edits only the part between the unchanged ends of the script, so that no edit affects a step before the first changed byte is
+        read."""
+        first = common(old, new)
+        last = common(old[first:][::-1], new[first:][::-1])
+        removed, added = len(old) - last - first, new[first:len(new) - last]
+        if removed == len(added):
+            self.session.replace(first, added)
+        else:
+            if removed > 0:
+                self.session.remove(first, removed)
+            if added:
+                self.session.insert(first, added)
+
+    def _start_again(self, data: list[bytes]) -> None:
+        """Starts the session again over files that have these bytes."""
+        self.session.close()
+        words = argparse.Namespace(**vars(self._words))
+        for (option, path), content in zip(self._places, data):
+            copy = Path(self._room.name, option)
+            setattr(words, option, copy)
+            if path is not None and option != "console":
+                if not copy.exists():
+                    _copy_files(path.parent, copy)
+                copy /= path.name
+            copy.write_bytes(content)
+        self.session = start(words, **self._options)
 
 
 def common(one: bytes, other: bytes) -> int:
@@ -111,11 +151,23 @@ def common(one: bytes, other: bytes) -> int:
     return low
 
 
-def _path_of(name: str, words: argparse.Namespace) -> Path:
-    """Returns the path of the host file of this name."""
+def _place_of(name: str | None, words: argparse.Namespace) -> tuple[str, Path | None]:
+    """Returns the option that names the script, or the folder of the host file of this name, and the path of the script or the file, or
+    None without a script."""
+    if name is None:
+        return "console", None if words.console is None else Path(words.console)
     drive, _, rest = name.upper().rpartition(":")
-    folder = getattr(words, DRIVES.get(drive or "A", ""), None)
+    option = DRIVES.get(drive or "A", "")
+    folder = getattr(words, option, None)
     for path in Path(folder).iterdir() if folder is not None else ():
         if path.name.upper() == rest:
-            return path
+            return option, path
     raise ValueError(f"the session has no host file {name}")
+
+
+def _copy_files(folder: Path, copy: Path) -> None:
+    """Copies the regular files of a folder into a new one."""
+    copy.mkdir()
+    for path in folder.iterdir():
+        if path.is_file() and not path.is_symlink():
+            shutil.copyfile(path, copy / path.name)

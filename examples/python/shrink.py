@@ -10,7 +10,7 @@ import time
 from collections.abc import Callable
 from dataclasses import dataclass
 
-from inputs import Input, Parser, run_main, start
+from inputs import Inputs, Parser, run_main
 
 MOST_SLOTS = 4096
 
@@ -48,15 +48,14 @@ def least(data: bytes, fails: Callable[[bytes], bool]) -> bytes:
 
 def shrink(words: argparse.Namespace, cold: bool = False) -> Shrunk:
     """Shrinks the input that the arguments name, with checkpoints or in cold runs."""
-    with start(words, **({"spacing": 1_000_000_000, "slots": 1} if cold else {})) as session:
-        tested = Input(session, words, words.file)
-        came = Shrunk(tested.data, len(tested.data))
+    with Inputs(words, [words.file], **({"spacing": 1_000_000_000, "slots": 1} if cold else {})) as inputs:
+        whole = inputs.data[0]
+        came = Shrunk(whole, len(whole))
 
         def fails(data: bytes) -> bool:
-            tested.become(data)
             if cold:
-                session.drop(MOST_SLOTS)
-            report = session.run()
+                inputs.session.drop(MOST_SLOTS)
+            report = inputs.run([data])
             came.runs += 1
             came.steps += report.steps
             failed = words.cause in (None, report.cause.name, str(report.cause))
@@ -66,8 +65,8 @@ def shrink(words: argparse.Namespace, cold: bool = False) -> Shrunk:
             return failed
 
         begun = time.perf_counter()
-        fails(tested.data)
-        came.data = least(tested.data, fails)
+        fails(whole)
+        came.data = least(whole, fails)
         came.seconds = time.perf_counter() - begun
     return came
 

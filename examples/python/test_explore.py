@@ -4,7 +4,8 @@ import ast
 import re
 import unittest
 
-from command_case import NEST, SCAN_CODE, CommandCase, nest
+from command_case import NEST, SCAN_CODE, SIZE_CODE, CommandCase, nest
+from cpmrun import LONGEST_DATA
 from explore import LONGEST_PIECE, MOST_EDITS, Chance
 
 LINES = re.compile(r"try (\d+): new (?:cause ([^,\n]*))?(?:, )?(?:text (b.*))?\n  script (b.*)\n")
@@ -84,6 +85,22 @@ class Explore(CommandCase):
             script_put, file_put = (self.room / f"{number}-{name}" for name in ("script", "X.TXT"))
             self.assertEqual(script_put.read_bytes(), ast.literal_eval(script))
             self.assertEqual(file_put.read_bytes(), ast.literal_eval(data))
+
+    def test_files_too_long_for_a_line(self) -> None:
+        # X.TXT has 256 records, and one more byte is one more record; neither the other file nor the script is read
+        whole = bytes(256 * 128)
+        self.assertGreater(len(whole), LONGEST_DATA)
+        program = self.put("size.com", SIZE_CODE)
+        self.put("X.TXT", whole)
+        self.put("Y.TXT", b"one")
+        status, printed, errors = self.outcome(
+            program, "x.txt", "--files", self.room, "--file", "X.TXT", "--file", "Y.TXT", "--causes", "--tries", "50",
+            "-o", self.room)
+        self.assertEqual((status, errors), (0, ""))
+        (_, first), (number, second) = re.findall(r"try (\d+): new cause (\w+)", printed.decode())
+        self.assertEqual((first, second), ("WarmBoot", "Halt"))
+        self.assertGreater((self.room / f"{number}-X.TXT").stat().st_size, len(whole))
+        self.assertEqual((self.room / "X.TXT").read_bytes(), whole)
 
     def test_faults(self) -> None:
         self.faulty(2, "argument --seed: invalid int value: 'x'", NEST, "--seed", "x")

@@ -3,6 +3,7 @@
 import unittest
 
 from command_case import NEST, NEST_CODE, SCAN_CODE, SLOW_CODE, CommandCase, nest
+from cpmrun import LONGEST_DATA
 from inputs import common
 from shrink import least
 
@@ -88,6 +89,17 @@ class Shrink(CommandCase):
         for name, option in ("NOTE.TXT", "--files"), ("b:note.txt", "--files-b"):
             words = [program, name, option, self.room, "--file", name, "--cause", "Halt"]
             self.assertEqual(self.outcome(*words)[:2], (0, b"#"))
+
+    def test_file_too_long_for_a_line(self) -> None:
+        program = self.put("scan.com", SCAN_CODE)
+        data = b"one\r\ntwo # three\r\n" + bytes(2 * LONGEST_DATA)
+        note = self.put("note.txt", data)
+        words = [program, "note.txt", "--files", self.room, "--file", "NOTE.TXT", "--cause", "Halt"]
+        for option in [], ["--cold"]:
+            status, printed, errors = self.outcome(*words, *option)
+            self.assertEqual((status, printed), (0, b"#"))
+            self.assertTrue(errors.startswith(f"1 of {len(data)} bytes left after "))
+        self.assertEqual(note.read_bytes(), data)
 
     def test_cold(self) -> None:
         words = [self.put("slow.com", SLOW_CODE), *self.typed(b"a)")[1:], "--cause", "Undefined"]
