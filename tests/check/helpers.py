@@ -1,4 +1,4 @@
-"""What the tests of the built program share. The environment variable PROGRAM names it."""
+"""What the tests share. The environment variable PROGRAM names the built program."""
 import contextlib
 import os
 import shutil
@@ -6,6 +6,7 @@ import signal
 import subprocess
 import tempfile
 import unittest
+from dataclasses import dataclass
 from pathlib import Path
 
 TOP = Path(__file__).resolve().parents[2]
@@ -19,6 +20,32 @@ RENAME = bytes.fromhex('0e17 115c00 cd0500 c9')
 DRIVES = bytes.fromhex('3e01 325c00 115c00 0e13 cd0500 0e16 cd0500 0e15 cd0500 3a5c00 3c fe05 c20201 c9')
 """On each drive deletes the first name of its tail, makes it, and writes one record after the place where the drive before ended:
 MVI A,1; and then STA 5CH; LXI D,5CH; MVI C,19; CALL 5; MVI C,22; CALL 5; MVI C,21; CALL 5; LDA 5CH; INR A; CPI 5; JNZ to the STA; RET."""
+
+
+@dataclass(frozen=True)
+class Crate:
+    """A line of crates.txt."""
+
+    name: str
+    uses: tuple[str, ...]
+    """The crates that it uses, of this repository and of Rattle's libraries."""
+    is_test: bool
+
+    @property
+    def folder(self) -> Path:
+        return TOP / 'crates' / self.name
+
+    def sources(self) -> list[Path]:
+        return sorted((self.folder / 'src').rglob('*.rt'))
+
+
+def read_crates() -> list[Crate]:
+    """Returns the crates of crates.txt in order. The ones after the heading `# tests` are tests, the others are the product's."""
+    product, heading, tests = (TOP / 'crates.txt').read_text().partition('\n# tests\n')
+    if not heading:
+        raise LookupError('crates.txt has no heading `# tests`')
+    lines = [(line.partition(':'), is_test) for part, is_test in ((product, False), (tests, True)) for line in part.splitlines()]
+    return [Crate(name.split()[0], tuple(uses.split()), is_test) for (name, colon, uses), is_test in lines if colon and not name.startswith('#')]
 
 
 def file_of_drive(number: int) -> bytes:

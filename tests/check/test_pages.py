@@ -1,0 +1,64 @@
+"""Runs the commands of the pages in a copy of the tree with the built program, and compares what they print with the pages.
+
+A block of commands is fenced by ```sh, and bash runs it at the top of the copy. The next block, if it is fenced by ```text, is what the
+commands print on standard output and standard error, without carriage returns; if there is none, they may print anything. Every block must
+end with status 0. The blocks of a page run one after another in a copy of their own."""
+import re
+import shutil
+import subprocess
+from pathlib import Path
+
+from helpers import PROGRAM, TOP, ProgramTest
+
+PARTS = ['cpmrun', 'crates.txt', 'scripts', 'examples', 'tests', 'docs']
+"""What the commands may name. Of the crates they may name only the built program."""
+
+BLOCKS = re.compile(r'^```sh\n(?P<commands>.*?)^```\n(?:\n?```text\n(?P<text>.*?)^```$)?', re.MULTILINE | re.DOTALL)
+
+
+def copy_tree(copy: Path) -> None:
+    """Copies what the commands may name, and the program to where `cpmrun` looks for it."""
+    for part in PARTS:
+        if (TOP / part).is_dir():
+            shutil.copytree(TOP / part, copy / part, ignore=shutil.ignore_patterns('__pycache__', 'built'))
+        else:
+            shutil.copy2(TOP / part, copy / part)
+    (copy / 'crates/executable/out').mkdir(parents=True)
+    shutil.copy2(PROGRAM, copy / 'crates/executable/out/executable')
+
+
+def wrong_blocks(page: Path, copy: Path, env: dict[str, str] | None = None) -> list[str]:
+    """Returns the blocks of a page that fail or print something else, with what they print."""
+    found = []
+    for block in BLOCKS.finditer(page.read_text()):
+        run = subprocess.run(['bash', '-c', block['commands']], cwd=copy, env=env, stdin=subprocess.DEVNULL, stdout=subprocess.PIPE,
+                             stderr=subprocess.STDOUT)
+        printed = run.stdout.decode(errors='replace').replace('\r', '')
+        if run.returncode != 0 or block['text'] not in (None, printed):
+            found.append(f'{page.name}: status {run.returncode} of\n{block["commands"]}which prints\n{printed}')
+    return found
+
+
+class PagesTest(ProgramTest):
+
+    def expect_page(self, name: str) -> None:
+        """Expects of each block of a page what the page says."""
+        self.assertRegex((TOP / name).read_text(), BLOCKS)
+        copy_tree(self.work)
+        if found := wrong_blocks(TOP / name, self.work):
+            self.fail('\n'.join(['', *found]))
+
+    def test_commands_of_the_readme(self) -> None:
+        self.expect_page('README.md')
+
+    def test_commands_of_the_walks(self) -> None:
+        self.expect_page('docs/WALKS.md')
+
+    def test_commands_of_the_manual(self) -> None:
+        self.expect_page('docs/MANUAL.md')
+
+    def test_commands_of_the_examples(self) -> None:
+        self.expect_page('examples/README.md')
+
+    def test_commands_of_the_client_for_python(self) -> None:
+        self.expect_page('examples/python/README.md')
