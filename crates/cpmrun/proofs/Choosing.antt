@@ -30,5 +30,5 @@ module _ (words : List (List ℕ)) (w : Words) (are : AreWords words w) (s : Ses
 
   -- An error broke off the replay of the edit lines.
   pub replay_broken : {T : Type 0} (r : Result T Fault) (f : Fault) (path : Bor (List ℕ)) → r ≡ Err f → w.edits ≡ Some path → after.files ≡ before.files
-      → BreaksReplay path.now (text_at before.files path.now) s (before.out, before.out_failures) (after.out, after.out_failures) f → IfErr r (FaultOf words before after)
+      → BreaksReplay path.now (text_at before.files path.now) s before.out after.out f → IfErr r (FaultOf words before after)
   replay_broken r f path is e files h = rw is (inr (inr (w, are, inr (s, of, rw e (h, files)))))

@@ -10,7 +10,7 @@ use Rattle.edit_lines.specs.declared.ending.ReplayFault.TheVariants.{Malformed, 
 use Rattle.edit_lines.specs.EditLine.{EditLine}
 use Rattle.edit_lines.specs.Pieces.{first_piece, other_pieces, pieces, without_empty_last, lines_of}
 use Rattle.edit_lines.specs.Progress.{IsPartFault}
-use Rattle.edit_lines.specs.Effects.{Effect, RunEffect, Effects, none, more, CommandDid, LineDid, EffectsSoFar, FirstEffects, EffectsAfter, EffectsAtFault}
+use Rattle.edit_lines.specs.Effects.{Effect, RunEffect, Effects, none, more, CommandTakesEffect, LineTakesEffect, EffectsSoFar, FirstEffects, EffectsAfter, EffectsAtFault}
 use Rattle.edit_lines.proofs.Cutting.{cut_beside, cut_here, one_line, lines_of-append, lines_of-pieces}
 
 -- One more line has its effect.
@@ -43,7 +43,7 @@ run_effect old meter new metered run is session options ticked made =
 
 -- What a line did, from what its command did.
 pub line_did : (U : Type 0) (n : ℕ) (line : List ℕ) (c : Command) (old : RunnerView) (meter : ℕ) (new : RunnerView) (metered : ℕ) (r : Result U ReplayFault)
-    → EditLine line c → CommandDid c old meter new metered r → LineDid n line old meter new metered r
+    → EditLine line c → CommandTakesEffect c old meter new metered r → LineTakesEffect n line old meter new metered r
 line_did U n line c old meter new metered (Ok u) is h = (c, is, h)
 line_did U n line c old meter new metered (Err Write) is h = (c, is, h)
 line_did U n line c old meter new metered (Err OutOfMemory) is (inl h) = inl h
@@ -97,7 +97,7 @@ module _ (first : RunnerView) (begun : ℕ) (bytes : List ℕ) (now : RunnerView
 
   -- The next line of the text failed.
   failed : (whole : List ℕ) (others : List (List ℕ)) → lines_of whole ≡ r.done ++ line ∷ others → (U : Type 0) (t : RunnerView) (n : ℕ) (f : ReplayFault)
-      → LineDid {U = U} (count + 1) line now meter t n (Err f) → EffectsAtFault first begun whole t n f
+      → LineTakesEffect {U = U} (count + 1) line now meter t n (Err f) → EffectsAtFault first begun whole t n f
   failed whole others cut U t n (Malformed k) h =
       let e : k - 1 ≡ count = omega (arith, h.0) in rw (e, h.1.0, h.1.1) (so_far whole (line ∷ others) cut)
   failed whole others cut U t n (LineTooLong k) h = absurd h
@@ -118,12 +118,12 @@ module _ (first : RunnerView) (begun : ℕ) (bytes : List ℕ) (now : RunnerView
 
   -- The line ended and failed.
   pub effects_failing : (U : Type 0) (rest : List ℕ) (t : RunnerView) (n : ℕ) (f : ReplayFault) (given : List ℕ) → given ≡ line
-      → LineDid {U = U} (count + 1) given now meter t n (Err f) → EffectsAtFault first begun ((bytes ++ 10 ∷ []) ++ rest) t n f
+      → LineTakesEffect {U = U} (count + 1) given now meter t n (Err f) → EffectsAtFault first begun ((bytes ++ 10 ∷ []) ++ rest) t n f
   effects_failing U rest t n f given same h =
       let others = without_empty_last (first_piece 10 rest ∷ other_pieces 10 rest) in
       failed ((bytes ++ 10 ∷ []) ++ rest) others
       (lines_of-append (bytes ++ 10 ∷ []) rest (r.done ++ line ∷ []) [] (cut_here bytes r.done line r.cut) ∙ append_assoc r.done (line ∷ []) others)
-      U t n f (subst (λ x. LineDid {U = U} (count + 1) x now meter t n (Err f)) same h)
+      U t n f (subst (λ x. LineTakesEffect {U = U} (count + 1) x now meter t n (Err f)) same h)
 
   -- The line continues with these bytes and more, and is not executed.
   effects_stay : (bs rest : List ℕ) → FirstEffects first begun ((bytes ++ bs) ++ rest) count now meter
@@ -164,6 +164,6 @@ module _ (first : RunnerView) (begun : ℕ) (bytes : List ℕ) (now : RunnerView
 
   -- The last line failed.
   pub effects_broken : 0 < length line → (U : Type 0) (t : RunnerView) (n : ℕ) (f : ReplayFault) (given : List ℕ) → given ≡ line
-      → LineDid {U = U} (count + 1) given now meter t n (Err f) → EffectsAtFault first begun bytes t n f
+      → LineTakesEffect {U = U} (count + 1) given now meter t n (Err f) → EffectsAtFault first begun bytes t n f
   effects_broken some U t n f given same h =
-      failed bytes [] (lines_there some) U t n f (subst (λ x. LineDid {U = U} (count + 1) x now meter t n (Err f)) same h)
+      failed bytes [] (lines_there some) U t n f (subst (λ x. LineTakesEffect {U = U} (count + 1) x now meter t n (Err f)) same h)

@@ -57,24 +57,24 @@ pub record RunCutShort (old : RunnerView) (meter : ℕ) (new : RunnerView) (mete
 
 -- What a command did, by its result. If its reply could not be written, it was executed. If memory ran out, nothing was done, or
 -- it is a run that was cut short.
-abbrev pub CommandDid : {U : Type 0} → Command → RunnerView → ℕ → RunnerView → ℕ → Result U ReplayFault → Type 0
-CommandDid c old meter new metered (Ok _) = Effect c old meter new metered
-CommandDid c old meter new metered (Err Write) = Effect c old meter new metered
-CommandDid c old meter new metered (Err OutOfMemory) =
+abbrev pub CommandTakesEffect : {U : Type 0} → Command → RunnerView → ℕ → RunnerView → ℕ → Result U ReplayFault → Type 0
+CommandTakesEffect c old meter new metered (Ok _) = Effect c old meter new metered
+CommandTakesEffect c old meter new metered (Err Write) = Effect c old meter new metered
+CommandTakesEffect c old meter new metered (Err OutOfMemory) =
     IsUnchanged old meter new metered ⊎ ((c ≡ Run) × RunCutShort old meter new metered)
-CommandDid c old meter new metered (Err (Malformed k)) = ⊥
-CommandDid c old meter new metered (Err (LineTooLong k)) = ⊥
-CommandDid c old meter new metered (Err Read) = ⊥
+CommandTakesEffect c old meter new metered (Err (Malformed k)) = ⊥
+CommandTakesEffect c old meter new metered (Err (LineTooLong k)) = ⊥
+CommandTakesEffect c old meter new metered (Err Read) = ⊥
 
 -- What line number n did, by its result.
-abbrev pub LineDid : {U : Type 0} → ℕ → List ℕ → RunnerView → ℕ → RunnerView → ℕ → Result U ReplayFault → Type 0
-LineDid n line old meter new metered (Ok _) = (c : Command) × EditLine line c × Effect c old meter new metered
-LineDid n line old meter new metered (Err Write) = (c : Command) × EditLine line c × Effect c old meter new metered
-LineDid n line old meter new metered (Err OutOfMemory) =
+abbrev pub LineTakesEffect : {U : Type 0} → ℕ → List ℕ → RunnerView → ℕ → RunnerView → ℕ → Result U ReplayFault → Type 0
+LineTakesEffect n line old meter new metered (Ok _) = (c : Command) × EditLine line c × Effect c old meter new metered
+LineTakesEffect n line old meter new metered (Err Write) = (c : Command) × EditLine line c × Effect c old meter new metered
+LineTakesEffect n line old meter new metered (Err OutOfMemory) =
     IsUnchanged old meter new metered ⊎ (EditLine line Run × RunCutShort old meter new metered)
-LineDid n line old meter new metered (Err (Malformed k)) = (k ≡ n) × IsUnchanged old meter new metered
-LineDid n line old meter new metered (Err (LineTooLong k)) = ⊥
-LineDid n line old meter new metered (Err Read) = ⊥
+LineTakesEffect n line old meter new metered (Err (Malformed k)) = (k ≡ n) × IsUnchanged old meter new metered
+LineTakesEffect n line old meter new metered (Err (LineTooLong k)) = ⊥
+LineTakesEffect n line old meter new metered (Err Read) = ⊥
 
 -- The lines whose 0AH is among the bytes had their effects.
 pub record EffectsOfEnded (first : RunnerView) (begun : ℕ) (bytes : List ℕ) (now : RunnerView) (meter : ℕ) : Type 0 where

@@ -1,9 +1,8 @@
 -- One run of a session: what it writes, its status, and what holds after an error. (This project's profile.)
-use Rattle.std.specs.Prelude.{◌≡◌, ℕ, ◌<◌, ◌⊎◌, [], ◌∷◌, ◌++◌, List, Option, codes, filter, slice_index, take, unwrap_or}
+use Rattle.std.specs.Prelude.{◌≡◌, ℕ, ◌⊎◌, [], ◌∷◌, ◌++◌, List, Option, codes, filter, slice_index, unwrap_or}
 use Rattle.std.specs.FinMap.{contains_key}
 use Rattle.std.specs.List.{concat}
 use Rattle.std.specs.Borrow.{Bor}
-use Rattle.std.specs.Io.KnownBytes.{Appends}
 use Rattle.machine.specs.Cause.{Cause}
 use Rattle.machine.specs.Cause.TheVariants.{WarmBoot, Halt, Limit, Undefined, SystemArea, ConsoleExhausted, NoDollar, Unsupported, BadDrive}
 use Rattle.hostfiles.specs.Names.{Key}
@@ -19,7 +18,7 @@ use Rattle.machine.specs.WholeFiles.{Files}
 use Rattle.replay.specs.Plain.{plain_run}
 use Rattle.report_lines.specs.ChangedLines.{gone_lines}
 use Rattle.report_lines.specs.FirstLines.{cause_text, line}
-use Rattle.report_lines.specs.Writing.{WritesOrFails}
+use Rattle.report_lines.specs.Streams.{WritesOrFails, WritesPart, WritesWhole}
 use Rattle.one_run.specs.declared.fault.RunFault.{RunFault}
 use Rattle.one_run.specs.declared.fault.RunFault.TheVariants.{CannotWrite, Folders, OutOfMemory}
 
@@ -91,18 +90,17 @@ FailsToWriteFiles folders s before after f = FailsToWriteAll folders s.files (pl
 -- writing failed.
 pub record RunsOnce (folders : List (Option (Bor (List ℕ)))) (s : Session) (status : ℕ) (before after : World) : Type 0 where
   pub exits : status ≡ stop_status (plain_run s).cause
-  pub written : Appends before.out after.out (console_text s)
+  pub written : WritesWhole before.out after.out (console_text s)
   pub files : WritesFiles folders s before.files after.files
-  pub reported : WritesOrFails before.err after.err before.err_failures after.err_failures (stop_text s)
+  pub reported : WritesOrFails before.err after.err (stop_text s)
 
 -- What was written before an error: a prefix of the console text if writing that failed, all of it if a changed file was not
 -- written, and nothing or all of it if an allocation failed.
 abbrev pub BreaksRun : List (Option (Bor (List ℕ))) → Session → World → World → RunFault → Type 0
-BreaksRun folders s before after CannotWrite =
-    (before.out_failures < after.out_failures) × ((n : ℕ) × Appends before.out after.out (take n (console_text s))) × (after.files ≡ before.files)
+BreaksRun folders s before after CannotWrite = WritesPart before.out after.out (console_text s) × (after.files ≡ before.files)
 BreaksRun folders s before after (Folders f) =
-    FailsToWriteFiles folders s before.files after.files (failure.AtFault f) × Appends before.out after.out (console_text s)
+    FailsToWriteFiles folders s before.files after.files (failure.AtFault f) × WritesWhole before.out after.out (console_text s)
 BreaksRun folders s before after OutOfMemory =
     ((after.out ≡ before.out) × (after.files ≡ before.files))
-    ⊎ (Appends before.out after.out (console_text s)
+    ⊎ (WritesWhole before.out after.out (console_text s)
     × (FailsToWriteFiles folders s before.files after.files failure.OutOfMemory ⊎ WritesFiles folders s before.files after.files))

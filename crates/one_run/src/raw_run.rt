@@ -8,7 +8,7 @@ ghost use Rattle.folders.specs.Written.{bytes_of};
 ghost use Rattle.hostfiles.specs.Files.{files};
 ghost use Rattle.replay.specs.Report.{run_of, session_of};
 ghost use Rattle.report_lines.specs.ChangedLines.{gone_lines};
-ghost use Rattle.report_lines.specs.Writing.{Writes, WritesOrFails};
+ghost use Rattle.report_lines.specs.Streams.{WritesOrFails, WritesText};
 ghost use Rattle.one_run.specs.Faults.{run_failures};
 ghost use Rattle.one_run.specs.RawRun.{BreaksRun, FailsToWriteAll, RunsOnce, WritesAll, drive_folder, stop_line, stop_status};
 ghost use Rattle.one_run.specs.World.{world};
@@ -18,9 +18,7 @@ use folders::{ChangedFile, Failure, FileSystem, write_to_drive};
 use hostfiles::{HostFiles, Journal, Name};
 use machine::{Cause, Meter, Session};
 use replay::{Report, Runner};
-use report_lines::{
-    Failed, FileFilter, Writer, cause_text, write_all, write_changed_files, write_piece,
-};
+use report_lines::{Failed, FileFilter, Writer, cause_text, write_all, write_changed_files};
 use std::alloc::{AllocError, Global};
 
 /// Returns the exit status for a run that stopped by this cause.
@@ -106,18 +104,18 @@ fn write_lines<E: Writer>(
     host: &HostFiles,
     journal: &Journal,
 ) -> Result<(), Failed>
-    requires { E.failures err.old < 2 ^ 63 }
-    ensures { Writes (E.holds err.old) (E.holds err.new) (E.failures err.old) (E.failures err.new)
+    requires { (E.output err.old).failures < 2 ^ 63 }
+    ensures { WritesText (E.output err.old) (E.output err.new)
         (line.now ++ gone_lines host.now (files host.now journal.now.entries)) result }
 {
-    write_piece(err, line)?;
+    write_all(err, line)?;
     write_changed_files(err, FileFilter::GoneOnly, host, journal)
 }
 
 /// Writes a line, and then the lines of the changed files that are gone. A failure of the writer ends this, and is ignored.
 fn write_stop_lines<E: Writer>(err: &mut E, line: &[u8], host: &HostFiles, journal: &Journal)
-    requires { E.failures err.old < 2 ^ 63 }
-    ensures { WritesOrFails (E.holds err.old) (E.holds err.new) (E.failures err.old) (E.failures err.new)
+    requires { (E.output err.old).failures < 2 ^ 63 }
+    ensures { WritesOrFails (E.output err.old) (E.output err.new)
         (line.now ++ gone_lines host.now (files host.now journal.now.entries)) }
 {
     let _ = write_lines(err, line, host, journal);
@@ -126,9 +124,9 @@ fn write_stop_lines<E: Writer>(err: &mut E, line: &[u8], host: &HostFiles, journ
 /// Reports on standard error why the run stopped, and which of the changed files are gone. A failure of the writer is ignored. If
 /// an allocation fails, nothing is written.
 fn report_stop<E: Writer>(alloc: Global, report: &Report<'_>, err: &mut E) -> Result<(), RunFault>
-    requires { E.failures err.old < 2 ^ 63 }
+    requires { (E.output err.old).failures < 2 ^ 63 }
     ensures told { OnOk result
-        (WritesOrFails (E.holds err.old) (E.holds err.new) (E.failures err.old) (E.failures err.new)
+        (WritesOrFails (E.output err.old) (E.output err.new)
         (stop_line (run_of report.now).cause
         ++ gone_lines (session_of report.now).files (run_of report.now).machine.files)) }
     ensures memory { IfErr result (λ f. f ≡ RunFault.OutOfMemory) }
@@ -150,18 +148,18 @@ fn report_run<S: FileSystem, O: Writer, E: Writer>(
     err: &mut E,
 ) -> Result<u8, RunFault>
     requires system { S.failures system.old < 2 ^ 63 }
-    requires out { O.failures out.old < 2 ^ 63 }
-    requires err { E.failures err.old < 2 ^ 63 }
+    requires out { (O.output out.old).failures < 2 ^ 63 }
+    requires err { (E.output err.old).failures < 2 ^ 63 }
     ensures done { IfOk result (λ status. RunsOnce folders.now (session_of report.now) status
         (world (S.files system.old) (S.names system.old) (S.failures system.old)
-        (O.holds out.old) (O.failures out.old) (E.holds err.old) (E.failures err.old))
+        (O.output out.old) (E.output err.old))
         (world (S.files system.new) (S.names system.new) (S.failures system.new)
-        (O.holds out.new) (O.failures out.new) (E.holds err.new) (E.failures err.new))) }
+        (O.output out.new) (E.output err.new))) }
     ensures fault { IfErr result (BreaksRun folders.now (session_of report.now)
         (world (S.files system.old) (S.names system.old) (S.failures system.old)
-        (O.holds out.old) (O.failures out.old) (E.holds err.old) (E.failures err.old))
+        (O.output out.old) (E.output err.old))
         (world (S.files system.new) (S.names system.new) (S.failures system.new)
-        (O.holds out.new) (O.failures out.new) (E.holds err.new) (E.failures err.new))) }
+        (O.output out.new) (E.output err.new))) }
     ensures untold { OnErr result (err.new ≡ err.old) }
     ensures failures { AddsFailures run_failures result (S.failures system.old) (S.failures system.new) }
 {
@@ -184,18 +182,18 @@ fn run_and_report<S: FileSystem, O: Writer, E: Writer>(
 ) -> Result<u8, RunFault>
     requires meter { meter.old ≤ 2 ^ 63 }
     requires system { S.failures system.old < 2 ^ 63 }
-    requires out { O.failures out.old < 2 ^ 63 }
-    requires err { E.failures err.old < 2 ^ 63 }
+    requires out { (O.output out.old).failures < 2 ^ 63 }
+    requires err { (E.output err.old).failures < 2 ^ 63 }
     ensures done { IfOk result (λ status. RunsOnce folders.now runner.old.session status
         (world (S.files system.old) (S.names system.old) (S.failures system.old)
-        (O.holds out.old) (O.failures out.old) (E.holds err.old) (E.failures err.old))
+        (O.output out.old) (E.output err.old))
         (world (S.files system.new) (S.names system.new) (S.failures system.new)
-        (O.holds out.new) (O.failures out.new) (E.holds err.new) (E.failures err.new))) }
+        (O.output out.new) (E.output err.new))) }
     ensures fault { IfErr result (BreaksRun folders.now runner.old.session
         (world (S.files system.old) (S.names system.old) (S.failures system.old)
-        (O.holds out.old) (O.failures out.old) (E.holds err.old) (E.failures err.old))
+        (O.output out.old) (E.output err.old))
         (world (S.files system.new) (S.names system.new) (S.failures system.new)
-        (O.holds out.new) (O.failures out.new) (E.holds err.new) (E.failures err.new))) }
+        (O.output out.new) (E.output err.new))) }
     ensures untold { OnErr result (err.new ≡ err.old) }
     ensures failures { AddsFailures run_failures result (S.failures system.old) (S.failures system.new) }
 {
@@ -222,18 +220,18 @@ pub fn run_once<S: FileSystem, O: Writer, E: Writer>(
 ) -> Result<u8, RunFault>
     requires meter { meter.old ≤ 2 ^ 63 }
     requires system { S.failures system.old < 2 ^ 63 }
-    requires out { O.failures out.old < 2 ^ 63 }
-    requires err { E.failures err.old < 2 ^ 63 }
+    requires out { (O.output out.old).failures < 2 ^ 63 }
+    requires err { (E.output err.old).failures < 2 ^ 63 }
     ensures done { IfOk result (λ status. RunsOnce folders.now session status
         (world (S.files system.old) (S.names system.old) (S.failures system.old)
-        (O.holds out.old) (O.failures out.old) (E.holds err.old) (E.failures err.old))
+        (O.output out.old) (E.output err.old))
         (world (S.files system.new) (S.names system.new) (S.failures system.new)
-        (O.holds out.new) (O.failures out.new) (E.holds err.new) (E.failures err.new))) }
+        (O.output out.new) (E.output err.new))) }
     ensures fault { IfErr result (BreaksRun folders.now session
         (world (S.files system.old) (S.names system.old) (S.failures system.old)
-        (O.holds out.old) (O.failures out.old) (E.holds err.old) (E.failures err.old))
+        (O.output out.old) (E.output err.old))
         (world (S.files system.new) (S.names system.new) (S.failures system.new)
-        (O.holds out.new) (O.failures out.new) (E.holds err.new) (E.failures err.new))) }
+        (O.output out.new) (E.output err.new))) }
     ensures untold { OnErr result (err.new ≡ err.old) }
     ensures failures { AddsFailures run_failures result (S.failures system.old) (S.failures system.new) }
 {

@@ -6,17 +6,17 @@ use Rattle.edit_lines.proofs.EffectLemmas.{effects_done, effects_failing}
 use Rattle.edit_lines.proofs.stream.end_line.Goals as goal
 
 pub returns-in_err-carry_out-clause-goes : goal.returns-in_err-carry_out-clause-goes
-returns-in_err-carry_out-clause-goes g c = λ first held bytes rest r.
+returns-in_err-carry_out-clause-goes g c = λ first before bytes rest r.
     let p = c.args.place.now in
     let e = err_from_is_err_and c.from_residual.result c.from_residual.ensures.1 in
-    rw (e.1, e.2) (λ left few_more. line_fails first held bytes _ _ p.line.items p.lines r p.few (omega (arith, p.short, p.line.ok.0)) (Unit {0}) left rest few_more _ _ c.in_err-carry_out.field-0.0
+    rw (e.1, e.2) (λ left few_more. line_fails first before bytes _ _ p.line.items p.lines r p.few (omega (arith, p.short, p.line.ok.0)) (Unit {0}) left rest few_more _ _ c.in_err-carry_out.field-0.0
     _ c.as_slice.ensures.value c.in_err-carry_out.ensures.carries)
 
 pub returns-clause-goes : goal.returns-clause-goes
-returns-clause-goes g c = λ first held bytes rest r.
+returns-clause-goes g c = λ first before bytes rest r.
     let p = c.args.place.now in
     let h = c.in_ok-carry_out.ensures.carries in
-    rw c.clear.ensures.items (line_done first held bytes _ _ p.line.items p.lines r p.few (omega (arith, p.short, p.line.ok.0)) _ _ h.0 (rw c.as_slice.ensures.value at h.1) h.3 h.4)
+    rw c.clear.ensures.items (line_done first before bytes _ _ p.line.items p.lines r p.few (omega (arith, p.short, p.line.ok.0)) _ _ h.0 (rw c.as_slice.ensures.value at h.1) h.3 h.4)
 
 pub returns-in_err-carry_out-clause-memory : goal.returns-in_err-carry_out-clause-memory
 returns-in_err-carry_out-clause-memory g c = λ same.

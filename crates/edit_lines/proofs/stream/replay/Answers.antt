@@ -14,7 +14,6 @@ pub loop-count-init : goal.loop-count-init
 loop-count-init g c = (
   ([], Consumes-nil _, rw c.new.ensures.items (at_start _ _), rw c.new.ensures.items (no_effects _ _ _)),
   refl,
-  refl,
   omega (arith, c.requires.meter),
   SameOptions-refl _,
 )
@@ -63,9 +62,8 @@ loop-count-preserved g c =
         c.in_ok-take_piece.ensures.effects _ _ i.0 i.3,
       ),
       c.in-Ok.ensures.ok ∙ c.loop-count.invariant.1,
-      c.in_ok-take_piece.ensures.fine ∙ c.loop-count.invariant.2,
       c.in_ok-take_piece.ensures.meter,
-      SameOptions-trans _ _ _ c.loop-count.invariant.4 c.in_ok-take_piece.ensures.options,
+      SameOptions-trans _ _ _ c.loop-count.invariant.3 c.in_ok-take_piece.ensures.options,
     )
 
 pub returns-in_err-take_piece-clause-fault : goal.returns-in_err-take_piece-clause-fault
@@ -76,15 +74,15 @@ returns-in_err-take_piece-clause-fault g c =
     rw (e.1, e.2) (
       bytes,
       Consumes-trans _ _ _ i.0 _ i.1 c.in-Ok.ensures.bytes.0,
-      subst (λ x. Faults (g.R.Reader.left c.read.new.self) c.args.runner.now.session (g.W.Writer.holds c.args.writer.now) x
-          c.take_piece.new.runner.session (g.W.Writer.holds c.take_piece.new.writer) c.in_err-take_piece.field-0.0)
+      subst (λ x. Faults (g.R.Reader.input c.read.new.self).left c.args.runner.now.session (g.W.Writer.output c.args.writer.now) x
+          c.take_piece.new.runner.session (g.W.Writer.output c.take_piece.new.writer) c.in_err-take_piece.field-0.0)
           (append-nil bytes) (c.in_err-take_piece.ensures.goes _ _ i.0 i.2 _ (omega arith)),
       subst (λ x. EffectsAtFault c.args.runner.now c.args.meter.now x c.take_piece.new.runner c.take_piece.new.meter c.in_err-take_piece.field-0.0)
           (append-nil bytes) (c.in_err-take_piece.ensures.effects _ _ i.0 i.3),
     )
 
 pub returns-then-count-eq0-clause-options : goal.returns-then-count-eq0-clause-options
-returns-then-count-eq0-clause-options g c = SameOptions-trans _ _ _ c.loop-count.invariant.4 c.finish.ensures.options
+returns-then-count-eq0-clause-options g c = SameOptions-trans _ _ _ c.loop-count.invariant.3 c.finish.ensures.options
 
 pub returns-in_err-take_piece-clause-options : goal.returns-in_err-take_piece-clause-options
-returns-in_err-take_piece-clause-options g c = SameOptions-trans _ _ _ c.loop-count.invariant.4 c.in_err-take_piece.ensures.options
+returns-in_err-take_piece-clause-options g c = SameOptions-trans _ _ _ c.loop-count.invariant.3 c.in_err-take_piece.ensures.options
