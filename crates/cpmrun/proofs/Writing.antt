@@ -11,7 +11,7 @@ use Rattle.edit_lines.specs.Replay.{Finished, Replays}
 use Rattle.edit_lines.specs.Effects.{Effects}
 use Rattle.replay.specs.RunnerView.{RunnerView}
 use Rattle.report_lines.specs.Streams.{Output, WritesWhole}
-use Rattle.folders.specs.FileSystem.{Path, Stored, Opens, text_at}
+use Rattle.folders.specs.FileSystem.{Path, FileBytes, Opens, text_at}
 use Rattle.cpmrun.specs.Ends.{BreaksOffWith}
 use Rattle.cpmrun.specs.MeteredEnds.{WritesReplayBy}
 
@@ -41,11 +41,11 @@ writes_replay given first now begun steps a d before after (Ok e) same none h = 
 writes_replay given first now begun steps a d before after (Err f) same none h = tt
 
 -- The bytes of a reader are the bytes of the file that it was opened for, if these are known.
-pub of_file : (files : Option Stored) (path : Path) (left : Option (List ℕ)) → Opens files path left → (text_at files path ≡ left) ⊎ (text_at files path ≡ None)
+pub of_file : (files : Option FileBytes) (path : Path) (left : Option (List ℕ)) → Opens files path left → (text_at files path ≡ left) ⊎ (text_at files path ≡ None)
 of_file None path left o = inr refl
 of_file (Some stored) path left o = inl (sym o.0)
 
-pub writes_file : (files : Option Stored) (path : Path) (left : Option (List ℕ)) (first : RunnerView) (before after : Output) (steps : ℕ) → Opens files path left
+pub writes_file : (files : Option FileBytes) (path : Path) (left : Option (List ℕ)) (first : RunnerView) (before after : Output) (steps : ℕ) → Opens files path left
     → WritesReplayBy left first before after steps → WritesReplayBy (text_at files path) first before after steps
 writes_file files path left first before after steps o w = elim (of_file files path left o) [
   | inl e ↦ subst (λ source. WritesReplayBy source first before after steps) (sym e) w
@@ -53,7 +53,7 @@ writes_file files path left first before after steps o w = elim (of_file files p
       (record { last = w.last; bytes = w.bytes; text = w.text; count = w.count; whole = tt; written = w.written; replayed = w.replayed; effects = w.effects })
 ]
 
-pub breaks_file : (files : Option Stored) (path : Path) (left : Option (List ℕ)) (f : ReplayFault) (s : Session) (before after : Output) → Opens files path left
+pub breaks_file : (files : Option FileBytes) (path : Path) (left : Option (List ℕ)) (f : ReplayFault) (s : Session) (before after : Output) → Opens files path left
     → BreaksOffWith f left s before after → BreaksOffWith f (text_at files path) s before after
 breaks_file files path left f s before after o b = elim (of_file files path left o) [
   | inl e ↦ subst (λ source. BreaksOffWith f source s before after) (sym e) b

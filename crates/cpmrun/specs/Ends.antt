@@ -59,44 +59,44 @@ WritesSomeText before after r = (text : List ℕ) × WritesText before after tex
 
 -- The session that the words describe, loaded from these files and folders.
 abbrev pub IsSessionOf : World → Words → Session → Type 0
-IsSessionOf before w s = IsLoadedFrom before.files before.names w s
+IsSessionOf before w s = IsLoadedFrom before.files w s
 
 -- How a session that the words describe is completed: it is run once, or the edit lines are replayed to their end. `IsReplayed`
 -- holds for the path of the edit lines.
 abbrev pub Completes : (List ℕ → Type 0) → Words → Session → ℕ → World → World → Type 0
 Completes IsReplayed w s status before after = MatchOption w.edits
     (RunsOnce w.out s status before after)
-    (λ path. (status ≡ 0) × (after.err ≡ before.err) × (after.files ≡ before.files) × IsReplayed path.now)
+    (λ path. (status ≡ 0) × (after.err ≡ before.err) × (after.files.bytes ≡ before.files.bytes) × IsReplayed path.now)
 
 -- How the program ends without an error: it wrote help or the version, or the session was completed. No call of the file system
 -- failed. `IsReplayed` holds for a replay.
 abbrev pub EndsBy : (Words → Session → List ℕ → Type 0) → List (List ℕ) → ℕ → World → World → Type 0
-EndsBy IsReplayed words status before after = (after.failures ≡ before.failures) × (
-    (ComesTo words Information × (status ≡ 0) × (after.err ≡ before.err) × (after.files ≡ before.files) × ((text : List ℕ) × WritesWhole before.out after.out text))
+EndsBy IsReplayed words status before after = (after.files.failures ≡ before.files.failures) × (
+    (ComesTo words Information × (status ≡ 0) × (after.err ≡ before.err) × (after.files.bytes ≡ before.files.bytes) × ((text : List ℕ) × WritesWhole before.out after.out text))
     ⊎ ((w : Words) × AreWords words w × ((s : Session) × IsSessionOf before w s × Completes (IsReplayed w s) w s status before after)))
 
 -- The same, with a replay that writes the text of its lines.
 abbrev pub EndsWithoutFault : List (List ℕ) → ℕ → World → World → Type 0
-EndsWithoutFault words status before after = EndsBy (λ w s path. WritesReplay (text_at before.files path) s before.out after.out) words status before after
+EndsWithoutFault words status before after = EndsBy (λ w s path. WritesReplay (text_at before.files.bytes path) s before.out after.out) words status before after
 
 -- What an error leaves that broke off the run or the replay of the session of the words.
 abbrev pub StopsByFault : Words → Session → World → World → Fault → Type 0
 StopsByFault w s before after fault = MatchOption w.edits
     ((f : RunFault) × (fault ≡ of_run f) × BreaksRun w.out s before after f)
-    (λ path. BreaksReplay path.now (text_at before.files path.now) s before.out after.out fault
-    × (after.files ≡ before.files))
+    (λ path. BreaksReplay path.now (text_at before.files.bytes path.now) s before.out after.out fault
+    × (after.files.bytes ≡ before.files.bytes))
 
 -- Nothing was written.
 abbrev pub WritesNothing : World → World → Type 0
-WritesNothing before after = (after.out ≡ before.out) × (after.files ≡ before.files)
+WritesNothing before after = (after.out ≡ before.out) × (after.files.bytes ≡ before.files.bytes)
 
 -- An error of these words, and what it leaves: an error of the words themselves, of writing help, of loading the session, or of
 -- its run or replay.
 abbrev pub FaultOf : List (List ℕ) → World → World → Fault → Type 0
 FaultOf words before after fault =
     (Misread words fault × WritesNothing before after)
-    ⊎ (ComesTo words Information × (fault ≡ CannotWrite) × ((text : List ℕ) × WritesPart before.out after.out text) × (after.files ≡ before.files))
-    ⊎ ((w : Words) × AreWords words w × (((f : LoadFault) × (fault ≡ of_load f) × FailsToLoad before.files before.names w f × WritesNothing before after)
+    ⊎ (ComesTo words Information × (fault ≡ CannotWrite) × ((text : List ℕ) × WritesPart before.out after.out text) × (after.files.bytes ≡ before.files.bytes))
+    ⊎ ((w : Words) × AreWords words w × (((f : LoadFault) × (fault ≡ of_load f) × FailsToLoad before.files w f × WritesNothing before after)
     ⊎ ((s : Session) × IsSessionOf before w s × StopsByFault w s before after fault)))
 
 -- An error occurred and was reported with its status, or "out of memory" if there was no memory to put its value into the
@@ -104,5 +104,5 @@ FaultOf words before after fault =
 pub record EndsByFault (words : List (List ℕ)) (status : ℕ) (before after : World) : Type 0 where
   pub fault : Fault
   pub comes : FaultOf words before after fault
-  pub failed : after.failures ≡ before.failures + file_failures fault
+  pub failed : after.files.failures ≡ before.files.failures + file_failures fault
   pub telling : ReportsFaultOrMemory fault status before.err after.err

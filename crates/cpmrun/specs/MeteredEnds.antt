@@ -30,4 +30,4 @@ pub record WritesReplayBy (source : Option (List ℕ)) (first : RunnerView) (bef
 -- The program ends without an error, and a replay executes `steps` steps, by a runner with the options of the words.
 abbrev pub MeteredEnds : List (List ℕ) → ℕ → World → World → ℕ → Type 0
 MeteredEnds words status before after steps =
-    EndsBy (λ w s path. WritesReplayBy (text_at before.files path) (with_no_checkpoint s (options_of w)) before.out after.out steps) words status before after
+    EndsBy (λ w s path. WritesReplayBy (text_at before.files.bytes path) (with_no_checkpoint s (options_of w)) before.out after.out steps) words status before after

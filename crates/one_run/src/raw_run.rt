@@ -1,7 +1,7 @@
 // One run of a session, without edits.
 
 ghost use Rattle.std.specs.Prelude.{◌≡◌, ◌^◌, ◌<◌, ◌≤◌, ◌++◌, IfOk, IfErr, OnOk, OnErr, string_bytes};
-ghost use Rattle.folders.specs.Failures.{AddsFailures};
+ghost use Rattle.folders.specs.Failures.{CountsFailures};
 ghost use Rattle.folders.specs.Faults.{reported_failures};
 ghost use Rattle.folders.specs.Folders.{FailsToWrite, LeavesIn, WritesInto};
 ghost use Rattle.folders.specs.Written.{bytes_of};
@@ -54,14 +54,14 @@ fn write_file<S: FileSystem>(
     journal: &Journal,
     name: &Name,
 ) -> Result<(), Failure>
-    requires { S.failures system.old < 2 ^ 63 }
+    requires { (S.files system.old).failures < 2 ^ 63 }
     ensures written { OnOk result
-        (WritesInto (drive_folder folders.now name.now) (S.files system.old) (S.files system.new) name.now
-        (bytes_of host.now journal.now.entries name.now)) }
-    ensures err { OnErr result
-        (LeavesIn (drive_folder folders.now name.now) (S.files system.old) (S.files system.new) name.now) }
+        (WritesInto (drive_folder folders.now name.now) (S.files system.old).bytes (S.files system.new).bytes
+        name.now (bytes_of host.now journal.now.entries name.now)) }
+    ensures err { OnErr result (LeavesIn (drive_folder folders.now name.now)
+        (S.files system.old).bytes (S.files system.new).bytes name.now) }
     ensures fault { IfErr result (FailsToWrite folders.now name.now) }
-    ensures failures { AddsFailures reported_failures result (S.failures system.old) (S.failures system.new) }
+    ensures failures { CountsFailures reported_failures result (S.files system.old) (S.files system.new) }
 {
     let contents = ChangedFile {
         host,
@@ -78,14 +78,14 @@ fn write_changed<S: FileSystem>(
     folders: &[Option<&str>; 4],
     report: &Report<'_>,
 ) -> Result<(), Failure>
-    requires { S.failures system.old < 2 ^ 63 }
+    requires { (S.files system.old).failures < 2 ^ 63 }
     ensures written { OnOk result
         (WritesAll folders.now (session_of report.now).files (run_of report.now).machine.files
-        (S.files system.old) (S.files system.new)) }
+        (S.files system.old).bytes (S.files system.new).bytes) }
     ensures fault { IfErr result
         (FailsToWriteAll folders.now (session_of report.now).files (run_of report.now).machine.files
-        (S.files system.old) (S.files system.new)) }
-    ensures failures { AddsFailures reported_failures result (S.failures system.old) (S.failures system.new) }
+        (S.files system.old).bytes (S.files system.new).bytes) }
+    ensures failures { CountsFailures reported_failures result (S.files system.old) (S.files system.new) }
 {
     let mut after: Option<Name> = None;
     while let Some(name) = report.next_changed(after.as_ref()) {
@@ -147,21 +147,17 @@ fn report_run<S: FileSystem, O: Writer, E: Writer>(
     out: &mut O,
     err: &mut E,
 ) -> Result<u8, RunFault>
-    requires system { S.failures system.old < 2 ^ 63 }
+    requires system { (S.files system.old).failures < 2 ^ 63 }
     requires out { (O.output out.old).failures < 2 ^ 63 }
     requires err { (E.output err.old).failures < 2 ^ 63 }
     ensures done { IfOk result (λ status. RunsOnce folders.now (session_of report.now) status
-        (world (S.files system.old) (S.names system.old) (S.failures system.old)
-        (O.output out.old) (E.output err.old))
-        (world (S.files system.new) (S.names system.new) (S.failures system.new)
-        (O.output out.new) (E.output err.new))) }
+        (world (S.files system.old) (O.output out.old) (E.output err.old))
+        (world (S.files system.new) (O.output out.new) (E.output err.new))) }
     ensures fault { IfErr result (BreaksRun folders.now (session_of report.now)
-        (world (S.files system.old) (S.names system.old) (S.failures system.old)
-        (O.output out.old) (E.output err.old))
-        (world (S.files system.new) (S.names system.new) (S.failures system.new)
-        (O.output out.new) (E.output err.new))) }
+        (world (S.files system.old) (O.output out.old) (E.output err.old))
+        (world (S.files system.new) (O.output out.new) (E.output err.new))) }
     ensures untold { OnErr result (err.new ≡ err.old) }
-    ensures failures { AddsFailures run_failures result (S.failures system.old) (S.failures system.new) }
+    ensures failures { CountsFailures run_failures result (S.files system.old) (S.files system.new) }
 {
     let Ok(()) = write_all(out, report.text()) else {
         return Err(RunFault::CannotWrite);
@@ -181,21 +177,17 @@ fn run_and_report<S: FileSystem, O: Writer, E: Writer>(
     err: &mut E,
 ) -> Result<u8, RunFault>
     requires meter { meter.old ≤ 2 ^ 63 }
-    requires system { S.failures system.old < 2 ^ 63 }
+    requires system { (S.files system.old).failures < 2 ^ 63 }
     requires out { (O.output out.old).failures < 2 ^ 63 }
     requires err { (E.output err.old).failures < 2 ^ 63 }
     ensures done { IfOk result (λ status. RunsOnce folders.now runner.old.session status
-        (world (S.files system.old) (S.names system.old) (S.failures system.old)
-        (O.output out.old) (E.output err.old))
-        (world (S.files system.new) (S.names system.new) (S.failures system.new)
-        (O.output out.new) (E.output err.new))) }
+        (world (S.files system.old) (O.output out.old) (E.output err.old))
+        (world (S.files system.new) (O.output out.new) (E.output err.new))) }
     ensures fault { IfErr result (BreaksRun folders.now runner.old.session
-        (world (S.files system.old) (S.names system.old) (S.failures system.old)
-        (O.output out.old) (E.output err.old))
-        (world (S.files system.new) (S.names system.new) (S.failures system.new)
-        (O.output out.new) (E.output err.new))) }
+        (world (S.files system.old) (O.output out.old) (E.output err.old))
+        (world (S.files system.new) (O.output out.new) (E.output err.new))) }
     ensures untold { OnErr result (err.new ≡ err.old) }
-    ensures failures { AddsFailures run_failures result (S.failures system.old) (S.failures system.new) }
+    ensures failures { CountsFailures run_failures result (S.files system.old) (S.files system.new) }
 {
     let Ok(report) = runner.rerun(meter) else {
         return Err(RunFault::OutOfMemory);
@@ -219,21 +211,17 @@ pub fn run_once<S: FileSystem, O: Writer, E: Writer>(
     err: &mut E,
 ) -> Result<u8, RunFault>
     requires meter { meter.old ≤ 2 ^ 63 }
-    requires system { S.failures system.old < 2 ^ 63 }
+    requires system { (S.files system.old).failures < 2 ^ 63 }
     requires out { (O.output out.old).failures < 2 ^ 63 }
     requires err { (E.output err.old).failures < 2 ^ 63 }
     ensures done { IfOk result (λ status. RunsOnce folders.now session status
-        (world (S.files system.old) (S.names system.old) (S.failures system.old)
-        (O.output out.old) (E.output err.old))
-        (world (S.files system.new) (S.names system.new) (S.failures system.new)
-        (O.output out.new) (E.output err.new))) }
+        (world (S.files system.old) (O.output out.old) (E.output err.old))
+        (world (S.files system.new) (O.output out.new) (E.output err.new))) }
     ensures fault { IfErr result (BreaksRun folders.now session
-        (world (S.files system.old) (S.names system.old) (S.failures system.old)
-        (O.output out.old) (E.output err.old))
-        (world (S.files system.new) (S.names system.new) (S.failures system.new)
-        (O.output out.new) (E.output err.new))) }
+        (world (S.files system.old) (O.output out.old) (E.output err.old))
+        (world (S.files system.new) (O.output out.new) (E.output err.new))) }
     ensures untold { OnErr result (err.new ≡ err.old) }
-    ensures failures { AddsFailures run_failures result (S.failures system.old) (S.failures system.new) }
+    ensures failures { CountsFailures run_failures result (S.files system.old) (S.files system.new) }
 {
     let Ok(mut runner) = Runner::for_one_run(system.alloc(), session) else {
         return Err(RunFault::OutOfMemory);
