@@ -1,6 +1,5 @@
 -- What the lines of an edit text do, one after the other, to a runner and its checkpoints and to the meter. (This project's own.)
-use Rattle.std.specs.Prelude.{◌≡◌, ℕ, ◌+◌, ◌-◌, ◌≤◌, ◌⊎◌, List, [], ◌∷◌, ◌++◌, length, Result, Ok, Err}
-use Rattle.std.specs.List.{All}
+use Rattle.std.specs.Prelude.{◌≡◌, ℕ, ◌+◌, ◌-◌, ◌⊎◌, List, [], ◌∷◌, ◌++◌, length, Result, Ok, Err}
 use Rattle.machine.specs.Given.{Session}
 use Rattle.machine.specs.Machine.{ask}
 use Rattle.replay.specs.Plain.{plain_run}
@@ -8,7 +7,6 @@ use Rattle.replay.specs.Edits.{edited}
 use Rattle.replay.specs.RunnerView.{RunnerView, SameOptions, KeepsUntouched, DropsOldest, Reran, LeavesNoneOut, CountsAnew, TicksTo, rerun_start}
 use Rattle.edit_lines.specs.declared.line.Command.{Command}
 use Rattle.edit_lines.specs.declared.line.Command.TheVariants.{Edit, Run, DropOldest}
-use Rattle.edit_lines.specs.declared.ending.Ending.{Ending}
 use Rattle.edit_lines.specs.declared.ending.ReplayFault.{ReplayFault}
 use Rattle.edit_lines.specs.declared.ending.ReplayFault.TheVariants.{Malformed, LineTooLong, Read, Write, OutOfMemory}
 use Rattle.edit_lines.specs.EditLine.{EditLine}
@@ -83,15 +81,6 @@ pub record EffectsOfEnded (first : RunnerView) (begun : ℕ) (bytes : List ℕ) 
   pub cut : pieces 10 bytes ≡ ended ++ rest ∷ []
   pub effects : Effects first begun ended now meter
 
--- The bytes are `count` whole lines, which had their effects, and the beginning of one more, whose buffer has room for each of
--- them.
-pub record EffectsSoFar (first : RunnerView) (begun : ℕ) (bytes : List ℕ) (now : RunnerView) (meter : ℕ) (line : List ℕ) (count room : ℕ) : Type 0 where
-  pub done : List (List ℕ)
-  pub cut : pieces 10 bytes ≡ done ++ line ∷ []
-  pub effects : Effects first begun done now meter
-  pub counted : count ≡ length done
-  pub fits : All (λ l. length l ≤ room) done
-
 -- The first `count` lines of the bytes had their effects.
 pub record FirstEffects (first : RunnerView) (begun : ℕ) (bytes : List ℕ) (count : ℕ) (now : RunnerView) (meter : ℕ) : Type 0 where
   pub done : List (List ℕ)
@@ -120,13 +109,3 @@ EffectsAtFault first begun bytes now meter Read = EffectsOfEnded first begun byt
 EffectsAtFault first begun bytes now meter Write = (count : ℕ) × FirstEffects first begun bytes count now meter
 EffectsAtFault first begun bytes now meter OutOfMemory =
     ((count : ℕ) × FirstEffects first begun bytes count now meter) ⊎ EffectsCutShort first begun bytes now meter
-
--- What a step over some bytes did, if the rest was read too.
-abbrev pub EffectsAfter : {U : Type 0} → RunnerView → ℕ → List ℕ → List ℕ → RunnerView → ℕ → List ℕ → ℕ → ℕ → Result U ReplayFault → Type 0
-EffectsAfter first begun bytes rest now meter line count room (Ok _) = EffectsSoFar first begun bytes now meter line count room
-EffectsAfter first begun bytes rest now meter line count room (Err f) = EffectsAtFault first begun (bytes ++ rest) now meter f
-
--- What was done at the end of the input.
-abbrev pub EffectsAtEnd : RunnerView → ℕ → List ℕ → RunnerView → ℕ → Result Ending ReplayFault → Type 0
-EffectsAtEnd first begun bytes now meter (Ok e) = Effects first begun (lines_of bytes) now meter
-EffectsAtEnd first begun bytes now meter (Err f) = EffectsAtFault first begun bytes now meter f

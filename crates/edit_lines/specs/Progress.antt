@@ -1,28 +1,47 @@
 -- How far a replay has come, and the result of each of its parts. (This project's own.)
-use Rattle.std.specs.Prelude.{◌≡◌, ℕ, ◌+◌, ◌<◌, ◌≤◌, List, [], ◌∷◌, ◌++◌, length, Option, Result, Ok, Err}
-use Rattle.std.specs.List.{concat}
+use Rattle.std.specs.Prelude.{◌≡◌, ℕ, ◌+◌, ◌<◌, ◌≤◌, List, [], ◌∷◌, ◌++◌, length, Option, Result, Ok, Err, Vec, vec_capacity}
+use Rattle.std.specs.List.{All, concat}
 use Rattle.std.specs.Io.KnownBytes.{IsAtEnd}
 use Rattle.report_lines.specs.Streams.{Output, WritesPart, WritesWhole}
 use Rattle.machine.specs.Given.{Session}
+use Rattle.replay.specs.RunnerView.{RunnerView}
 use Rattle.edit_lines.specs.declared.line.Command.{Command}
 use Rattle.edit_lines.specs.declared.ending.Ending.{Ending}
 use Rattle.edit_lines.specs.declared.ending.ReplayFault.{ReplayFault}
 use Rattle.edit_lines.specs.declared.ending.ReplayFault.TheVariants.{Malformed, LineTooLong, Read, Write, OutOfMemory}
 use Rattle.edit_lines.specs.EditLine.{EditLine}
 use Rattle.edit_lines.specs.LineParts.{WantsMemory, MayWantMemory}
+use Rattle.edit_lines.specs.Effects.{Effects, EffectsAtFault}
 use Rattle.edit_lines.specs.Faults.{Faults}
 use Rattle.edit_lines.specs.Pieces.{pieces, lines_of}
 use Rattle.edit_lines.specs.Replay.{ExecutesLines, Finished, IsMalformed, Replays, reply, session_after}
 use Rattle.edit_lines.specs.declared.limits.TheConstants.{LINE_LIMIT, LINES_LIMIT}
 
--- The bytes read so far are whole lines, all executed, and the beginning of one more.
-pub record IsReplayedTo (first : Session) (before : Output) (bytes : List ℕ) (now : Session) (after : Output) (line : List ℕ) (count : ℕ) : Type 0 where
+-- A replay in progress: its runner, the count of its meter, its output, the beginning of a line that was read, the capacity of the buffer
+-- for it, and the number of lines that were executed.
+pub record ReplayState : Type 0 where
+  pub runner : RunnerView
+  pub meter : ℕ
+  pub output : Output
+  pub line : List ℕ
+  pub room : ℕ
+  pub count : ℕ
+
+abbrev pub replay_state : {Z : Type 0} → RunnerView → ℕ → Output → Vec ℕ Z → ℕ → ReplayState
+replay_state runner meter output line count =
+    record { runner = runner; meter = meter; output = output; line = line.items; room = vec_capacity line; count = count }
+
+-- The bytes read so far are whole lines, all executed with their replies and effects, and the beginning of one more, whose buffer has
+-- room for each of them.
+pub record IsReplayedTo (first : ReplayState) (bytes : List ℕ) (now : ReplayState) : Type 0 where
   pub done : List (List ℕ)
   pub replies : List (List ℕ)
-  pub cut : pieces 10 bytes ≡ done ++ line ∷ []
-  pub carried : ExecutesLines first done replies now
-  pub written : WritesWhole before after (concat replies)
-  pub counted : count ≡ length done
+  pub cut : pieces 10 bytes ≡ done ++ now.line ∷ []
+  pub carried : ExecutesLines first.runner.session done replies now.runner.session
+  pub written : WritesWhole first.output now.output (concat replies)
+  pub effects : Effects first.runner first.meter done now.runner now.meter
+  pub counted : now.count ≡ length done
+  pub fits : All (λ l. length l ≤ now.room) done
 
 -- The result of a command: its reply is written, whole or in part, or memory ran out and nothing was done.
 abbrev pub ExecutesCommand : {U : Type 0} → Command → Session → Session → Output → Output → Result U ReplayFault → Type 0
@@ -54,12 +73,18 @@ IsPartFault count taken more room Read = ⊥
 IsPartFault count taken more room Write = ⊥
 
 -- The result of a step over some bytes, if the rest was read too.
-abbrev pub ContinuesReplay : {U : Type 0} → Session → Output → List ℕ → List ℕ → Session → Output → List ℕ → ℕ → Result U ReplayFault → Type 0
-ContinuesReplay first before bytes rest now after line count (Ok _) = IsReplayedTo first before bytes now after line count
-ContinuesReplay first before bytes rest now after line count (Err f) = (left : Option (List ℕ)) → length rest ≤ 65535 → Faults left first before (bytes ++ rest) now after f
+abbrev pub ContinuesReplay : {U : Type 0} → ReplayState → List ℕ → List ℕ → ReplayState → Result U ReplayFault → Type 0
+ContinuesReplay first bytes rest now (Ok _) = IsReplayedTo first bytes now
+ContinuesReplay first bytes rest now (Err f) =
+    ((left : Option (List ℕ)) → length rest ≤ 65535
+    → Faults left first.runner.session first.output (bytes ++ rest) now.runner.session now.output f)
+    × EffectsAtFault first.runner first.meter (bytes ++ rest) now.runner now.meter f
 
--- The result of the end of the input.
-abbrev pub FinishesReplay : Session → Output → List ℕ → Session → Output → Result Ending ReplayFault → Type 0
-FinishesReplay first before bytes now after (Ok e) =
-    (text : List ℕ) × WritesWhole before after text × Replays first (lines_of bytes) text now (Finished e.lines)
-FinishesReplay first before bytes now after (Err f) = (left : Option (List ℕ)) → IsAtEnd left → Faults left first before bytes now after f
+-- The result of the end of the input, for this runner, meter and writer.
+abbrev pub FinishesReplay : ReplayState → List ℕ → RunnerView → ℕ → Output → Result Ending ReplayFault → Type 0
+FinishesReplay first bytes now meter after (Ok e) =
+    (text : List ℕ) × WritesWhole first.output after text × Replays first.runner.session (lines_of bytes) text now.session (Finished e.lines)
+    × Effects first.runner first.meter (lines_of bytes) now meter
+FinishesReplay first bytes now meter after (Err f) =
+    ((left : Option (List ℕ)) → IsAtEnd left → Faults left first.runner.session first.output bytes now.session after f)
+    × EffectsAtFault first.runner first.meter bytes now meter f

@@ -1,15 +1,15 @@
 ghost use Rattle.std.specs.Prelude.{◌≡◌, ℕ, ◌+◌, ◌*◌, ◌^◌, ◌<◌, ◌≤◌, List, ◌∷◌, ◌++◌, [], length, IfOk, OnOk, IfErr, OnErr, vec_capacity, vec_len};
 ghost use Rattle.std.specs.Io.KnownBytes.{Consumes, IsAtEnd};
 ghost use Rattle.machine.specs.Given.{Session};
-ghost use Rattle.report_lines.specs.Streams.{Output, WritesWhole};
-ghost use Rattle.replay.specs.RunnerView.{RunnerView, SameOptions};
+ghost use Rattle.report_lines.specs.Streams.{WritesWhole};
+ghost use Rattle.replay.specs.RunnerView.{SameOptions};
 ghost use Rattle.edit_lines.specs.declared.limits.TheConstants.{LINE_LIMIT, LINES_LIMIT};
-ghost use Rattle.edit_lines.specs.Effects.{Effects, EffectsAfter, EffectsAtEnd, EffectsAtFault, EffectsSoFar};
+ghost use Rattle.edit_lines.specs.Effects.{Effects, EffectsAtFault};
 ghost use Rattle.edit_lines.specs.Pieces.{lines_of};
 ghost use Rattle.edit_lines.specs.Replay.{ReplayEnd, Finished, Replays};
 ghost use Rattle.edit_lines.specs.Faults.{Faults};
 ghost use Rattle.edit_lines.specs.MemoryFaults.{FailsForMemory, StopsForMemory};
-ghost use Rattle.edit_lines.specs.Progress.{FinishesReplay, ContinuesReplay, IsPartFault, IsReplayedTo};
+ghost use Rattle.edit_lines.specs.Progress.{ContinuesReplay, FinishesReplay, IsPartFault, IsReplayedTo, ReplayState, replay_state};
 
 use crate::carry_out::carry_out;
 use crate::ending::{Ending, ReplayFault};
@@ -60,16 +60,11 @@ fn end_line<W: Writer>(
 ) -> Result<(), ReplayFault>
     requires writer { (W.output writer.old).failures < 2 ^ 63 }
     requires meter { meter.old ≤ STEP_LIMIT * place.old.lines }
-    ensures goes { (first : Session) (before : Output) (bytes rest : List ℕ)
-        → IsReplayedTo first before bytes runner.old.session
-        (W.output writer.old) place.old.line.items place.old.lines
-        → ContinuesReplay first before (bytes ++ 10 ∷ []) rest runner.new.session
-        (W.output writer.new) place.new.line.items place.new.lines result }
-    ensures effects { (first : RunnerView) (begun : ℕ) (bytes rest : List ℕ)
-        → EffectsSoFar first begun bytes runner.old meter.old place.old.line.items place.old.lines
-        (vec_capacity place.old.line)
-        → EffectsAfter first begun (bytes ++ 10 ∷ []) rest runner.new meter.new
-        place.new.line.items place.new.lines (vec_capacity place.new.line) result }
+    ensures goes { (first : ReplayState) (bytes rest : List ℕ)
+        → IsReplayedTo first bytes
+        (replay_state runner.old meter.old (W.output writer.old) place.old.line place.old.lines)
+        → ContinuesReplay first (bytes ++ 10 ∷ []) rest
+        (replay_state runner.new meter.new (W.output writer.new) place.new.line place.new.lines) result }
     ensures options { SameOptions runner.old runner.new }
     ensures fine { OnOk result ((W.output writer.new).failures ≡ (W.output writer.old).failures) }
     ensures reads { result ≡ Err ReplayFault.Read → ⊥ }
@@ -104,22 +99,15 @@ fn take_piece<W: Writer>(
     requires writer { (W.output writer.old).failures < 2 ^ 63 }
     requires meter { meter.old ≤ STEP_LIMIT * place.old.lines }
     requires small { length piece.now ≤ 65535 }
-    ensures goes { (first : Session) (before : Output) (bytes : List ℕ)
-        → IsReplayedTo first before bytes runner.old.session
-        (W.output writer.old) place.old.line.items place.old.lines
-        → ContinuesReplay first before (bytes ++ piece.now) [] runner.new.session
-        (W.output writer.new) place.new.line.items place.new.lines result }
-    ensures effects { (first : RunnerView) (begun : ℕ) (bytes : List ℕ)
-        → EffectsSoFar first begun bytes runner.old meter.old place.old.line.items place.old.lines
-        (vec_capacity place.old.line)
-        → EffectsAfter first begun (bytes ++ piece.now) [] runner.new meter.new
-        place.new.line.items place.new.lines (vec_capacity place.new.line) result }
-    ensures memory { (first : RunnerView) (begun : ℕ) (before : Output) (bytes : List ℕ)
-        → IsReplayedTo first.session before bytes runner.old.session
-        (W.output writer.old) place.old.line.items place.old.lines
-        → EffectsSoFar first begun bytes runner.old meter.old place.old.line.items place.old.lines
-        (vec_capacity place.old.line)
-        → result ≡ Err ReplayFault.OutOfMemory → StopsForMemory first begun before
+    ensures goes { (first : ReplayState) (bytes : List ℕ)
+        → IsReplayedTo first bytes
+        (replay_state runner.old meter.old (W.output writer.old) place.old.line place.old.lines)
+        → ContinuesReplay first (bytes ++ piece.now) []
+        (replay_state runner.new meter.new (W.output writer.new) place.new.line place.new.lines) result }
+    ensures memory { (first : ReplayState) (bytes : List ℕ)
+        → IsReplayedTo first bytes
+        (replay_state runner.old meter.old (W.output writer.old) place.old.line place.old.lines)
+        → result ≡ Err ReplayFault.OutOfMemory → StopsForMemory first.runner first.meter first.output
         (bytes ++ piece.now) runner.new meter.new (W.output writer.new) }
     ensures options { SameOptions runner.old runner.new }
     ensures reads { result ≡ Err ReplayFault.Read → ⊥ }
@@ -146,13 +134,10 @@ fn finish<W: Writer>(
 ) -> Result<Ending, ReplayFault>
     requires writer { (W.output writer.old).failures < 2 ^ 63 }
     requires meter { meter.old ≤ STEP_LIMIT * place.lines }
-    ensures ends { (first : Session) (before : Output) (bytes : List ℕ)
-        → IsReplayedTo first before bytes runner.old.session (W.output writer.old) place.line.items place.lines
-        → FinishesReplay first before bytes runner.new.session (W.output writer.new) result }
-    ensures effects { (first : RunnerView) (begun : ℕ) (bytes : List ℕ)
-        → EffectsSoFar first begun bytes runner.old meter.old place.line.items place.lines
-        (vec_capacity place.line)
-        → EffectsAtEnd first begun bytes runner.new meter.new result }
+    ensures ends { (first : ReplayState) (bytes : List ℕ)
+        → IsReplayedTo first bytes
+        (replay_state runner.old meter.old (W.output writer.old) place.line place.lines)
+        → FinishesReplay first bytes runner.new meter.new (W.output writer.new) result }
     ensures options { SameOptions runner.old runner.new }
     ensures memory { result ≡ Err ReplayFault.OutOfMemory
         → FailsForMemory (place.lines + 1) place.line.items runner.old meter.old
