@@ -2,7 +2,7 @@
 use Rattle.std.proofs.Common.{◌≡◌, ◌<◌, ◌+◌, arith, ℕ, List, ◌++◌, append-nil, refl, sym, ap, subst, ◌∙◌, ◌⊎◌, inl, inr, Option, Some, None, Result, Ok, Err, IfOk, IfSome, OnOk}
 use Rattle.std.proofs.Math.Nat.{min-eq_left}
 use Rattle.std.specs.Prelude.{min}
-use Rattle.std.specs.Io.KnownBytes.{Appends, Consumes, IsAtEnd}
+use Rattle.std.specs.Io.KnownBytes.{Consumes, IsAtEnd}
 use Rattle.machine.specs.Given.{Session}
 use Rattle.edit_lines.specs.declared.ending.Ending.{Ending}
 use Rattle.edit_lines.specs.declared.ending.ReplayFault.{ReplayFault}
@@ -10,7 +10,8 @@ use Rattle.edit_lines.specs.Pieces.{lines_of}
 use Rattle.edit_lines.specs.Replay.{Finished, Replays}
 use Rattle.edit_lines.specs.Effects.{Effects}
 use Rattle.replay.specs.RunnerView.{RunnerView}
-use Rattle.folders.specs.FileSystem.{Path, Stored, Opens, text_at}
+use Rattle.report_lines.specs.Streams.{Output, WritesWhole}
+use Rattle.folders.specs.FileSystem.{Path, FileBytes, Opens, text_at}
 use Rattle.cpmrun.specs.Ends.{BreaksOffWith}
 use Rattle.cpmrun.specs.MeteredEnds.{WritesReplayBy}
 
@@ -21,13 +22,13 @@ all_read (Some all) None bytes c e = absurd c
 all_read (Some all) (Some rest) bytes c e = c ∙ ap (λ r. bytes ++ r) e ∙ append-nil bytes
 
 -- A replay that ended wrote its text, by the runner that it was given.
-pub writes_replay : (given first now : RunnerView) (begun steps : ℕ) (a d held holds : Option (List ℕ)) (r : Result Ending ReplayFault)
+pub writes_replay : (given first now : RunnerView) (begun steps : ℕ) (a d : Option (List ℕ)) (before after : Output) (r : Result Ending ReplayFault)
     → first ≡ given → begun ≡ 0
-    → IfOk r (λ e. (bytes : List ℕ) × (text : List ℕ) × Consumes a d bytes × IsAtEnd d × Appends held holds text
+    → IfOk r (λ e. (bytes : List ℕ) × (text : List ℕ) × Consumes a d bytes × IsAtEnd d × WritesWhole before after text
     × Replays first.session (lines_of bytes) text now.session (Finished e.lines)
     × Effects first begun (lines_of bytes) now steps)
-    → OnOk r (WritesReplayBy a given held holds steps)
-writes_replay given first now begun steps a d held holds (Ok e) same none h = record {
+    → OnOk r (WritesReplayBy a given before after steps)
+writes_replay given first now begun steps a d before after (Ok e) same none h = record {
   last = now;
   bytes = h.0;
   text = h.1;
@@ -37,26 +38,26 @@ writes_replay given first now begun steps a d held holds (Ok e) same none h = re
   replayed = subst (λ (v : RunnerView). Replays v.session (lines_of h.0) h.1 now.session (Finished e.lines)) same h.5;
   effects = subst (λ m. Effects given m (lines_of h.0) now steps) none (subst (λ (v : RunnerView). Effects v begun (lines_of h.0) now steps) same h.6);
 }
-writes_replay given first now begun steps a d held holds (Err f) same none h = tt
+writes_replay given first now begun steps a d before after (Err f) same none h = tt
 
 -- The bytes of a reader are the bytes of the file that it was opened for, if these are known.
-pub of_file : (files : Option Stored) (path : Path) (left : Option (List ℕ)) → Opens files path left → (text_at files path ≡ left) ⊎ (text_at files path ≡ None)
+pub of_file : (files : Option FileBytes) (path : Path) (left : Option (List ℕ)) → Opens files path left → (text_at files path ≡ left) ⊎ (text_at files path ≡ None)
 of_file None path left o = inr refl
 of_file (Some stored) path left o = inl (sym o.0)
 
-pub writes_file : (files : Option Stored) (path : Path) (left : Option (List ℕ)) (first : RunnerView) (held holds : Option (List ℕ)) (steps : ℕ) → Opens files path left
-    → WritesReplayBy left first held holds steps → WritesReplayBy (text_at files path) first held holds steps
-writes_file files path left first held holds steps o w = elim (of_file files path left o) [
-  | inl e ↦ subst (λ source. WritesReplayBy source first held holds steps) (sym e) w
-  | inr e ↦ subst (λ source. WritesReplayBy source first held holds steps) (sym e)
+pub writes_file : (files : Option FileBytes) (path : Path) (left : Option (List ℕ)) (first : RunnerView) (before after : Output) (steps : ℕ) → Opens files path left
+    → WritesReplayBy left first before after steps → WritesReplayBy (text_at files path) first before after steps
+writes_file files path left first before after steps o w = elim (of_file files path left o) [
+  | inl e ↦ subst (λ source. WritesReplayBy source first before after steps) (sym e) w
+  | inr e ↦ subst (λ source. WritesReplayBy source first before after steps) (sym e)
       (record { last = w.last; bytes = w.bytes; text = w.text; count = w.count; whole = tt; written = w.written; replayed = w.replayed; effects = w.effects })
 ]
 
-pub breaks_file : (files : Option Stored) (path : Path) (left : Option (List ℕ)) (f : ReplayFault) (s : Session) (held holds : Option (List ℕ)) → Opens files path left
-    → BreaksOffWith f left s held holds → BreaksOffWith f (text_at files path) s held holds
-breaks_file files path left f s held holds o b = elim (of_file files path left o) [
-  | inl e ↦ subst (λ source. BreaksOffWith f source s held holds) (sym e) b
-  | inr e ↦ subst (λ source. BreaksOffWith f source s held holds) (sym e) (record { left = b.left; last = b.last; bytes = b.bytes; read = tt; leaves = b.leaves })
+pub breaks_file : (files : Option FileBytes) (path : Path) (left : Option (List ℕ)) (f : ReplayFault) (s : Session) (before after : Output) → Opens files path left
+    → BreaksOffWith f left s before after → BreaksOffWith f (text_at files path) s before after
+breaks_file files path left f s before after o b = elim (of_file files path left o) [
+  | inl e ↦ subst (λ source. BreaksOffWith f source s before after) (sym e) b
+  | inr e ↦ subst (λ source. BreaksOffWith f source s before after) (sym e) (record { left = b.left; last = b.last; bytes = b.bytes; read = tt; leaves = b.leaves })
 ]
 
 -- A reader that had not failed failed, and that was counted.

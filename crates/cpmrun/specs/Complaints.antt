@@ -1,5 +1,5 @@
 -- The exit status and the message of each error. (This project's own.)
-use Rattle.std.specs.Prelude.{◌≡◌, ℕ, List, [], ◌⊎◌, ◌++◌, codes, Option, string_bytes}
+use Rattle.std.specs.Prelude.{◌≡◌, ℕ, List, [], ◌⊎◌, ◌++◌, codes, string_bytes}
 use Rattle.std.specs.Fmt.{decimal}
 use Rattle.folders.specs.Faults.{fault_failures, text_of}
 use Rattle.loading.specs.declared.fault.LoadFault.{LoadFault}
@@ -9,7 +9,7 @@ use Rattle.one_run.specs.declared.fault.RunFault.TheVariants as run
 use Rattle.cpmrun.specs.declared.fault.Fault.{Fault}
 use Rattle.cpmrun.specs.declared.fault.Fault.TheVariants.{Use, NotText, CannotRead, CannotWrite, Folders, Refused, Malformed, TooLong, OutOfMemory}
 use Rattle.report_lines.specs.FirstLines.{line}
-use Rattle.report_lines.specs.Writing.{WritesOrFails}
+use Rattle.report_lines.specs.Streams.{Output, WritesOrFails}
 
 -- The program's error for an error of loading, and for an error of the run.
 abbrev pub of_load : LoadFault → Fault
@@ -63,8 +63,8 @@ message_of (TooLong k) = codes "cpmrun: line " ++ decimal k ++ line (codes " is 
 message_of OutOfMemory = line (codes "cpmrun: out of memory")
 
 -- The status is this error's, and its message was written, or a prefix of it if writing failed.
-abbrev pub Tells : Fault → ℕ → Option (List ℕ) → Option (List ℕ) → ℕ → ℕ → Type 0
-Tells f status held holds failed fails = (status ≡ status_of f) × WritesOrFails held holds failed fails (message_of f)
+abbrev pub ReportsFault : Fault → ℕ → Output → Output → Type 0
+ReportsFault f status before after = (status ≡ status_of f) × WritesOrFails before after (message_of f)
 
 -- The message has a path, a name or a number put into it, and so needs memory.
 abbrev pub NamesAValue : Fault → Type 0
@@ -79,6 +79,5 @@ NamesAValue (TooLong k) = Unit {0}
 NamesAValue OutOfMemory = ⊥
 
 -- The error was reported, or out of memory if there was no memory to put a value into its message.
-abbrev pub Complains : Fault → ℕ → Option (List ℕ) → Option (List ℕ) → ℕ → ℕ → Type 0
-Complains f status held holds failed fails =
-    Tells f status held holds failed fails ⊎ (NamesAValue f × Tells OutOfMemory status held holds failed fails)
+abbrev pub ReportsFaultOrMemory : Fault → ℕ → Output → Output → Type 0
+ReportsFaultOrMemory f status before after = ReportsFault f status before after ⊎ (NamesAValue f × ReportsFault OutOfMemory status before after)

@@ -1,6 +1,6 @@
 -- The ways in which the program ends. (This project's profile.)
-use Rattle.std.specs.Prelude.{◌≡◌, ℕ, ◌+◌, ◌<◌, ◌⊎◌, List, Option, IfSome, MatchOption}
-use Rattle.std.specs.Io.KnownBytes.{Appends, Consumes}
+use Rattle.std.specs.Prelude.{◌≡◌, ℕ, ◌+◌, ◌⊎◌, List, Option, Result, IfSome, MatchOption}
+use Rattle.std.specs.Io.KnownBytes.{Consumes}
 use Rattle.command_words.specs.Outcome.{ComesTo}
 use Rattle.command_words.specs.declared.outcome.Outcome.TheVariants.{Information}
 use Rattle.command_words.specs.declared.words.Words.{Words}
@@ -14,99 +14,95 @@ use Rattle.loading.specs.Loading.{FailsToLoad, IsLoadedFrom}
 use Rattle.loading.specs.declared.fault.LoadFault.{LoadFault}
 use Rattle.one_run.specs.RawRun.{BreaksRun, RunsOnce}
 use Rattle.one_run.specs.World.{World}
+use Rattle.report_lines.specs.Streams.{Output, WritesPart, WritesText, WritesWhole}
 use Rattle.one_run.specs.declared.fault.RunFault.{RunFault}
 use Rattle.folders.specs.FileSystem.{text_at}
 use Rattle.edit_lines.specs.Pieces.{lines_of}
-use Rattle.cpmrun.specs.Complaints.{Complains, file_failures, of_load, of_run}
+use Rattle.cpmrun.specs.Complaints.{ReportsFaultOrMemory, file_failures, of_load, of_run}
 use Rattle.edit_lines.specs.Faults.{Faults}
 use Rattle.edit_lines.specs.Replay.{Finished, Replays}
 
 -- The replay of the edit lines, from this session to their end, wrote its text. If a reader reports its bytes, these are the
 -- lines.
-pub record WritesReplay (source : Option (List ℕ)) (first : Session) (held holds : Option (List ℕ)) : Type 0 where
+pub record WritesReplay (source : Option (List ℕ)) (first : Session) (before after : Output) : Type 0 where
   pub last : Session
   pub bytes : List ℕ
   pub text : List ℕ
   pub count : ℕ
   pub whole : IfSome source (λ all. all ≡ bytes)
-  pub written : Appends held holds text
+  pub written : WritesWhole before after text
   pub replayed : Replays first (lines_of bytes) text last (Finished count)
 
 -- What a replay from this session wrote before this error broke it off, once these bytes of the reader were read.
-pub record BreaksOffWith (f : ReplayFault) (source : Option (List ℕ)) (first : Session) (held holds : Option (List ℕ)) : Type 0 where
+pub record BreaksOffWith (f : ReplayFault) (source : Option (List ℕ)) (first : Session) (before after : Output) : Type 0 where
   pub left : Option (List ℕ)
   pub last : Session
   pub bytes : List ℕ
   pub read : Consumes source left bytes
-  pub leaves : Faults left first held bytes last holds f
+  pub leaves : Faults left first before bytes last after f
 
--- What an output holds, if it reports that, and how often writing to it failed.
-abbrev pub Output : Type 0
-Output = Option (List ℕ) × ℕ
-
--- What an error that broke off the replay of the edit lines of this path leaves; the file has these bytes if they are known. An
--- error of writing occurs only if writing failed.
+-- What an error that broke off the replay of the edit lines of this path leaves; the file has these bytes if they are known.
 abbrev pub BreaksReplay : List ℕ → Option (List ℕ) → Session → Output → Output → Fault → Type 0
 BreaksReplay path source s old new (Use text) = ⊥
 BreaksReplay path source s old new NotText = ⊥
-BreaksReplay path source s old new (CannotRead p) = (p.now ≡ path) × ((new.0 ≡ old.0) ⊎ BreaksOffWith replay_fault.Read source s old.0 new.0)
-BreaksReplay path source s old new CannotWrite = (old.1 < new.1) × BreaksOffWith replay_fault.Write source s old.0 new.0
+BreaksReplay path source s old new (CannotRead p) = (p.now ≡ path) × ((new ≡ old) ⊎ BreaksOffWith replay_fault.Read source s old new)
+BreaksReplay path source s old new CannotWrite = BreaksOffWith replay_fault.Write source s old new
 BreaksReplay path source s old new (Folders f) = ⊥
 BreaksReplay path source s old new (Refused n) = ⊥
-BreaksReplay path source s old new (Malformed k) = BreaksOffWith (replay_fault.Malformed k) source s old.0 new.0
-BreaksReplay path source s old new (TooLong k) = BreaksOffWith (replay_fault.LineTooLong k) source s old.0 new.0
-BreaksReplay path source s old new OutOfMemory = (new.0 ≡ old.0) ⊎ BreaksOffWith replay_fault.OutOfMemory source s old.0 new.0
+BreaksReplay path source s old new (Malformed k) = BreaksOffWith (replay_fault.Malformed k) source s old new
+BreaksReplay path source s old new (TooLong k) = BreaksOffWith (replay_fault.LineTooLong k) source s old new
+BreaksReplay path source s old new OutOfMemory = (new ≡ old) ⊎ BreaksOffWith replay_fault.OutOfMemory source s old new
 
--- Help or the version was written: some text.
-abbrev pub Informs : Option (List ℕ) → Option (List ℕ) → Type 0
-Informs held holds = (text : List ℕ) × Appends held holds text
+-- Some text, as help or the version, was written, or a prefix of it if the result is an error.
+abbrev pub WritesSomeText : {T E : Type 0} → Output → Output → Result T E → Type 0
+WritesSomeText before after r = (text : List ℕ) × WritesText before after text r
 
 -- The session that the words describe, loaded from these files and folders.
 abbrev pub IsSessionOf : World → Words → Session → Type 0
-IsSessionOf before w s = IsLoadedFrom before.files before.names w s
+IsSessionOf before w s = IsLoadedFrom before.files w s
 
 -- How a session that the words describe is completed: it is run once, or the edit lines are replayed to their end. `IsReplayed`
 -- holds for the path of the edit lines.
 abbrev pub Completes : (List ℕ → Type 0) → Words → Session → ℕ → World → World → Type 0
 Completes IsReplayed w s status before after = MatchOption w.edits
     (RunsOnce w.out s status before after)
-    (λ path. (status ≡ 0) × (after.err ≡ before.err) × (after.files ≡ before.files) × IsReplayed path.now)
+    (λ path. (status ≡ 0) × (after.err ≡ before.err) × (after.files.bytes ≡ before.files.bytes) × IsReplayed path.now)
 
 -- How the program ends without an error: it wrote help or the version, or the session was completed. No call of the file system
 -- failed. `IsReplayed` holds for a replay.
 abbrev pub EndsBy : (Words → Session → List ℕ → Type 0) → List (List ℕ) → ℕ → World → World → Type 0
-EndsBy IsReplayed words status before after = (after.failures ≡ before.failures) × (
-    (ComesTo words Information × (status ≡ 0) × (after.err ≡ before.err) × (after.files ≡ before.files) × Informs before.out after.out)
+EndsBy IsReplayed words status before after = (after.files.failures ≡ before.files.failures) × (
+    (ComesTo words Information × (status ≡ 0) × (after.err ≡ before.err) × (after.files.bytes ≡ before.files.bytes) × ((text : List ℕ) × WritesWhole before.out after.out text))
     ⊎ ((w : Words) × AreWords words w × ((s : Session) × IsSessionOf before w s × Completes (IsReplayed w s) w s status before after)))
 
 -- The same, with a replay that writes the text of its lines.
-abbrev pub Ends : List (List ℕ) → ℕ → World → World → Type 0
-Ends words status before after = EndsBy (λ w s path. WritesReplay (text_at before.files path) s before.out after.out) words status before after
+abbrev pub EndsWithoutFault : List (List ℕ) → ℕ → World → World → Type 0
+EndsWithoutFault words status before after = EndsBy (λ w s path. WritesReplay (text_at before.files.bytes path) s before.out after.out) words status before after
 
 -- What an error leaves that broke off the run or the replay of the session of the words.
-abbrev pub BreaksOff : Words → Session → World → World → Fault → Type 0
-BreaksOff w s before after fault = MatchOption w.edits
+abbrev pub StopsByFault : Words → Session → World → World → Fault → Type 0
+StopsByFault w s before after fault = MatchOption w.edits
     ((f : RunFault) × (fault ≡ of_run f) × BreaksRun w.out s before after f)
-    (λ path. BreaksReplay path.now (text_at before.files path.now) s (before.out, before.out_failures) (after.out, after.out_failures) fault
-    × (after.files ≡ before.files))
+    (λ path. BreaksReplay path.now (text_at before.files.bytes path.now) s before.out after.out fault
+    × (after.files.bytes ≡ before.files.bytes))
 
 -- Nothing was written.
-abbrev pub LeavesAll : World → World → Type 0
-LeavesAll before after = (after.out ≡ before.out) × (after.files ≡ before.files)
+abbrev pub WritesNothing : World → World → Type 0
+WritesNothing before after = (after.out ≡ before.out) × (after.files.bytes ≡ before.files.bytes)
 
 -- An error of these words, and what it leaves: an error of the words themselves, of writing help, of loading the session, or of
 -- its run or replay.
 abbrev pub FaultOf : List (List ℕ) → World → World → Fault → Type 0
 FaultOf words before after fault =
-    (Misread words fault × LeavesAll before after)
-    ⊎ (ComesTo words Information × (fault ≡ CannotWrite) × (before.out_failures < after.out_failures) × Informs before.out after.out × (after.files ≡ before.files))
-    ⊎ ((w : Words) × AreWords words w × (((f : LoadFault) × (fault ≡ of_load f) × FailsToLoad before.files before.names w f × LeavesAll before after)
-    ⊎ ((s : Session) × IsSessionOf before w s × BreaksOff w s before after fault)))
+    (Misread words fault × WritesNothing before after)
+    ⊎ (ComesTo words Information × (fault ≡ CannotWrite) × ((text : List ℕ) × WritesPart before.out after.out text) × (after.files.bytes ≡ before.files.bytes))
+    ⊎ ((w : Words) × AreWords words w × (((f : LoadFault) × (fault ≡ of_load f) × FailsToLoad before.files w f × WritesNothing before after)
+    ⊎ ((s : Session) × IsSessionOf before w s × StopsByFault w s before after fault)))
 
 -- An error occurred and was reported with its status, or "out of memory" if there was no memory to put its value into the
 -- message. A call of the file system failed exactly if the error reports that.
 pub record EndsByFault (words : List (List ℕ)) (status : ℕ) (before after : World) : Type 0 where
   pub fault : Fault
   pub comes : FaultOf words before after fault
-  pub failed : after.failures ≡ before.failures + file_failures fault
-  pub telling : Complains fault status before.err after.err before.err_failures after.err_failures
+  pub failed : after.files.failures ≡ before.files.failures + file_failures fault
+  pub telling : ReportsFaultOrMemory fault status before.err after.err

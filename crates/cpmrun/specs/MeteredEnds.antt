@@ -1,6 +1,5 @@
 -- How the program ends, and how many steps its runs executed. (This project's own.)
 use Rattle.std.specs.Prelude.{◌≡◌, ℕ, List, Option, IfSome}
-use Rattle.std.specs.Io.KnownBytes.{Appends}
 use Rattle.command_words.specs.declared.words.Words.{Words}
 use Rattle.folders.specs.FileSystem.{text_at}
 use Rattle.replay.specs.RunnerView.{RunnerView, with_no_checkpoint}
@@ -10,6 +9,7 @@ use Rattle.edit_lines.specs.Pieces.{lines_of}
 use Rattle.edit_lines.specs.Replay.{Finished, Replays}
 use Rattle.cpmrun.specs.Ends.{EndsBy}
 use Rattle.one_run.specs.World.{World}
+use Rattle.report_lines.specs.Streams.{Output, WritesWhole}
 
 -- The options for checkpoints in the words.
 abbrev pub options_of : Words → Options
@@ -17,17 +17,17 @@ options_of w = record { spacing = w.spacing; slots = w.slots }
 
 -- The replay of the edit lines by this runner, to their end, wrote its text and executed `steps` steps. If a reader reports its
 -- bytes, these are the lines.
-pub record WritesReplayBy (source : Option (List ℕ)) (first : RunnerView) (held holds : Option (List ℕ)) (steps : ℕ) : Type 0 where
+pub record WritesReplayBy (source : Option (List ℕ)) (first : RunnerView) (before after : Output) (steps : ℕ) : Type 0 where
   pub last : RunnerView
   pub bytes : List ℕ
   pub text : List ℕ
   pub count : ℕ
   pub whole : IfSome source (λ all. all ≡ bytes)
-  pub written : Appends held holds text
+  pub written : WritesWhole before after text
   pub replayed : Replays first.session (lines_of bytes) text last.session (Finished count)
   pub effects : Effects first 0 (lines_of bytes) last steps
 
 -- The program ends without an error, and a replay executes `steps` steps, by a runner with the options of the words.
 abbrev pub MeteredEnds : List (List ℕ) → ℕ → World → World → ℕ → Type 0
 MeteredEnds words status before after steps =
-    EndsBy (λ w s path. WritesReplayBy (text_at before.files path) (with_no_checkpoint s (options_of w)) before.out after.out steps) words status before after
+    EndsBy (λ w s path. WritesReplayBy (text_at before.files.bytes path) (with_no_checkpoint s (options_of w)) before.out after.out steps) words status before after

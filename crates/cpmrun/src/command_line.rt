@@ -4,9 +4,9 @@ ghost use Rattle.std.specs.Prelude.{◌≡◌, ◌⊎◌, ◌^◌, ◌<◌, ℕ,
 ghost use Rattle.machine.specs.Given.{Session};
 ghost use Rattle.replay.specs.Options.{refusal_of};
 ghost use Rattle.replay.specs.RunnerView.{with_no_checkpoint};
-ghost use Rattle.folders.specs.Failures.{AddsFailures};
+ghost use Rattle.folders.specs.Failures.{CountsFailures, KeepsFiles};
 ghost use Rattle.cpmrun.specs.Complaints.{file_failures};
-ghost use Rattle.cpmrun.specs.Ends.{BreaksOffWith, BreaksReplay, Ends, EndsByFault, FaultOf, Informs};
+ghost use Rattle.cpmrun.specs.Ends.{BreaksOffWith, BreaksReplay, EndsWithoutFault, EndsByFault, FaultOf, WritesSomeText};
 ghost use Rattle.cpmrun.specs.MeteredEnds.{MeteredEnds, WritesReplayBy, options_of};
 ghost use Rattle.one_run.specs.World.{world};
 ghost use Rattle.folders.specs.FileSystem.{text_at};
@@ -46,14 +46,13 @@ fn replay_session<R: Reader, W: Writer>(
 ) -> Result<Ending, ReplayFault>
     requires options { refusal_of options ≡ None }
     requires meter { meter.old ≡ 0 }
-    requires reader { R.failures reader.old < 2 ^ 63 }
-    requires writer { W.failures writer.old < 2 ^ 63 }
-    ensures ok { OnOk result (WritesReplayBy (R.left reader.old) (with_no_checkpoint session options)
-        (W.holds writer.old) (W.holds writer.new) meter.new) }
+    requires reader { (R.input reader.old).failures < 2 ^ 63 }
+    requires writer { (W.output writer.old).failures < 2 ^ 63 }
+    ensures ok { OnOk result (WritesReplayBy (R.input reader.old).left (with_no_checkpoint session options)
+        (W.output writer.old) (W.output writer.new) meter.new) }
     ensures fault { IfErr result
-        (λ f. BreaksOffWith f (R.left reader.old) session (W.holds writer.old) (W.holds writer.new)) }
-    ensures read { result ≡ Err ReplayFault.Read → R.failures reader.old < R.failures reader.new }
-    ensures write { result ≡ Err ReplayFault.Write → W.failures writer.old < W.failures writer.new }
+        (λ f. BreaksOffWith f (R.input reader.old).left session (W.output writer.old) (W.output writer.new)) }
+    ensures read { result ≡ Err ReplayFault.Read → (R.input reader.old).failures < (R.input reader.new).failures }
 {
     let mut runner = Runner::within(alloc, session, options)?;
     replay(alloc, &mut runner, meter, reader, writer)
@@ -68,19 +67,17 @@ fn replay_file<'a, S: FileSystem, O: Writer>(
     meter: &mut Meter,
     out: &mut O,
 ) -> Result<(), Fault<'a>>
-    requires system { S.failures system.old < 2 ^ 63 }
+    requires system { (S.files system.old).failures < 2 ^ 63 }
     requires options { refusal_of options ≡ None }
     requires meter { meter.old ≡ 0 }
-    requires out { O.failures out.old < 2 ^ 63 }
+    requires out { (O.output out.old).failures < 2 ^ 63 }
     ensures done { OnOk result
-        (WritesReplayBy (text_at (S.files system.old) path.now) (with_no_checkpoint session options)
-        (O.holds out.old) (O.holds out.new) meter.new) }
+        (WritesReplayBy (text_at (S.files system.old).bytes path.now) (with_no_checkpoint session options)
+        (O.output out.old) (O.output out.new) meter.new) }
     ensures fault { IfErr result
-        (BreaksReplay path.now (text_at (S.files system.old) path.now) session
-        (O.holds out.old, O.failures out.old) (O.holds out.new, O.failures out.new)) }
-    ensures files { S.files system.new ≡ S.files system.old }
-    ensures names { S.names system.new ≡ S.names system.old }
-    ensures failures { AddsFailures file_failures result (S.failures system.old) (S.failures system.new) }
+        (BreaksReplay path.now (text_at (S.files system.old).bytes path.now) session
+        (O.output out.old) (O.output out.new)) }
+    ensures unchanged { KeepsFiles file_failures result (S.files system.old) (S.files system.new) }
 {
     let input = open(system, path)?;
     let mut edits = EditFile { input };
@@ -99,10 +96,9 @@ fn replay_file<'a, S: FileSystem, O: Writer>(
 
 /// Writes help or the version.
 fn inform<'a, O: Writer>(text: &str, out: &mut O) -> Result<(), Fault<'a>>
-    requires { O.failures out.old < 2 ^ 63 }
-    ensures writes { Informs (O.holds out.old) (O.holds out.new) }
-    ensures fault { IfErr result
-        (λ f. (f ≡ Fault.CannotWrite) × (O.failures out.old < O.failures out.new)) }
+    requires { (O.output out.old).failures < 2 ^ 63 }
+    ensures writes { WritesSomeText (O.output out.old) (O.output out.new) result }
+    ensures fault { IfErr result (λ f. f ≡ Fault.CannotWrite) }
 {
     match write_all(out, text.as_bytes()) {
         Ok(()) => Ok(()),
@@ -119,21 +115,17 @@ fn run<'a, S: FileSystem, O: Writer, E: Writer>(
     err: &mut E,
 ) -> Result<u8, Fault<'a>>
     requires meter { meter.old ≡ 0 }
-    requires system { S.failures system.old < 2 ^ 63 }
-    requires out { O.failures out.old < 2 ^ 63 }
-    requires err { E.failures err.old < 2 ^ 63 }
+    requires system { (S.files system.old).failures < 2 ^ 63 }
+    requires out { (O.output out.old).failures < 2 ^ 63 }
+    requires err { (E.output err.old).failures < 2 ^ 63 }
     ensures done { IfOk result (λ status. MeteredEnds (map string_bytes words.entry.now) status
-        (world (S.files system.old) (S.names system.old) (S.failures system.old)
-        (O.holds out.old) (O.failures out.old) (E.holds err.old) (E.failures err.old))
-        (world (S.files system.new) (S.names system.new) (S.failures system.new)
-        (O.holds out.new) (O.failures out.new) (E.holds err.new) (E.failures err.new)) meter.new) }
+        (world (S.files system.old) (O.output out.old) (E.output err.old))
+        (world (S.files system.new) (O.output out.new) (E.output err.new)) meter.new) }
     ensures fault { IfErr result (FaultOf (map string_bytes words.entry.now)
-        (world (S.files system.old) (S.names system.old) (S.failures system.old)
-        (O.holds out.old) (O.failures out.old) (E.holds err.old) (E.failures err.old))
-        (world (S.files system.new) (S.names system.new) (S.failures system.new)
-        (O.holds out.new) (O.failures out.new) (E.holds err.new) (E.failures err.new))) }
+        (world (S.files system.old) (O.output out.old) (E.output err.old))
+        (world (S.files system.new) (O.output out.new) (E.output err.new))) }
     ensures untold { OnErr result (err.new ≡ err.old) }
-    ensures failures { AddsFailures file_failures result (S.failures system.old) (S.failures system.new) }
+    ensures failures { CountsFailures file_failures result (S.files system.old) (S.files system.new) }
 {
     let words = match read_request(system.alloc(), words)? {
         Request::Session(words) => words,
@@ -159,20 +151,16 @@ pub fn metered_command<S: FileSystem, O: Writer, E: Writer>(
     err: &mut E,
 ) -> u8
     requires meter { meter.old ≡ 0 }
-    requires system { S.failures system.old < 2 ^ 63 }
-    requires out { O.failures out.old < 2 ^ 63 }
-    requires err { E.failures err.old < 2 ^ 63 }
-    ensures ends { let before = world (S.files system.old) (S.names system.old) (S.failures system.old)
-        (O.holds out.old) (O.failures out.old) (E.holds err.old) (E.failures err.old) in
-        let after = world (S.files system.new) (S.names system.new) (S.failures system.new)
-        (O.holds out.new) (O.failures out.new) (E.holds err.new) (E.failures err.new) in
+    requires system { (S.files system.old).failures < 2 ^ 63 }
+    requires out { (O.output out.old).failures < 2 ^ 63 }
+    requires err { (E.output err.old).failures < 2 ^ 63 }
+    ensures ends { let before = world (S.files system.old) (O.output out.old) (E.output err.old) in
+        let after = world (S.files system.new) (O.output out.new) (E.output err.new) in
         MeteredEnds (map string_bytes words.now) result before after meter.new
         ⊎ EndsByFault (map string_bytes words.now) result before after }
     ensures done { result ≡ 0 → MeteredEnds (map string_bytes words.now) result
-        (world (S.files system.old) (S.names system.old) (S.failures system.old)
-        (O.holds out.old) (O.failures out.old) (E.holds err.old) (E.failures err.old))
-        (world (S.files system.new) (S.names system.new) (S.failures system.new)
-        (O.holds out.new) (O.failures out.new) (E.holds err.new) (E.failures err.new)) meter.new }
+        (world (S.files system.old) (O.output out.old) (E.output err.old))
+        (world (S.files system.new) (O.output out.new) (E.output err.new)) meter.new }
 {
     match run(system, words, meter, out, err) {
         Ok(status) => status,
@@ -189,20 +177,16 @@ pub fn command<S: FileSystem, O: Writer, E: Writer>(
     out: &mut O,
     err: &mut E,
 ) -> u8
-    requires system { S.failures system.old < 2 ^ 63 }
-    requires out { O.failures out.old < 2 ^ 63 }
-    requires err { E.failures err.old < 2 ^ 63 }
-    ensures ends { let before = world (S.files system.old) (S.names system.old) (S.failures system.old)
-        (O.holds out.old) (O.failures out.old) (E.holds err.old) (E.failures err.old) in
-        let after = world (S.files system.new) (S.names system.new) (S.failures system.new)
-        (O.holds out.new) (O.failures out.new) (E.holds err.new) (E.failures err.new) in
-        Ends (map string_bytes words.now) result before after
+    requires system { (S.files system.old).failures < 2 ^ 63 }
+    requires out { (O.output out.old).failures < 2 ^ 63 }
+    requires err { (E.output err.old).failures < 2 ^ 63 }
+    ensures ends { let before = world (S.files system.old) (O.output out.old) (E.output err.old) in
+        let after = world (S.files system.new) (O.output out.new) (E.output err.new) in
+        EndsWithoutFault (map string_bytes words.now) result before after
         ⊎ EndsByFault (map string_bytes words.now) result before after }
-    ensures done { result ≡ 0 → Ends (map string_bytes words.now) result
-        (world (S.files system.old) (S.names system.old) (S.failures system.old)
-        (O.holds out.old) (O.failures out.old) (E.holds err.old) (E.failures err.old))
-        (world (S.files system.new) (S.names system.new) (S.failures system.new)
-        (O.holds out.new) (O.failures out.new) (E.holds err.new) (E.failures err.new)) }
+    ensures done { result ≡ 0 → EndsWithoutFault (map string_bytes words.now) result
+        (world (S.files system.old) (O.output out.old) (E.output err.old))
+        (world (S.files system.new) (O.output out.new) (E.output err.new)) }
 {
     metered_command(system, words, &mut Meter::new(), out, err)
 }

@@ -11,9 +11,7 @@ pub struct EditFile<I> {
 }
 
 impl<I: InputFile> Reader for EditFile<I> {
-    ghost left = { λ file. I.left file.input };
-
-    ghost failures = { λ file. I.failures file.input };
+    ghost input = { λ file. record { left = I.left file.input; failures = I.failures file.input } };
 
     fn read(&mut self, piece: &mut [u8]) -> Result<usize, Failed> {
         match self.input.read(piece) {

@@ -1,10 +1,10 @@
 ghost use Rattle.std.specs.Prelude.{◌≡◌, ◌^◌, ◌<◌, IfOk, IfSome, IfNone, string_bytes};
-ghost use Rattle.cpmrun.specs.Complaints.{Complains};
-ghost use Rattle.report_lines.specs.Writing.{WritesOrFails};
+ghost use Rattle.cpmrun.specs.Complaints.{ReportsFaultOrMemory};
+ghost use Rattle.report_lines.specs.Streams.{WritesOrFails};
 
 use loading::LoadFault;
 use one_run::RunFault;
-use report_lines::{Writer, write_piece};
+use report_lines::{Writer, write_all};
 use std::alloc::{AllocError, Global};
 
 /// The error with which the program ends, if its status is 1, 2 or 12.
@@ -119,19 +119,17 @@ impl Fault<'_> {
 
 /// Writes a text. A failure of the writer is ignored.
 fn tell<E: Writer>(err: &mut E, text: &[u8])
-    requires { E.failures err.old < 2 ^ 63 }
-    ensures { WritesOrFails (E.holds err.old) (E.holds err.new) (E.failures err.old)
-        (E.failures err.new) text.now }
+    requires { (E.output err.old).failures < 2 ^ 63 }
+    ensures { WritesOrFails (E.output err.old) (E.output err.new) text.now }
 {
-    let _ = write_piece(err, text);
+    let _ = write_all(err, text);
 }
 
 /// Writes the message of an error and returns the status. If there is no memory to put a path, name or number into the message,
 /// it reports out of memory instead. A failure of the writer is ignored.
 pub fn complain<E: Writer>(alloc: Global, fault: Fault<'_>, err: &mut E) -> u8
-    requires { E.failures err.old < 2 ^ 63 }
-    ensures { Complains fault.entry result (E.holds err.old) (E.holds err.new) (E.failures err.old)
-        (E.failures err.new) }
+    requires { (E.output err.old).failures < 2 ^ 63 }
+    ensures { ReportsFaultOrMemory fault.entry result (E.output err.old) (E.output err.new) }
 {
     if let Some(text) = fault.fixed_message() {
         tell(err, text.as_bytes());

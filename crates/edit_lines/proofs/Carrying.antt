@@ -4,24 +4,24 @@ use Rattle.std.proofs.lemmas.List.{append-nil}
 use Rattle.std.proofs.lemmas.List.Folds.{concat-append}
 use Rattle.std.proofs.Math.Seq.{take-append_seam}
 use Rattle.std.specs.List.{concat}
-use Rattle.std.specs.Io.KnownBytes.{Appends}
 use Rattle.std.proofs.KnownBytes.{Appends-trans}
 use Rattle.machine.specs.Given.{Session}
+use Rattle.report_lines.specs.Streams.{Output, WritesWhole}
 use Rattle.edit_lines.specs.declared.line.Command.{Command}
 use Rattle.edit_lines.specs.declared.ending.ReplayFault.{ReplayFault}
 use Rattle.edit_lines.specs.declared.ending.ReplayFault.TheVariants.{Malformed, LineTooLong, Read, Write, OutOfMemory}
 use Rattle.edit_lines.specs.EditLine.{EditLine}
 use Rattle.edit_lines.specs.Pieces.{lines_of, past_lines}
-use Rattle.edit_lines.specs.Replay.{Carries, Replays, MalformedAt, none, more, reply, session_after}
-use Rattle.edit_lines.specs.Faults.{BreaksOff, Faults}
-use Rattle.edit_lines.specs.Progress.{CarriesOut}
+use Rattle.edit_lines.specs.Replay.{ExecutesLines, Replays, MalformedAt, none, more, reply, session_after}
+use Rattle.edit_lines.specs.Faults.{StopsMidLine, Faults}
+use Rattle.edit_lines.specs.Progress.{ExecutesLine}
 use Rattle.edit_lines.specs.declared.limits.TheConstants.{LINE_LIMIT, LINES_LIMIT}
 
 -- One more line is executed.
-pub Carries-snoc : {s t : Session} {ls rs : List (List ℕ)} (l : List ℕ) (c : Command) → Carries s ls rs t → length l ≤ LINE_LIMIT
-    → EditLine l c → Carries s (ls ++ l ∷ []) (rs ++ reply t c ∷ []) (session_after t c)
-Carries-snoc l c none short is = more c short is none
-Carries-snoc l c (more d short' is' rest) short is = more d short' is' (Carries-snoc l c rest short is)
+pub ExecutesLines-snoc : {s t : Session} {ls rs : List (List ℕ)} (l : List ℕ) (c : Command) → ExecutesLines s ls rs t → length l ≤ LINE_LIMIT
+    → EditLine l c → ExecutesLines s (ls ++ l ∷ []) (rs ++ reply t c ∷ []) (session_after t c)
+ExecutesLines-snoc l c none short is = more c short is none
+ExecutesLines-snoc l c (more d short' is' rest) short is = more d short' is' (ExecutesLines-snoc l c rest short is)
 
 -- One more reply is appended.
 pub concat-snoc : (rs : List (List ℕ)) (r : List ℕ) → concat (rs ++ r ∷ []) ≡ concat rs ++ r
@@ -39,15 +39,16 @@ take_most rs r =
     let n : length (rs ++ r ∷ []) - 1 ≡ length rs = omega (arith, length-append rs (r ∷ [])) in
     ap (λ k. take k (rs ++ r ∷ [])) n ∙ take-append_seam rs (r ∷ [])
 
-module _ (left : Option (List ℕ)) (first s t : Session) (held h₀ h₁ : Option (List ℕ)) (whole line : List ℕ) (done replies : List (List ℕ))
-    (carried : Carries first done replies s) (written : Appends held h₀ (concat replies)) (few : length done ≤ LINES_LIMIT) where
+module _ (left : Option (List ℕ)) (first s t : Session) (before h₀ h₁ : Output) (whole line : List ℕ) (done replies : List (List ℕ))
+    (carried : ExecutesLines first done replies s) (written : WritesWhole before h₀ (concat replies)) (few : length done ≤ LINES_LIMIT) where
   -- No further line was executed.
   pub stays_there : (others : List (List ℕ)) → lines_of whole ≡ done ++ others
       → ((rest : List ℕ) → left ≡ Some rest → (others : List (List ℕ)) × (lines_of (whole ++ rest) ≡ done ++ others))
-      → length (past_lines (length done) whole) ≤ 2 * LINE_LIMIT → BreaksOff left first held whole s h₀
+      → length (past_lines (length done) whole) ≤ 2 * LINE_LIMIT → StopsMidLine left first before whole s h₀ 0
   stays_there others cut cuts near = record {
     text = concat replies;
-    written = written;
+    written = written.bytes;
+    failed = let same = written.failures in omega arith;
     done = done;
     replies = replies;
     read = (others, cut);
@@ -64,7 +65,7 @@ module _ (left : Option (List ℕ)) (first s t : Session) (held h₀ h₁ : Opti
       → (others : List (List ℕ)) → lines_of whole ≡ done ++ line ∷ others
       → ((rest : List ℕ) → left ≡ Some rest → (others : List (List ℕ)) × (lines_of (whole ++ rest) ≡ done ++ line ∷ others))
       → length (past_lines (length done) whole) ≤ 2 * LINE_LIMIT → length (past_lines (length done + 1) whole) ≤ 2 * LINE_LIMIT
-      → CarriesOut {U = U} n line s t h₀ h₁ (Err f) → Faults left first held whole t h₁ f
+      → ExecutesLine {U = U} n line s t h₀ h₁ (Err f) → Faults left first before whole t h₁ f
   Faults-from U n (Malformed k) number short others cut cuts near near' h = rw (h.2, h.3) (record {
     text = concat replies;
     written = written;
@@ -89,16 +90,17 @@ module _ (left : Option (List ℕ)) (first s t : Session) (held h₀ h₁ : Opti
   Faults-from U n Write number short others cut cuts near near' h =
       let c = h.0 in
       let r = reply s c in
-      let m = h.4.0 in
+      let m = h.4.count in
       record {
         text = concat replies ++ take m r;
-        written = Appends-trans held h₀ h₁ (concat replies) (take m r) written h.4.1;
+        written = Appends-trans _ _ _ (concat replies) (take m r) written.bytes h.4.bytes;
+        failed = h.4.failures ∙ ap (λ k. k + 1) written.failures;
         done = done ++ line ∷ [];
         replies = replies ++ r ∷ [];
         read = (others, cut ∙ sym (append_assoc done (line ∷ []) others));
         cut = λ rest e. let more = cuts rest e in (more.0, more.1 ∙ sym (append_assoc done (line ∷ []) more.0));
         few = omega (arith, h.2, number, length-append done (line ∷ []));
-        carried = rw h.3 (Carries-snoc line c carried short h.1);
+        carried = rw h.3 (ExecutesLines-snoc line c carried short h.1);
         begins = (drop m r, concat-snoc replies r ∙ ap (λ x. concat replies ++ x) (sym (take-append-drop m r)) ∙ sym (append_assoc (concat replies) (take m r) (drop m r)));
         contains = (take m r, ap (λ x. concat x ++ take m r) (sym (take_most replies r)));
         near = let e : length (done ++ line ∷ []) ≡ length done + 1 = omega (arith, length-append done (line ∷ [])) in rw e near';

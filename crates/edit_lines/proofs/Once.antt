@@ -4,11 +4,11 @@ use Rattle.std.specs.List.{concat}
 use Rattle.machine.specs.Given.{Session}
 use Rattle.edit_lines.specs.declared.line.Command.{Command}
 use Rattle.edit_lines.specs.EditLine.{EditLine}
-use Rattle.edit_lines.specs.Replay.{Carries, none, more, End, Finished, MalformedAt, TooLongAt, EndsAt, Replays, reply, session_after}
+use Rattle.edit_lines.specs.Replay.{ExecutesLines, none, more, ReplayEnd, Finished, MalformedAt, TooLongAt, EndsAt, Replays, reply, session_after}
 use Rattle.edit_lines.proofs.Grammar.{one_command_lem}
 use Rattle.edit_lines.specs.declared.limits.TheConstants.{LINE_LIMIT, LINES_LIMIT}
 
-ends_once : (n : ℕ) (left : List (List ℕ)) (d e : End) → EndsAt n left d → EndsAt n left e → d ≡ e
+ends_once : (n : ℕ) (left : List (List ℕ)) (d e : ReplayEnd) → EndsAt n left d → EndsAt n left e → d ≡ e
 ends_once n left (Finished j) (Finished k) p q = ap Finished (p.1 ∙ sym q.1)
 ends_once n [] (Finished j) (MalformedAt k) p q = absurd q
 ends_once n (l ∷ ls) (Finished j) (MalformedAt k) p q = let e = p.0 in absurd (cc)
@@ -25,13 +25,13 @@ ends_once n (l ∷ ls) (TooLongAt j) (TooLongAt k) p q = ap TooLongAt (p.0 ∙ s
 
 -- A line that has a command, and is neither too long nor past the last, ends no replay.
 not_ended : (n : ℕ) (l : List ℕ) (ls : List (List ℕ)) (c : Command) → EditLine l c → length l ≤ LINE_LIMIT → n + 1 ≤ LINES_LIMIT
-    → (e : End) → EndsAt n (l ∷ ls) e → ⊥
+    → (e : ReplayEnd) → EndsAt n (l ∷ ls) e → ⊥
 not_ended n l ls c is short few (Finished k) p = let e = p.0 in cc
 not_ended n l ls c is short few (MalformedAt k) p = elim p.2 [ inl past ↦ omega (arith, past, few, p.0) | inr nothing ↦ nothing c is ]
 not_ended n l ls c is short few (TooLongAt k) p = omega (arith, short, p.1)
 
-carried_once : (s t u : Session) (ds es ps qs : List (List ℕ)) (n m k : ℕ) (left others : List (List ℕ)) (d e : End)
-    → Carries s ds ps t → Carries s es qs u → ds ++ left ≡ es ++ others
+carried_once : (s t u : Session) (ds es ps qs : List (List ℕ)) (n m k : ℕ) (left others : List (List ℕ)) (d e : ReplayEnd)
+    → ExecutesLines s ds ps t → ExecutesLines s es qs u → ds ++ left ≡ es ++ others
     → m ≡ n + length ds → k ≡ n + length es → m ≤ LINES_LIMIT → k ≤ LINES_LIMIT
     → EndsAt m left d → EndsAt k others e → (ps ≡ qs) × (t ≡ u) × (d ≡ e)
 carried_once s t u [] [] ps qs n m k left others d e none none cut p q few few' x y =
@@ -50,7 +50,7 @@ carried_once s t u (l ∷ ds) (l' ∷ es) _ _ n m k left others d e (more c shor
     tail (omega (arith, p)) (omega (arith, q)) few few' x y in
     (rw one (ap (λ rs. reply s c ∷ rs) again.0), again.1, again.2)
 
-pub one_replay_lem : (first : Session) (lines : List (List ℕ)) (text other_text : List ℕ) (last other_last : Session) (end other_end : End)
+pub one_replay_lem : (first : Session) (lines : List (List ℕ)) (text other_text : List ℕ) (last other_last : Session) (end other_end : ReplayEnd)
     → Replays first lines text last end → Replays first lines other_text other_last other_end
     → (text ≡ other_text) × (last ≡ other_last) × (end ≡ other_end)
 one_replay_lem first lines text other_text last other_last end other_end p q =

@@ -1,6 +1,6 @@
 -- The report, written in pieces.
-use Rattle.std.proofs.Common.{◌≡◌, ℕ, List, ◌++◌, take, Option, Result, Ok, Err, OnOk, ◌+◌, ◌<◌, arith, codes, refl, ap, subst, ◌∙◌}
-use Rattle.std.specs.Io.KnownBytes.{Appends}
+use Rattle.std.proofs.Common.{◌≡◌, ℕ, List, ◌++◌, Result, Ok, Err, codes, refl, ap, subst, ◌∙◌}
+use Rattle.report_lines.specs.Streams.{Output, WritesPart, WritesWhole}
 use Rattle.replay.specs.Edits.{edited}
 use Rattle.replay.specs.EditAnswers.{AnswersEdit, number_of}
 use Rattle.replay.specs.declared.edit.Edit.{Edit}
@@ -14,7 +14,7 @@ use Rattle.edit_lines.specs.declared.ending.ReplayFault.{ReplayFault}
 use Rattle.edit_lines.specs.declared.ending.ReplayFault.TheVariants.{Malformed, LineTooLong, Read, Write}
 use Rattle.edit_lines.specs.declared.ending.ReplayFault.TheVariants as fault
 use Rattle.edit_lines.specs.declared.line.Command.TheVariants as command
-use Rattle.edit_lines.specs.Progress.{Does}
+use Rattle.edit_lines.specs.Progress.{ExecutesCommand}
 use Rattle.edit_lines.specs.Replay.{edit_after, edit_reply}
 use Rattle.edit_lines.specs.Replies.{Replies}
 use Rattle.report_lines.specs.FirstLines.{line, report_head, text_line}
@@ -43,19 +43,11 @@ refused_by wanted LimitTooLarge after not a = a
 refused_by wanted OutOfMemory after not a = absurd (not refl)
 
 -- An edit was applied, and this reply to it written.
-pub edit_does : (s t : Session) (e : Edit) (held holds : Option (List ℕ)) (before after : ℕ) (text : List ℕ) (r : Result (Unit {0}) ReplayFault) → t ≡ edit_after s (edited s e) → text ≡ edit_reply (edited s e)
-    → Replies held holds before after text r → Does (command.Edit e) s t held holds r
-edit_does s t e held holds before after text (Ok u) went is w = (went, subst (Appends held holds) is w.0)
-edit_does s t e held holds before after text (Err Write) went is w = (went, (w.1.0, subst (λ x. Appends held holds (take w.1.0 x)) is w.1.1))
-edit_does s t e held holds before after text (Err fault.OutOfMemory) went is w = let no = w.0 in absurd (cc)
-edit_does s t e held holds before after text (Err (Malformed k)) went is w = let no = w.0 in absurd (cc)
-edit_does s t e held holds before after text (Err (LineTooLong k)) went is w = let no = w.0 in absurd (cc)
-edit_does s t e held holds before after text (Err Read) went is w = let no = w.0 in absurd (cc)
-
-pub replies_fine : (held holds : Option (List ℕ)) (before after : ℕ) (text : List ℕ) (r : Result (Unit {0}) ReplayFault) → Replies held holds before after text r → OnOk r (after ≡ before)
-replies_fine held holds before after text (Ok u) w = w.1
-replies_fine held holds before after text (Err e) w = tt
-
-pub replies_failed : (held holds : Option (List ℕ)) (before after : ℕ) (text : List ℕ) (r : Result (Unit {0}) ReplayFault) → Replies held holds before after text r → r ≡ Err Write → before < after
-replies_failed held holds before after text (Ok u) w is = absurd (cc)
-replies_failed held holds before after text (Err e) w is = let more : after ≡ before + 1 = w.2 in omega arith
+pub edit_does : (s t : Session) (e : Edit) (before after : Output) (text : List ℕ) (r : Result (Unit {0}) ReplayFault) → t ≡ edit_after s (edited s e) → text ≡ edit_reply (edited s e)
+    → Replies before after text r → ExecutesCommand (command.Edit e) s t before after r
+edit_does s t e before after text (Ok u) went is w = (went, subst (WritesWhole before after) is w)
+edit_does s t e before after text (Err Write) went is w = (went, subst (WritesPart before after) is w.1)
+edit_does s t e before after text (Err fault.OutOfMemory) went is w = let no = w.0 in absurd (cc)
+edit_does s t e before after text (Err (Malformed k)) went is w = let no = w.0 in absurd (cc)
+edit_does s t e before after text (Err (LineTooLong k)) went is w = let no = w.0 in absurd (cc)
+edit_does s t e before after text (Err Read) went is w = let no = w.0 in absurd (cc)

@@ -1,7 +1,8 @@
 -- Where a replay ran out of memory, by what failed.
-use Rattle.std.proofs.Common.{◌≡◌, ℕ, ◌+◌, ◌*◌, ◌≤◌, ◌<◌, List, [], ◌∷◌, ◌++◌, length, refl, sym, ap, subst, ◌∙◌, arith, append_assoc, length-append, inl, inr, Option, Result, Err, IfErr}
+use Rattle.std.proofs.Common.{◌≡◌, ℕ, ◌+◌, ◌*◌, ◌≤◌, ◌<◌, List, [], ◌∷◌, ◌++◌, length, refl, sym, ap, subst, ◌∙◌, arith, append_assoc, length-append, inl, inr, Result, Err, IfErr}
 use Rattle.std.proofs.lemmas.List.{append-nil}
 use Rattle.replay.specs.RunnerView.{RunnerView}
+use Rattle.report_lines.specs.Streams.{Output}
 use Rattle.edit_lines.specs.declared.line.Command.{Command}
 use Rattle.edit_lines.specs.declared.line.Command.TheVariants.{Edit, Run, DropOldest}
 use Rattle.replay.specs.declared.edit.Edit.TheVariants.{Insert, Replace, Remove, Poke, SetFile, RemoveFile, SetLimit}
@@ -12,20 +13,20 @@ use Rattle.edit_lines.specs.declared.limits.TheConstants.{LINE_LIMIT, LINES_LIMI
 use Rattle.edit_lines.specs.EditLine.{EditLine}
 use Rattle.edit_lines.specs.LineParts.{MayWantMemory}
 use Rattle.edit_lines.specs.Pieces.{first_piece, other_pieces, pieces, without_empty_last, lines_of, past_lines}
-use Rattle.edit_lines.specs.Effects.{EffectsSoFar, LineDid}
-use Rattle.edit_lines.specs.Progress.{CarriesOut, IsPartFault, StandsAt}
+use Rattle.edit_lines.specs.Effects.{LineTakesEffect}
+use Rattle.edit_lines.specs.Progress.{ExecutesLine, IsPartFault, IsReplayedTo, ReplayState}
 use Rattle.edit_lines.specs.MemoryFaults.{FailsForMemory, StopsForMemory}
 use Rattle.edit_lines.proofs.Cutting.{cut_beside, lines_of-append, past_lines-pieces}
 use Rattle.edit_lines.proofs.Stepping.{enough, lines_here, lines_there, past_here}
 
 -- An allocation failed at this line, by the result of the line.
-pub fails_for_memory : (U : Type 0) (n : ℕ) (line given : List ℕ) (old : RunnerView) (meter : ℕ) (new : RunnerView) (metered : ℕ) (held holds : Option (List ℕ))
-    (f : ReplayFault) → given ≡ line → f ≡ OutOfMemory → CarriesOut {U = U} n given old.session new.session held holds (Err f)
-    → LineDid {U = U} n given old meter new metered (Err f) → FailsForMemory n line old meter new metered held holds
-fails_for_memory U n line given old meter new metered held holds f same is carries did =
-    let carries' = subst (λ x. CarriesOut {U = U} n given old.session new.session held holds (Err x)) is carries in
-    let did' = subst (λ x. LineDid {U = U} n given old meter new metered (Err x)) is did in
-    subst (λ x. FailsForMemory n x old meter new metered held holds) same (carries', did')
+pub fails_for_memory : (U : Type 0) (n : ℕ) (line given : List ℕ) (old : RunnerView) (meter : ℕ) (new : RunnerView) (metered : ℕ) (before after : Output)
+    (f : ReplayFault) → given ≡ line → f ≡ OutOfMemory → ExecutesLine {U = U} n given old.session new.session before after (Err f)
+    → LineTakesEffect {U = U} n given old meter new metered (Err f) → FailsForMemory n line old meter new metered before after
+fails_for_memory U n line given old meter new metered before after f same is carries did =
+    let carries' = subst (λ x. ExecutesLine {U = U} n given old.session new.session before after (Err x)) is carries in
+    let did' = subst (λ x. LineTakesEffect {U = U} n given old meter new metered (Err x)) is did in
+    subst (λ x. FailsForMemory n x old meter new metered before after) same (carries', did')
 
 -- If an allocation failed for the next part of a line, its buffer had no room for that part.
 pub part_fault_room : (count taken more room : ℕ) (f : ReplayFault) → f ≡ OutOfMemory → IsPartFault count taken more room f → room < taken + more
@@ -51,73 +52,58 @@ pub wants_some : (s : Session) (line : List ℕ) → MayWantMemory s line → 0 
 wants_some s [] h = absurd (no_words h.0 h.1)
 wants_some s (b ∷ l) h = omega arith
 
--- The lines before the last piece are the same.
-same_front : (ds es : List (List ℕ)) (l m : List ℕ) → ds ++ l ∷ [] ≡ es ++ m ∷ [] → ds ≡ es
-same_front [] [] l m e = refl
-same_front [] (d ∷ []) l m e = cc
-same_front [] (d ∷ f ∷ es) l m e = cc
-same_front (d ∷ []) [] l m e = cc
-same_front (d ∷ f ∷ ds) [] l m e = cc
-same_front (d ∷ ds) (f ∷ es) l m e =
-    let head : d ≡ f = cc in
-    let tail : ds ++ l ∷ [] ≡ es ++ m ∷ [] = cc in
-    let same = same_front ds es l m tail in
-    rw (head, same) refl
-
 -- A piece that is not empty is a line.
 front_line : (q : List ℕ) (qs : List (List ℕ)) → 0 < length q → (others : List (List ℕ)) × (without_empty_last (q ∷ qs) ≡ q ∷ others)
 front_line [] qs some = absurd (omega arith)
 front_line (b ∷ q) [] some = ([], refl)
 front_line (b ∷ q) (p ∷ qs) some = (without_empty_last (p ∷ qs), refl)
 
-module _ (first : RunnerView) (begun : ℕ) (held : Option (List ℕ)) (bytes : List ℕ) (now : RunnerView) (meter : ℕ) (holds : Option (List ℕ)) (line : List ℕ) (count room : ℕ)
-    (r : StandsAt first.session held bytes now.session holds line count) (e : EffectsSoFar first begun bytes now meter line count room)
-    (few : count ≤ LINES_LIMIT) (short : length line ≤ LINE_LIMIT) where
-  same_done : e.done ≡ r.done
-  same_done = same_front e.done r.done line line (sym e.cut ∙ r.cut)
-
+module _ (first : ReplayState) (bytes : List ℕ) (now : ReplayState) (r : IsReplayedTo first bytes now) (few : now.count ≤ LINES_LIMIT)
+    (short : length now.line ≤ LINE_LIMIT) where
   -- Executing the line failed.
-  at_line : (whole : List ℕ) → (others : List (List ℕ)) × (lines_of whole ≡ r.done ++ line ∷ others) → length (past_lines (length r.done) whole) ≤ 2 * LINE_LIMIT
-      → (t : RunnerView) (n : ℕ) (h₁ : Option (List ℕ)) → FailsForMemory (count + 1) line now meter t n holds h₁ → StopsForMemory first begun held whole t n h₁
+  at_line : (whole : List ℕ) → (others : List (List ℕ)) × (lines_of whole ≡ r.done ++ now.line ∷ others) → length (past_lines (length r.done) whole) ≤ 2 * LINE_LIMIT
+      → (t : RunnerView) (n : ℕ) (h₁ : Output) → FailsForMemory (now.count + 1) now.line now.runner now.meter t n now.output h₁
+      → StopsForMemory first.runner first.meter first.output whole t n h₁
   at_line whole cut near t n h₁ (carries, did) = record {
     done = r.done;
     replies = r.replies;
-    line = line;
+    line = now.line;
     cut = cut;
-    few = enough first.session held bytes now.session holds line count r few short;
+    few = enough first bytes now r few short;
     carried = rw carries.2 r.carried;
     written = rw carries.3 r.written;
     effects = elim did [
-      | inl same ↦ inl (rw (same.0, same.1, ← same_done) e.effects)
-      | inr part ↦ inr (part.0, (now, meter, rw (← same_done) e.effects, part.1))
+      | inl same ↦ inl (rw (same.0, same.1) r.effects)
+      | inr part ↦ inr (part.0, (now.runner, now.meter, r.effects, part.1))
     ];
     wants = let below = carries.0 in inr (omega (arith, below, r.counted), rw carries.2 carries.1);
     near = near;
   }
 
   -- The line has its 0AH.
-  pub line_stops : (rest : List ℕ) → length rest ≤ 65535 → (t : RunnerView) (n : ℕ) (h₁ : Option (List ℕ))
-      → FailsForMemory (count + 1) line now meter t n holds h₁ → StopsForMemory first begun held ((bytes ++ 10 ∷ []) ++ rest) t n h₁
+  pub line_stops : (rest : List ℕ) → length rest ≤ 65535 → (t : RunnerView) (n : ℕ) (h₁ : Output)
+      → FailsForMemory (now.count + 1) now.line now.runner now.meter t n now.output h₁
+      → StopsForMemory first.runner first.meter first.output ((bytes ++ 10 ∷ []) ++ rest) t n h₁
   line_stops rest few_more t n h₁ h =
       let whole = (bytes ++ 10 ∷ []) ++ rest in
-      let past : past_lines (length r.done) whole ≡ line ++ (10 ∷ [] ++ rest) =
-      ap (past_lines (length r.done)) (append_assoc bytes (10 ∷ []) rest) ∙ past_lines-pieces bytes (10 ∷ rest) r.done line r.cut in
-      at_line whole (lines_here first.session held bytes now.session holds line count r few short rest) (rw past (omega (arith, short, length-append line (10 ∷ rest)))) t n h₁ h
+      let past : past_lines (length r.done) whole ≡ now.line ++ (10 ∷ [] ++ rest) =
+      ap (past_lines (length r.done)) (append_assoc bytes (10 ∷ []) rest) ∙ past_lines-pieces bytes (10 ∷ rest) r.done now.line r.cut in
+      at_line whole (lines_here first bytes now r few short rest) (rw past (omega (arith, short, length-append now.line (10 ∷ rest)))) t n h₁ h
 
   -- The input ends within the line.
-  pub last_stops : 0 < length line → (t : RunnerView) (n : ℕ) (h₁ : Option (List ℕ))
-      → FailsForMemory (count + 1) line now meter t n holds h₁ → StopsForMemory first begun held bytes t n h₁
+  pub last_stops : 0 < length now.line → (t : RunnerView) (n : ℕ) (h₁ : Output)
+      → FailsForMemory (now.count + 1) now.line now.runner now.meter t n now.output h₁ → StopsForMemory first.runner first.meter first.output bytes t n h₁
   last_stops some t n h₁ h =
-      let past : past_lines (length r.done) bytes ≡ line =
-      ap (past_lines (length r.done)) (sym (append-nil bytes)) ∙ past_lines-pieces bytes [] r.done line r.cut ∙ append-nil line in
-      at_line bytes ([], lines_there first.session held bytes now.session holds line count r few short some) (rw past (omega (arith, short))) t n h₁ h
+      let past : past_lines (length r.done) bytes ≡ now.line =
+      ap (past_lines (length r.done)) (sym (append-nil bytes)) ∙ past_lines-pieces bytes [] r.done now.line r.cut ∙ append-nil now.line in
+      at_line bytes ([], lines_there first bytes now r few short some) (rw past (omega (arith, short))) t n h₁ h
 
   -- The buffer had no room for the next part of the line.
-  pub part_stops : (bs rest : List ℕ) → pieces 10 bs ≡ bs ∷ [] → length bs + length rest ≤ 65536 → room < length line + length bs
-      → StopsForMemory first begun held ((bytes ++ bs) ++ rest) now meter holds
+  pub part_stops : (bs rest : List ℕ) → pieces 10 bs ≡ bs ∷ [] → length bs + length rest ≤ 65536 → now.room < length now.line + length bs
+      → StopsForMemory first.runner first.meter first.output ((bytes ++ bs) ++ rest) now.runner now.meter now.output
   part_stops bs rest part few_more full =
-      let q = (line ++ bs) ++ first_piece 10 rest in
-      let long : length line + length bs ≤ length q = omega (arith, length-append (line ++ bs) (first_piece 10 rest), length-append line bs) in
+      let q = (now.line ++ bs) ++ first_piece 10 rest in
+      let long : length now.line + length bs ≤ length q = omega (arith, length-append (now.line ++ bs) (first_piece 10 rest), length-append now.line bs) in
       let front = front_line q (other_pieces 10 rest) (omega (arith, full, long)) in
       record {
         done = r.done;
@@ -125,12 +111,12 @@ module _ (first : RunnerView) (begun : ℕ) (held : Option (List ℕ)) (bytes : 
         line = q;
         cut = (
           front.0,
-          lines_of-append (bytes ++ bs) rest r.done (line ++ bs) (cut_beside bytes r.done line r.cut bs part) ∙ ap (λ ls. r.done ++ ls) front.1,
+          lines_of-append (bytes ++ bs) rest r.done (now.line ++ bs) (cut_beside bytes r.done now.line r.cut bs part) ∙ ap (λ ls. r.done ++ ls) front.1,
         );
-        few = enough first.session held bytes now.session holds line count r few short;
+        few = enough first bytes now r few short;
         carried = r.carried;
         written = r.written;
-        effects = inl (rw (← same_done) e.effects);
-        wants = inl (omega (arith, full, long), rw (← same_done) (λ k d below. let fit = e.fits k d below in omega (arith, fit, full, long)));
-        near = past_here first.session held bytes now.session holds line count r few short bs rest few_more;
+        effects = inl r.effects;
+        wants = inl (omega (arith, full, long), λ k d below. let fit = r.fits k d below in omega (arith, fit, full, long));
+        near = past_here first bytes now r few short bs rest few_more;
       }

@@ -1,6 +1,5 @@
 -- What the lines of an edit text do, one after the other, to a runner and its checkpoints and to the meter. (This project's own.)
-use Rattle.std.specs.Prelude.{◌≡◌, ℕ, ◌+◌, ◌-◌, ◌≤◌, ◌⊎◌, List, [], ◌∷◌, ◌++◌, length, Result, Ok, Err}
-use Rattle.std.specs.List.{All}
+use Rattle.std.specs.Prelude.{◌≡◌, ℕ, ◌+◌, ◌-◌, ◌⊎◌, List, [], ◌∷◌, ◌++◌, length, Result, Ok, Err}
 use Rattle.machine.specs.Given.{Session}
 use Rattle.machine.specs.Machine.{ask}
 use Rattle.replay.specs.Plain.{plain_run}
@@ -8,7 +7,6 @@ use Rattle.replay.specs.Edits.{edited}
 use Rattle.replay.specs.RunnerView.{RunnerView, SameOptions, KeepsUntouched, DropsOldest, Reran, LeavesNoneOut, CountsAnew, TicksTo, rerun_start}
 use Rattle.edit_lines.specs.declared.line.Command.{Command}
 use Rattle.edit_lines.specs.declared.line.Command.TheVariants.{Edit, Run, DropOldest}
-use Rattle.edit_lines.specs.declared.ending.Ending.{Ending}
 use Rattle.edit_lines.specs.declared.ending.ReplayFault.{ReplayFault}
 use Rattle.edit_lines.specs.declared.ending.ReplayFault.TheVariants.{Malformed, LineTooLong, Read, Write, OutOfMemory}
 use Rattle.edit_lines.specs.EditLine.{EditLine}
@@ -57,24 +55,24 @@ pub record RunCutShort (old : RunnerView) (meter : ℕ) (new : RunnerView) (mete
 
 -- What a command did, by its result. If its reply could not be written, it was executed. If memory ran out, nothing was done, or
 -- it is a run that was cut short.
-abbrev pub CommandDid : {U : Type 0} → Command → RunnerView → ℕ → RunnerView → ℕ → Result U ReplayFault → Type 0
-CommandDid c old meter new metered (Ok _) = Effect c old meter new metered
-CommandDid c old meter new metered (Err Write) = Effect c old meter new metered
-CommandDid c old meter new metered (Err OutOfMemory) =
+abbrev pub CommandTakesEffect : {U : Type 0} → Command → RunnerView → ℕ → RunnerView → ℕ → Result U ReplayFault → Type 0
+CommandTakesEffect c old meter new metered (Ok _) = Effect c old meter new metered
+CommandTakesEffect c old meter new metered (Err Write) = Effect c old meter new metered
+CommandTakesEffect c old meter new metered (Err OutOfMemory) =
     IsUnchanged old meter new metered ⊎ ((c ≡ Run) × RunCutShort old meter new metered)
-CommandDid c old meter new metered (Err (Malformed k)) = ⊥
-CommandDid c old meter new metered (Err (LineTooLong k)) = ⊥
-CommandDid c old meter new metered (Err Read) = ⊥
+CommandTakesEffect c old meter new metered (Err (Malformed k)) = ⊥
+CommandTakesEffect c old meter new metered (Err (LineTooLong k)) = ⊥
+CommandTakesEffect c old meter new metered (Err Read) = ⊥
 
 -- What line number n did, by its result.
-abbrev pub LineDid : {U : Type 0} → ℕ → List ℕ → RunnerView → ℕ → RunnerView → ℕ → Result U ReplayFault → Type 0
-LineDid n line old meter new metered (Ok _) = (c : Command) × EditLine line c × Effect c old meter new metered
-LineDid n line old meter new metered (Err Write) = (c : Command) × EditLine line c × Effect c old meter new metered
-LineDid n line old meter new metered (Err OutOfMemory) =
+abbrev pub LineTakesEffect : {U : Type 0} → ℕ → List ℕ → RunnerView → ℕ → RunnerView → ℕ → Result U ReplayFault → Type 0
+LineTakesEffect n line old meter new metered (Ok _) = (c : Command) × EditLine line c × Effect c old meter new metered
+LineTakesEffect n line old meter new metered (Err Write) = (c : Command) × EditLine line c × Effect c old meter new metered
+LineTakesEffect n line old meter new metered (Err OutOfMemory) =
     IsUnchanged old meter new metered ⊎ (EditLine line Run × RunCutShort old meter new metered)
-LineDid n line old meter new metered (Err (Malformed k)) = (k ≡ n) × IsUnchanged old meter new metered
-LineDid n line old meter new metered (Err (LineTooLong k)) = ⊥
-LineDid n line old meter new metered (Err Read) = ⊥
+LineTakesEffect n line old meter new metered (Err (Malformed k)) = (k ≡ n) × IsUnchanged old meter new metered
+LineTakesEffect n line old meter new metered (Err (LineTooLong k)) = ⊥
+LineTakesEffect n line old meter new metered (Err Read) = ⊥
 
 -- The lines whose 0AH is among the bytes had their effects.
 pub record EffectsOfEnded (first : RunnerView) (begun : ℕ) (bytes : List ℕ) (now : RunnerView) (meter : ℕ) : Type 0 where
@@ -82,15 +80,6 @@ pub record EffectsOfEnded (first : RunnerView) (begun : ℕ) (bytes : List ℕ) 
   pub rest : List ℕ
   pub cut : pieces 10 bytes ≡ ended ++ rest ∷ []
   pub effects : Effects first begun ended now meter
-
--- The bytes are `count` whole lines, which had their effects, and the beginning of one more, whose buffer has room for each of
--- them.
-pub record EffectsSoFar (first : RunnerView) (begun : ℕ) (bytes : List ℕ) (now : RunnerView) (meter : ℕ) (line : List ℕ) (count room : ℕ) : Type 0 where
-  pub done : List (List ℕ)
-  pub cut : pieces 10 bytes ≡ done ++ line ∷ []
-  pub effects : Effects first begun done now meter
-  pub counted : count ≡ length done
-  pub fits : All (λ l. length l ≤ room) done
 
 -- The first `count` lines of the bytes had their effects.
 pub record FirstEffects (first : RunnerView) (begun : ℕ) (bytes : List ℕ) (count : ℕ) (now : RunnerView) (meter : ℕ) : Type 0 where
@@ -120,13 +109,3 @@ EffectsAtFault first begun bytes now meter Read = EffectsOfEnded first begun byt
 EffectsAtFault first begun bytes now meter Write = (count : ℕ) × FirstEffects first begun bytes count now meter
 EffectsAtFault first begun bytes now meter OutOfMemory =
     ((count : ℕ) × FirstEffects first begun bytes count now meter) ⊎ EffectsCutShort first begun bytes now meter
-
--- What a step over some bytes did, if the rest was read too.
-abbrev pub EffectsAfter : {U : Type 0} → RunnerView → ℕ → List ℕ → List ℕ → RunnerView → ℕ → List ℕ → ℕ → ℕ → Result U ReplayFault → Type 0
-EffectsAfter first begun bytes rest now meter line count room (Ok _) = EffectsSoFar first begun bytes now meter line count room
-EffectsAfter first begun bytes rest now meter line count room (Err f) = EffectsAtFault first begun (bytes ++ rest) now meter f
-
--- What was done at the end of the input.
-abbrev pub EffectsAtEnd : RunnerView → ℕ → List ℕ → RunnerView → ℕ → Result Ending ReplayFault → Type 0
-EffectsAtEnd first begun bytes now meter (Ok e) = Effects first begun (lines_of bytes) now meter
-EffectsAtEnd first begun bytes now meter (Err f) = EffectsAtFault first begun bytes now meter f

@@ -1,7 +1,7 @@
 -- The lines at which a replay may run out of memory, and what holds after it did. (This project's own.)
-use Rattle.std.specs.Prelude.{◌*◌, ◌≡◌, ℕ, ◌<◌, ◌≤◌, ◌⊎◌, List, ◌∷◌, ◌++◌, length, Option, Err}
+use Rattle.std.specs.Prelude.{◌*◌, ◌≡◌, ℕ, ◌<◌, ◌≤◌, ◌⊎◌, List, ◌∷◌, ◌++◌, length, Err}
 use Rattle.std.specs.List.{All, concat}
-use Rattle.std.specs.Io.KnownBytes.{Appends}
+use Rattle.report_lines.specs.Streams.{Output, WritesWhole}
 use Rattle.replay.specs.RunnerView.{RunnerView}
 use Rattle.edit_lines.specs.declared.line.Command.TheVariants.{Run}
 use Rattle.edit_lines.specs.declared.ending.ReplayFault.TheVariants.{OutOfMemory}
@@ -9,9 +9,9 @@ use Rattle.edit_lines.specs.declared.limits.TheConstants.{LINE_LIMIT, LINES_LIMI
 use Rattle.edit_lines.specs.EditLine.{EditLine}
 use Rattle.edit_lines.specs.LineParts.{MayWantMemory}
 use Rattle.edit_lines.specs.Pieces.{lines_of, past_lines}
-use Rattle.edit_lines.specs.Replay.{Carries}
-use Rattle.edit_lines.specs.Effects.{Effects, LineDid, RunCutShort}
-use Rattle.edit_lines.specs.Progress.{CarriesOut}
+use Rattle.edit_lines.specs.Replay.{ExecutesLines}
+use Rattle.edit_lines.specs.Effects.{Effects, LineTakesEffect, RunCutShort}
+use Rattle.edit_lines.specs.Progress.{ExecutesLine}
 
 -- A line that is not empty and is longer than each of these: the buffer that held them may have to grow for it.
 abbrev pub IsLongest : List (List ℕ) → List ℕ → Type 0
@@ -19,10 +19,10 @@ IsLongest lines line = (0 < length line) × All (λ l. length l < length line) l
 
 -- An allocation failed when line number n was executed. The line may need memory in its session, nothing was written, and nothing
 -- was done, or its run was cut short.
-abbrev pub FailsForMemory : ℕ → List ℕ → RunnerView → ℕ → RunnerView → ℕ → Option (List ℕ) → Option (List ℕ) → Type 0
-FailsForMemory n line old meter new metered held holds =
-    CarriesOut {U = Unit {0}} n line old.session new.session held holds (Err OutOfMemory)
-    × LineDid {U = Unit {0}} n line old meter new metered (Err OutOfMemory)
+abbrev pub FailsForMemory : ℕ → List ℕ → RunnerView → ℕ → RunnerView → ℕ → Output → Output → Type 0
+FailsForMemory n line old meter new metered before after =
+    ExecutesLine {U = Unit {0}} n line old.session new.session before after (Err OutOfMemory)
+    × LineTakesEffect {U = Unit {0}} n line old meter new metered (Err OutOfMemory)
 
 -- These lines had their effects, and the next one had none, or its run was cut short.
 abbrev pub EffectsBefore : RunnerView → ℕ → List (List ℕ) → List ℕ → RunnerView → ℕ → Type 0
@@ -33,14 +33,14 @@ EffectsBefore first begun done line now meter =
 -- An allocation failed at a line of these bytes. All lines before it were executed and their replies written whole, and nothing
 -- more was written. The line is longer than each line before it, or may need memory in the session that they left. Little more
 -- was read.
-pub record StopsForMemory (first : RunnerView) (begun : ℕ) (held : Option (List ℕ)) (bytes : List ℕ) (now : RunnerView) (meter : ℕ) (holds : Option (List ℕ)) : Type 0 where
+pub record StopsForMemory (first : RunnerView) (begun : ℕ) (before : Output) (bytes : List ℕ) (now : RunnerView) (meter : ℕ) (after : Output) : Type 0 where
   pub done : List (List ℕ)
   pub replies : List (List ℕ)
   pub line : List ℕ
   pub cut : (others : List (List ℕ)) × (lines_of bytes ≡ done ++ line ∷ others)
   pub few : length done ≤ LINES_LIMIT
-  pub carried : Carries first.session done replies now.session
-  pub written : Appends held holds (concat replies)
+  pub carried : ExecutesLines first.session done replies now.session
+  pub written : WritesWhole before after (concat replies)
   pub effects : EffectsBefore first begun done line now meter
   pub wants : IsLongest done line ⊎ ((length done < LINES_LIMIT) × MayWantMemory now.session line)
   pub near : length (past_lines (length done) bytes) ≤ 2 * LINE_LIMIT

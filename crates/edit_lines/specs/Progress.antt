@@ -1,47 +1,67 @@
 -- How far a replay has come, and the result of each of its parts. (This project's own.)
-use Rattle.std.specs.Prelude.{◌≡◌, ℕ, ◌+◌, ◌<◌, ◌≤◌, List, [], ◌∷◌, ◌++◌, length, take, Option, Result, Ok, Err}
-use Rattle.std.specs.List.{concat}
-use Rattle.std.specs.Io.KnownBytes.{Appends, IsAtEnd}
+use Rattle.std.specs.Prelude.{◌≡◌, ℕ, ◌+◌, ◌<◌, ◌≤◌, List, [], ◌∷◌, ◌++◌, length, Option, Result, Ok, Err, Vec, vec_capacity}
+use Rattle.std.specs.List.{All, concat}
+use Rattle.std.specs.Io.KnownBytes.{IsAtEnd}
+use Rattle.report_lines.specs.Streams.{Output, WritesPart, WritesWhole}
 use Rattle.machine.specs.Given.{Session}
+use Rattle.replay.specs.RunnerView.{RunnerView}
 use Rattle.edit_lines.specs.declared.line.Command.{Command}
 use Rattle.edit_lines.specs.declared.ending.Ending.{Ending}
 use Rattle.edit_lines.specs.declared.ending.ReplayFault.{ReplayFault}
 use Rattle.edit_lines.specs.declared.ending.ReplayFault.TheVariants.{Malformed, LineTooLong, Read, Write, OutOfMemory}
 use Rattle.edit_lines.specs.EditLine.{EditLine}
 use Rattle.edit_lines.specs.LineParts.{WantsMemory, MayWantMemory}
+use Rattle.edit_lines.specs.Effects.{Effects, EffectsAtFault}
 use Rattle.edit_lines.specs.Faults.{Faults}
 use Rattle.edit_lines.specs.Pieces.{pieces, lines_of}
-use Rattle.edit_lines.specs.Replay.{Carries, Finished, IsMalformed, Replays, reply, session_after}
+use Rattle.edit_lines.specs.Replay.{ExecutesLines, Finished, IsMalformed, Replays, reply, session_after}
 use Rattle.edit_lines.specs.declared.limits.TheConstants.{LINE_LIMIT, LINES_LIMIT}
 
--- The bytes read so far are whole lines, all executed, and the beginning of one more.
-pub record StandsAt (first : Session) (held : Option (List ℕ)) (bytes : List ℕ) (now : Session) (holds : Option (List ℕ)) (line : List ℕ) (count : ℕ) : Type 0 where
+-- A replay in progress: its runner, the count of its meter, its output, the beginning of a line that was read, the capacity of the buffer
+-- for it, and the number of lines that were executed.
+pub record ReplayState : Type 0 where
+  pub runner : RunnerView
+  pub meter : ℕ
+  pub output : Output
+  pub line : List ℕ
+  pub room : ℕ
+  pub count : ℕ
+
+abbrev pub replay_state : {Z : Type 0} → RunnerView → ℕ → Output → Vec ℕ Z → ℕ → ReplayState
+replay_state runner meter output line count =
+    record { runner = runner; meter = meter; output = output; line = line.items; room = vec_capacity line; count = count }
+
+-- The bytes read so far are whole lines, all executed with their replies and effects, and the beginning of one more, whose buffer has
+-- room for each of them.
+pub record IsReplayedTo (first : ReplayState) (bytes : List ℕ) (now : ReplayState) : Type 0 where
   pub done : List (List ℕ)
   pub replies : List (List ℕ)
-  pub cut : pieces 10 bytes ≡ done ++ line ∷ []
-  pub carried : Carries first done replies now
-  pub written : Appends held holds (concat replies)
-  pub counted : count ≡ length done
+  pub cut : pieces 10 bytes ≡ done ++ now.line ∷ []
+  pub carried : ExecutesLines first.runner.session done replies now.runner.session
+  pub written : WritesWhole first.output now.output (concat replies)
+  pub effects : Effects first.runner first.meter done now.runner now.meter
+  pub counted : now.count ≡ length done
+  pub fits : All (λ l. length l ≤ now.room) done
 
 -- The result of a command: its reply is written, whole or in part, or memory ran out and nothing was done.
-abbrev pub Does : {U : Type 0} → Command → Session → Session → Option (List ℕ) → Option (List ℕ) → Result U ReplayFault → Type 0
-Does c s t held holds (Ok _) = (t ≡ session_after s c) × Appends held holds (reply s c)
-Does c s t held holds (Err Write) = (t ≡ session_after s c) × ((m : ℕ) × Appends held holds (take m (reply s c)))
-Does c s t held holds (Err OutOfMemory) = WantsMemory s c × (t ≡ s) × (holds ≡ held)
-Does c s t held holds (Err (Malformed k)) = ⊥
-Does c s t held holds (Err (LineTooLong k)) = ⊥
-Does c s t held holds (Err Read) = ⊥
+abbrev pub ExecutesCommand : {U : Type 0} → Command → Session → Session → Output → Output → Result U ReplayFault → Type 0
+ExecutesCommand c s t before after (Ok _) = (t ≡ session_after s c) × WritesWhole before after (reply s c)
+ExecutesCommand c s t before after (Err Write) = (t ≡ session_after s c) × WritesPart before after (reply s c)
+ExecutesCommand c s t before after (Err OutOfMemory) = WantsMemory s c × (t ≡ s) × (after ≡ before)
+ExecutesCommand c s t before after (Err (Malformed k)) = ⊥
+ExecutesCommand c s t before after (Err (LineTooLong k)) = ⊥
+ExecutesCommand c s t before after (Err Read) = ⊥
 
 -- The result of line number n.
-abbrev pub CarriesOut : {U : Type 0} → ℕ → List ℕ → Session → Session → Option (List ℕ) → Option (List ℕ) → Result U ReplayFault → Type 0
-CarriesOut n line s t held holds (Ok u) =
-    (c : Command) × EditLine line c × (n ≤ LINES_LIMIT) × (t ≡ session_after s c) × Appends held holds (reply s c)
-CarriesOut n line s t held holds (Err Write) =
-    (c : Command) × EditLine line c × (n ≤ LINES_LIMIT) × (t ≡ session_after s c) × ((m : ℕ) × Appends held holds (take m (reply s c)))
-CarriesOut n line s t held holds (Err OutOfMemory) = (n ≤ LINES_LIMIT) × MayWantMemory s line × (t ≡ s) × (holds ≡ held)
-CarriesOut n line s t held holds (Err (Malformed k)) = (k ≡ n) × IsMalformed n line × (t ≡ s) × (holds ≡ held)
-CarriesOut n line s t held holds (Err (LineTooLong k)) = ⊥
-CarriesOut n line s t held holds (Err Read) = ⊥
+abbrev pub ExecutesLine : {U : Type 0} → ℕ → List ℕ → Session → Session → Output → Output → Result U ReplayFault → Type 0
+ExecutesLine n line s t before after (Ok _) =
+    (c : Command) × EditLine line c × (n ≤ LINES_LIMIT) × (t ≡ session_after s c) × WritesWhole before after (reply s c)
+ExecutesLine n line s t before after (Err Write) =
+    (c : Command) × EditLine line c × (n ≤ LINES_LIMIT) × (t ≡ session_after s c) × WritesPart before after (reply s c)
+ExecutesLine n line s t before after (Err OutOfMemory) = (n ≤ LINES_LIMIT) × MayWantMemory s line × (t ≡ s) × (after ≡ before)
+ExecutesLine n line s t before after (Err (Malformed k)) = (k ≡ n) × IsMalformed n line × (t ≡ s) × (after ≡ before)
+ExecutesLine n line s t before after (Err (LineTooLong k)) = ⊥
+ExecutesLine n line s t before after (Err Read) = ⊥
 
 -- Why the next part of a line is not taken: the line would be too long; or it would not, and the buffer is too small for it.
 -- `count` lines were executed, the line has `taken` bytes and the part `more`, and the buffer has room for `room`.
@@ -53,12 +73,18 @@ IsPartFault count taken more room Read = ⊥
 IsPartFault count taken more room Write = ⊥
 
 -- The result of a step over some bytes, if the rest was read too.
-abbrev pub Goes : {U : Type 0} → Session → Option (List ℕ) → List ℕ → List ℕ → Session → Option (List ℕ) → List ℕ → ℕ → Result U ReplayFault → Type 0
-Goes first held bytes rest now holds line count (Ok _) = StandsAt first held bytes now holds line count
-Goes first held bytes rest now holds line count (Err f) = (left : Option (List ℕ)) → length rest ≤ 65535 → Faults left first held (bytes ++ rest) now holds f
+abbrev pub ContinuesReplay : {U : Type 0} → ReplayState → List ℕ → List ℕ → ReplayState → Result U ReplayFault → Type 0
+ContinuesReplay first bytes rest now (Ok _) = IsReplayedTo first bytes now
+ContinuesReplay first bytes rest now (Err f) =
+    ((left : Option (List ℕ)) → length rest ≤ 65535
+    → Faults left first.runner.session first.output (bytes ++ rest) now.runner.session now.output f)
+    × EffectsAtFault first.runner first.meter (bytes ++ rest) now.runner now.meter f
 
--- The result of the end of the input.
-abbrev pub Finishes : Session → Option (List ℕ) → List ℕ → Session → Option (List ℕ) → Result Ending ReplayFault → Type 0
-Finishes first held bytes now holds (Ok e) =
-    (text : List ℕ) × Appends held holds text × Replays first (lines_of bytes) text now (Finished e.lines)
-Finishes first held bytes now holds (Err f) = (left : Option (List ℕ)) → IsAtEnd left → Faults left first held bytes now holds f
+-- The result of the end of the input, for this runner, meter and writer.
+abbrev pub FinishesReplay : ReplayState → List ℕ → RunnerView → ℕ → Output → Result Ending ReplayFault → Type 0
+FinishesReplay first bytes now meter after (Ok e) =
+    (text : List ℕ) × WritesWhole first.output after text × Replays first.runner.session (lines_of bytes) text now.session (Finished e.lines)
+    × Effects first.runner first.meter (lines_of bytes) now meter
+FinishesReplay first bytes now meter after (Err f) =
+    ((left : Option (List ℕ)) → IsAtEnd left → Faults left first.runner.session first.output bytes now.session after f)
+    × EffectsAtFault first.runner first.meter bytes now meter f

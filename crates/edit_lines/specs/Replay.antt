@@ -35,23 +35,23 @@ session_after s Run = s
 session_after s (DropOldest n) = s
 
 -- The lines are executed in order, each with its reply, from the first session to the last.
-pub data Carries : Session → List (List ℕ) → List (List ℕ) → Session → Type 0 where
-  none : {s : Session} → Carries s [] [] s
+pub data ExecutesLines : Session → List (List ℕ) → List (List ℕ) → Session → Type 0 where
+  none : {s : Session} → ExecutesLines s [] [] s
   more : {s t : Session} {l : List ℕ} {ls rs : List (List ℕ)} (c : Command) → length l ≤ LINE_LIMIT → EditLine l c
-      → Carries (session_after s c) ls rs t → Carries s (l ∷ ls) (reply s c ∷ rs) t
+      → ExecutesLines (session_after s c) ls rs t → ExecutesLines s (l ∷ ls) (reply s c ∷ rs) t
 
 -- How a replay ends: after n lines, or at a line.
-pub data End : Type 0 where
-  Finished : ℕ → End
-  MalformedAt : ℕ → End
-  TooLongAt : ℕ → End
+pub data ReplayEnd : Type 0 where
+  Finished : ℕ → ReplayEnd
+  MalformedAt : ℕ → ReplayEnd
+  TooLongAt : ℕ → ReplayEnd
 
 -- Line number n has no command.
 abbrev pub IsMalformed : ℕ → List ℕ → Type 0
 IsMalformed n l = (LINES_LIMIT < n) ⊎ ((c : Command) → EditLine l c → ⊥)
 
 -- How a replay ends after n lines, if these are left.
-abbrev pub EndsAt : ℕ → List (List ℕ) → End → Type 0
+abbrev pub EndsAt : ℕ → List (List ℕ) → ReplayEnd → Type 0
 EndsAt n left (Finished k) = (left ≡ []) × (k ≡ n)
 EndsAt n [] (MalformedAt k) = ⊥
 EndsAt n (l ∷ ls) (MalformedAt k) = (k ≡ n + 1) × (length l ≤ LINE_LIMIT) × IsMalformed k l
@@ -59,12 +59,12 @@ EndsAt n [] (TooLongAt k) = ⊥
 EndsAt n (l ∷ ls) (TooLongAt k) = (k ≡ n + 1) × (LINE_LIMIT < length l)
 
 -- The replay of these lines writes the text, leaves the last session and has this end.
-pub record Replays (first : Session) (lines : List (List ℕ)) (text : List ℕ) (last : Session) (end : End) : Type 0 where
+pub record Replays (first : Session) (lines : List (List ℕ)) (text : List ℕ) (last : Session) (end : ReplayEnd) : Type 0 where
   pub done : List (List ℕ)
   pub left : List (List ℕ)
   pub replies : List (List ℕ)
   pub cut : lines ≡ done ++ left
   pub few : length done ≤ LINES_LIMIT
-  pub carried : Carries first done replies last
+  pub carried : ExecutesLines first done replies last
   pub written : text ≡ concat replies
   pub ends : EndsAt (length done) left end

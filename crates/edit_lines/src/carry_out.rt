@@ -2,11 +2,11 @@ ghost use Rattle.std.specs.Prelude.{◌≡◌, ℕ, ◌+◌, ◌^◌, ◌<◌, �
 ghost use Rattle.replay.specs.Plain.{plain_run};
 ghost use Rattle.replay.specs.RunnerView.{DropsOldest, SameOptions, rerun_start};
 ghost use Rattle.replay.specs.Report.{run_of, session_of};
-ghost use Rattle.edit_lines.specs.Effects.{CommandDid, LineDid};
-ghost use Rattle.edit_lines.specs.Progress.{CarriesOut, Does};
+ghost use Rattle.edit_lines.specs.Effects.{CommandTakesEffect, LineTakesEffect};
+ghost use Rattle.edit_lines.specs.Progress.{ExecutesLine, ExecutesCommand};
 ghost use Rattle.edit_lines.specs.Reports.{report_text};
 ghost use Rattle.edit_lines.specs.Replies.{Replies};
-ghost use Rattle.report_lines.specs.Writing.{Writes};
+ghost use Rattle.report_lines.specs.Streams.{WritesText};
 
 use crate::ending::ReplayFault;
 use crate::limits::LINES_LIMIT;
@@ -16,16 +16,14 @@ use arrayvec::ArrayVec;
 use machine::{Meter, STEP_LIMIT};
 use replay::{Edit, EditError, Report, Runner};
 use report_lines::{
-    Failed, FileFilter, Over, Writer, report_head, write_all, write_changed_files, write_piece,
-    write_text,
+    Failed, FileFilter, Over, Writer, report_head, write_all, write_changed_files, write_text,
 };
 use std::alloc::Global;
 
 /// Writes a reply. If the writer fails, a prefix of the reply is written.
 fn write_reply<W: Writer>(writer: &mut W, text: &[u8]) -> Result<(), ReplayFault>
-    requires { W.failures writer.old < 2 ^ 63 }
-    ensures { Replies (W.holds writer.old) (W.holds writer.new) (W.failures writer.old)
-        (W.failures writer.new) text.now result }
+    requires { (W.output writer.old).failures < 2 ^ 63 }
+    ensures { Replies (W.output writer.old) (W.output writer.new) text.now result }
 {
     match write_all(writer, text) {
         Ok(()) => Ok(()),
@@ -40,14 +38,12 @@ fn carry_out_edit<W: Writer>(
     edit: Edit,
     writer: &mut W,
 ) -> Result<(), ReplayFault>
-    requires { W.failures writer.old < 2 ^ 63 }
-    ensures does { Does (Command.Edit edit) runner.old.session runner.new.session (W.holds writer.old)
-        (W.holds writer.new) result }
+    requires { (W.output writer.old).failures < 2 ^ 63 }
+    ensures does { ExecutesCommand (Command.Edit edit) runner.old.session runner.new.session
+        (W.output writer.old) (W.output writer.new) result }
     ensures effect { (meter : ℕ)
-        → CommandDid (Command.Edit edit) runner.old meter runner.new meter result }
+        → CommandTakesEffect (Command.Edit edit) runner.old meter runner.new meter result }
     ensures options { SameOptions runner.old runner.new }
-    ensures fine { OnOk result (W.failures writer.new ≡ W.failures writer.old) }
-    ensures failed { result ≡ Err ReplayFault.Write → W.failures writer.old < W.failures writer.new }
 {
     match runner.edit(edit) {
         Ok(()) => write_reply(writer, b"ok\n"),
@@ -62,15 +58,13 @@ fn drop_oldest<W: Writer>(
     count: u64,
     writer: &mut W,
 ) -> Result<(), ReplayFault>
-    requires { W.failures writer.old < 2 ^ 63 }
-    ensures does { Does (Command.DropOldest count) runner.old.session runner.new.session (W.holds writer.old)
-        (W.holds writer.new) result }
+    requires { (W.output writer.old).failures < 2 ^ 63 }
+    ensures does { ExecutesCommand (Command.DropOldest count) runner.old.session runner.new.session
+        (W.output writer.old) (W.output writer.new) result }
     ensures dropped { DropsOldest count runner.old runner.new }
     ensures effect { (meter : ℕ)
-        → CommandDid (Command.DropOldest count) runner.old meter runner.new meter result }
+        → CommandTakesEffect (Command.DropOldest count) runner.old meter runner.new meter result }
     ensures options { SameOptions runner.old runner.new }
-    ensures fine { OnOk result (W.failures writer.new ≡ W.failures writer.old) }
-    ensures failed { result ≡ Err ReplayFault.Write → W.failures writer.old < W.failures writer.new }
 {
     runner.drop_oldest(count);
     write_reply(writer, b"ok\n")
@@ -79,43 +73,41 @@ fn drop_oldest<W: Writer>(
 /// Writes a report: its first lines, the line of its text, the lines of the changed files, and `end`. It is written in pieces; no
 /// memory is allocated.
 fn write_report<W: Writer>(report: &Report<'_>, writer: &mut W) -> Result<(), Failed>
-    requires { W.failures writer.old < 2 ^ 63 }
-    ensures { Writes (W.holds writer.old) (W.holds writer.new) (W.failures writer.old) (W.failures writer.new)
+    requires { (W.output writer.old).failures < 2 ^ 63 }
+    ensures { WritesText (W.output writer.old) (W.output writer.new)
         (report_text (session_of report.now) (run_of report.now)) result }
 {
     let head = report_head(report.cause(), report.steps(), report.regs());
-    write_piece(writer, head.as_bytes())?;
+    write_all(writer, head.as_bytes())?;
     write_text(writer, report.text())?;
     write_changed_files(writer, FileFilter::All, report.files(), report.journal())?;
-    write_piece(writer, b"end\n")
+    write_all(writer, b"end\n")
 }
 
 /// Writes a report as `write_report` does, but in a single piece if it has at most 1024 bytes.
 fn write_short_at_once<W: Writer>(report: &Report<'_>, writer: &mut W) -> Result<(), Failed>
-    requires { W.failures writer.old < 2 ^ 63 }
-    ensures { Writes (W.holds writer.old) (W.holds writer.new) (W.failures writer.old) (W.failures writer.new)
+    requires { (W.output writer.old).failures < 2 ^ 63 }
+    ensures { WritesText (W.output writer.old) (W.output writer.new)
         (report_text (session_of report.now) (run_of report.now)) result }
 {
     let mut whole = Over::new(ArrayVec::<u8, 1024>::new());
     if write_report(report, &mut whole).is_err() {
         return write_report(report, writer);
     }
-    write_piece(writer, whole.into_inner().as_slice())
+    write_all(writer, whole.into_inner().as_slice())
 }
 
 /// Runs the session from the step where the runner begins a rerun, and writes its report. Only the steps from there on are added
 /// to the meter.
 fn run<W: Writer>(runner: &mut Runner, meter: &mut Meter, writer: &mut W) -> Result<(), ReplayFault>
-    requires writer { W.failures writer.old < 2 ^ 63 }
+    requires writer { (W.output writer.old).failures < 2 ^ 63 }
     requires meter { meter.old ≤ 2 ^ 63 }
-    ensures does { Does Command.Run runner.old.session runner.new.session (W.holds writer.old)
-        (W.holds writer.new) result }
+    ensures does { ExecutesCommand Command.Run runner.old.session runner.new.session
+        (W.output writer.old) (W.output writer.new) result }
     ensures from { OnOk result
         (meter.new + rerun_start runner.old ≡ meter.old + (plain_run runner.old.session).steps) }
-    ensures effect { CommandDid Command.Run runner.old meter.old runner.new meter.new result }
+    ensures effect { CommandTakesEffect Command.Run runner.old meter.old runner.new meter.new result }
     ensures options { SameOptions runner.old runner.new }
-    ensures fine { OnOk result (W.failures writer.new ≡ W.failures writer.old) }
-    ensures failed { result ≡ Err ReplayFault.Write → W.failures writer.old < W.failures writer.new }
     ensures meter { meter.new ≤ meter.old + STEP_LIMIT }
 {
     let report = runner.rerun(meter)?;
@@ -135,15 +127,12 @@ pub fn carry_out<W: Writer>(
     meter: &mut Meter,
     writer: &mut W,
 ) -> Result<(), ReplayFault>
-    requires writer { W.failures writer.old < 2 ^ 63 }
+    requires writer { (W.output writer.old).failures < 2 ^ 63 }
     requires meter { meter.old ≤ 2 ^ 63 }
-    ensures carries { CarriesOut number line.now runner.old.session runner.new.session (W.holds writer.old)
-        (W.holds writer.new) result }
-    ensures effect { LineDid number line.now runner.old meter.old runner.new meter.new result }
+    ensures carries { ExecutesLine number line.now runner.old.session runner.new.session
+        (W.output writer.old) (W.output writer.new) result }
+    ensures effect { LineTakesEffect number line.now runner.old meter.old runner.new meter.new result }
     ensures options { SameOptions runner.old runner.new }
-    ensures fine { OnOk result (W.failures writer.new ≡ W.failures writer.old) }
-    ensures failed { result ≡ Err ReplayFault.Write → W.failures writer.old < W.failures writer.new }
-    ensures reads { result ≡ Err ReplayFault.Read → ⊥ }
     ensures meter { meter.new ≤ meter.old + STEP_LIMIT }
 {
     if number > LINES_LIMIT {

@@ -1,14 +1,15 @@
-ghost use Rattle.std.specs.Prelude.{◌≡◌, ℕ, ◌+◌, ◌*◌, ◌^◌, ◌<◌, ◌≤◌, List, Option, ◌∷◌, ◌++◌, [], length, IfOk, OnOk, IfErr, OnErr, vec_capacity, vec_len};
-ghost use Rattle.std.specs.Io.KnownBytes.{Appends, Consumes, IsAtEnd};
+ghost use Rattle.std.specs.Prelude.{◌≡◌, ℕ, ◌+◌, ◌*◌, ◌^◌, ◌<◌, ◌≤◌, List, ◌∷◌, ◌++◌, [], length, IfOk, OnOk, IfErr, OnErr, vec_capacity, vec_len};
+ghost use Rattle.std.specs.Io.KnownBytes.{Consumes, IsAtEnd};
 ghost use Rattle.machine.specs.Given.{Session};
-ghost use Rattle.replay.specs.RunnerView.{RunnerView, SameOptions};
+ghost use Rattle.report_lines.specs.Streams.{WritesWhole};
+ghost use Rattle.replay.specs.RunnerView.{SameOptions};
 ghost use Rattle.edit_lines.specs.declared.limits.TheConstants.{LINE_LIMIT, LINES_LIMIT};
-ghost use Rattle.edit_lines.specs.Effects.{Effects, EffectsAfter, EffectsAtEnd, EffectsAtFault, EffectsSoFar};
+ghost use Rattle.edit_lines.specs.Effects.{Effects, EffectsAtFault};
 ghost use Rattle.edit_lines.specs.Pieces.{lines_of};
-ghost use Rattle.edit_lines.specs.Replay.{End, Finished, Replays};
+ghost use Rattle.edit_lines.specs.Replay.{ReplayEnd, Finished, Replays};
 ghost use Rattle.edit_lines.specs.Faults.{Faults};
 ghost use Rattle.edit_lines.specs.MemoryFaults.{FailsForMemory, StopsForMemory};
-ghost use Rattle.edit_lines.specs.Progress.{Finishes, Goes, IsPartFault, StandsAt};
+ghost use Rattle.edit_lines.specs.Progress.{ContinuesReplay, FinishesReplay, IsPartFault, IsReplayedTo, ReplayState, replay_state};
 
 use crate::carry_out::carry_out;
 use crate::ending::{Ending, ReplayFault};
@@ -57,27 +58,21 @@ fn end_line<W: Writer>(
     meter: &mut Meter,
     writer: &mut W,
 ) -> Result<(), ReplayFault>
-    requires writer { W.failures writer.old < 2 ^ 63 }
+    requires writer { (W.output writer.old).failures < 2 ^ 63 }
     requires meter { meter.old ≤ STEP_LIMIT * place.old.lines }
-    ensures goes { (first : Session) (held : Option (List ℕ)) (bytes rest : List ℕ)
-        → StandsAt first held bytes runner.old.session
-        (W.holds writer.old) place.old.line.items place.old.lines
-        → Goes first held (bytes ++ 10 ∷ []) rest runner.new.session
-        (W.holds writer.new) place.new.line.items place.new.lines result }
-    ensures effects { (first : RunnerView) (begun : ℕ) (bytes rest : List ℕ)
-        → EffectsSoFar first begun bytes runner.old meter.old place.old.line.items place.old.lines
-        (vec_capacity place.old.line)
-        → EffectsAfter first begun (bytes ++ 10 ∷ []) rest runner.new meter.new
-        place.new.line.items place.new.lines (vec_capacity place.new.line) result }
+    ensures goes { (first : ReplayState) (bytes rest : List ℕ)
+        → IsReplayedTo first bytes
+        (replay_state runner.old meter.old (W.output writer.old) place.old.line place.old.lines)
+        → ContinuesReplay first (bytes ++ 10 ∷ []) rest
+        (replay_state runner.new meter.new (W.output writer.new) place.new.line place.new.lines) result }
     ensures options { SameOptions runner.old runner.new }
-    ensures fine { OnOk result (W.failures writer.new ≡ W.failures writer.old) }
-    ensures failed { result ≡ Err ReplayFault.Write → W.failures writer.old < W.failures writer.new }
+    ensures fine { OnOk result ((W.output writer.new).failures ≡ (W.output writer.old).failures) }
     ensures reads { result ≡ Err ReplayFault.Read → ⊥ }
     ensures meter { OnOk result (meter.new ≤ STEP_LIMIT * place.new.lines) }
     ensures on { OnOk result ((place.new.lines ≡ place.old.lines + 1) × (place.new.line.items ≡ [])) }
     ensures memory { result ≡ Err ReplayFault.OutOfMemory
         → FailsForMemory (place.old.lines + 1) place.old.line.items runner.old meter.old
-        runner.new meter.new (W.holds writer.old) (W.holds writer.new) }
+        runner.new meter.new (W.output writer.old) (W.output writer.new) }
 {
     carry_out(
         alloc,
@@ -101,29 +96,20 @@ fn take_piece<W: Writer>(
     writer: &mut W,
     piece: &[u8],
 ) -> Result<(), ReplayFault>
-    requires writer { W.failures writer.old < 2 ^ 63 }
+    requires writer { (W.output writer.old).failures < 2 ^ 63 }
     requires meter { meter.old ≤ STEP_LIMIT * place.old.lines }
     requires small { length piece.now ≤ 65535 }
-    ensures goes { (first : Session) (held : Option (List ℕ)) (bytes : List ℕ)
-        → StandsAt first held bytes runner.old.session
-        (W.holds writer.old) place.old.line.items place.old.lines
-        → Goes first held (bytes ++ piece.now) [] runner.new.session
-        (W.holds writer.new) place.new.line.items place.new.lines result }
-    ensures effects { (first : RunnerView) (begun : ℕ) (bytes : List ℕ)
-        → EffectsSoFar first begun bytes runner.old meter.old place.old.line.items place.old.lines
-        (vec_capacity place.old.line)
-        → EffectsAfter first begun (bytes ++ piece.now) [] runner.new meter.new
-        place.new.line.items place.new.lines (vec_capacity place.new.line) result }
-    ensures memory { (first : RunnerView) (begun : ℕ) (held : Option (List ℕ)) (bytes : List ℕ)
-        → StandsAt first.session held bytes runner.old.session
-        (W.holds writer.old) place.old.line.items place.old.lines
-        → EffectsSoFar first begun bytes runner.old meter.old place.old.line.items place.old.lines
-        (vec_capacity place.old.line)
-        → result ≡ Err ReplayFault.OutOfMemory → StopsForMemory first begun held
-        (bytes ++ piece.now) runner.new meter.new (W.holds writer.new) }
+    ensures goes { (first : ReplayState) (bytes : List ℕ)
+        → IsReplayedTo first bytes
+        (replay_state runner.old meter.old (W.output writer.old) place.old.line place.old.lines)
+        → ContinuesReplay first (bytes ++ piece.now) []
+        (replay_state runner.new meter.new (W.output writer.new) place.new.line place.new.lines) result }
+    ensures memory { (first : ReplayState) (bytes : List ℕ)
+        → IsReplayedTo first bytes
+        (replay_state runner.old meter.old (W.output writer.old) place.old.line place.old.lines)
+        → result ≡ Err ReplayFault.OutOfMemory → StopsForMemory first.runner first.meter first.output
+        (bytes ++ piece.now) runner.new meter.new (W.output writer.new) }
     ensures options { SameOptions runner.old runner.new }
-    ensures fine { OnOk result (W.failures writer.new ≡ W.failures writer.old) }
-    ensures failed { result ≡ Err ReplayFault.Write → W.failures writer.old < W.failures writer.new }
     ensures reads { result ≡ Err ReplayFault.Read → ⊥ }
     ensures meter { OnOk result (meter.new ≤ STEP_LIMIT * place.new.lines) }
     ensures on { OnOk result (65537 * place.old.lines + vec_len place.old.line + length piece.now
@@ -146,20 +132,16 @@ fn finish<W: Writer>(
     meter: &mut Meter,
     writer: &mut W,
 ) -> Result<Ending, ReplayFault>
-    requires writer { W.failures writer.old < 2 ^ 63 }
+    requires writer { (W.output writer.old).failures < 2 ^ 63 }
     requires meter { meter.old ≤ STEP_LIMIT * place.lines }
-    ensures ends { (first : Session) (held : Option (List ℕ)) (bytes : List ℕ)
-        → StandsAt first held bytes runner.old.session (W.holds writer.old) place.line.items place.lines
-        → Finishes first held bytes runner.new.session (W.holds writer.new) result }
-    ensures effects { (first : RunnerView) (begun : ℕ) (bytes : List ℕ)
-        → EffectsSoFar first begun bytes runner.old meter.old place.line.items place.lines
-        (vec_capacity place.line)
-        → EffectsAtEnd first begun bytes runner.new meter.new result }
+    ensures ends { (first : ReplayState) (bytes : List ℕ)
+        → IsReplayedTo first bytes
+        (replay_state runner.old meter.old (W.output writer.old) place.line place.lines)
+        → FinishesReplay first bytes runner.new meter.new (W.output writer.new) result }
     ensures options { SameOptions runner.old runner.new }
     ensures memory { result ≡ Err ReplayFault.OutOfMemory
         → FailsForMemory (place.lines + 1) place.line.items runner.old meter.old
-        runner.new meter.new (W.holds writer.old) (W.holds writer.new) }
-    ensures failed { result ≡ Err ReplayFault.Write → W.failures writer.old < W.failures writer.new }
+        runner.new meter.new (W.output writer.old) (W.output writer.new) }
     ensures reads { result ≡ Err ReplayFault.Read → ⊥ }
 {
     if place.line.is_empty() {
@@ -207,25 +189,24 @@ pub fn replay<R: Reader, W: Writer>(
     writer: &mut W,
 ) -> Result<Ending, ReplayFault>
     requires meter { meter.old ≡ 0 }
-    requires reader { R.failures reader.old < 2 ^ 63 }
-    requires writer { W.failures writer.old < 2 ^ 63 }
+    requires reader { (R.input reader.old).failures < 2 ^ 63 }
+    requires writer { (W.output writer.old).failures < 2 ^ 63 }
     ensures ok { IfOk result (λ e. (bytes : List ℕ) × (text : List ℕ)
-        × Consumes (R.left reader.old) (R.left reader.new) bytes × IsAtEnd (R.left reader.new)
-        × Appends (W.holds writer.old) (W.holds writer.new) text
+        × Consumes (R.input reader.old).left (R.input reader.new).left bytes × IsAtEnd (R.input reader.new).left
+        × WritesWhole (W.output writer.old) (W.output writer.new) text
         × Replays runner.old.session (lines_of bytes) text runner.new.session (Finished e.lines)
         × Effects runner.old meter.old (lines_of bytes) runner.new meter.new) }
     ensures fault { IfErr result
-        (λ f. (bytes : List ℕ) × Consumes (R.left reader.old) (R.left reader.new) bytes
-        × Faults (R.left reader.new) runner.old.session (W.holds writer.old) bytes runner.new.session
-        (W.holds writer.new) f
+        (λ f. (bytes : List ℕ) × Consumes (R.input reader.old).left (R.input reader.new).left bytes
+        × Faults (R.input reader.new).left runner.old.session (W.output writer.old) bytes runner.new.session
+        (W.output writer.new) f
         × EffectsAtFault runner.old meter.old bytes runner.new meter.new f) }
     ensures memory { result ≡ Err ReplayFault.OutOfMemory → (bytes : List ℕ)
-        × Consumes (R.left reader.old) (R.left reader.new) bytes
-        × StopsForMemory runner.old meter.old (W.holds writer.old) bytes
-        runner.new meter.new (W.holds writer.new) }
+        × Consumes (R.input reader.old).left (R.input reader.new).left bytes
+        × StopsForMemory runner.old meter.old (W.output writer.old) bytes
+        runner.new meter.new (W.output writer.new) }
     ensures options { SameOptions runner.old runner.new }
-    ensures read { result ≡ Err ReplayFault.Read → R.failures reader.old < R.failures reader.new }
-    ensures write { result ≡ Err ReplayFault.Write → W.failures writer.old < W.failures writer.new }
+    ensures read { result ≡ Err ReplayFault.Read → (R.input reader.old).failures < (R.input reader.new).failures }
 {
     let mut place = Place {
         line: Vec::new(alloc),
@@ -247,7 +228,7 @@ pub fn replay<R: Reader, W: Writer>(
 /// same last session and the same end.
 pub fn one_replay()
     ensures { (first : Session) (lines : List (List ℕ)) (text other_text : List ℕ)
-        (last other_last : Session) (end other_end : End)
+        (last other_last : Session) (end other_end : ReplayEnd)
         → Replays first lines text last end → Replays first lines other_text other_last other_end
         → (text ≡ other_text) × (last ≡ other_last) × (end ≡ other_end) }
 {}

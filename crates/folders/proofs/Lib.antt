@@ -1,5 +1,6 @@
 pub mod EntryLemmas
 pub mod FaultLemmas
+pub mod FilesLemmas
 pub mod ListingLemmas
 pub mod ReadLemmas
 pub mod WriteLemmas

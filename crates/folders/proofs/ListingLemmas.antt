@@ -10,7 +10,7 @@ use Rattle.std.specs.Cmp.Lexicographic.{slice_cmp, nat_list_cmp_total}
 use Rattle.std.specs.FinMap.{FinMap, get, insert, empty, contains_key, get-empty, get-insert}
 use Rattle.keymaps.proofs.Views.{same_key, key_of, get_here, get_apart, there_still}
 use Rattle.filenames.specs.Names.{Key}
-use Rattle.folders.specs.FileSystem.{Path, Stored}
+use Rattle.folders.specs.FileSystem.{Path, FileBytes}
 use Rattle.folders.specs.Listings.{AreTwo, IsHostFile, Lists, least}
 
 abbrev pub Map : Type 0 → Type 0
@@ -60,7 +60,7 @@ some_at : {X : Type 0} (o : Option X) → is_some o ≡ true → (x : X) × (o �
 some_at None e = cc
 some_at (Some x) e = (x, refl)
 
-module _ (stored : Stored) (drive : ℕ) (folder : Path) where
+module _ (stored : FileBytes) (drive : ℕ) (folder : Path) where
   two_further : (names : List Path) (file : Path) (key : Key) → AreTwo stored drive folder names key → AreTwo stored drive folder (names ++ file ∷ []) key
   two_further names file key t = record {
     before = t.before;
@@ -169,7 +169,7 @@ module _ (stored : Stored) (drive : ℕ) (folder : Path) where
 
 -- The same, if the files are known.
 module _ {Z : Type 0} (drive : ℕ) (folder : Path) (files : Map (String Z)) (twice : Option Key) (file : Path) where
-  pub added_if_told : (o : Option Stored) (key : Key) (text : String Z) → string_bytes text ≡ file → IfSome o (λ stored. IsHostFile stored drive folder key file)
+  pub added_if_told : (o : Option FileBytes) (key : Key) (text : String Z) → string_bytes text ≡ file → IfSome o (λ stored. IsHostFile stored drive folder key file)
       → (now : Map (String Z)) (then : Option Key)
       → (contains_key files key ≡ false → (now ≡ insert files key text) × (then ≡ twice))
       → (contains_key files key ≡ true → (now ≡ files) × (then ≡ Some (least key twice)))
@@ -177,13 +177,13 @@ module _ {Z : Type 0} (drive : ℕ) (folder : Path) (files : Map (String Z)) (tw
   added_if_told None key text says is now then once again = tt
   added_if_told (Some stored) key text says is now then once again = λ names l. added stored drive folder names files twice file l key text says is now then once again
 
-  pub passed_over_if_told : (o : Option Stored) → IfSome o (λ stored. (key : Key) → IsHostFile stored drive folder key file → ⊥)
+  pub passed_over_if_told : (o : Option FileBytes) → IfSome o (λ stored. (key : Key) → IsHostFile stored drive folder key file → ⊥)
       → IfSome o (λ stored. (names : List Path) → Lists stored drive folder names files twice → Lists stored drive folder (names ++ file ∷ []) files twice)
   passed_over_if_told None none = tt
   passed_over_if_told (Some stored) none = λ names l. passed_over stored drive folder names files twice file l none
 
   -- One more of the names that are listed.
-  pub further : (o : Option Stored) (items : List (String Z)) (i : ℕ) (item : String Z) (d : ℕ) (now : Map (String Z)) (then : Option Key)
+  pub further : (o : Option FileBytes) (items : List (String Z)) (i : ℕ) (item : String Z) (d : ℕ) (now : Map (String Z)) (then : Option Key)
       → i < length items → item ≡ get_or items i item → file ≡ string_bytes item → d ≡ drive
       → IfSome o (λ stored. Lists stored drive folder (take i (map string_bytes items)) files twice)
       → IfSome o (λ stored. (names : List Path) → Lists stored d folder names files twice → Lists stored d folder (names ++ file ∷ []) now then)
@@ -199,12 +199,12 @@ module _ {Z : Type 0} (drive : ℕ) (folder : Path) (files : Map (String Z)) (tw
       (h (take i (map string_bytes items)) (subst (λ n. Lists stored n folder (take i (map string_bytes items)) files twice) (sym on) l)))
 
 module _ {Z : Type 0} (drive : ℕ) (folder : Path) (files : Map (String Z)) (twice : Option Key) where
-  pub none_listed_if_told : (o : Option Stored) → files ≡ empty → twice ≡ None → IfSome o (λ stored. Lists stored drive folder [] files twice)
+  pub none_listed_if_told : (o : Option FileBytes) → files ≡ empty → twice ≡ None → IfSome o (λ stored. Lists stored drive folder [] files twice)
   none_listed_if_told None e t = tt
   none_listed_if_told (Some stored) e t = none_listed stored drive folder files twice e t
 
   -- The names are all of them.
-  pub all_listed : (o : Option Stored) (items : List (String Z)) (i : ℕ) (names : List Path) → length items ≤ i → IfSome o (λ _. map string_bytes items ≡ names)
+  pub all_listed : (o : Option FileBytes) (items : List (String Z)) (i : ℕ) (names : List Path) → length items ≤ i → IfSome o (λ _. map string_bytes items ≡ names)
       → IfSome o (λ stored. Lists stored drive folder (take i (map string_bytes items)) files twice) → IfSome o (λ stored. Lists stored drive folder names files twice)
   all_listed None items i names le e l = tt
   all_listed (Some stored) items i names le e l =

@@ -7,7 +7,7 @@ use Rattle.std.specs.FinMap.{get, insert, remove, get-remove}
 use Rattle.keymaps.proofs.Views.{same_key, key_of, get_here, get_apart}
 use Rattle.filenames.specs.Names.{Key}
 use Rattle.folders.specs.Entries.{file_text, needs_slash, path_text, temporary_text}
-use Rattle.folders.specs.FileSystem.{Path, Stored, Becomes, ChangesAt, PutsInPlace, moved, moved_to}
+use Rattle.folders.specs.FileSystem.{Path, FileBytes, Becomes, ChangesAt, PutsInPlace, moved, moved_to}
 use Rattle.hostfiles.specs.Hosts.{Host}
 use Rattle.hostfiles.specs.Files.{Own, told}
 use Rattle.std.specs.List.{concat, slice_get}
@@ -53,27 +53,27 @@ none_written a (Some f) h = cc
 
 -- ---- a file that is put in place
 
-pub unchanged : (path : Path) (files : Option Stored) → ChangesAt path files files
+pub unchanged : (path : Path) (files : Option FileBytes) → ChangesAt path files files
 unchanged path None = tt
 unchanged path (Some files) = (files, refl, λ p ne. refl)
 
-pub changes_twice : (path : Path) (a b c : Option Stored) → ChangesAt path a b → ChangesAt path b c → ChangesAt path a c
+pub changes_twice : (path : Path) (a b c : Option FileBytes) → ChangesAt path a b → ChangesAt path b c → ChangesAt path a c
 changes_twice path None b c p q = tt
 changes_twice path (Some files) b c p q =
     let second = subst (λ x. ChangesAt path x c) p.1 q in
     (second.0, second.1, λ n ne. second.2 n ne ∙ p.2 n ne)
 
-removed_here : (files : Stored) (path : Path) → get (remove files path) path ≡ None
+removed_here : (files : FileBytes) (path : Path) → get (remove files path) path ≡ None
 removed_here files path = get-remove nat_list_cmp_total files path path ∙ ap (λ b. cond b None (get files path)) ((eq_by_cmp_equiv nat_list_cmp_total).refl path)
 
-removed_apart : (files : Stored) (path p : Path) → p ≢ path → get (remove files path) p ≡ get files p
+removed_apart : (files : FileBytes) (path p : Path) → p ≢ path → get (remove files path) p ≡ get files p
 removed_apart files path p ne = get-remove nat_list_cmp_total files path p ∙ by_key (eq_by_cmp (slice_cmp nat_cmp) p path) (key_of same_key p path) where
   by_key : (b : Bool) → (b ≡ true → p ≡ path) → cond b None (get files p) ≡ get files p
   by_key true same = absurd (ne (same refl))
   by_key false same = refl
 
 -- What was removed, written and renamed is in place.
-placed : (path temporary : Path) (bytes : List ℕ) (before removed written after : Option Stored) → temporary ≢ path → ChangesAt temporary before removed
+placed : (path temporary : Path) (bytes : List ℕ) (before removed written after : Option FileBytes) → temporary ≢ path → ChangesAt temporary before removed
     → Becomes removed written (λ stored. insert stored temporary bytes) → Becomes written after (moved temporary path)
     → PutsInPlace before after path temporary bytes
 placed path temporary bytes None removed written after apart r w m = tt
@@ -93,13 +93,13 @@ placed path temporary bytes (Some files) removed written after apart r w m =
       },
     )
 
-pub placed_at_ok : {E : Type 0} (path temporary : Path) (bytes : List ℕ) (before removed written after : Option Stored) (r : Result (Unit {0}) E) → temporary ≢ path
+pub placed_at_ok : {E : Type 0} (path temporary : Path) (bytes : List ℕ) (before removed written after : Option FileBytes) (r : Result (Unit {0}) E) → temporary ≢ path
     → ChangesAt temporary before removed → Becomes removed written (λ stored. insert stored temporary bytes) → OnOk r (Becomes written after (moved temporary path))
     → OnOk r (PutsInPlace before after path temporary bytes)
 placed_at_ok path temporary bytes before removed written after (Ok u) apart h w m = placed path temporary bytes before removed written after apart h w m
 placed_at_ok path temporary bytes before removed written after (Err x) apart h w m = tt
 
-pub left_at_err : {E : Type 0} (temporary : Path) (before removed written after : Option Stored) (r : Result (Unit {0}) E) → ChangesAt temporary before removed
+pub left_at_err : {E : Type 0} (temporary : Path) (before removed written after : Option FileBytes) (r : Result (Unit {0}) E) → ChangesAt temporary before removed
     → ChangesAt temporary removed written → OnErr r (after ≡ written) → OnErr r (ChangesAt temporary before after)
 left_at_err temporary before removed written after (Ok u) h c e = tt
 left_at_err temporary before removed written after (Err x) h c e = subst (ChangesAt temporary before) (sym e) (changes_twice temporary before removed written h c)

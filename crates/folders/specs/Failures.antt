@@ -4,6 +4,7 @@ use Rattle.std.specs.IoError.{error_kind}
 use Rattle.std.specs.declared.io.Error.{Error}
 use Rattle.std.specs.declared.io.ErrorKind.{ErrorKind}
 use Rattle.std.specs.declared.io.ErrorKind.TheVariants.{OutOfMemory}
+use Rattle.folders.specs.FileSystem.{StoredFiles}
 
 -- The failures that an error of this kind reports: one, unless an allocation failed.
 abbrev pub kind_failures : ErrorKind → ℕ
@@ -17,3 +18,13 @@ io_failures e = kind_failures (error_kind e)
 abbrev pub AddsFailures : {T E : Type 0} → (E → ℕ) → Result T E → ℕ → ℕ → Type 0
 AddsFailures reported (Ok x) before after = after ≡ before
 AddsFailures reported (Err e) before after = after ≡ before + reported e
+
+-- The same for a file system.
+abbrev pub CountsFailures : {T E : Type 0} → (E → ℕ) → Result T E → StoredFiles → StoredFiles → Type 0
+CountsFailures reported result old new = AddsFailures reported result old.failures new.failures
+
+-- The files are unchanged, and the failures that the result reports are counted.
+pub record KeepsFiles {T E : Type 0} (reported : E → ℕ) (result : Result T E) (old new : StoredFiles) : Type 0 where
+  pub bytes : new.bytes ≡ old.bytes
+  pub names : new.names ≡ old.names
+  pub failures : AddsFailures reported result old.failures new.failures

@@ -1,4 +1,4 @@
--- The contents of a file system, if they are known: the bytes of each regular file by its path. (This project's own.)
+-- What a file system stores, and what its calls do to it. (This project's own.)
 use Rattle.std.specs.Prelude.{◌≡◌, ◌≢◌, ℕ, List, take, Option, Some, None, IsSome, ⊤}
 use Rattle.std.specs.Option.{option_and_then}
 use Rattle.std.specs.Ordering.{nat_cmp}
@@ -10,49 +10,56 @@ abbrev pub Path : Type 0
 Path = List ℕ
 
 -- The bytes of each file by its path.
-abbrev pub Stored : Type 0
-Stored = FinMap (slice_cmp nat_cmp) (List ℕ)
+abbrev pub FileBytes : Type 0
+FileBytes = FinMap (slice_cmp nat_cmp) (List ℕ)
+
+-- What a file system stores: the bytes of each regular file, if they are known, and then the names in each folder, in the order in
+-- which it is listed; and how often the file system failed.
+pub record StoredFiles : Type 0 where
+  pub bytes : Option FileBytes
+  pub names : Path → List Path
+  pub failures : ℕ
 
 -- The bytes of the file of a path, if they are known.
-abbrev pub text_at : Option Stored → Path → Option (List ℕ)
+abbrev pub text_at : Option FileBytes → Path → Option (List ℕ)
 text_at stored path = option_and_then (λ files. get files path) stored
 
 -- If the files are known, there is one of this path, and its bytes are left to be read.
-abbrev pub Opens : Option Stored → Path → Option (List ℕ) → Type 0
+abbrev pub Opens : Option FileBytes → Path → Option (List ℕ) → Type 0
 Opens None path left = ⊤
 Opens (Some files) path left = (left ≡ get files path) × IsSome left
 
 -- If the files are known, there is one of this path, and these are its bytes, or its first n if it has more.
-abbrev pub Reads : Option Stored → Path → ℕ → List ℕ → Type 0
+abbrev pub Reads : Option FileBytes → Path → ℕ → List ℕ → Type 0
 Reads None path n got = ⊤
 Reads (Some files) path n got = (all : List ℕ) × (get files path ≡ Some all) × (got ≡ take n all)
 
 -- If the files are known, they change in this way.
-abbrev pub Becomes : Option Stored → Option Stored → (Stored → Stored) → Type 0
+abbrev pub Becomes : Option FileBytes → Option FileBytes → (FileBytes → FileBytes) → Type 0
 Becomes None after change = ⊤
 Becomes (Some files) after change = after ≡ Some (change files)
 
 -- If the files are known, they change at this path alone, and stay known.
-abbrev pub ChangesAt : Path → Option Stored → Option Stored → Type 0
+abbrev pub ChangesAt : Path → Option FileBytes → Option FileBytes → Type 0
 ChangesAt path None after = ⊤
-ChangesAt path (Some files) after = (changed : Stored) × (after ≡ Some changed) × ((p : Path) → p ≢ path → get changed p ≡ get files p)
+ChangesAt path (Some files) after = (changed : FileBytes) × (after ≡ Some changed) × ((p : Path) → p ≢ path → get changed p ≡ get files p)
 
 -- The file of one path is moved to another, replacing what was there.
-abbrev pub moved_to : Path → Option (List ℕ) → Stored → Stored
+abbrev pub moved_to : Path → Option (List ℕ) → FileBytes → FileBytes
 moved_to to None files = files
 moved_to to (Some bytes) files = insert files to bytes
 
-abbrev pub moved : Path → Path → Stored → Stored
+abbrev pub moved : Path → Path → FileBytes → FileBytes
 moved from to files = moved_to to (get files from) (remove files from)
 
 -- A file was put in place: its path has all of these bytes, nothing is at the path under which it was written, and every other
 -- file is unchanged.
-pub record IsInPlace (before now : Stored) (path temporary : Path) (bytes : List ℕ) : Type 0 where
+pub record IsInPlace (before now : FileBytes) (path temporary : Path) (bytes : List ℕ) : Type 0 where
   pub there : get now path ≡ Some bytes
   pub gone : get now temporary ≡ None
   pub others : (p : Path) → p ≢ path → p ≢ temporary → get now p ≡ get before p
 
 -- The same if the files are known.
-abbrev pub PutsInPlace : Option Stored → Option Stored → Path → Path → List ℕ → Type 0
+abbrev pub PutsInPlace : Option FileBytes → Option FileBytes → Path → Path → List ℕ → Type 0
 PutsInPlace None after path temporary bytes = ⊤
-PutsInPlace (Some files) after path temporary bytes = (now : Stored) × (after ≡ Some now) × IsInPlace files now path temporary bytes
+PutsInPlace (Some files) after path temporary bytes = (now : FileBytes) × (after ≡ Some now) × IsInPlace files now path temporary bytes

@@ -7,7 +7,7 @@ use Rattle.std.specs.Cmp.Lexicographic.{slice_cmp}
 use Rattle.std.specs.FinMap.{FinMap, get, insert, contains_key}
 use Rattle.filenames.specs.Names.{Key}
 use Rattle.folders.specs.Entries.{key_in, path_text}
-use Rattle.folders.specs.FileSystem.{Path, Stored}
+use Rattle.folders.specs.FileSystem.{Path, FileBytes}
 
 -- The lesser of two keys, or the first if there is no second.
 abbrev pub least : Key → Option Key → Key
@@ -15,12 +15,12 @@ least key None = key
 least key (Some other) = if is_lt (slice_cmp nat_cmp other key) then other else key
 
 -- A name in the folder of a drive is the name of the host file of a key: the name has the key, and a regular file is there.
-pub record IsHostFile (stored : Stored) (drive : ℕ) (folder : Path) (key : Key) (name : Path) : Type 0 where
+pub record IsHostFile (stored : FileBytes) (drive : ℕ) (folder : Path) (key : Key) (name : Path) : Type 0 where
   pub gives : key_in drive name ≡ Some key
   pub there : contains_key stored (path_text folder name) ≡ true
 
 -- Two of the names in the folder of a drive belong to the host file of a key.
-pub record AreTwo (stored : Stored) (drive : ℕ) (folder : Path) (names : List Path) (key : Key) : Type 0 where
+pub record AreTwo (stored : FileBytes) (drive : ℕ) (folder : Path) (names : List Path) (key : Key) : Type 0 where
   pub before : List Path
   pub name : Path
   pub after : List Path
@@ -31,12 +31,12 @@ pub record AreTwo (stored : Stored) (drive : ℕ) (folder : Path) (names : List 
   pub second : IsHostFile stored drive folder key name
 
 -- A name in the folder of a drive belongs to this host file, or to none.
-abbrev pub Finds : Stored → ℕ → Path → Path → Option Key → Type 0
+abbrev pub Finds : FileBytes → ℕ → Path → Path → Option Key → Type 0
 Finds stored drive folder name (Some key) = IsHostFile stored drive folder key name
 Finds stored drive folder name None = (key : Key) → IsHostFile stored drive folder key name → ⊥
 
 -- The names of the host files in the folder of a drive by their keys, and some key that two of them have, if there is one.
-pub record Lists {Z : Type 0} (stored : Stored) (drive : ℕ) (folder : Path) (names : List Path) (files : FinMap (slice_cmp nat_cmp) (String Z)) (twice : Option Key) : Type 0 where
+pub record Lists {Z : Type 0} (stored : FileBytes) (drive : ℕ) (folder : Path) (names : List Path) (files : FinMap (slice_cmp nat_cmp) (String Z)) (twice : Option Key) : Type 0 where
   pub listed : (key : Key) (file : String Z) → get files key ≡ Some file → Contains names (string_bytes file) × IsHostFile stored drive folder key (string_bytes file)
   pub all : (key : Key) (name : Path) → Contains names name → IsHostFile stored drive folder key name → contains_key files key ≡ true
   pub alone : twice ≡ None → (key : Key) (name : Path) → Contains names name → IsHostFile stored drive folder key name → option_map string_bytes (get files key) ≡ Some name

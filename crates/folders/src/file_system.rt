@@ -3,8 +3,8 @@
 ghost use Rattle.std.specs.Prelude.{◌≡◌, ◌≤◌, ◌<◌, ◌+◌, ◌^◌, ℕ, List, [], Option, Some, None, IfOk, OnOk, OnErr, IfSome, length, map, min, string_bytes};
 ghost use Rattle.std.specs.FinMap.{contains_key, insert};
 ghost use Rattle.std.specs.Io.KnownBytes.{Appends, ReadConsumes};
-ghost use Rattle.folders.specs.Failures.{AddsFailures, io_failures};
-ghost use Rattle.folders.specs.FileSystem.{Path, Stored, Opens, Reads, Becomes, ChangesAt, moved};
+ghost use Rattle.folders.specs.Failures.{AddsFailures, CountsFailures, KeepsFiles, io_failures};
+ghost use Rattle.folders.specs.FileSystem.{Becomes, ChangesAt, Opens, Reads, StoredFiles, moved};
 
 use std::alloc::Global;
 use std::fs::{OpenOptions, read_dir};
@@ -45,79 +45,68 @@ pub trait FileSystem {
     /// An open file that is read.
     type Input: InputFile + Drop;
 
-    /// The bytes of each regular file, if they are known.
-    ghost files: { Self → Option Stored };
-
-    /// The names in a folder, in the order in which it is listed, if the files are known.
-    ghost names: { Self → Path → List Path };
-
-    /// The number of failures so far.
-    ghost failures: { Self → ℕ };
+    /// What it stores, if that is known, and how often it failed.
+    ghost files: { Self → StoredFiles };
 
     /// Returns the allocator for what it makes, and for what is made of its files.
     fn alloc(&self) -> Global;
 
     /// Opens a file to read it piece by piece.
     fn open(&mut self, path: &str) -> io::Result<Self::Input>
-        requires { failures self.old < 2 ^ 63 }
-        ensures opens { IfOk result (λ input. Opens (files self.old) path.now (Self.Input.left input)) }
+        requires { (files self.old).failures < 2 ^ 63 }
+        ensures opens { IfOk result
+            (λ input. Opens (files self.old).bytes path.now (Self.Input.left input)) }
         ensures unfailed { IfOk result (λ input. Self.Input.failures input ≡ 0) }
-        ensures files { files self.new ≡ files self.old }
-        ensures names { names self.new ≡ names self.old }
-        ensures failures { AddsFailures io_failures result (failures self.old) (failures self.new) };
+        ensures unchanged { KeepsFiles io_failures result (files self.old) (files self.new) };
 
     /// Adds one failure if a read of this open file failed.
     fn count_failed_reads(&mut self, input: &Self::Input)
-        requires { failures self.old < 2 ^ 63 }
-        ensures files { files self.new ≡ files self.old }
-        ensures names { names self.new ≡ names self.old }
-        ensures failures { failures self.new ≡ failures self.old + min 1 (Self.Input.failures input.now) };
+        requires { (files self.old).failures < 2 ^ 63 }
+        ensures bytes { (files self.new).bytes ≡ (files self.old).bytes }
+        ensures names { (files self.new).names ≡ (files self.old).names }
+        ensures failures { (files self.new).failures
+            ≡ (files self.old).failures + min 1 (Self.Input.failures input.now) };
 
     /// Reads a file: all of its bytes, or its first `most` if it has more.
     fn read(&mut self, path: &str, most: u64) -> io::Result<Vec<u8>>
-        requires { failures self.old < 2 ^ 63 }
-        ensures reads { IfOk result (λ bytes. Reads (files self.old) path.now most bytes.items) }
-        ensures files { files self.new ≡ files self.old }
-        ensures names { names self.new ≡ names self.old }
-        ensures failures { AddsFailures io_failures result (failures self.old) (failures self.new) };
+        requires { (files self.old).failures < 2 ^ 63 }
+        ensures reads { IfOk result (λ bytes. Reads (files self.old).bytes path.now most bytes.items) }
+        ensures unchanged { KeepsFiles io_failures result (files self.old) (files self.new) };
 
     /// Returns the names in a folder.
     fn list(&mut self, folder: &str) -> io::Result<Vec<String>>
-        requires { failures self.old < 2 ^ 63 }
-        ensures lists { IfOk result (λ listed. IfSome (files self.old) (λ _.
-            map string_bytes listed.items ≡ names self.old folder.now)) }
-        ensures files { files self.new ≡ files self.old }
-        ensures names { names self.new ≡ names self.old }
-        ensures failures { AddsFailures io_failures result (failures self.old) (failures self.new) };
+        requires { (files self.old).failures < 2 ^ 63 }
+        ensures lists { IfOk result (λ listed. IfSome (files self.old).bytes (λ _.
+            map string_bytes listed.items ≡ (files self.old).names folder.now)) }
+        ensures unchanged { KeepsFiles io_failures result (files self.old) (files self.new) };
 
     /// Returns whether there is a regular file at a path; a link to one is none.
     fn is_file(&mut self, path: &str) -> io::Result<bool>
-        requires { failures self.old < 2 ^ 63 }
+        requires { (files self.old).failures < 2 ^ 63 }
         ensures is { IfOk result
-            (λ is. IfSome (files self.old) (λ stored. is ≡ contains_key stored path.now)) }
-        ensures files { files self.new ≡ files self.old }
-        ensures names { names self.new ≡ names self.old }
-        ensures failures { AddsFailures io_failures result (failures self.old) (failures self.new) };
+            (λ is. IfSome (files self.old).bytes (λ stored. is ≡ contains_key stored path.now)) }
+        ensures unchanged { KeepsFiles io_failures result (files self.old) (files self.new) };
 
     /// Writes a new file, if nothing is at the path. An error may leave a part of it there.
     fn write_new<C: Contents>(&mut self, path: &str, contents: &C) -> io::Result<()>
-        requires { failures self.old < 2 ^ 63 }
-        ensures written { OnOk result (Becomes (files self.old) (files self.new)
+        requires { (files self.old).failures < 2 ^ 63 }
+        ensures written { OnOk result (Becomes (files self.old).bytes (files self.new).bytes
             (λ stored. insert stored path.now (C.bytes contents.now))) }
-        ensures others { ChangesAt path.now (files self.old) (files self.new) }
-        ensures failures { AddsFailures io_failures result (failures self.old) (failures self.new) };
+        ensures others { ChangesAt path.now (files self.old).bytes (files self.new).bytes }
+        ensures failures { CountsFailures io_failures result (files self.old) (files self.new) };
 
     /// Moves the file of one path to another, replacing what is there.
     fn rename(&mut self, from: &str, to: &str) -> io::Result<()>
-        requires { failures self.old < 2 ^ 63 }
-        ensures moved { OnOk result (Becomes (files self.old) (files self.new) (moved from.now to.now)) }
-        ensures err { OnErr result (files self.new ≡ files self.old) }
-        ensures failures { AddsFailures io_failures result (failures self.old) (failures self.new) };
+        requires { (files self.old).failures < 2 ^ 63 }
+        ensures moved { OnOk result
+            (Becomes (files self.old).bytes (files self.new).bytes (moved from.now to.now)) }
+        ensures err { OnErr result ((files self.new).bytes ≡ (files self.old).bytes) }
+        ensures failures { CountsFailures io_failures result (files self.old) (files self.new) };
 
     /// Removes a file if there is one and it can be removed. It is no failure if not.
     fn remove(&mut self, path: &str)
-        ensures others { ChangesAt path.now (files self.old) (files self.new) }
-        ensures failures { failures self.new ≡ failures self.old };
+        ensures others { ChangesAt path.now (files self.old).bytes (files self.new).bytes }
+        ensures failures { (files self.new).failures ≡ (files self.old).failures };
 }
 
 // Writes contents to a writer through a buffer, and returns the writer.
@@ -226,11 +215,7 @@ impl<R: Files + AllocGlobal + Clone + Drop> SystemFiles<'_, R> {
 impl<R: Files + AllocGlobal + Clone + Drop> FileSystem for SystemFiles<'_, R> {
     type Input = SystemFile<R::File>;
 
-    ghost files = { λ _. None };
-
-    ghost names = { λ _ _. [] };
-
-    ghost failures = { λ system. system.failures };
+    ghost files = { λ system. record { bytes = None; names = λ _. []; failures = system.failures } };
 
     fn alloc(&self) -> Global {
         self.rt.alloc()

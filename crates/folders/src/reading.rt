@@ -5,7 +5,7 @@ ghost use Rattle.std.specs.FinMap as finmap;
 ghost use Rattle.filenames.specs.Drives.{drive_number};
 ghost use Rattle.hostfiles.specs.Hosts.{records_in, refusal_of};
 ghost use Rattle.folders.specs.Entries.{key_in, path_text};
-ghost use Rattle.folders.specs.Failures.{AddsFailures, io_failures};
+ghost use Rattle.folders.specs.Failures.{KeepsFiles, io_failures};
 ghost use Rattle.folders.specs.Faults.{FailsBy, reported_failures};
 ghost use Rattle.folders.specs.Folders.{AreFromFolders, AreOf, FailsFile, FailsFolder, FailsFolders, FailsListed, AreRead, IsRead, RefusesAs, StaysWhere};
 ghost use Rattle.folders.specs.Listings.{Finds, Lists};
@@ -44,14 +44,12 @@ fn host_file<S: FileSystem>(
     folder: &str,
     file: &str,
 ) -> io::Result<Option<Name>>
-    requires { S.failures system.old < 2 ^ 63 }
+    requires { (S.files system.old).failures < 2 ^ 63 }
     ensures drive { IfOk result
         (λ found. IfSome found (λ name. slice_index name 0 ≡ drive_number drive)) }
-    ensures finds { IfOk result (λ found. IfSome (S.files system.old) (λ stored.
+    ensures finds { IfOk result (λ found. IfSome (S.files system.old).bytes (λ stored.
         Finds stored (drive_number drive) folder.now file.now found)) }
-    ensures files { S.files system.new ≡ S.files system.old }
-    ensures names { S.names system.new ≡ S.names system.old }
-    ensures failures { AddsFailures io_failures result (S.failures system.old) (S.failures system.new) }
+    ensures unchanged { KeepsFiles io_failures result (S.files system.old) (S.files system.new) }
 {
     let Some(name) = name_in_folder(drive, file) else {
         return Ok(None);
@@ -70,15 +68,13 @@ fn add_file<S: FileSystem>(
     file: &str,
     listing: &mut Listing,
 ) -> io::Result<()>
-    requires { S.failures system.old < 2 ^ 63 }
+    requires { (S.files system.old).failures < 2 ^ 63 }
     ensures drive { listing.new.drive ≡ listing.old.drive }
-    ensures lists { OnOk result (IfSome (S.files system.old) (λ stored. (names : List (List ℕ))
+    ensures lists { OnOk result (IfSome (S.files system.old).bytes (λ stored. (names : List (List ℕ))
         → Lists stored (drive_number listing.old.drive) folder.now names listing.old.files listing.old.twice
         → Lists stored (drive_number listing.old.drive) folder.now (names ++ file.now ∷ [])
         listing.new.files listing.new.twice)) }
-    ensures files { S.files system.new ≡ S.files system.old }
-    ensures names { S.names system.new ≡ S.names system.old }
-    ensures failures { AddsFailures io_failures result (S.failures system.old) (S.failures system.new) }
+    ensures unchanged { KeepsFiles io_failures result (S.files system.old) (S.files system.new) }
 {
     if let Some(name) = host_file(system, listing.drive, folder, file)? {
         let file = String::from_str(system.alloc(), file)?;
@@ -89,14 +85,12 @@ fn add_file<S: FileSystem>(
 
 // Returns the host files in the folder of a drive.
 fn list<S: FileSystem>(system: &mut S, drive: Drive, folder: &str) -> io::Result<Listing>
-    requires { S.failures system.old < 2 ^ 63 }
+    requires { (S.files system.old).failures < 2 ^ 63 }
     ensures drive { IfOk result (λ listing. listing.drive ≡ drive) }
-    ensures lists { IfOk result (λ listing. IfSome (S.files system.old) (λ stored.
-        Lists stored (drive_number drive) folder.now (S.names system.old folder.now)
+    ensures lists { IfOk result (λ listing. IfSome (S.files system.old).bytes (λ stored.
+        Lists stored (drive_number drive) folder.now ((S.files system.old).names folder.now)
         listing.files listing.twice)) }
-    ensures files { S.files system.new ≡ S.files system.old }
-    ensures names { S.names system.new ≡ S.names system.old }
-    ensures failures { AddsFailures io_failures result (S.failures system.old) (S.failures system.new) }
+    ensures unchanged { KeepsFiles io_failures result (S.files system.old) (S.files system.new) }
 {
     let mut listing = Listing::new(system.alloc(), drive);
     let names = system.list(folder)?;
@@ -114,17 +108,15 @@ fn read_one<S: FileSystem>(
     name: Name,
     files: &mut HostFiles,
 ) -> Result<(), Failure>
-    requires { S.failures system.old < 2 ^ 63 }
+    requires { (S.files system.old).failures < 2 ^ 63 }
     ensures others { StaysWhere (λ k. k ≢ name) files.old files.new }
     ensures there { OnOk result (finmap.contains_key files.new name ≡ true) }
-    ensures read { OnOk result (IfSome (S.files system.old) (λ stored.
+    ensures read { OnOk result (IfSome (S.files system.old).bytes (λ stored.
         IsRead stored (path_text folder.now file.now) (finmap.get files.new name))) }
     ensures err { OnErr result (files.new ≡ files.old) }
-    ensures fault { IfErr result (FailsBy (FailsFile (S.files system.old) (path_text folder.now file.now)
+    ensures fault { IfErr result (FailsBy (FailsFile (S.files system.old).bytes (path_text folder.now file.now)
         files.old name)) }
-    ensures files { S.files system.new ≡ S.files system.old }
-    ensures names { S.names system.new ≡ S.names system.old }
-    ensures failures { AddsFailures reported_failures result (S.failures system.old) (S.failures system.new) }
+    ensures unchanged { KeepsFiles reported_failures result (S.files system.old) (S.files system.new) }
 {
     let Ok(path) = path_in(system.alloc(), folder, file) else {
         return Err(Failure::OutOfMemory);
@@ -142,16 +134,14 @@ fn read_listed<S: FileSystem>(
     listing: &Listing,
     files: &mut HostFiles,
 ) -> Result<(), Failure>
-    requires failures { S.failures system.old < 2 ^ 63 }
+    requires failures { (S.files system.old).failures < 2 ^ 63 }
     requires alone { listing.now.twice ≡ None }
     ensures others { StaysWhere
         (λ k. finmap.contains_key listing.now.files k ≡ false) files.old files.new }
-    ensures read { OnOk result (AreRead (S.files system.old) folder.now listing.now.files files.new) }
-    ensures fault { IfErr result (FailsBy (FailsListed (S.files system.old) folder.now
+    ensures read { OnOk result (AreRead (S.files system.old).bytes folder.now listing.now.files files.new) }
+    ensures fault { IfErr result (FailsBy (FailsListed (S.files system.old).bytes folder.now
         listing.now.files files.new)) }
-    ensures files { S.files system.new ≡ S.files system.old }
-    ensures names { S.names system.new ≡ S.names system.old }
-    ensures failures { AddsFailures reported_failures result (S.failures system.old) (S.failures system.new) }
+    ensures unchanged { KeepsFiles reported_failures result (S.files system.old) (S.files system.new) }
 {
     let mut after: Option<Key> = None;
     while let Some((key, file)) = listing.files.next_key_value(after) {
@@ -171,17 +161,15 @@ pub fn read_folder<S: FileSystem>(
     folder: &str,
     files: &mut HostFiles,
 ) -> Result<(), Failure>
-    requires failures { S.failures system.old < 2 ^ 63 }
+    requires failures { (S.files system.old).failures < 2 ^ 63 }
     requires none { (k : List ℕ) → slice_index k 0 ≡ drive_number drive
         → finmap.contains_key files.old k ≡ false }
     ensures others { StaysWhere (λ k. slice_index k 0 ≢ drive_number drive) files.old files.new }
-    ensures read { OnOk result (IfSome (S.files system.old) (λ stored.
-        AreOf stored (S.names system.old folder.now) (drive_number drive) folder.now files.new)) }
-    ensures fault { IfErr result (FailsBy (FailsFolder (S.files system.old) (S.names system.old folder.now)
+    ensures read { OnOk result (IfSome (S.files system.old).bytes (λ stored.
+        AreOf stored ((S.files system.old).names folder.now) (drive_number drive) folder.now files.new)) }
+    ensures fault { IfErr result (FailsBy (FailsFolder (S.files system.old)
         (drive_number drive) folder.now files.new)) }
-    ensures files { S.files system.new ≡ S.files system.old }
-    ensures names { S.names system.new ≡ S.names system.old }
-    ensures failures { AddsFailures reported_failures result (S.failures system.old) (S.failures system.new) }
+    ensures unchanged { KeepsFiles reported_failures result (S.files system.old) (S.files system.new) }
 {
     let Ok(path) = String::from_str(system.alloc(), folder) else {
         return Err(Failure::OutOfMemory);
@@ -202,12 +190,10 @@ pub fn read_folders<S: FileSystem>(
     system: &mut S,
     folders: &[Option<&str>; 4],
 ) -> Result<HostFiles, Failure>
-    requires { S.failures system.old < 2 ^ 63 }
-    ensures files { IfOk result (AreFromFolders (S.files system.old) (S.names system.old) folders.now) }
-    ensures fault { IfErr result (FailsFolders (S.files system.old) (S.names system.old) folders.now) }
-    ensures same_files { S.files system.new ≡ S.files system.old }
-    ensures same_names { S.names system.new ≡ S.names system.old }
-    ensures failures { AddsFailures reported_failures result (S.failures system.old) (S.failures system.new) }
+    requires { (S.files system.old).failures < 2 ^ 63 }
+    ensures files { IfOk result (AreFromFolders (S.files system.old) folders.now) }
+    ensures fault { IfErr result (FailsFolders (S.files system.old) folders.now) }
+    ensures unchanged { KeepsFiles reported_failures result (S.files system.old) (S.files system.new) }
 {
     let mut files = HostFiles::new(system.alloc());
     for drive in Drive::ALL {

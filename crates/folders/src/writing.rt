@@ -3,7 +3,7 @@
 ghost use Rattle.std.specs.Prelude.{◌≡◌, ◌≢◌, ◌<◌, ◌^◌, Some, OnOk, OnErr, IfOk, IfErr, slice_index, string_bytes};
 ghost use Rattle.std.specs.Io.KnownBytes.{Appends};
 ghost use Rattle.folders.specs.Entries.{file_text, path_text, temporary_text};
-ghost use Rattle.folders.specs.Failures.{AddsFailures, io_failures};
+ghost use Rattle.folders.specs.Failures.{CountsFailures, io_failures};
 ghost use Rattle.folders.specs.Faults.{FailsBy, Unwritten, reported_failures};
 ghost use Rattle.folders.specs.FileSystem.{ChangesAt, PutsInPlace};
 ghost use Rattle.folders.specs.Folders.{FailsToWrite, LeavesIn, WritesInto, folder_of};
@@ -68,12 +68,13 @@ fn write_and_rename<S: FileSystem, C: Contents>(
     temporary: &str,
     path: &str,
 ) -> io::Result<()>
-    requires failures { S.failures system.old < 2 ^ 63 }
+    requires failures { (S.files system.old).failures < 2 ^ 63 }
     requires apart { temporary.now ≢ path.now }
-    ensures written { OnOk result (PutsInPlace (S.files system.old) (S.files system.new)
+    ensures written { OnOk result (PutsInPlace (S.files system.old).bytes (S.files system.new).bytes
         path.now temporary.now (C.bytes contents.now)) }
-    ensures err { OnErr result (ChangesAt temporary.now (S.files system.old) (S.files system.new)) }
-    ensures failures { AddsFailures io_failures result (S.failures system.old) (S.failures system.new) }
+    ensures err { OnErr result
+        (ChangesAt temporary.now (S.files system.old).bytes (S.files system.new).bytes) }
+    ensures failures { CountsFailures io_failures result (S.files system.old) (S.files system.new) }
 {
     system.remove(temporary);
     system.write_new(temporary, contents)?;
@@ -93,13 +94,13 @@ pub fn write_file<S: FileSystem, C: Contents>(
     name: &Name,
     contents: &C,
 ) -> Result<(), Failure>
-    requires { S.failures system.old < 2 ^ 63 }
-    ensures written { OnOk result (WritesInto (Some folder.now) (S.files system.old) (S.files system.new)
-        name.now (C.bytes contents.now)) }
-    ensures err { OnErr result (LeavesIn (Some folder.now) (S.files system.old) (S.files system.new)
-        name.now) }
+    requires { (S.files system.old).failures < 2 ^ 63 }
+    ensures written { OnOk result (WritesInto (Some folder.now)
+        (S.files system.old).bytes (S.files system.new).bytes name.now (C.bytes contents.now)) }
+    ensures err { OnErr result (LeavesIn (Some folder.now)
+        (S.files system.old).bytes (S.files system.new).bytes name.now) }
     ensures fault { IfErr result (FailsBy (Unwritten (path_text folder.now (file_text name.now)))) }
-    ensures failures { AddsFailures reported_failures result (S.failures system.old) (S.failures system.new) }
+    ensures failures { CountsFailures reported_failures result (S.files system.old) (S.files system.new) }
 {
     let Ok((path, temporary)) = paths(system.alloc(), folder, name) else {
         return Err(Failure::OutOfMemory);
@@ -134,13 +135,13 @@ pub fn write_to_drive<S: FileSystem, C: Contents>(
     name: &Name,
     contents: &C,
 ) -> Result<(), Failure>
-    requires { S.failures system.old < 2 ^ 63 }
+    requires { (S.files system.old).failures < 2 ^ 63 }
     ensures written { OnOk result (WritesInto (folder_of folders.now (slice_index name.now 0))
-        (S.files system.old) (S.files system.new) name.now (C.bytes contents.now)) }
+        (S.files system.old).bytes (S.files system.new).bytes name.now (C.bytes contents.now)) }
     ensures err { OnErr result (LeavesIn (folder_of folders.now (slice_index name.now 0))
-        (S.files system.old) (S.files system.new) name.now) }
+        (S.files system.old).bytes (S.files system.new).bytes name.now) }
     ensures fault { IfErr result (FailsToWrite folders.now name.now) }
-    ensures failures { AddsFailures reported_failures result (S.failures system.old) (S.failures system.new) }
+    ensures failures { CountsFailures reported_failures result (S.files system.old) (S.files system.new) }
 {
     match folders[name.drive().number() as usize] {
         Some(folder) => write_file(system, folder, name, contents),

@@ -5,7 +5,7 @@ use Rattle.command_words.specs.declared.words.Words.{Words}
 use Rattle.hostfiles.specs.Hosts.{Host}
 use Rattle.machine.specs.Given.{Session}
 use Rattle.machine.specs.Session.{made_of}
-use Rattle.folders.specs.FileSystem.{Path, Stored}
+use Rattle.folders.specs.FileSystem.{Path, StoredFiles}
 use Rattle.folders.specs.Folders.{AreFromFolders}
 use Rattle.std.specs.Prelude.{Option}
 use Rattle.loading.specs.declared.fault.LoadFault.{LoadFault}
@@ -13,25 +13,25 @@ use Rattle.loading.specs.declared.fault.LoadFault.TheVariants.{CannotRead, Folde
 use Rattle.loading.specs.Loading.{IsProgramOf, IsScriptOf, MadeOrRefused, FailsToLoad, IsReadFaultOf, IsReadFaultIfAny}
 
 -- A refusal of the session is a refusal of the words.
-pub refused_of_words : (stored : Option Stored) (names : Path → List Path) (w : Words) (program : List ℕ) (files : Host) (script : List ℕ) (r : Result Session LoadFault)
-    → IsProgramOf stored w program → AreFromFolders stored names w.files files → IsScriptOf stored w script
-    → MadeOrRefused (made_of program w.tail.now files script w.limit) r → IfErr r (FailsToLoad stored names w)
-refused_of_words stored names w program files script (Ok s) p a b h = tt
-refused_of_words stored names w program files script (Err (CannotRead path)) p a b h = absurd h
-refused_of_words stored names w program files script (Err (Folders f)) p a b h = absurd h
-refused_of_words stored names w program files script (Err (Refused n)) p a b h =
+pub refused_of_words : (stored : StoredFiles) (w : Words) (program : List ℕ) (files : Host) (script : List ℕ) (r : Result Session LoadFault)
+    → IsProgramOf stored w program → AreFromFolders stored w.files files → IsScriptOf stored w script
+    → MadeOrRefused (made_of program w.tail.now files script w.limit) r → IfErr r (FailsToLoad stored w)
+refused_of_words stored w program files script (Ok s) p a b h = tt
+refused_of_words stored w program files script (Err (CannotRead path)) p a b h = absurd h
+refused_of_words stored w program files script (Err (Folders f)) p a b h = absurd h
+refused_of_words stored w program files script (Err (Refused n)) p a b h =
     record { program = program; files = files; script = script; of_program = p; from_folders = a; of_script = b; refused = h }
-refused_of_words stored names w program files script (Err OutOfMemory) p a b h = absurd h
+refused_of_words stored w program files script (Err OutOfMemory) p a b h = absurd h
 
 -- If the script cannot be read, no session is loaded.
-pub script_unread : (stored : Option Stored) (names : Path → List Path) (w : Words) (f : LoadFault) → IsReadFaultIfAny (text_of w.console) f → FailsToLoad stored names w f
-script_unread stored names w f h = by_path (text_of w.console) refl h where
-  by_fault : (path : Path) → text_of w.console ≡ Some path → (f : LoadFault) → IsReadFaultOf path f → FailsToLoad stored names w f
+pub script_unread : (stored : StoredFiles) (w : Words) (f : LoadFault) → IsReadFaultIfAny (text_of w.console) f → FailsToLoad stored w f
+script_unread stored w f h = by_path (text_of w.console) refl h where
+  by_fault : (path : Path) → text_of w.console ≡ Some path → (f : LoadFault) → IsReadFaultOf path f → FailsToLoad stored w f
   by_fault path e (CannotRead p) h = inr (e ∙ ap Some (sym h))
   by_fault path e (Folders x) h = absurd h
   by_fault path e (Refused n) h = absurd h
   by_fault path e OutOfMemory h = tt
 
-  by_path : (o : Option Path) → text_of w.console ≡ o → IsReadFaultIfAny o f → FailsToLoad stored names w f
+  by_path : (o : Option Path) → text_of w.console ≡ o → IsReadFaultIfAny o f → FailsToLoad stored w f
   by_path None e h = absurd h
   by_path (Some path) e h = by_fault path e f h

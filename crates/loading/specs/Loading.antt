@@ -3,7 +3,7 @@ use Rattle.std.specs.Prelude.{◌≡◌, ◌+◌, ℕ, ◌⊎◌, List, [], Opti
 use Rattle.command_words.specs.CommandLine.{text_of}
 use Rattle.command_words.specs.declared.words.Words.{Words}
 use Rattle.hostfiles.specs.Hosts.{Host}
-use Rattle.folders.specs.FileSystem.{Path, Reads, Stored}
+use Rattle.folders.specs.FileSystem.{FileBytes, Reads, StoredFiles}
 use Rattle.folders.specs.Folders.{AreFromFolders, FailsFolders}
 use Rattle.folders.specs.declared.fault.Failure.TheVariants.{AtFault}
 use Rattle.machine.specs.declared.session.TheConstants.{PROGRAM_LIMIT, SCRIPT_LIMIT}
@@ -13,32 +13,32 @@ use Rattle.loading.specs.declared.fault.LoadFault.{LoadFault}
 use Rattle.loading.specs.declared.fault.LoadFault.TheVariants.{CannotRead, Folders, Refused, OutOfMemory}
 
 -- The bytes of a program: the file PROGRAM, of which at most one byte more is read than a session takes.
-abbrev pub IsProgramOf : Option Stored → Words → List ℕ → Type 0
-IsProgramOf files w program = Reads files w.program.now (PROGRAM_LIMIT + 1) program
+abbrev pub IsProgramOf : StoredFiles → Words → List ℕ → Type 0
+IsProgramOf files w program = Reads files.bytes w.program.now (PROGRAM_LIMIT + 1) program
 
 -- The bytes of a script: none without a path, or else its file, of which at most one byte more is read than a session takes.
-abbrev pub IsScriptAt : Option Stored → Option (List ℕ) → List ℕ → Type 0
+abbrev pub IsScriptAt : Option FileBytes → Option (List ℕ) → List ℕ → Type 0
 IsScriptAt files None script = script ≡ []
 IsScriptAt files (Some path) script = Reads files path (SCRIPT_LIMIT + 1) script
 
-abbrev pub IsScriptOf : Option Stored → Words → List ℕ → Type 0
-IsScriptOf files w script = IsScriptAt files (text_of w.console) script
+abbrev pub IsScriptOf : StoredFiles → Words → List ℕ → Type 0
+IsScriptOf files w script = IsScriptAt files.bytes (text_of w.console) script
 
 -- The session of the files that the words name, with the tail and the limit of the words.
-pub record IsLoadedFrom (stored : Option Stored) (names : Path → List Path) (w : Words) (s : Session) : Type 0 where
+pub record IsLoadedFrom (stored : StoredFiles) (w : Words) (s : Session) : Type 0 where
   pub program : IsProgramOf stored w s.program
   pub tail : s.tail ≡ w.tail.now
-  pub files : AreFromFolders stored names w.files s.files
+  pub files : AreFromFolders stored w.files s.files
   pub script : IsScriptOf stored w s.script
   pub limit : s.limit ≡ w.limit
 
 -- Such a session is refused with this number.
-pub record IsSessionRefusal (stored : Option Stored) (names : Path → List Path) (w : Words) (n : ℕ) : Type 0 where
+pub record IsSessionRefusal (stored : StoredFiles) (w : Words) (n : ℕ) : Type 0 where
   pub program : List ℕ
   pub files : Host
   pub script : List ℕ
   pub of_program : IsProgramOf stored w program
-  pub from_folders : AreFromFolders stored names w.files files
+  pub from_folders : AreFromFolders stored w.files files
   pub of_script : IsScriptOf stored w script
   pub refused : made_of program w.tail.now files script w.limit ≡ Err n
 
@@ -63,8 +63,8 @@ IsReadFaultIfAny None f = ⊥
 IsReadFaultIfAny (Some path) f = IsReadFaultOf path f
 
 -- Why no session is loaded from the files of the words.
-abbrev pub FailsToLoad : Option Stored → (Path → List Path) → Words → LoadFault → Type 0
-FailsToLoad files names w (CannotRead p) = (p.now ≡ w.program.now) ⊎ (text_of w.console ≡ Some p.now)
-FailsToLoad files names w (Folders f) = FailsFolders files names w.files (AtFault f)
-FailsToLoad files names w (Refused n) = IsSessionRefusal files names w n
-FailsToLoad files names w OutOfMemory = Unit {0}
+abbrev pub FailsToLoad : StoredFiles → Words → LoadFault → Type 0
+FailsToLoad files w (CannotRead p) = (p.now ≡ w.program.now) ⊎ (text_of w.console ≡ Some p.now)
+FailsToLoad files w (Folders f) = FailsFolders files w.files (AtFault f)
+FailsToLoad files w (Refused n) = IsSessionRefusal files w n
+FailsToLoad files w OutOfMemory = Unit {0}

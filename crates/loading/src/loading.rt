@@ -2,7 +2,7 @@
 
 ghost use Rattle.std.specs.Prelude.{◌≡◌, ◌+◌, ◌<◌, ◌^◌, IfOk, IfErr};
 ghost use Rattle.command_words.specs.CommandLine.{text_of};
-ghost use Rattle.folders.specs.Failures.{AddsFailures, io_failures};
+ghost use Rattle.folders.specs.Failures.{KeepsFiles, io_failures};
 ghost use Rattle.folders.specs.FileSystem.{Opens, Reads};
 ghost use Rattle.machine.specs.Session.{made_of};
 ghost use Rattle.loading.specs.Faults.{load_failures};
@@ -42,13 +42,11 @@ fn read_fault<'a>(error: io::Error, path: &'a str) -> LoadFault<'a>
 ///
 /// Returns `Err` if the file cannot be opened or an allocation fails.
 pub fn open<'a, S: FileSystem>(system: &mut S, path: &'a str) -> Result<S::Input, LoadFault<'a>>
-    requires { S.failures system.old < 2 ^ 63 }
-    ensures opens { IfOk result (λ input. Opens (S.files system.old) path.now (S.Input.left input)) }
+    requires { (S.files system.old).failures < 2 ^ 63 }
+    ensures opens { IfOk result (λ input. Opens (S.files system.old).bytes path.now (S.Input.left input)) }
     ensures unfailed { IfOk result (λ input. S.Input.failures input ≡ 0) }
     ensures fault { IfErr result (IsReadFaultOf path.now) }
-    ensures files { S.files system.new ≡ S.files system.old }
-    ensures names { S.names system.new ≡ S.names system.old }
-    ensures failures { AddsFailures load_failures result (S.failures system.old) (S.failures system.new) }
+    ensures unchanged { KeepsFiles load_failures result (S.files system.old) (S.files system.new) }
 {
     match system.open(path) {
         Ok(file) => Ok(file),
@@ -58,13 +56,11 @@ pub fn open<'a, S: FileSystem>(system: &mut S, path: &'a str) -> Result<S::Input
 
 /// Reads the program at this path.
 fn program_at<'a, S: FileSystem>(system: &mut S, path: &'a str) -> Result<Vec<u8>, LoadFault<'a>>
-    requires { S.failures system.old < 2 ^ 63 }
+    requires { (S.files system.old).failures < 2 ^ 63 }
     ensures program { IfOk result
-        (λ program. Reads (S.files system.old) path.now (PROGRAM_LIMIT + 1) program.items) }
+        (λ program. Reads (S.files system.old).bytes path.now (PROGRAM_LIMIT + 1) program.items) }
     ensures fault { IfErr result (IsReadFaultOf path.now) }
-    ensures files { S.files system.new ≡ S.files system.old }
-    ensures names { S.names system.new ≡ S.names system.old }
-    ensures failures { AddsFailures load_failures result (S.failures system.old) (S.failures system.new) }
+    ensures unchanged { KeepsFiles load_failures result (S.files system.old) (S.files system.new) }
 {
     match system.read(path, PROGRAM_READ) {
         Ok(program) => Ok(program),
@@ -77,13 +73,11 @@ fn script_at<'a, S: FileSystem>(
     system: &mut S,
     path: Option<&'a str>,
 ) -> Result<Vec<u8>, LoadFault<'a>>
-    requires { S.failures system.old < 2 ^ 63 }
+    requires { (S.files system.old).failures < 2 ^ 63 }
     ensures script { IfOk result
-        (λ script. IsScriptAt (S.files system.old) (text_of path.entry) script.items) }
+        (λ script. IsScriptAt (S.files system.old).bytes (text_of path.entry) script.items) }
     ensures fault { IfErr result (IsReadFaultIfAny (text_of path.entry)) }
-    ensures files { S.files system.new ≡ S.files system.old }
-    ensures names { S.names system.new ≡ S.names system.old }
-    ensures failures { AddsFailures load_failures result (S.failures system.old) (S.failures system.new) }
+    ensures unchanged { KeepsFiles load_failures result (S.files system.old) (S.files system.new) }
 {
     let Some(path) = path else {
         return Ok(Vec::new(system.alloc()));
@@ -127,12 +121,10 @@ fn session_of<'a>(
 ///
 /// Returns `Err` if a file or a folder cannot be read or is refused, if the session is refused, or if an allocation fails.
 pub fn load<'a, S: FileSystem>(system: &mut S, words: &Words<'a>) -> Result<Session, LoadFault<'a>>
-    requires { S.failures system.old < 2 ^ 63 }
-    ensures session { IfOk result (IsLoadedFrom (S.files system.old) (S.names system.old) words.now) }
-    ensures fault { IfErr result (FailsToLoad (S.files system.old) (S.names system.old) words.now) }
-    ensures files { S.files system.new ≡ S.files system.old }
-    ensures names { S.names system.new ≡ S.names system.old }
-    ensures failures { AddsFailures load_failures result (S.failures system.old) (S.failures system.new) }
+    requires { (S.files system.old).failures < 2 ^ 63 }
+    ensures session { IfOk result (IsLoadedFrom (S.files system.old) words.now) }
+    ensures fault { IfErr result (FailsToLoad (S.files system.old) words.now) }
+    ensures unchanged { KeepsFiles load_failures result (S.files system.old) (S.files system.new) }
 {
     let tail = tail_of(system.alloc(), words)?;
     let program = program_at(system, words.program)?;

@@ -7,7 +7,7 @@ use Rattle.hostfiles.specs.Names.{Key}
 use Rattle.hostfiles.specs.Hosts.{Host}
 use Rattle.machine.specs.ChangedFiles.{changed_in}
 use Rattle.machine.specs.WholeFiles.{Files}
-use Rattle.folders.specs.FileSystem.{Stored}
+use Rattle.folders.specs.FileSystem.{FileBytes}
 use Rattle.folders.specs.Folders.{FailsToWrite, LeavesIn, WritesInto}
 use Rattle.folders.specs.declared.fault.Failure.{Failure}
 use Rattle.one_run.specs.RawRun.{StopsAt, WritesEach, bytes_in, drive_folder, written_keys}
@@ -23,12 +23,12 @@ fewer_left host files after key split = let n = ap length split in omega (arith,
 
 module _ (folders : List (Option (Bor (List ℕ)))) (host : Host) (files : Files) where
   -- If the remaining files are written from here on, all are.
-  pub record WritesOn (before : Option Stored) (after : Option Key) (now : Option Stored) : Type 0 where
-    pub all : (last : Option Stored) → WritesEach folders files now (there_above host files after) last → WritesEach folders files before (written_keys host files) last
-    pub some : (f : Failure) (last : Option Stored) → StopsAt (λ name. FailsToWrite folders name f) folders files now (there_above host files after) last
+  pub record WritesOn (before : Option FileBytes) (after : Option Key) (now : Option FileBytes) : Type 0 where
+    pub all : (last : Option FileBytes) → WritesEach folders files now (there_above host files after) last → WritesEach folders files before (written_keys host files) last
+    pub some : (f : Failure) (last : Option FileBytes) → StopsAt (λ name. FailsToWrite folders name f) folders files now (there_above host files after) last
         → StopsAt (λ name. FailsToWrite folders name f) folders files before (written_keys host files) last
 
-  pub begins : (before : Option Stored) → WritesOn before None before
+  pub begins : (before : Option FileBytes) → WritesOn before None before
   begins before = record {
     all = λ last h. subst (λ keys. WritesEach folders files before (filter (contains_key files) keys) last) (keys_above_none (changed_in host files)) h;
     some = λ f last h. subst (λ keys. StopsAt (λ name. FailsToWrite folders name f) folders files before (filter (contains_key files) keys) last) (keys_above_none (changed_in host files)) h;
@@ -44,7 +44,7 @@ module _ (folders : List (Option (Bor (List ℕ)))) (host : Host) (files : Files
       → there_above host files after ≡ there_above host files (Some key)
   gone_next after key split h = ap (filter (contains_key files)) split ∙ ap (λ b. cond b (key ∷ there_above host files (Some key)) (there_above host files (Some key))) h
 
-  pub one_written : (before : Option Stored) (after : Option Key) (now next : Option Stored) (key : Key) → WritesOn before after now
+  pub one_written : (before : Option FileBytes) (after : Option Key) (now next : Option FileBytes) (key : Key) → WritesOn before after now
       → keys_above (changed_in host files) after ≡ key ∷ keys_above (changed_in host files) (Some key) → contains_key files key ≡ true
       → WritesInto (drive_folder folders key) now next key (bytes_in files key) → WritesOn before (Some key) next
   one_written before after now next key w split h into = record {
@@ -52,7 +52,7 @@ module _ (folders : List (Option (Bor (List ℕ)))) (host : Host) (files : Files
     some = λ f last rest. w.some f last (subst (λ keys. StopsAt (λ name. FailsToWrite folders name f) folders files now keys last) (sym (there_next after key split h)) (inr (next, into, rest)));
   }
 
-  pub one_gone : (before : Option Stored) (after : Option Key) (now : Option Stored) (key : Key) → WritesOn before after now
+  pub one_gone : (before : Option FileBytes) (after : Option Key) (now : Option FileBytes) (key : Key) → WritesOn before after now
       → keys_above (changed_in host files) after ≡ key ∷ keys_above (changed_in host files) (Some key) → contains_key files key ≡ false → WritesOn before (Some key) now
   one_gone before after now key w split h = record {
     all = λ last rest. w.all last (subst (λ keys. WritesEach folders files now keys last) (sym (gone_next after key split h)) rest);
@@ -60,12 +60,12 @@ module _ (folders : List (Option (Bor (List ℕ)))) (host : Host) (files : Files
   }
 
   -- No key is left.
-  pub ends : (before : Option Stored) (after : Option Key) (now : Option Stored) → WritesOn before after now → keys_above (changed_in host files) after ≡ []
+  pub ends : (before : Option FileBytes) (after : Option Key) (now : Option FileBytes) → WritesOn before after now → keys_above (changed_in host files) after ≡ []
       → WritesEach folders files before (written_keys host files) now
   ends before after now w none = w.all now (subst (λ keys. WritesEach folders files now (filter (contains_key files) keys) now) (sym none) refl)
 
   -- The next file is not written.
-  pub stops : (f : Failure) (before : Option Stored) (after : Option Key) (now last : Option Stored) (key : Key) → WritesOn before after now
+  pub stops : (f : Failure) (before : Option FileBytes) (after : Option Key) (now last : Option FileBytes) (key : Key) → WritesOn before after now
       → keys_above (changed_in host files) after ≡ key ∷ keys_above (changed_in host files) (Some key) → contains_key files key ≡ true
       → FailsToWrite folders key f → LeavesIn (drive_folder folders key) now last key → StopsAt (λ name. FailsToWrite folders name f) folders files before (written_keys host files) last
   stops f before after now last key w split h fails leaves =

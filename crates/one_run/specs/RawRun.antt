@@ -1,14 +1,13 @@
 -- One run of a session: what it writes, its status, and what holds after an error. (This project's profile.)
-use Rattle.std.specs.Prelude.{◌≡◌, ℕ, ◌<◌, ◌⊎◌, [], ◌∷◌, ◌++◌, List, Option, codes, filter, slice_index, take, unwrap_or}
+use Rattle.std.specs.Prelude.{◌≡◌, ℕ, ◌⊎◌, [], ◌∷◌, ◌++◌, List, Option, codes, filter, slice_index, unwrap_or}
 use Rattle.std.specs.FinMap.{contains_key}
 use Rattle.std.specs.List.{concat}
 use Rattle.std.specs.Borrow.{Bor}
-use Rattle.std.specs.Io.KnownBytes.{Appends}
 use Rattle.machine.specs.Cause.{Cause}
 use Rattle.machine.specs.Cause.TheVariants.{WarmBoot, Halt, Limit, Undefined, SystemArea, ConsoleExhausted, NoDollar, Unsupported, BadDrive}
 use Rattle.hostfiles.specs.Names.{Key}
 use Rattle.hostfiles.specs.Hosts.{Host}
-use Rattle.folders.specs.FileSystem.{Path, Stored}
+use Rattle.folders.specs.FileSystem.{Path, FileBytes}
 use Rattle.folders.specs.Folders.{FailsToWrite, LeavesIn, WritesInto, folder_of}
 use Rattle.folders.specs.declared.fault.Failure.{Failure}
 use Rattle.folders.specs.declared.fault.Failure.TheVariants as failure
@@ -19,7 +18,7 @@ use Rattle.machine.specs.WholeFiles.{Files}
 use Rattle.replay.specs.Plain.{plain_run}
 use Rattle.report_lines.specs.ChangedLines.{gone_lines}
 use Rattle.report_lines.specs.FirstLines.{cause_text, line}
-use Rattle.report_lines.specs.Writing.{WritesOrFails}
+use Rattle.report_lines.specs.Streams.{WritesOrFails, WritesPart, WritesWhole}
 use Rattle.one_run.specs.declared.fault.RunFault.{RunFault}
 use Rattle.one_run.specs.declared.fault.RunFault.TheVariants.{CannotWrite, Folders, OutOfMemory}
 
@@ -60,49 +59,48 @@ abbrev pub bytes_in : Files → Key → List ℕ
 bytes_in files key = concat (unwrap_or (told_in files key) [])
 
 -- Files are written whole into the folders of their drives, one after the other.
-abbrev pub WritesEach : List (Option (Bor (List ℕ))) → Files → Option Stored → List Key → Option Stored → Type 0
+abbrev pub WritesEach : List (Option (Bor (List ℕ))) → Files → Option FileBytes → List Key → Option FileBytes → Type 0
 WritesEach folders files before [] after = after ≡ before
 WritesEach folders files before (key ∷ keys) after =
-    (next : Option Stored) × WritesInto (drive_folder folders key) before next key (bytes_in files key) × WritesEach folders files next keys after
+    (next : Option FileBytes) × WritesInto (drive_folder folders key) before next key (bytes_in files key) × WritesEach folders files next keys after
 
 -- The first of them are written, and then one for which `Fails` holds is not; its path is unchanged.
-abbrev pub StopsAt : (Key → Type 0) → List (Option (Bor (List ℕ))) → Files → Option Stored → List Key → Option Stored → Type 0
+abbrev pub StopsAt : (Key → Type 0) → List (Option (Bor (List ℕ))) → Files → Option FileBytes → List Key → Option FileBytes → Type 0
 StopsAt Fails folders files before [] after = ⊥
 StopsAt Fails folders files before (key ∷ keys) after =
     (Fails key × LeavesIn (drive_folder folders key) before after key)
-    ⊎ ((next : Option Stored) × WritesInto (drive_folder folders key) before next key (bytes_in files key) × StopsAt Fails folders files next keys after)
+    ⊎ ((next : Option FileBytes) × WritesInto (drive_folder folders key) before next key (bytes_in files key) × StopsAt Fails folders files next keys after)
 
 -- All changed files that are there were written.
-abbrev pub WritesAll : List (Option (Bor (List ℕ))) → Host → Files → Option Stored → Option Stored → Type 0
+abbrev pub WritesAll : List (Option (Bor (List ℕ))) → Host → Files → Option FileBytes → Option FileBytes → Type 0
 WritesAll folders host files before after = WritesEach folders files before (written_keys host files) after
 
 -- The changed files were not all written, because of this failure.
-abbrev pub FailsToWriteAll : List (Option (Bor (List ℕ))) → Host → Files → Option Stored → Option Stored → Failure → Type 0
+abbrev pub FailsToWriteAll : List (Option (Bor (List ℕ))) → Host → Files → Option FileBytes → Option FileBytes → Failure → Type 0
 FailsToWriteAll folders host files before after f = StopsAt (λ name. FailsToWrite folders name f) folders files before (written_keys host files) after
 
 -- The same for the run of a session.
-abbrev pub WritesFiles : List (Option (Bor (List ℕ))) → Session → Option Stored → Option Stored → Type 0
+abbrev pub WritesFiles : List (Option (Bor (List ℕ))) → Session → Option FileBytes → Option FileBytes → Type 0
 WritesFiles folders s before after = WritesAll folders s.files (plain_run s).machine.files before after
 
-abbrev pub FailsToWriteFiles : List (Option (Bor (List ℕ))) → Session → Option Stored → Option Stored → Failure → Type 0
+abbrev pub FailsToWriteFiles : List (Option (Bor (List ℕ))) → Session → Option FileBytes → Option FileBytes → Failure → Type 0
 FailsToWriteFiles folders s before after f = FailsToWriteAll folders s.files (plain_run s).machine.files before after f
 
 -- The session was run once: its console text was written, then its changed files, and then its stop, or a prefix of that if
 -- writing failed.
 pub record RunsOnce (folders : List (Option (Bor (List ℕ)))) (s : Session) (status : ℕ) (before after : World) : Type 0 where
   pub exits : status ≡ stop_status (plain_run s).cause
-  pub written : Appends before.out after.out (console_text s)
-  pub files : WritesFiles folders s before.files after.files
-  pub reported : WritesOrFails before.err after.err before.err_failures after.err_failures (stop_text s)
+  pub written : WritesWhole before.out after.out (console_text s)
+  pub files : WritesFiles folders s before.files.bytes after.files.bytes
+  pub reported : WritesOrFails before.err after.err (stop_text s)
 
 -- What was written before an error: a prefix of the console text if writing that failed, all of it if a changed file was not
 -- written, and nothing or all of it if an allocation failed.
 abbrev pub BreaksRun : List (Option (Bor (List ℕ))) → Session → World → World → RunFault → Type 0
-BreaksRun folders s before after CannotWrite =
-    (before.out_failures < after.out_failures) × ((n : ℕ) × Appends before.out after.out (take n (console_text s))) × (after.files ≡ before.files)
+BreaksRun folders s before after CannotWrite = WritesPart before.out after.out (console_text s) × (after.files.bytes ≡ before.files.bytes)
 BreaksRun folders s before after (Folders f) =
-    FailsToWriteFiles folders s before.files after.files (failure.AtFault f) × Appends before.out after.out (console_text s)
+    FailsToWriteFiles folders s before.files.bytes after.files.bytes (failure.AtFault f) × WritesWhole before.out after.out (console_text s)
 BreaksRun folders s before after OutOfMemory =
-    ((after.out ≡ before.out) × (after.files ≡ before.files))
-    ⊎ (Appends before.out after.out (console_text s)
-    × (FailsToWriteFiles folders s before.files after.files failure.OutOfMemory ⊎ WritesFiles folders s before.files after.files))
+    ((after.out ≡ before.out) × (after.files.bytes ≡ before.files.bytes))
+    ⊎ (WritesWhole before.out after.out (console_text s)
+    × (FailsToWriteFiles folders s before.files.bytes after.files.bytes failure.OutOfMemory ⊎ WritesFiles folders s before.files.bytes after.files.bytes))

@@ -1,14 +1,14 @@
 // One run of a session, without edits.
 
 ghost use Rattle.std.specs.Prelude.{◌≡◌, ◌^◌, ◌<◌, ◌≤◌, ◌++◌, IfOk, IfErr, OnOk, OnErr, string_bytes};
-ghost use Rattle.folders.specs.Failures.{AddsFailures};
+ghost use Rattle.folders.specs.Failures.{CountsFailures};
 ghost use Rattle.folders.specs.Faults.{reported_failures};
 ghost use Rattle.folders.specs.Folders.{FailsToWrite, LeavesIn, WritesInto};
 ghost use Rattle.folders.specs.Written.{bytes_of};
 ghost use Rattle.hostfiles.specs.Files.{files};
 ghost use Rattle.replay.specs.Report.{run_of, session_of};
 ghost use Rattle.report_lines.specs.ChangedLines.{gone_lines};
-ghost use Rattle.report_lines.specs.Writing.{Writes, WritesOrFails};
+ghost use Rattle.report_lines.specs.Streams.{WritesOrFails, WritesText};
 ghost use Rattle.one_run.specs.Faults.{run_failures};
 ghost use Rattle.one_run.specs.RawRun.{BreaksRun, FailsToWriteAll, RunsOnce, WritesAll, drive_folder, stop_line, stop_status};
 ghost use Rattle.one_run.specs.World.{world};
@@ -18,9 +18,7 @@ use folders::{ChangedFile, Failure, FileSystem, write_to_drive};
 use hostfiles::{HostFiles, Journal, Name};
 use machine::{Cause, Meter, Session};
 use replay::{Report, Runner};
-use report_lines::{
-    Failed, FileFilter, Writer, cause_text, write_all, write_changed_files, write_piece,
-};
+use report_lines::{Failed, FileFilter, Writer, cause_text, write_all, write_changed_files};
 use std::alloc::{AllocError, Global};
 
 /// Returns the exit status for a run that stopped by this cause.
@@ -56,14 +54,14 @@ fn write_file<S: FileSystem>(
     journal: &Journal,
     name: &Name,
 ) -> Result<(), Failure>
-    requires { S.failures system.old < 2 ^ 63 }
+    requires { (S.files system.old).failures < 2 ^ 63 }
     ensures written { OnOk result
-        (WritesInto (drive_folder folders.now name.now) (S.files system.old) (S.files system.new) name.now
-        (bytes_of host.now journal.now.entries name.now)) }
-    ensures err { OnErr result
-        (LeavesIn (drive_folder folders.now name.now) (S.files system.old) (S.files system.new) name.now) }
+        (WritesInto (drive_folder folders.now name.now) (S.files system.old).bytes (S.files system.new).bytes
+        name.now (bytes_of host.now journal.now.entries name.now)) }
+    ensures err { OnErr result (LeavesIn (drive_folder folders.now name.now)
+        (S.files system.old).bytes (S.files system.new).bytes name.now) }
     ensures fault { IfErr result (FailsToWrite folders.now name.now) }
-    ensures failures { AddsFailures reported_failures result (S.failures system.old) (S.failures system.new) }
+    ensures failures { CountsFailures reported_failures result (S.files system.old) (S.files system.new) }
 {
     let contents = ChangedFile {
         host,
@@ -80,14 +78,14 @@ fn write_changed<S: FileSystem>(
     folders: &[Option<&str>; 4],
     report: &Report<'_>,
 ) -> Result<(), Failure>
-    requires { S.failures system.old < 2 ^ 63 }
+    requires { (S.files system.old).failures < 2 ^ 63 }
     ensures written { OnOk result
         (WritesAll folders.now (session_of report.now).files (run_of report.now).machine.files
-        (S.files system.old) (S.files system.new)) }
+        (S.files system.old).bytes (S.files system.new).bytes) }
     ensures fault { IfErr result
         (FailsToWriteAll folders.now (session_of report.now).files (run_of report.now).machine.files
-        (S.files system.old) (S.files system.new)) }
-    ensures failures { AddsFailures reported_failures result (S.failures system.old) (S.failures system.new) }
+        (S.files system.old).bytes (S.files system.new).bytes) }
+    ensures failures { CountsFailures reported_failures result (S.files system.old) (S.files system.new) }
 {
     let mut after: Option<Name> = None;
     while let Some(name) = report.next_changed(after.as_ref()) {
@@ -106,18 +104,18 @@ fn write_lines<E: Writer>(
     host: &HostFiles,
     journal: &Journal,
 ) -> Result<(), Failed>
-    requires { E.failures err.old < 2 ^ 63 }
-    ensures { Writes (E.holds err.old) (E.holds err.new) (E.failures err.old) (E.failures err.new)
+    requires { (E.output err.old).failures < 2 ^ 63 }
+    ensures { WritesText (E.output err.old) (E.output err.new)
         (line.now ++ gone_lines host.now (files host.now journal.now.entries)) result }
 {
-    write_piece(err, line)?;
+    write_all(err, line)?;
     write_changed_files(err, FileFilter::GoneOnly, host, journal)
 }
 
 /// Writes a line, and then the lines of the changed files that are gone. A failure of the writer ends this, and is ignored.
 fn write_stop_lines<E: Writer>(err: &mut E, line: &[u8], host: &HostFiles, journal: &Journal)
-    requires { E.failures err.old < 2 ^ 63 }
-    ensures { WritesOrFails (E.holds err.old) (E.holds err.new) (E.failures err.old) (E.failures err.new)
+    requires { (E.output err.old).failures < 2 ^ 63 }
+    ensures { WritesOrFails (E.output err.old) (E.output err.new)
         (line.now ++ gone_lines host.now (files host.now journal.now.entries)) }
 {
     let _ = write_lines(err, line, host, journal);
@@ -126,9 +124,9 @@ fn write_stop_lines<E: Writer>(err: &mut E, line: &[u8], host: &HostFiles, journ
 /// Reports on standard error why the run stopped, and which of the changed files are gone. A failure of the writer is ignored. If
 /// an allocation fails, nothing is written.
 fn report_stop<E: Writer>(alloc: Global, report: &Report<'_>, err: &mut E) -> Result<(), RunFault>
-    requires { E.failures err.old < 2 ^ 63 }
+    requires { (E.output err.old).failures < 2 ^ 63 }
     ensures told { OnOk result
-        (WritesOrFails (E.holds err.old) (E.holds err.new) (E.failures err.old) (E.failures err.new)
+        (WritesOrFails (E.output err.old) (E.output err.new)
         (stop_line (run_of report.now).cause
         ++ gone_lines (session_of report.now).files (run_of report.now).machine.files)) }
     ensures memory { IfErr result (λ f. f ≡ RunFault.OutOfMemory) }
@@ -149,21 +147,17 @@ fn report_run<S: FileSystem, O: Writer, E: Writer>(
     out: &mut O,
     err: &mut E,
 ) -> Result<u8, RunFault>
-    requires system { S.failures system.old < 2 ^ 63 }
-    requires out { O.failures out.old < 2 ^ 63 }
-    requires err { E.failures err.old < 2 ^ 63 }
+    requires system { (S.files system.old).failures < 2 ^ 63 }
+    requires out { (O.output out.old).failures < 2 ^ 63 }
+    requires err { (E.output err.old).failures < 2 ^ 63 }
     ensures done { IfOk result (λ status. RunsOnce folders.now (session_of report.now) status
-        (world (S.files system.old) (S.names system.old) (S.failures system.old)
-        (O.holds out.old) (O.failures out.old) (E.holds err.old) (E.failures err.old))
-        (world (S.files system.new) (S.names system.new) (S.failures system.new)
-        (O.holds out.new) (O.failures out.new) (E.holds err.new) (E.failures err.new))) }
+        (world (S.files system.old) (O.output out.old) (E.output err.old))
+        (world (S.files system.new) (O.output out.new) (E.output err.new))) }
     ensures fault { IfErr result (BreaksRun folders.now (session_of report.now)
-        (world (S.files system.old) (S.names system.old) (S.failures system.old)
-        (O.holds out.old) (O.failures out.old) (E.holds err.old) (E.failures err.old))
-        (world (S.files system.new) (S.names system.new) (S.failures system.new)
-        (O.holds out.new) (O.failures out.new) (E.holds err.new) (E.failures err.new))) }
+        (world (S.files system.old) (O.output out.old) (E.output err.old))
+        (world (S.files system.new) (O.output out.new) (E.output err.new))) }
     ensures untold { OnErr result (err.new ≡ err.old) }
-    ensures failures { AddsFailures run_failures result (S.failures system.old) (S.failures system.new) }
+    ensures failures { CountsFailures run_failures result (S.files system.old) (S.files system.new) }
 {
     let Ok(()) = write_all(out, report.text()) else {
         return Err(RunFault::CannotWrite);
@@ -183,21 +177,17 @@ fn run_and_report<S: FileSystem, O: Writer, E: Writer>(
     err: &mut E,
 ) -> Result<u8, RunFault>
     requires meter { meter.old ≤ 2 ^ 63 }
-    requires system { S.failures system.old < 2 ^ 63 }
-    requires out { O.failures out.old < 2 ^ 63 }
-    requires err { E.failures err.old < 2 ^ 63 }
+    requires system { (S.files system.old).failures < 2 ^ 63 }
+    requires out { (O.output out.old).failures < 2 ^ 63 }
+    requires err { (E.output err.old).failures < 2 ^ 63 }
     ensures done { IfOk result (λ status. RunsOnce folders.now runner.old.session status
-        (world (S.files system.old) (S.names system.old) (S.failures system.old)
-        (O.holds out.old) (O.failures out.old) (E.holds err.old) (E.failures err.old))
-        (world (S.files system.new) (S.names system.new) (S.failures system.new)
-        (O.holds out.new) (O.failures out.new) (E.holds err.new) (E.failures err.new))) }
+        (world (S.files system.old) (O.output out.old) (E.output err.old))
+        (world (S.files system.new) (O.output out.new) (E.output err.new))) }
     ensures fault { IfErr result (BreaksRun folders.now runner.old.session
-        (world (S.files system.old) (S.names system.old) (S.failures system.old)
-        (O.holds out.old) (O.failures out.old) (E.holds err.old) (E.failures err.old))
-        (world (S.files system.new) (S.names system.new) (S.failures system.new)
-        (O.holds out.new) (O.failures out.new) (E.holds err.new) (E.failures err.new))) }
+        (world (S.files system.old) (O.output out.old) (E.output err.old))
+        (world (S.files system.new) (O.output out.new) (E.output err.new))) }
     ensures untold { OnErr result (err.new ≡ err.old) }
-    ensures failures { AddsFailures run_failures result (S.failures system.old) (S.failures system.new) }
+    ensures failures { CountsFailures run_failures result (S.files system.old) (S.files system.new) }
 {
     let Ok(report) = runner.rerun(meter) else {
         return Err(RunFault::OutOfMemory);
@@ -221,21 +211,17 @@ pub fn run_once<S: FileSystem, O: Writer, E: Writer>(
     err: &mut E,
 ) -> Result<u8, RunFault>
     requires meter { meter.old ≤ 2 ^ 63 }
-    requires system { S.failures system.old < 2 ^ 63 }
-    requires out { O.failures out.old < 2 ^ 63 }
-    requires err { E.failures err.old < 2 ^ 63 }
+    requires system { (S.files system.old).failures < 2 ^ 63 }
+    requires out { (O.output out.old).failures < 2 ^ 63 }
+    requires err { (E.output err.old).failures < 2 ^ 63 }
     ensures done { IfOk result (λ status. RunsOnce folders.now session status
-        (world (S.files system.old) (S.names system.old) (S.failures system.old)
-        (O.holds out.old) (O.failures out.old) (E.holds err.old) (E.failures err.old))
-        (world (S.files system.new) (S.names system.new) (S.failures system.new)
-        (O.holds out.new) (O.failures out.new) (E.holds err.new) (E.failures err.new))) }
+        (world (S.files system.old) (O.output out.old) (E.output err.old))
+        (world (S.files system.new) (O.output out.new) (E.output err.new))) }
     ensures fault { IfErr result (BreaksRun folders.now session
-        (world (S.files system.old) (S.names system.old) (S.failures system.old)
-        (O.holds out.old) (O.failures out.old) (E.holds err.old) (E.failures err.old))
-        (world (S.files system.new) (S.names system.new) (S.failures system.new)
-        (O.holds out.new) (O.failures out.new) (E.holds err.new) (E.failures err.new))) }
+        (world (S.files system.old) (O.output out.old) (E.output err.old))
+        (world (S.files system.new) (O.output out.new) (E.output err.new))) }
     ensures untold { OnErr result (err.new ≡ err.old) }
-    ensures failures { AddsFailures run_failures result (S.failures system.old) (S.failures system.new) }
+    ensures failures { CountsFailures run_failures result (S.files system.old) (S.files system.new) }
 {
     let Ok(mut runner) = Runner::for_one_run(system.alloc(), session) else {
         return Err(RunFault::OutOfMemory);

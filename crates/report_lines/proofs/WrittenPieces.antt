@@ -4,7 +4,7 @@ use Rattle.std.proofs.lemmas.Bool.{cases_lt}
 use Rattle.std.proofs.lemmas.List.{take-append-le, take_all}
 use Rattle.std.proofs.Math.Seq.{take-append_seam, take-append-add}
 use Rattle.std.specs.Io.KnownBytes.{Appends}
-use Rattle.std.proofs.KnownBytes.{Appends-trans}
+use Rattle.std.proofs.KnownBytes.{Appends-nil, Appends-trans}
 use Rattle.std.specs.List.{concat, slice_get}
 use Rattle.std.specs.Option.{option_map, option_and_then}
 use Rattle.std.proofs.lemmas.Option.{get_or_from_slice_get, slice_get_past, slice_get-get_or}
@@ -19,8 +19,7 @@ use Rattle.report_lines.specs.ChangedLines.{records_text, file_text, changed_lin
 use Rattle.report_lines.specs.declared.changed_lines.FileFilter.{FileFilter}
 use Rattle.machine.proofs.ChangedFileLemmas.{told_laid, changed_keys_laid}
 use Rattle.hostfiles.specs.Files.{files}
-use Rattle.report_lines.specs.Writing.{WritesOrFails}
-use Rattle.report_lines.specs.Writing.{Writes}
+use Rattle.report_lines.specs.Streams.{Output, WritesWhole, WritesPart, WritesText, WritesOrFails}
 
 -- A prefix of a text is a prefix of a longer text.
 first_part : (n : ℕ) (x y : List ℕ) → (m : ℕ) × (take m (x ++ y) ≡ take n x)
@@ -29,44 +28,44 @@ first_part n x y = elim (cases_lt n (length x)) [
   | inr past ↦ (length x, take-append_seam x y ∙ sym (take_all n x past))
 ]
 
--- All of a text is taken, or a prefix of it, with one failure more.
-abbrev pub All : Option (List ℕ) → Option (List ℕ) → ℕ → ℕ → List ℕ → Type 0
-All a b before after x = Appends a b x × (after ≡ before)
+-- No text was written.
+pub whole_nil : (a : Output) → WritesWhole a a []
+whole_nil a = record { bytes = Appends-nil a.holds; failures = refl }
 
-abbrev pub Part : Option (List ℕ) → Option (List ℕ) → ℕ → ℕ → List ℕ → Type 0
-Part a b before after x = ((n : ℕ) × Appends a b (take n x)) × (after ≡ before + 1)
+-- One piece was written, and then another or a prefix of it.
+pub whole_then : {a b c : Output} (x y : List ℕ) → WritesWhole a b x → WritesWhole b c y → WritesWhole a c (x ++ y)
+whole_then x y p q = record { bytes = Appends-trans _ _ _ x y p.bytes q.bytes; failures = q.failures ∙ p.failures }
 
-pub all_then : (a b c : Option (List ℕ)) (before middle after : ℕ) (x y : List ℕ) → All a b before middle x → All b c middle after y → All a c before after (x ++ y)
-all_then a b c before middle after x y p q = (Appends-trans a b c x y p.0 q.0, q.1 ∙ p.1)
+pub part_then : {a b c : Output} (x y : List ℕ) → WritesWhole a b x → WritesPart b c y → WritesPart a c (x ++ y)
+part_then {a = a} {c = c} x y p q = record {
+  count = length x + q.count;
+  bytes = subst (Appends a.holds c.holds) (sym (take-append-add x y q.count)) (Appends-trans _ _ _ x (take q.count y) p.bytes q.bytes);
+  failures = q.failures ∙ ap (λ k. k + 1) p.failures;
+}
 
-pub part_then : (a b c : Option (List ℕ)) (before middle after : ℕ) (x y : List ℕ) → All a b before middle x → Part b c middle after y → Part a c before after (x ++ y)
-part_then a b c before middle after x y p q =
-    let n = q.0.0 in
-    ((length x + n, subst (Appends a c) (sym (take-append-add x y n)) (Appends-trans a b c x (take n y) p.0 q.0.1)), q.1 ∙ ap (λ k. k + 1) p.1)
-
-pub part_more : (a b : Option (List ℕ)) (before after : ℕ) (x y : List ℕ) → Part a b before after x → Part a b before after (x ++ y)
-part_more a b before after x y p = let m = first_part p.0.0 x y in ((m.0, subst (Appends a b) (sym m.1) p.0.1), p.1)
+-- A prefix of a text is a prefix of a longer text.
+pub part_more : {a b : Output} (x y : List ℕ) → WritesPart a b x → WritesPart a b (x ++ y)
+part_more {a = a} {b = b} x y p =
+    let m = first_part p.count x y in record { count = m.0; bytes = subst (Appends a.holds b.holds) (sym m.1) p.bytes; failures = p.failures }
 
 -- A failure after a prefix of the text.
-pub writes_part : {U E : Type 0} (a b : Option (List ℕ)) (before after : ℕ) (x : List ℕ) (r : Result U E) → IsErr r → Part a b before after x → Writes a b before after x r
-writes_part a b before after x (Ok u) h p = absurd (cc)
-writes_part a b before after x (Err e) h p = p
+pub writes_part : {T E : Type 0} {a b : Output} (x : List ℕ) (r : Result T E) → IsErr r → WritesPart a b x → WritesText a b x r
+writes_part x (Ok u) h p = absurd (cc)
+writes_part x (Err e) h p = p
 
--- One piece is taken, and then another or a prefix of it.
-pub writes_then : {U E : Type 0} (a b c : Option (List ℕ)) (before middle after : ℕ) (x y : List ℕ) (r : Result U E)
-    → All a b before middle x → Writes b c middle after y r → Writes a c before after (x ++ y) r
-writes_then a b c before middle after x y (Ok u) p q = all_then a b c before middle after x y p q
-writes_then a b c before middle after x y (Err e) p q = part_then a b c before middle after x y p q
+pub writes_then : {T E : Type 0} {a b : Output} (c : Output) (x y : List ℕ) (r : Result T E)
+    → WritesWhole a b x → WritesText b c y r → WritesText a c (x ++ y) r
+writes_then c x y (Ok u) p q = whole_then x y p q
+writes_then c x y (Err e) p q = part_then x y p q
 
 -- The same for an equal text.
-pub writes_same : {U E : Type 0} (a b : Option (List ℕ)) (before after : ℕ) (x y : List ℕ) (r : Result U E)
-    → x ≡ y → Writes a b before after x r → Writes a b before after y r
-writes_same a b before after x y r e w = subst (λ t. Writes a b before after t r) e w
+pub writes_same : {T E : Type 0} (a b : Output) (x y : List ℕ) (r : Result T E) → x ≡ y → WritesText a b x r → WritesText a b y r
+writes_same a b x y r e w = subst (λ t. WritesText a b t r) e w
 
 -- A failure that is ignored.
-pub writes_or_fails : {U E : Type 0} (a b : Option (List ℕ)) (before after : ℕ) (x : List ℕ) (r : Result U E) → Writes a b before after x r → WritesOrFails a b before after x
-writes_or_fails a b before after x (Ok u) w = inl w.0
-writes_or_fails a b before after x (Err e) w = let more = w.1 in inr (omega (arith, more), w.0)
+pub writes_or_fails : {T E : Type 0} (a b : Output) (x : List ℕ) (r : Result T E) → WritesText a b x r → WritesOrFails a b x
+writes_or_fails a b x (Ok u) w = inl w
+writes_or_fails a b x (Err e) w = inr w
 
 -- ---- the digits of records
 

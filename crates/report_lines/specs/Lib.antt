@@ -1,3 +1,3 @@
 pub mod FirstLines
 pub mod ChangedLines
-pub mod Writing
+pub mod Streams

@@ -5,10 +5,10 @@ ghost use Rattle.filenames.specs.Names.{printed};
 ghost use Rattle.hostfiles.specs.Files.{files, told};
 ghost use Rattle.hostfiles.specs.Seen.{own_of};
 ghost use Rattle.report_lines.specs.ChangedLines.{records_text, changed_line, gone_line, line_of_file, lines_of_files};
-ghost use Rattle.report_lines.specs.Writing.{Writes};
+ghost use Rattle.report_lines.specs.Streams.{WritesText};
 
 use crate::hex_writer::write_hex;
-use crate::streams::{Failed, Writer, write_piece};
+use crate::streams::{Failed, Writer, write_all};
 use arrayvec::ArrayVec;
 use filenames::Pieces;
 use hostfiles::{HostFiles, Journal, Name, SeenFile, next_changed, told_count};
@@ -30,8 +30,8 @@ pub fn write_changed_files<W: Writer>(
     host: &HostFiles,
     journal: &Journal,
 ) -> Result<(), Failed>
-    requires { W.failures writer.old < 2 ^ 63 }
-    ensures { Writes (W.holds writer.old) (W.holds writer.new) (W.failures writer.old) (W.failures writer.new)
+    requires { (W.output writer.old).failures < 2 ^ 63 }
+    ensures { WritesText (W.output writer.old) (W.output writer.new)
         (lines_of_files filter host.now (files host.now journal.now.entries)) result }
 {
     let mut after: Option<Name> = None;
@@ -50,8 +50,8 @@ fn write_filtered<W: Writer>(
     journal: &Journal,
     name: &Name,
 ) -> Result<(), Failed>
-    requires { W.failures writer.old < 2 ^ 63 }
-    ensures { Writes (W.holds writer.old) (W.holds writer.new) (W.failures writer.old) (W.failures writer.new)
+    requires { (W.output writer.old).failures < 2 ^ 63 }
+    ensures { WritesText (W.output writer.old) (W.output writer.new)
         (line_of_file filter name.now (told host.now journal.now.entries name.now)) result }
 {
     match filter {
@@ -67,8 +67,8 @@ fn write_gone<W: Writer>(
     journal: &Journal,
     name: &Name,
 ) -> Result<(), Failed>
-    requires { W.failures writer.old < 2 ^ 63 }
-    ensures { Writes (W.holds writer.old) (W.holds writer.new) (W.failures writer.old) (W.failures writer.new)
+    requires { (W.output writer.old).failures < 2 ^ 63 }
+    ensures { WritesText (W.output writer.old) (W.output writer.new)
         (gone_line name.now (told host.now journal.now.entries name.now)) result }
 {
     if told_count(host, journal, &name.key()).is_some() {
@@ -84,36 +84,34 @@ fn write_changed<W: Writer>(
     journal: &Journal,
     name: &Name,
 ) -> Result<(), Failed>
-    requires { W.failures writer.old < 2 ^ 63 }
-    ensures { Writes (W.holds writer.old) (W.holds writer.new) (W.failures writer.old) (W.failures writer.new)
+    requires { (W.output writer.old).failures < 2 ^ 63 }
+    ensures { WritesText (W.output writer.old) (W.output writer.new)
         (changed_line name.now (told host.now journal.now.entries name.now)) result }
 {
     let file = SeenFile::find(host, journal, &name.key());
     let Some(count) = file.told_count() else {
         write_head(writer, b"gone ", name)?;
-        return write_piece(writer, b"\n");
+        return write_all(writer, b"\n");
     };
     write_head(writer, b"file ", name)?;
-    write_piece(writer, b" ")?;
+    write_all(writer, b" ")?;
     write_records(writer, &file, count)?;
-    write_piece(writer, b"\n")
+    write_all(writer, b"\n")
 }
 
 // Writes a word with its blank, and then a name.
 fn write_head<W: Writer>(writer: &mut W, word: &[u8], name: &Name) -> Result<(), Failed>
-    requires { W.failures writer.old < 2 ^ 63 }
-    ensures { Writes (W.holds writer.old) (W.holds writer.new) (W.failures writer.old)
-        (W.failures writer.new) (word.now ++ printed name.now) result }
+    requires { (W.output writer.old).failures < 2 ^ 63 }
+    ensures { WritesText (W.output writer.old) (W.output writer.new) (word.now ++ printed name.now) result }
 {
-    write_piece(writer, word)?;
+    write_all(writer, word)?;
     write_name(writer, name)
 }
 
 // Writes a name in its printed form.
 fn write_name<W: Writer>(writer: &mut W, name: &Name) -> Result<(), Failed>
-    requires { W.failures writer.old < 2 ^ 63 }
-    ensures { Writes (W.holds writer.old) (W.holds writer.new) (W.failures writer.old)
-        (W.failures writer.new) (printed name.now) result }
+    requires { (W.output writer.old).failures < 2 ^ 63 }
+    ensures { WritesText (W.output writer.old) (W.output writer.new) (printed name.now) result }
 {
     let Pieces {
         drive,
@@ -121,23 +119,22 @@ fn write_name<W: Writer>(writer: &mut W, name: &Name) -> Result<(), Failed>
         dot,
         kind,
     } = name.pieces();
-    write_piece(writer, drive.as_bytes())?;
-    write_piece(writer, name.as_bytes())?;
-    write_piece(writer, dot.as_bytes())?;
-    write_piece(writer, kind.as_bytes())
+    write_all(writer, drive.as_bytes())?;
+    write_all(writer, name.as_bytes())?;
+    write_all(writer, dot.as_bytes())?;
+    write_all(writer, kind.as_bytes())
 }
 
 // Writes all records of a file, with zeros in its holes, or `-` if it has none.
 fn write_records<W: Writer>(writer: &mut W, file: &SeenFile<'_>, count: u32) -> Result<(), Failed>
-    requires room { W.failures writer.old < 2 ^ 63 }
+    requires room { (W.output writer.old).failures < 2 ^ 63 }
     requires count { count ≡
         length (unwrap_or (told file.now.host.now (own_of file.now) file.now.key) []) }
-    ensures { Writes (W.holds writer.old) (W.holds writer.new) (W.failures writer.old)
-        (W.failures writer.new) (records_text
-        (unwrap_or (told file.now.host.now (own_of file.now) file.now.key) [])) result }
+    ensures { WritesText (W.output writer.old) (W.output writer.new)
+        (records_text (unwrap_or (told file.now.host.now (own_of file.now) file.now.key) [])) result }
 {
     if count == 0 {
-        return write_piece(writer, b"-");
+        return write_all(writer, b"-");
     }
     let mut block = ArrayVec::<u8, 2048>::new();
     for place in 0..count {

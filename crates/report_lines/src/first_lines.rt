@@ -5,10 +5,10 @@ ghost use Rattle.arrayvec.specs.ArrayString.{array_string_len};
 ghost use Rattle.hex.specs.Hex.{upper_digits};
 ghost use Rattle.report_lines.specs.FirstLines as texts;
 ghost use Rattle.report_lines.specs.FirstLines.{byte_text, word_text, regs_text, text_line};
-ghost use Rattle.report_lines.specs.Writing.{Writes};
+ghost use Rattle.report_lines.specs.Streams.{WritesText};
 
 use crate::hex_writer::write_hex;
-use crate::streams::{Failed, Writer, write_piece};
+use crate::streams::{Failed, Writer, write_all};
 use arrayvec::ArrayString;
 use itoa::Buffer;
 use machine::{Cause, Regs};
@@ -142,14 +142,13 @@ pub fn report_head(cause: Cause, steps: u64, regs: Regs) -> ArrayString<256>
 /// Writes the line of a report with the console text: two lower-case digits for each byte, or `-` for none. If the writer fails, a prefix
 /// of the line is written.
 pub fn write_text<W: Writer>(writer: &mut W, text: &[u8]) -> Result<(), Failed>
-    requires { W.failures writer.old < 2 ^ 63 }
-    ensures { Writes (W.holds writer.old) (W.holds writer.new) (W.failures writer.old)
-        (W.failures writer.new) (text_line text.now) result }
+    requires { (W.output writer.old).failures < 2 ^ 63 }
+    ensures { WritesText (W.output writer.old) (W.output writer.new) (text_line text.now) result }
 {
-    write_piece(writer, b"text ")?;
+    write_all(writer, b"text ")?;
     if text.is_empty() {
-        return write_piece(writer, b"-\n");
+        return write_all(writer, b"-\n");
     }
     write_hex(writer, text)?;
-    write_piece(writer, b"\n")
+    write_all(writer, b"\n")
 }

@@ -2,9 +2,9 @@
 
 ghost use Rattle.std.specs.Prelude.{◌^◌, ◌<◌, ◌≤◌, length};
 ghost use Rattle.hex.specs.Hex.{encode_lower};
-ghost use Rattle.report_lines.specs.Writing.{Writes};
+ghost use Rattle.report_lines.specs.Streams.{WritesText};
 
-use crate::streams::{Failed, Writer, write_piece};
+use crate::streams::{Failed, Writer, write_all};
 
 /// The bytes of a chunk.
 const CHUNK_BYTES: usize = 2048;
@@ -14,9 +14,8 @@ const CHUNK_DIGITS: usize = 4096;
 
 /// Writes two lower-case digits for each byte, 4096 digits at a time. If the writer fails, a prefix of them is written.
 pub fn write_hex<W: Writer>(writer: &mut W, bytes: &[u8]) -> Result<(), Failed>
-    requires { W.failures writer.old < 2 ^ 63 }
-    ensures { Writes (W.holds writer.old) (W.holds writer.new) (W.failures writer.old)
-        (W.failures writer.new) (encode_lower bytes.now) result }
+    requires { (W.output writer.old).failures < 2 ^ 63 }
+    ensures { WritesText (W.output writer.old) (W.output writer.new) (encode_lower bytes.now) result }
 {
     let mut rest = bytes;
     while !rest.is_empty() {
@@ -29,15 +28,14 @@ pub fn write_hex<W: Writer>(writer: &mut W, bytes: &[u8]) -> Result<(), Failed>
 
 // Writes the digits of a chunk.
 fn write_chunk<W: Writer>(writer: &mut W, chunk: &[u8]) -> Result<(), Failed>
-    requires room { W.failures writer.old < 2 ^ 63 }
+    requires room { (W.output writer.old).failures < 2 ^ 63 }
     requires small { length chunk.now ≤ 2048 }
-    ensures { Writes (W.holds writer.old) (W.holds writer.new) (W.failures writer.old)
-        (W.failures writer.new) (encode_lower chunk.now) result }
+    ensures { WritesText (W.output writer.old) (W.output writer.new) (encode_lower chunk.now) result }
 {
     let mut buffer = [0; CHUNK_DIGITS];
     let digits = &mut buffer[..2 * chunk.len()];
     if hex::encode_to_slice(chunk, digits).is_err() {
         unreachable!();
     }
-    write_piece(writer, digits)
+    write_all(writer, digits)
 }

@@ -12,4 +12,4 @@ mod streams;
 
 pub use changed_lines::{FileFilter, write_changed_files};
 pub use first_lines::{cause_text, report_head, write_text};
-pub use streams::{Failed, Over, Reader, Writer, write_all, write_piece};
+pub use streams::{Failed, Over, Reader, Writer, write_all};

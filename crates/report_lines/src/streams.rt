@@ -1,6 +1,6 @@
-ghost use Rattle.std.specs.Prelude.{◌≡◌, ℕ, ◌+◌, ◌^◌, ◌<◌, ◌≤◌, List, Option, length, take, IfOk, OnOk, OnErr};
-ghost use Rattle.std.specs.Io.KnownBytes.{ReadConsumes, WriteAppends, Appends};
-ghost use Rattle.report_lines.specs.Writing.{Writes};
+ghost use Rattle.std.specs.Prelude.{◌≡◌, ◌+◌, ◌^◌, ◌<◌, ◌≤◌, length, IfOk, OnOk, OnErr};
+ghost use Rattle.std.specs.Io.KnownBytes.{ReadConsumes, WriteAppends};
+ghost use Rattle.report_lines.specs.Streams.{Input, Output, WritesText};
 
 use std::io;
 
@@ -10,10 +10,8 @@ pub struct Failed;
 
 /// A source of bytes. A contract sees the bytes that are left, if the reader reports them, and a count of failures.
 pub trait Reader {
-    /// The bytes that are left, if the reader reports them.
-    ghost left: { Self → Option (List ℕ) };
-    /// How often it failed.
-    ghost failures: { Self → ℕ };
+    /// What is left, if the reader reports that, and how often it failed.
+    ghost input: { Self → Input };
 
     /// Reads bytes to the front of the piece and returns their count. A count of 0 for a piece that is not empty is the end.
     ///
@@ -21,19 +19,17 @@ pub trait Reader {
     ///
     /// The reader failed: no byte was read, and the count of failures is one higher.
     fn read(&mut self, piece: &mut [u8]) -> Result<usize, Failed>
-        requires { failures self.old < 2 ^ 63 }
+        requires { (input self.old).failures < 2 ^ 63 }
         ensures count { IfOk result (λ n. n ≤ length piece.new) }
-        ensures bytes { ReadConsumes (left self.old) (left self.new) result piece.new }
-        ensures ok { OnOk result (failures self.new ≡ failures self.old) }
-        ensures err { OnErr result (failures self.new ≡ failures self.old + 1) };
+        ensures bytes { ReadConsumes (input self.old).left (input self.new).left result piece.new }
+        ensures ok { OnOk result ((input self.new).failures ≡ (input self.old).failures) }
+        ensures err { OnErr result ((input self.new).failures ≡ (input self.old).failures + 1) };
 }
 
 /// A sink for bytes. A contract sees the bytes that it holds, if the writer reports them, and a count of failures.
 pub trait Writer {
-    /// The bytes that it holds, if it reports them.
-    ghost holds: { Self → Option (List ℕ) };
-    /// How often it failed.
-    ghost failures: { Self → ℕ };
+    /// What it holds, if it reports that, and how often it failed.
+    ghost output: { Self → Output };
 
     /// Writes a prefix of the piece, at least one byte of a piece that is not empty, and returns its length.
     ///
@@ -41,12 +37,12 @@ pub trait Writer {
     ///
     /// The writer failed: no byte was written, and the count of failures is one higher.
     fn write(&mut self, piece: &[u8]) -> Result<usize, Failed>
-        requires { failures self.old < 2 ^ 63 }
+        requires { (output self.old).failures < 2 ^ 63 }
         ensures count { IfOk result (λ n. n ≤ length piece.now) }
         ensures some { IfOk result (λ n. 0 < length piece.now → 0 < n) }
-        ensures bytes { WriteAppends (holds self.old) (holds self.new) result piece.now }
-        ensures ok { OnOk result (failures self.new ≡ failures self.old) }
-        ensures err { OnErr result (failures self.new ≡ failures self.old + 1) };
+        ensures bytes { WriteAppends (output self.old).holds (output self.new).holds result piece.now }
+        ensures ok { OnOk result ((output self.new).failures ≡ (output self.old).failures) }
+        ensures err { OnErr result ((output self.new).failures ≡ (output self.old).failures + 1) };
 }
 
 /// A reader or writer of the standard library with a count of its failures. A write that takes no byte of a piece that is not empty is a
@@ -76,9 +72,7 @@ impl<T> Over<T> {
 }
 
 impl<T: io::Read> Reader for Over<T> {
-    ghost left = { λ o. T.remaining o.inner };
-
-    ghost failures = { λ o. o.failures };
+    ghost input = { λ o. record { left = T.remaining o.inner; failures = o.failures } };
 
     fn read(&mut self, piece: &mut [u8]) -> Result<usize, Failed> {
         match self.inner.read(piece) {
@@ -92,9 +86,7 @@ impl<T: io::Read> Reader for Over<T> {
 }
 
 impl<T: io::Write> Writer for Over<T> {
-    ghost holds = { λ o. T.contents o.inner };
-
-    ghost failures = { λ o. o.failures };
+    ghost output = { λ o. record { holds = T.contents o.inner; failures = o.failures } };
 
     fn write(&mut self, piece: &[u8]) -> Result<usize, Failed> {
         match self.inner.write(piece) {
@@ -113,12 +105,8 @@ impl<T: io::Write> Writer for Over<T> {
 ///
 /// The writer failed: a prefix of the text was written. A failed write is not tried again.
 pub fn write_all<W: Writer>(writer: &mut W, text: &[u8]) -> Result<(), Failed>
-    requires { W.failures writer.old < 2 ^ 63 }
-    ensures ok { OnOk result (Appends (W.holds writer.old) (W.holds writer.new) text.now) }
-    ensures part { OnErr result
-        ((n : ℕ) × Appends (W.holds writer.old) (W.holds writer.new) (take n text.now)) }
-    ensures same { OnOk result (W.failures writer.new ≡ W.failures writer.old) }
-    ensures err { OnErr result (W.failures writer.new ≡ W.failures writer.old + 1) }
+    requires { (W.output writer.old).failures < 2 ^ 63 }
+    ensures { WritesText (W.output writer.old) (W.output writer.new) text.now result }
 {
     let mut rest = text;
     while !rest.is_empty() {
@@ -126,13 +114,4 @@ pub fn write_all<W: Writer>(writer: &mut W, text: &[u8]) -> Result<(), Failed>
         rest = &rest[n..];
     }
     Ok(())
-}
-
-/// Writes a piece of a text, as `write_all` does, with a contract that joins pieces.
-pub fn write_piece<W: Writer>(writer: &mut W, text: &[u8]) -> Result<(), Failed>
-    requires { W.failures writer.old < 2 ^ 63 }
-    ensures { Writes (W.holds writer.old) (W.holds writer.new) (W.failures writer.old)
-        (W.failures writer.new) text.now result }
-{
-    write_all(writer, text)
 }

@@ -55,9 +55,7 @@ struct Narrow {
 }
 
 impl Writer for Narrow {
-    ghost holds = { λ _. None };
-
-    ghost failures = { λ n. n.failures };
+    ghost output = { λ n. record { holds = None; failures = n.failures } };
 
     fn write(&mut self, piece: &[u8]) -> Result<usize, Failed> {
         let count = piece.len().min(self.room);

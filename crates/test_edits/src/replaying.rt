@@ -35,9 +35,7 @@ struct Pieces<'a> {
 }
 
 impl Reader for Pieces<'_> {
-    ghost left = { λ _. None };
-
-    ghost failures = { λ p. p.failures };
+    ghost input = { λ p. record { left = None; failures = p.failures } };
 
     fn read(&mut self, piece: &mut [u8]) -> Result<usize, Failed> {
         if self.rest.is_empty() && self.fails {
@@ -61,9 +59,7 @@ struct Screen {
 }
 
 impl Writer for Screen {
-    ghost holds = { λ _. None };
-
-    ghost failures = { λ s. s.failures };
+    ghost output = { λ s. record { holds = None; failures = s.failures } };
 
     fn write(&mut self, piece: &[u8]) -> Result<usize, Failed> {
         let count = piece.len().min(self.room);

@@ -17,8 +17,8 @@ pub fn lines<R: Reader, W: Writer>(
     reader: &mut R,
     writer: &mut W,
 ) -> Result<u64, ReplayFault>
-    requires reader { R.failures reader.old < 2 ^ 62 }
-    requires writer { W.failures writer.old < 2 ^ 62 }
+    requires reader { (R.input reader.old).failures < 2 ^ 62 }
+    requires writer { (W.output writer.old).failures < 2 ^ 62 }
 {
     let mut piece = [0; 16];
     let _read: Result<usize, Failed> = reader.read(&mut piece);
@@ -48,9 +48,9 @@ pub fn whole<S: FileSystem, O: Writer, E: Writer>(
     out: &mut O,
     err: &mut E,
 ) -> u8
-    requires system { S.failures system.old < 2 ^ 63 }
-    requires out { O.failures out.old < 2 ^ 63 }
-    requires err { E.failures err.old < 2 ^ 63 }
+    requires system { (S.files system.old).failures < 2 ^ 63 }
+    requires out { (O.output out.old).failures < 2 ^ 63 }
+    requires err { (E.output err.old).failures < 2 ^ 63 }
 {
     command(system, words, out, err)
 }

@@ -1,5 +1,14 @@
+use Rattle.std.proofs.Common.{inr}
 use Rattle.cpmrun.proofs.Telling.{faults_are_told}
 use Rattle.cpmrun.proofs.command_line.metered_command.Goals as goal
 
+pub returns-in-Err-clause-ends : goal.returns-in-Err-clause-ends
+returns-in-Err-clause-ends g c = inr (record {
+  fault = c.in-Err.fault;
+  comes = c.in-Err.ensures.fault;
+  failed = c.in-Err.ensures.failures;
+  telling = rw c.in-Err.ensures.untold at c.complain.ensures;
+})
+
 pub returns-in-Err-clause-done : goal.returns-in-Err-clause-done
-returns-in-Err-clause-done g c zero = absurd (faults_are_told c.in-Err.fault c.complain.result _ _ _ _ c.complain.ensures zero)
+returns-in-Err-clause-done g c zero = absurd (faults_are_told c.in-Err.fault c.complain.result _ _ c.complain.ensures zero)

@@ -12,7 +12,7 @@ pub returns-in_err-runner-clause-fault : goal.returns-in_err-runner-clause-fault
 returns-in_err-runner-clause-fault g c =
     let e = err_from_is_err_and c.from_residual.result c.from_residual.ensures.1 in
     rw (e.1, e.2) (record {
-      left = g.R.Reader.left c.args.reader.now;
+      left = (g.R.Reader.input c.args.reader.now).left;
       last = c.args.session;
       bytes = [];
       read = Consumes-nil _;
@@ -28,10 +28,10 @@ returns-clause-fault g c =
     let same = ap (λ (r : RunnerView). r.session) c.in_ok-runner.ensures in
     IfErr-weaker c.replay.result _ _
     (λ f h. let (bytes, consumed, faults, effects) = h in record {
-      left = g.R.Reader.left c.replay.new.reader;
+      left = (g.R.Reader.input c.replay.new.reader).left;
       last = c.replay.new.runner.session;
       bytes = bytes;
       read = consumed;
-      leaves = subst (λ (s : Session). Faults (g.R.Reader.left c.replay.new.reader) s (g.W.Writer.holds c.args.writer.now) bytes c.replay.new.runner.session (g.W.Writer.holds c.replay.new.writer) f) same faults;
+      leaves = subst (λ (s : Session). Faults (g.R.Reader.input c.replay.new.reader).left s (g.W.Writer.output c.args.writer.now) bytes c.replay.new.runner.session (g.W.Writer.output c.replay.new.writer) f) same faults;
     })
     c.replay.ensures.fault

@@ -1,5 +1,6 @@
 use Rattle.std.proofs.Common.{ap, refl, ◌∙◌, Err}
 use Rattle.std.proofs.lemmas.Result.{err_from_is_err_and}
+use Rattle.folders.proofs.FilesLemmas.{same_files}
 use Rattle.one_run.specs.World.{world}
 use Rattle.cpmrun.proofs.Choosing.{ran_once, replayed, replay_broken, run_broken}
 use Rattle.cpmrun.proofs.command_line.run.Goals as goal
@@ -8,38 +9,38 @@ pub returns-in_default-clause-done : goal.returns-in_default-clause-done
 returns-in_default-clause-done g c =
     let are = rw c.in-Session.is at c.in_ok-words.ensures.request in
     ran_once _ c.in-Session.words are c.in_ok-session.session
-    (world (g.S.FileSystem.files c.args.system.now) (g.S.FileSystem.names c.args.system.now) (g.S.FileSystem.failures c.args.system.now) (g.O.Writer.holds c.args.out.now) (g.O.Writer.failures c.args.out.now) (g.E.Writer.holds c.args.err.now) (g.E.Writer.failures c.args.err.now))
-    (world (g.S.FileSystem.files c.run_once.new.system) (g.S.FileSystem.names c.run_once.new.system) (g.S.FileSystem.failures c.run_once.new.system) (g.O.Writer.holds c.run_once.new.out) (g.O.Writer.failures c.run_once.new.out) (g.E.Writer.holds c.run_once.new.err) (g.E.Writer.failures c.run_once.new.err))
+    (world (g.S.FileSystem.files c.args.system.now) (g.O.Writer.output c.args.out.now) (g.E.Writer.output c.args.err.now))
+    (world (g.S.FileSystem.files c.run_once.new.system) (g.O.Writer.output c.run_once.new.out) (g.E.Writer.output c.run_once.new.err))
     c.run_once.new.meter c.in_ok-session.ensures.session c.in_ok-run_once.field-0 c.in_default.is
-    (c.in_ok-run_once.ensures.failures ∙ c.in_ok-session.ensures.failures) (rw (c.load.ensures.files, c.load.ensures.names, c.in_ok-session.ensures.failures) at c.in_ok-run_once.ensures.done)
+    (c.in_ok-run_once.ensures.failures ∙ c.in_ok-session.ensures.unchanged.failures) (rw (same_files c.in_ok-session.ensures.unchanged) at c.in_ok-run_once.ensures.done)
 
 pub returns-in_err-run_once-clause-fault : goal.returns-in_err-run_once-clause-fault
 returns-in_err-run_once-clause-fault g c =
     let are = rw c.in-Session.is at c.in_ok-words.ensures.request in
     let left = err_from_is_err_and c.from_residual-in_err-run_once.result c.from_residual-in_err-run_once.ensures.1 in
     run_broken _ c.in-Session.words are c.in_ok-session.session
-    (world (g.S.FileSystem.files c.args.system.now) (g.S.FileSystem.names c.args.system.now) (g.S.FileSystem.failures c.args.system.now) (g.O.Writer.holds c.args.out.now) (g.O.Writer.failures c.args.out.now) (g.E.Writer.holds c.args.err.now) (g.E.Writer.failures c.args.err.now))
-    (world (g.S.FileSystem.files c.run_once.new.system) (g.S.FileSystem.names c.run_once.new.system) (g.S.FileSystem.failures c.run_once.new.system) (g.O.Writer.holds c.run_once.new.out) (g.O.Writer.failures c.run_once.new.out) (g.E.Writer.holds c.run_once.new.err) (g.E.Writer.failures c.run_once.new.err))
+    (world (g.S.FileSystem.files c.args.system.now) (g.O.Writer.output c.args.out.now) (g.E.Writer.output c.args.err.now))
+    (world (g.S.FileSystem.files c.run_once.new.system) (g.O.Writer.output c.run_once.new.out) (g.E.Writer.output c.run_once.new.err))
     0 c.in_ok-session.ensures.session _ c.in_err-run_once.field-0.0 (left.1 ∙ ap Err left.2) c.in_default.is
-    (rw (c.load.ensures.files, c.load.ensures.names, c.in_ok-session.ensures.failures) at c.in_err-run_once.ensures.fault)
+    (rw (same_files c.in_ok-session.ensures.unchanged) at c.in_err-run_once.ensures.fault)
 
 pub returns-in_err-replay_file-clause-fault : goal.returns-in_err-replay_file-clause-fault
 returns-in_err-replay_file-clause-fault g c =
     let are = rw c.in-Session.is at c.in_ok-words.ensures.request in
     let left = err_from_is_err_and c.from_residual-in_err-replay_file.result c.from_residual-in_err-replay_file.ensures.1 in
     replay_broken _ c.in-Session.words are c.in_ok-session.session
-    (world (g.S.FileSystem.files c.args.system.now) (g.S.FileSystem.names c.args.system.now) (g.S.FileSystem.failures c.args.system.now) (g.O.Writer.holds c.args.out.now) (g.O.Writer.failures c.args.out.now) (g.E.Writer.holds c.args.err.now) (g.E.Writer.failures c.args.err.now))
-    (world (g.S.FileSystem.files c.replay_file.new.system) (g.S.FileSystem.names c.replay_file.new.system) (g.S.FileSystem.failures c.replay_file.new.system) (g.O.Writer.holds c.replay_file.new.out) (g.O.Writer.failures c.replay_file.new.out) (g.E.Writer.holds c.args.err.now) (g.E.Writer.failures c.args.err.now))
+    (world (g.S.FileSystem.files c.args.system.now) (g.O.Writer.output c.args.out.now) (g.E.Writer.output c.args.err.now))
+    (world (g.S.FileSystem.files c.replay_file.new.system) (g.O.Writer.output c.replay_file.new.out) (g.E.Writer.output c.args.err.now))
     0 c.in_ok-session.ensures.session _ c.in_err-replay_file.field-0.0 c.in-Some.path
-    (left.1 ∙ ap Err left.2) c.in-Some.is (c.replay_file.ensures.files ∙ c.load.ensures.files)
-    (rw c.load.ensures.files at c.in_err-replay_file.ensures.fault)
+    (left.1 ∙ ap Err left.2) c.in-Some.is (c.replay_file.ensures.unchanged.bytes ∙ c.load.ensures.unchanged.bytes)
+    (rw c.load.ensures.unchanged.bytes at c.in_err-replay_file.ensures.fault)
 
 pub returns-clause-done : goal.returns-clause-done
 returns-clause-done g c =
     let are = rw c.in-Session.is at c.in_ok-words.ensures.request in
     replayed _ c.in-Session.words are c.in_ok-session.session
-    (world (g.S.FileSystem.files c.args.system.now) (g.S.FileSystem.names c.args.system.now) (g.S.FileSystem.failures c.args.system.now) (g.O.Writer.holds c.args.out.now) (g.O.Writer.failures c.args.out.now) (g.E.Writer.holds c.args.err.now) (g.E.Writer.failures c.args.err.now))
-    (world (g.S.FileSystem.files c.replay_file.new.system) (g.S.FileSystem.names c.replay_file.new.system) (g.S.FileSystem.failures c.replay_file.new.system) (g.O.Writer.holds c.replay_file.new.out) (g.O.Writer.failures c.replay_file.new.out) (g.E.Writer.holds c.args.err.now) (g.E.Writer.failures c.args.err.now))
-    c.replay_file.new.meter c.in_ok-session.ensures.session c.in-Some.path c.in-Some.is refl (c.replay_file.ensures.files ∙ c.load.ensures.files)
-    (c.in_ok-replay_file.ensures.failures ∙ c.in_ok-session.ensures.failures)
-    (rw (c.load.ensures.files, c.options.ensures) at c.in_ok-replay_file.ensures.done)
+    (world (g.S.FileSystem.files c.args.system.now) (g.O.Writer.output c.args.out.now) (g.E.Writer.output c.args.err.now))
+    (world (g.S.FileSystem.files c.replay_file.new.system) (g.O.Writer.output c.replay_file.new.out) (g.E.Writer.output c.args.err.now))
+    c.replay_file.new.meter c.in_ok-session.ensures.session c.in-Some.path c.in-Some.is refl (c.replay_file.ensures.unchanged.bytes ∙ c.load.ensures.unchanged.bytes)
+    (c.in_ok-replay_file.ensures.unchanged.failures ∙ c.in_ok-session.ensures.unchanged.failures)
+    (rw (c.load.ensures.unchanged.bytes, c.options.ensures) at c.in_ok-replay_file.ensures.done)

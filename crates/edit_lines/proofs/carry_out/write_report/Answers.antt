@@ -5,22 +5,22 @@ use Rattle.replay.specs.Report.{run_of, session_of}
 use Rattle.report_lines.specs.FirstLines.{line, text_line}
 use Rattle.edit_lines.specs.Reports.{report_text}
 use Rattle.report_lines.specs.ChangedLines.{changed_lines}
-use Rattle.report_lines.proofs.WrittenPieces.{all_then, part_then, part_more, writes_part, writes_then, writes_same}
+use Rattle.report_lines.proofs.WrittenPieces.{whole_then, part_then, part_more, writes_part, writes_then, writes_same}
 use Rattle.edit_lines.proofs.Reporting.{report_is}
 use Rattle.edit_lines.proofs.carry_out.write_report.Goals as goal
 
-pub returns-in_err-write_piece : goal.returns-in_err-write_piece
-returns-in_err-write_piece g c =
+pub returns-in_err-write_all : goal.returns-in_err-write_all
+returns-in_err-write_all g c =
     let s = session_of c.args.report.now in
     let run = run_of c.args.report.now in
     let head = c.as_bytes.result.now in
     let text = text_line run.machine.core.desk.text in
     let lines = changed_lines s.files run.machine.files in
     let last = line (codes "end") in
-    writes_same _ _ _ _ (((head ++ text) ++ lines) ++ last) (report_text s run) c.from_residual.result
+    writes_same _ _ (((head ++ text) ++ lines) ++ last) (report_text s run) c.from_residual.result
     (report_is s run head run.machine.core.desk.text s.files run.machine.files (c.as_bytes.ensures.value ∙ c.deref.ensures.0 ∙ (rw (c.cause.ensures, c.steps.ensures, c.regs.ensures) at c.report_head-head.ensures)) refl refl refl)
-    (writes_part _ _ _ _ (((head ++ text) ++ lines) ++ last) c.from_residual.result c.from_residual.ensures.0
-    (part_more _ _ _ _ ((head ++ text) ++ lines) last (part_more _ _ _ _ (head ++ text) lines (part_more _ _ _ _ head text c.in_err-write_piece.ensures))))
+    (writes_part (((head ++ text) ++ lines) ++ last) c.from_residual.result c.from_residual.ensures.0
+    (part_more ((head ++ text) ++ lines) last (part_more (head ++ text) lines (part_more head text c.in_err-write_all.ensures))))
 
 pub returns-in_err-write_text : goal.returns-in_err-write_text
 returns-in_err-write_text g c =
@@ -30,11 +30,11 @@ returns-in_err-write_text g c =
     let text = text_line c.text.result.now in
     let lines = changed_lines s.files run.machine.files in
     let last = line (codes "end") in
-    writes_same _ _ _ _ (((head ++ text) ++ lines) ++ last) (report_text s run) c.from_residual-in_err-write_text.result
+    writes_same _ _ (((head ++ text) ++ lines) ++ last) (report_text s run) c.from_residual-in_err-write_text.result
     (report_is s run head c.text.result.now s.files run.machine.files (c.as_bytes.ensures.value ∙ c.deref.ensures.0 ∙ (rw (c.cause.ensures, c.steps.ensures, c.regs.ensures) at c.report_head-head.ensures)) c.text.ensures refl refl)
-    (writes_part _ _ _ _ (((head ++ text) ++ lines) ++ last) c.from_residual-in_err-write_text.result c.from_residual-in_err-write_text.ensures.0
-    (part_more _ _ _ _ ((head ++ text) ++ lines) last (part_more _ _ _ _ (head ++ text) lines
-    (part_then _ _ _ _ _ _ head text c.in_ok-write_piece.ensures c.in_err-write_text.ensures))))
+    (writes_part (((head ++ text) ++ lines) ++ last) c.from_residual-in_err-write_text.result c.from_residual-in_err-write_text.ensures.0
+    (part_more ((head ++ text) ++ lines) last (part_more (head ++ text) lines
+    (part_then head text c.in_ok-write_all.ensures c.in_err-write_text.ensures))))
 
 pub returns-in_err-write_changed_files : goal.returns-in_err-write_changed_files
 returns-in_err-write_changed_files g c =
@@ -46,13 +46,13 @@ returns-in_err-write_changed_files g c =
     let text = text_line c.text.result.now in
     let lines = changed_lines host all in
     let last = line (codes "end") in
-    writes_same _ _ _ _ (((head ++ text) ++ lines) ++ last) (report_text s run) c.from_residual-in_err-write_changed_files.result
+    writes_same _ _ (((head ++ text) ++ lines) ++ last) (report_text s run) c.from_residual-in_err-write_changed_files.result
     (report_is s run head c.text.result.now host all (c.as_bytes.ensures.value ∙ c.deref.ensures.0 ∙ (rw (c.cause.ensures, c.steps.ensures, c.regs.ensures) at c.report_head-head.ensures)) c.text.ensures c.files.ensures
     (ap (λ (h : Host). files h c.journal.result.now.entries) c.files.ensures ∙ c.journal.ensures))
-    (writes_part _ _ _ _ (((head ++ text) ++ lines) ++ last) c.from_residual-in_err-write_changed_files.result
+    (writes_part (((head ++ text) ++ lines) ++ last) c.from_residual-in_err-write_changed_files.result
     c.from_residual-in_err-write_changed_files.ensures.0
-    (part_more _ _ _ _ ((head ++ text) ++ lines) last (part_then _ _ _ _ _ _ (head ++ text) lines
-    (all_then _ _ _ _ _ _ head text c.in_ok-write_piece.ensures c.in_ok-write_text.ensures) c.in_err-write_changed_files.ensures)))
+    (part_more ((head ++ text) ++ lines) last (part_then (head ++ text) lines
+    (whole_then head text c.in_ok-write_all.ensures c.in_ok-write_text.ensures) c.in_err-write_changed_files.ensures)))
 
 pub returns : goal.returns
 returns g c =
@@ -64,9 +64,9 @@ returns g c =
     let text = text_line c.text.result.now in
     let lines = changed_lines host all in
     let last = line (codes "end") in
-    writes_same _ _ _ _ (((head ++ text) ++ lines) ++ last) (report_text s run) c.write_piece-2.result
+    writes_same _ _ (((head ++ text) ++ lines) ++ last) (report_text s run) c.write_all-2.result
     (report_is s run head c.text.result.now host all (c.as_bytes.ensures.value ∙ c.deref.ensures.0 ∙ (rw (c.cause.ensures, c.steps.ensures, c.regs.ensures) at c.report_head-head.ensures)) c.text.ensures c.files.ensures
     (ap (λ (h : Host). files h c.journal.result.now.entries) c.files.ensures ∙ c.journal.ensures))
-    (writes_then _ _ _ _ _ _ ((head ++ text) ++ lines) last c.write_piece-2.result
-    (all_then _ _ _ _ _ _ (head ++ text) lines (all_then _ _ _ _ _ _ head text c.in_ok-write_piece.ensures c.in_ok-write_text.ensures)
-    c.in_ok-write_changed_files.ensures) c.write_piece-2.ensures)
+    (writes_then _ ((head ++ text) ++ lines) last c.write_all-2.result
+    (whole_then (head ++ text) lines (whole_then head text c.in_ok-write_all.ensures c.in_ok-write_text.ensures)
+    c.in_ok-write_changed_files.ensures) c.write_all-2.ensures)

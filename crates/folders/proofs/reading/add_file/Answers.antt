@@ -4,9 +4,9 @@ use Rattle.folders.proofs.reading.add_file.Goals as goal
 
 pub returns-in_ok-add-clause-lists : goal.returns-in_ok-add-clause-lists
 returns-in_ok-add-clause-lists g c =
-    added_if_told (drive_number c.args.listing.now.drive) c.args.folder.now _ _ c.args.file.now (g.S.FileSystem.files c.args.system.now) c.in-Some.name c.in_ok-file.file
+    added_if_told (drive_number c.args.listing.now.drive) c.args.folder.now _ _ c.args.file.now (g.S.FileSystem.files c.args.system.now).bytes c.in-Some.name c.in_ok-file.file
     c.in_ok-file.ensures.ok (rw c.in-Some.is at c.in_ok-name.ensures.finds) _ _ c.in_ok-add.ensures.once c.in_ok-add.ensures.again
 
 pub returns-in_default-clause-lists : goal.returns-in_default-clause-lists
 returns-in_default-clause-lists g c =
-    passed_over_if_told (drive_number c.args.listing.now.drive) c.args.folder.now _ _ c.args.file.now (g.S.FileSystem.files c.args.system.now) (rw c.in_default.is at c.in_ok-name.ensures.finds)
+    passed_over_if_told (drive_number c.args.listing.now.drive) c.args.folder.now _ _ c.args.file.now (g.S.FileSystem.files c.args.system.now).bytes (rw c.in_default.is at c.in_ok-name.ensures.finds)

@@ -5,6 +5,4 @@ use Rattle.folders.proofs.reading.read_folders.Given as goal
 abbrev pub invariant-loop-drive : goal.invariant-loop-drive
 invariant-loop-drive g l =
     (g.S.FileSystem.files l.system ≡ g.S.FileSystem.files l.fn.system)
-    × (g.S.FileSystem.names l.system ≡ g.S.FileSystem.names l.fn.system)
-    × (g.S.FileSystem.failures l.system ≡ g.S.FileSystem.failures l.fn.system)
-    × ReadBelow (g.S.FileSystem.files l.fn.system) (g.S.FileSystem.names l.fn.system) l.folders l.drive-index l.files
+    × ReadBelow (g.S.FileSystem.files l.fn.system) l.folders l.drive-index l.files

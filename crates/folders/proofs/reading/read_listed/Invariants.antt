@@ -6,9 +6,7 @@ use Rattle.folders.proofs.reading.read_listed.Given as goal
 abbrev pub invariant-loop-key : goal.invariant-loop-key
 invariant-loop-key g l =
     (g.S.FileSystem.files l.system ≡ g.S.FileSystem.files l.fn.system)
-    × (g.S.FileSystem.names l.system ≡ g.S.FileSystem.names l.fn.system)
-    × (g.S.FileSystem.failures l.system ≡ g.S.FileSystem.failures l.fn.system)
-    × SetUpTo (WantedOf (g.S.FileSystem.files l.fn.system) l.folder l.listing.files) l.listing.files l.fn.files l.after l.files
+    × SetUpTo (WantedOf (g.S.FileSystem.files l.fn.system).bytes l.folder l.listing.files) l.listing.files l.fn.files l.after l.files
 
 abbrev pub decreases-loop-key : goal.decreases-loop-key
 decreases-loop-key g l = left l.listing.files l.after

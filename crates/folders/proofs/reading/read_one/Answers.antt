@@ -16,7 +16,7 @@ returns-in-Ok-read-clause-there g c = now_there _ _ c.args.name _ c.set.result c
 
 pub returns-in-Ok-read-clause-read : goal.returns-in-Ok-read-clause-read
 returns-in-Ok-read-clause-read g c =
-    let files = g.S.FileSystem.files c.args.system.now in
+    let files = (g.S.FileSystem.files c.args.system.now).bytes in
     let bytes = c.in-Ok-read.bytes.items in
     on_ok_weaker c.set.result
     (λ put. put_in files _ bytes c.args.files.now c.args.name c.set.new.files
@@ -27,6 +27,6 @@ returns-in-Ok-read-clause-read g c =
 pub returns-in-Ok-read-clause-fault : goal.returns-in-Ok-read-clause-fault
 returns-in-Ok-read-clause-fault g c =
     let bytes = c.in-Ok-read.bytes.items in
-    set_fails (g.S.FileSystem.files c.args.system.now) _ c.args.files.now c.args.name bytes c.set.result
-    (subst (λ p. Reads (g.S.FileSystem.files c.args.system.now) p 8388609 bytes) (c.as_str.ensures.value ∙ c.in-Ok.ensures) c.in-Ok-read.ensures.reads)
+    set_fails (g.S.FileSystem.files c.args.system.now).bytes _ c.args.files.now c.args.name bytes c.set.result
+    (subst (λ p. Reads (g.S.FileSystem.files c.args.system.now).bytes p 8388609 bytes) (c.as_str.ensures.value ∙ c.in-Ok.ensures) c.in-Ok-read.ensures.reads)
     (rw c.as_slice.ensures.value at c.set.ensures.refusal)

@@ -10,12 +10,12 @@ write_and_rename-requires-clause-apart g c = λ e.
     (sym c.in-Ok.ensures.temporary ∙ sym c.as_str.ensures.value ∙ e ∙ c.as_str-2.ensures.value ∙ c.in-Ok.ensures.path)
 
 pub returns-in_default-clause-err : goal.returns-in_default-clause-err
-returns-in_default-clause-err g c = unchanged (path_text c.args.folder.now (temporary_text c.args.name.now)) (g.S.FileSystem.files c.args.system.now)
+returns-in_default-clause-err g c = unchanged (path_text c.args.folder.now (temporary_text c.args.name.now)) (g.S.FileSystem.files c.args.system.now).bytes
 
 pub returns-in-Ok-write_and_rename-clause-written : goal.returns-in-Ok-write_and_rename-clause-written
 returns-in-Ok-write_and_rename-clause-written g c =
-    let before = g.S.FileSystem.files c.args.system.now in
-    let after = g.S.FileSystem.files c.write_and_rename.new.system in
+    let before = (g.S.FileSystem.files c.args.system.now).bytes in
+    let after = (g.S.FileSystem.files c.write_and_rename.new.system).bytes in
     let bytes = g.C.Contents.bytes c.args.contents.now in
     subst (λ p. PutsInPlace before after p (path_text c.args.folder.now (temporary_text c.args.name.now)) bytes) (c.as_str-2.ensures.value ∙ c.in-Ok.ensures.path)
     (subst (λ t. PutsInPlace before after c.as_str-2.result.now t bytes) (c.as_str.ensures.value ∙ c.in-Ok.ensures.temporary)
@@ -23,9 +23,9 @@ returns-in-Ok-write_and_rename-clause-written g c =
 
 pub returns-in-Err-clause-err : goal.returns-in-Err-clause-err
 returns-in-Err-clause-err g c =
-    let before = g.S.FileSystem.files c.args.system.now in
-    let after = g.S.FileSystem.files c.write_and_rename.new.system in
-    let last = g.S.FileSystem.files c.remove.new.self in
+    let before = (g.S.FileSystem.files c.args.system.now).bytes in
+    let after = (g.S.FileSystem.files c.write_and_rename.new.system).bytes in
+    let last = (g.S.FileSystem.files c.remove.new.self).bytes in
     changes_twice (path_text c.args.folder.now (temporary_text c.args.name.now)) before after last
     (subst (λ t. ChangesAt t before after) (c.as_str.ensures.value ∙ c.in-Ok.ensures.temporary) c.in-Err.ensures.err)
     (subst (λ t. ChangesAt t after last) (c.as_str-in-Err.ensures.value ∙ c.in-Ok.ensures.temporary) c.remove.ensures.others)

@@ -1,15 +1,16 @@
 use Rattle.std.proofs.lemmas.Result.{err_from_is_err_and}
+use Rattle.folders.proofs.FilesLemmas.{same_files}
 use Rattle.loading.proofs.Refusing.{refused_of_words, script_unread}
 use Rattle.loading.proofs.loading.load.Goals as goal
 
 pub returns-clause-fault : goal.returns-clause-fault
 returns-clause-fault g c =
-    refused_of_words (g.S.FileSystem.files c.args.system.now) (g.S.FileSystem.names c.args.system.now) c.args.words.now c.in_ok-program.program.items c.in_ok-files.files
+    refused_of_words (g.S.FileSystem.files c.args.system.now) c.args.words.now c.in_ok-program.program.items c.in_ok-files.files
     c.in_ok-script.script.items c.session_of.result
-    c.in_ok-program.ensures.program (rw (c.program_at.ensures.files, c.program_at.ensures.names) at c.in_ok-files.ensures.files)
-    (rw (c.read_folders.ensures.same_files, c.program_at.ensures.files) at c.in_ok-script.ensures.script) (rw c.in_ok-tail.ensures.tail at c.session_of.ensures)
+    c.in_ok-program.ensures.program (rw (same_files c.in_ok-program.ensures.unchanged) at c.in_ok-files.ensures.files)
+    (rw (c.read_folders.ensures.unchanged.bytes, c.program_at.ensures.unchanged.bytes) at c.in_ok-script.ensures.script) (rw c.in_ok-tail.ensures.tail at c.session_of.ensures)
 
 pub returns-in_err-script-clause-fault : goal.returns-in_err-script-clause-fault
 returns-in_err-script-clause-fault g c =
     let left = err_from_is_err_and c.from_residual-in_err-script.result c.from_residual-in_err-script.ensures.1 in
-    rw (left.1, left.2) (script_unread (g.S.FileSystem.files c.args.system.now) (g.S.FileSystem.names c.args.system.now) c.args.words.now c.in_err-script.field-0.0 c.in_err-script.ensures.fault)
+    rw (left.1, left.2) (script_unread (g.S.FileSystem.files c.args.system.now) c.args.words.now c.in_err-script.field-0.0 c.in_err-script.ensures.fault)

@@ -8,8 +8,8 @@ use Rattle.one_run.proofs.raw_run.write_changed.Given as goal
 -- Some first files were written, and the files with names above the last one are left.
 abbrev pub invariant-loop-name : goal.invariant-loop-name
 invariant-loop-name g l =
-    (g.S.FileSystem.failures l.system ≡ g.S.FileSystem.failures l.initial.system)
-    × WritesOn l.folders (session_of l.report).files (run_of l.report).machine.files (g.S.FileSystem.files l.initial.system) l.after (g.S.FileSystem.files l.system)
+    ((g.S.FileSystem.files l.system).failures ≡ (g.S.FileSystem.files l.initial.system).failures)
+    × WritesOn l.folders (session_of l.report).files (run_of l.report).machine.files (g.S.FileSystem.files l.initial.system).bytes l.after (g.S.FileSystem.files l.system).bytes
 
 -- The changed names above the last one are left.
 abbrev pub decreases-loop-name : goal.decreases-loop-name

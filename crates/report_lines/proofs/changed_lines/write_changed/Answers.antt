@@ -3,7 +3,7 @@ use Rattle.filenames.specs.Names.{printed}
 use Rattle.hostfiles.specs.Files.{told}
 use Rattle.hostfiles.specs.Seen.{own_of}
 use Rattle.report_lines.specs.ChangedLines.{records_text, changed_line}
-use Rattle.report_lines.proofs.WrittenPieces.{all_then, part_then, part_more, writes_part, writes_then, writes_same, gone, there, gone_line, file_line, same_told}
+use Rattle.report_lines.proofs.WrittenPieces.{whole_then, part_then, part_more, writes_part, writes_then, writes_same, gone, there, gone_line, file_line, same_told}
 use Rattle.report_lines.proofs.changed_lines.write_changed.Goals as goal
 
 pub returns-in_err-write_head : goal.returns-in_err-write_head
@@ -15,8 +15,8 @@ returns-in_err-write_head g c =
     let same : t ≡ all = same_told (ap (λ h. h.now) c.find-file.ensures.host) (ap (λ j. j.now.entries) c.find-file.ensures.journal) (c.find-file.ensures.key ∙ c.key.ensures.key) in
     let head = codes "gone " ++ printed key in
     let text = gone_line key t all same (gone t c.in_default.ensures) in
-    writes_same _ _ _ _ (head ++ 10 ∷ []) (changed_line key all) c.from_residual.result text
-    (writes_part _ _ _ _ (head ++ 10 ∷ []) c.from_residual.result c.from_residual.ensures.0 (part_more _ _ _ _ head (10 ∷ []) c.in_err-write_head.ensures))
+    writes_same _ _ (head ++ 10 ∷ []) (changed_line key all) c.from_residual.result text
+    (writes_part (head ++ 10 ∷ []) c.from_residual.result c.from_residual.ensures.0 (part_more head (10 ∷ []) c.in_err-write_head.ensures))
 
 pub returns-in_default : goal.returns-in_default
 returns-in_default g c =
@@ -27,8 +27,8 @@ returns-in_default g c =
     let same : t ≡ all = same_told (ap (λ h. h.now) c.find-file.ensures.host) (ap (λ j. j.now.entries) c.find-file.ensures.journal) (c.find-file.ensures.key ∙ c.key.ensures.key) in
     let head = codes "gone " ++ printed key in
     let text = gone_line key t all same (gone t c.in_default.ensures) in
-    writes_same _ _ _ _ (head ++ 10 ∷ []) (changed_line key all) c.write_piece.result text
-    (writes_then _ _ _ _ _ _ head (10 ∷ []) c.write_piece.result c.in_ok-write_head.ensures c.write_piece.ensures)
+    writes_same _ _ (head ++ 10 ∷ []) (changed_line key all) c.write_all.result text
+    (writes_then _ head (10 ∷ []) c.write_all.result c.in_ok-write_head.ensures c.write_all.ensures)
 
 pub returns-in_err-write_head-2 : goal.returns-in_err-write_head-2
 returns-in_err-write_head-2 g c =
@@ -40,12 +40,12 @@ returns-in_err-write_head-2 g c =
     let head = codes "file " ++ printed key in
     let digits = records_text (unwrap_or t []) in
     let text = file_line key t all same (there t c.in-Some.count c.in-Some.ensures) in
-    writes_same _ _ _ _ (((head ++ codes " ") ++ digits) ++ 10 ∷ []) (changed_line key all) c.from_residual-in_err-write_head-2.result text
-    (writes_part _ _ _ _ (((head ++ codes " ") ++ digits) ++ 10 ∷ []) c.from_residual-in_err-write_head-2.result c.from_residual-in_err-write_head-2.ensures.0
-    (part_more _ _ _ _ ((head ++ codes " ") ++ digits) (10 ∷ []) (part_more _ _ _ _ (head ++ codes " ") digits (part_more _ _ _ _ head (codes " ") c.in_err-write_head-2.ensures))))
+    writes_same _ _ (((head ++ codes " ") ++ digits) ++ 10 ∷ []) (changed_line key all) c.from_residual-in_err-write_head-2.result text
+    (writes_part (((head ++ codes " ") ++ digits) ++ 10 ∷ []) c.from_residual-in_err-write_head-2.result c.from_residual-in_err-write_head-2.ensures.0
+    (part_more ((head ++ codes " ") ++ digits) (10 ∷ []) (part_more (head ++ codes " ") digits (part_more head (codes " ") c.in_err-write_head-2.ensures))))
 
-pub returns-in_err-write_piece : goal.returns-in_err-write_piece
-returns-in_err-write_piece g c =
+pub returns-in_err-write_all : goal.returns-in_err-write_all
+returns-in_err-write_all g c =
     let key = c.args.name.now in
     let file = c.find-file.result in
     let t = told file.host.now (own_of file) file.key in
@@ -54,10 +54,10 @@ returns-in_err-write_piece g c =
     let head = codes "file " ++ printed key in
     let digits = records_text (unwrap_or t []) in
     let text = file_line key t all same (there t c.in-Some.count c.in-Some.ensures) in
-    writes_same _ _ _ _ (((head ++ codes " ") ++ digits) ++ 10 ∷ []) (changed_line key all) c.from_residual-in_err-write_piece.result text
-    (writes_part _ _ _ _ (((head ++ codes " ") ++ digits) ++ 10 ∷ []) c.from_residual-in_err-write_piece.result c.from_residual-in_err-write_piece.ensures.0
-    (part_more _ _ _ _ ((head ++ codes " ") ++ digits) (10 ∷ []) (part_more _ _ _ _ (head ++ codes " ") digits
-    (part_then _ _ _ _ _ _ head (codes " ") c.in_ok-write_head-2.ensures c.in_err-write_piece.ensures))))
+    writes_same _ _ (((head ++ codes " ") ++ digits) ++ 10 ∷ []) (changed_line key all) c.from_residual-in_err-write_all.result text
+    (writes_part (((head ++ codes " ") ++ digits) ++ 10 ∷ []) c.from_residual-in_err-write_all.result c.from_residual-in_err-write_all.ensures.0
+    (part_more ((head ++ codes " ") ++ digits) (10 ∷ []) (part_more (head ++ codes " ") digits
+    (part_then head (codes " ") c.in_ok-write_head-2.ensures c.in_err-write_all.ensures))))
 
 pub returns-in_err-write_records : goal.returns-in_err-write_records
 returns-in_err-write_records g c =
@@ -69,10 +69,10 @@ returns-in_err-write_records g c =
     let head = codes "file " ++ printed key in
     let digits = records_text (unwrap_or t []) in
     let text = file_line key t all same (there t c.in-Some.count c.in-Some.ensures) in
-    writes_same _ _ _ _ (((head ++ codes " ") ++ digits) ++ 10 ∷ []) (changed_line key all) c.from_residual-in_err-write_records.result text
-    (writes_part _ _ _ _ (((head ++ codes " ") ++ digits) ++ 10 ∷ []) c.from_residual-in_err-write_records.result c.from_residual-in_err-write_records.ensures.0
-    (part_more _ _ _ _ ((head ++ codes " ") ++ digits) (10 ∷ [])
-    (part_then _ _ _ _ _ _ (head ++ codes " ") digits (all_then _ _ _ _ _ _ head (codes " ") c.in_ok-write_head-2.ensures c.in_ok-write_piece.ensures) c.in_err-write_records.ensures)))
+    writes_same _ _ (((head ++ codes " ") ++ digits) ++ 10 ∷ []) (changed_line key all) c.from_residual-in_err-write_records.result text
+    (writes_part (((head ++ codes " ") ++ digits) ++ 10 ∷ []) c.from_residual-in_err-write_records.result c.from_residual-in_err-write_records.ensures.0
+    (part_more ((head ++ codes " ") ++ digits) (10 ∷ [])
+    (part_then (head ++ codes " ") digits (whole_then head (codes " ") c.in_ok-write_head-2.ensures c.in_ok-write_all.ensures) c.in_err-write_records.ensures)))
 
 pub returns : goal.returns
 returns g c =
@@ -84,7 +84,7 @@ returns g c =
     let head = codes "file " ++ printed key in
     let digits = records_text (unwrap_or t []) in
     let text = file_line key t all same (there t c.in-Some.count c.in-Some.ensures) in
-    writes_same _ _ _ _ (((head ++ codes " ") ++ digits) ++ 10 ∷ []) (changed_line key all) c.write_piece-3.result text
-    (writes_then _ _ _ _ _ _ ((head ++ codes " ") ++ digits) (10 ∷ []) c.write_piece-3.result
-    (all_then _ _ _ _ _ _ (head ++ codes " ") digits (all_then _ _ _ _ _ _ head (codes " ") c.in_ok-write_head-2.ensures c.in_ok-write_piece.ensures) c.in_ok-write_records.ensures)
-    c.write_piece-3.ensures)
+    writes_same _ _ (((head ++ codes " ") ++ digits) ++ 10 ∷ []) (changed_line key all) c.write_all-3.result text
+    (writes_then _ ((head ++ codes " ") ++ digits) (10 ∷ []) c.write_all-3.result
+    (whole_then (head ++ codes " ") digits (whole_then head (codes " ") c.in_ok-write_head-2.ensures c.in_ok-write_all.ensures) c.in_ok-write_records.ensures)
+    c.write_all-3.ensures)

@@ -1,14 +1,13 @@
-use Rattle.std.proofs.Common.{◌++◌, ◌∙◌, [], Some, refl, subst}
-use Rattle.std.proofs.KnownBytes.{Appends-nil}
-use Rattle.std.specs.Io.KnownBytes.{Appends}
+use Rattle.std.proofs.Common.{◌++◌, ◌∙◌, [], Some, subst}
 use Rattle.hostfiles.proofs.ChangedWalk.{changed_next, changed_none}
 use Rattle.hostfiles.specs.Files.{files}
 use Rattle.report_lines.specs.ChangedLines.{lines_of_files}
-use Rattle.report_lines.proofs.WrittenPieces.{all_then, part_then, part_more, writes_part, writes_same, own_line, lines_laid, parts_above, parts_begin, parts_next, parts_end, fewer_keys}
+use Rattle.report_lines.specs.Streams.{WritesWhole}
+use Rattle.report_lines.proofs.WrittenPieces.{whole_nil, whole_then, part_then, part_more, writes_part, writes_same, own_line, lines_laid, parts_above, parts_begin, parts_next, parts_end, fewer_keys}
 use Rattle.report_lines.proofs.changed_lines.write_changed_files.Goals as goal
 
 pub loop-name-init : goal.loop-name-init
-loop-name-init g c = record { text = []; written = Appends-nil _; same = refl; left = parts_begin (own_line c.args.filter c.args.host.now c.args.journal.now.entries) c.args.host.now c.args.journal.now.entries }
+loop-name-init g c = record { text = []; written = whole_nil _; left = parts_begin (own_line c.args.filter c.args.host.now c.args.journal.now.entries) c.args.host.now c.args.journal.now.entries }
 
 pub returns-in_err-write_filtered : goal.returns-in_err-write_filtered
 returns-in_err-write_filtered g c =
@@ -18,11 +17,11 @@ returns-in_err-write_filtered g c =
     let name = c.in-Some.name in
     let split = changed_next host own low name (rw c.as_ref.ensures.value at c.in-Some.ensures.above) c.in-Some.ensures.changed (rw c.as_ref.ensures.value at c.in-Some.ensures.least) in
     let text = c.loop-name.invariant.text in
-    writes_same _ _ _ _ ((text ++ own_line c.args.filter host own name) ++ parts_above (own_line c.args.filter host own) host own (Some name)) (lines_of_files c.args.filter host (files host own)) c.from_residual.result
+    writes_same _ _ ((text ++ own_line c.args.filter host own name) ++ parts_above (own_line c.args.filter host own) host own (Some name)) (lines_of_files c.args.filter host (files host own)) c.from_residual.result
     (parts_next (own_line c.args.filter host own) host own low name text split c.loop-name.invariant.left ∙ lines_laid c.args.filter host own)
-    (writes_part _ _ _ _ _ c.from_residual.result c.from_residual.ensures.0
-    (part_more _ _ _ _ (text ++ own_line c.args.filter host own name) (parts_above (own_line c.args.filter host own) host own (Some name))
-    (part_then _ _ _ _ _ _ text (own_line c.args.filter host own name) (c.loop-name.invariant.written, c.loop-name.invariant.same) c.in_err-write_filtered.ensures)))
+    (writes_part _ c.from_residual.result c.from_residual.ensures.0
+    (part_more (text ++ own_line c.args.filter host own name) (parts_above (own_line c.args.filter host own) host own (Some name))
+    (part_then text (own_line c.args.filter host own name) c.loop-name.invariant.written c.in_err-write_filtered.ensures)))
 
 pub loop-name-smaller : goal.loop-name-smaller
 loop-name-smaller g c =
@@ -41,8 +40,8 @@ loop-name-preserved g c =
     let name = c.in-Some.name in
     let split = changed_next host own low name (rw c.as_ref.ensures.value at c.in-Some.ensures.above) c.in-Some.ensures.changed (rw c.as_ref.ensures.value at c.in-Some.ensures.least) in
     let text = c.loop-name.invariant.text in
-    let more = all_then _ _ _ _ _ _ text (own_line c.args.filter host own name) (c.loop-name.invariant.written, c.loop-name.invariant.same) c.in_ok-write_filtered.ensures in
-    record { text = text ++ own_line c.args.filter host own name; written = more.0; same = more.1; left = parts_next (own_line c.args.filter host own) host own low name text split c.loop-name.invariant.left }
+    let more = whole_then text (own_line c.args.filter host own name) c.loop-name.invariant.written c.in_ok-write_filtered.ensures in
+    record { text = text ++ own_line c.args.filter host own name; written = more; left = parts_next (own_line c.args.filter host own) host own low name text split c.loop-name.invariant.left }
 
 pub returns : goal.returns
 returns g c =
@@ -50,4 +49,4 @@ returns g c =
     let own = c.args.journal.now.entries in
     let low = c.loop-name.after in
     let none = changed_none host own low (rw c.as_ref.ensures.value at c.in_default.ensures.none) in
-    (subst (Appends _ _) (parts_end (own_line c.args.filter host own) host own low c.loop-name.invariant.text none c.loop-name.invariant.left ∙ lines_laid c.args.filter host own) c.loop-name.invariant.written, c.loop-name.invariant.same)
+    subst (WritesWhole _ _) (parts_end (own_line c.args.filter host own) host own low c.loop-name.invariant.text none c.loop-name.invariant.left ∙ lines_laid c.args.filter host own) c.loop-name.invariant.written

@@ -1,6 +1,6 @@
 use Rattle.std.proofs.Common.{◌≡◌, ◌++◌, ℕ, List, length, map}
 use Rattle.std.specs.List.{concat}
-use Rattle.std.specs.Io.KnownBytes.{Appends}
+use Rattle.report_lines.specs.Streams.{WritesWhole}
 use Rattle.hostfiles.specs.Changed.{changed_names}
 use Rattle.hostfiles.proofs.ChangedWalk.{keys_above}
 use Rattle.report_lines.proofs.WrittenPieces.{all_parts, own_line}
@@ -10,8 +10,7 @@ use Rattle.report_lines.proofs.changed_lines.write_changed_files.Given as goal
 abbrev pub invariant-loop-name : goal.invariant-loop-name
 invariant-loop-name g l = record {
   text : List ℕ;
-  written : Appends (g.W.Writer.holds l.initial.writer) (g.W.Writer.holds l.writer) text;
-  same : g.W.Writer.failures l.writer ≡ g.W.Writer.failures l.initial.writer;
+  written : WritesWhole (g.W.Writer.output l.initial.writer) (g.W.Writer.output l.writer) text;
   left : text ++ concat (map (own_line l.filter l.host l.journal.entries) (keys_above (changed_names l.host l.journal.entries) l.after)) ≡ all_parts (own_line l.filter l.host l.journal.entries) l.host l.journal.entries;
 }
 

@@ -1,16 +1,15 @@
-use Rattle.std.proofs.Common.{◌≡◌, ◌++◌, ◌≤◌, Some, slice_get, [], drop, length, unwrap_or, refl, ◌∙◌, arith, ap, append-nil, rules}
+use Rattle.std.proofs.Common.{◌≡◌, ◌++◌, ◌≤◌, Some, slice_get, [], drop, length, unwrap_or, ◌∙◌, arith, ap, append-nil, rules}
 use Rattle.std.specs.List.{concat}
-use Rattle.std.proofs.KnownBytes.{Appends-nil}
 use Rattle.hex.specs.Hex.{encode_lower}
 use Rattle.hostfiles.specs.Files.{told}
 use Rattle.hostfiles.specs.Seen.{own_of}
 use Rattle.report_lines.specs.ChangedLines.{records_text}
-use Rattle.report_lines.proofs.WrittenPieces.{all_then, part_then, part_more, writes_part, writes_then, writes_same, no_bytes, encode-append, one_record_more, first_digits, last_digits, record_here, no_record}
+use Rattle.report_lines.proofs.WrittenPieces.{whole_nil, whole_then, part_then, part_more, writes_part, writes_then, writes_same, no_bytes, encode-append, one_record_more, first_digits, last_digits, record_here, no_record}
 use Rattle.report_lines.proofs.changed_lines.write_records.Goals.{then-remaining_capacity-lt128+in_ok-write_hex, else-remaining_capacity-lt128}
 use Rattle.report_lines.proofs.changed_lines.write_records.Goals as goal
 
 pub loop-place-init : goal.loop-place-init
-loop-place-init g c = record { first = []; split = c.new-block.ensures; written = rw no_bytes (Appends-nil _); same = refl }
+loop-place-init g c = record { first = []; split = c.new-block.ensures; written = rw no_bytes (whole_nil _) }
 
 pub unreachable-requires : goal.unreachable-requires
 unreachable-requires g c =
@@ -24,11 +23,11 @@ returns-in_err-write_hex g c =
     let block = c.as_slice.result.now in
     let others = encode_lower (concat (drop place records)) in
     let some : length records ≡ 0 → ⊥ = λ none. c.if-count-eq0.false (c.requires.count ∙ none) in
-    writes_same _ _ _ _ ((encode_lower first ++ encode_lower block) ++ others) (records_text records) c.from_residual.result
+    writes_same _ _ ((encode_lower first ++ encode_lower block) ++ others) (records_text records) c.from_residual.result
     (first_digits records place first block (ap (λ b. first ++ b) c.as_slice.ensures.value ∙ c.loop-place.invariant.split) some)
-    (writes_part _ _ _ _ _ c.from_residual.result c.from_residual.ensures.0
-    (part_more _ _ _ _ (encode_lower first ++ encode_lower block) others
-    (part_then _ _ _ _ _ _ (encode_lower first) (encode_lower block) (c.loop-place.invariant.written, c.loop-place.invariant.same) c.in_err-write_hex.ensures)))
+    (writes_part _ c.from_residual.result c.from_residual.ensures.0
+    (part_more (encode_lower first ++ encode_lower block) others
+    (part_then (encode_lower first) (encode_lower block) c.loop-place.invariant.written c.in_err-write_hex.ensures)))
 
 pub loop-place-preserved : goal.loop-place-preserved
 loop-place-preserved g c =
@@ -42,19 +41,17 @@ loop-place-preserved g c =
       | then-remaining_capacity-lt128+in_ok-write_hex w ↦
           let block = w.as_slice.result.now in
           let all = ap (λ b. first ++ b) w.as_slice.ensures.value ∙ c.loop-place.invariant.split in
-          let more = all_then _ _ _ _ _ _ (encode_lower first) (encode_lower block) (c.loop-place.invariant.written, c.loop-place.invariant.same) w.in_ok-write_hex.ensures in
+          let more = whole_then (encode_lower first) (encode_lower block) c.loop-place.invariant.written w.in_ok-write_hex.ensures in
           record {
             first = first ++ block;
             split = rw (grown, w.block-is, w.clear.ensures) (one_record_more records place c.in-Some.record (first ++ block) [] here (append-nil (first ++ block) ∙ all));
-            written = rw (w.writer-is, encode-append first block) more.0;
-            same = rw w.writer-is more.1;
+            written = rw (w.writer-is, encode-append first block) more;
           }
       | else-remaining_capacity-lt128 w ↦
           record {
             first = first;
             split = rw (grown, w.block-is) (one_record_more records place c.in-Some.record first c.loop-place.block.items here c.loop-place.invariant.split);
             written = rw w.writer-is c.loop-place.invariant.written;
-            same = rw w.writer-is c.loop-place.invariant.same;
           }
     ]
 
@@ -65,6 +62,6 @@ returns g c =
     let block = c.as_slice-2.result.now in
     let some : length records ≡ 0 → ⊥ = λ none. c.if-count-eq0.false (c.requires.count ∙ none) in
     let past : length records ≤ c.loop-place.place = let n = c.requires.count in let h = c.loop-place-test.false in omega arith in
-    writes_same _ _ _ _ (encode_lower first ++ encode_lower block) (records_text records) c.write_hex-2.result
+    writes_same _ _ (encode_lower first ++ encode_lower block) (records_text records) c.write_hex-2.result
     (last_digits records c.loop-place.place first block (ap (λ b. first ++ b) c.as_slice-2.ensures.value ∙ c.loop-place.invariant.split) past some)
-    (writes_then _ _ _ _ _ _ (encode_lower first) (encode_lower block) c.write_hex-2.result (c.loop-place.invariant.written, c.loop-place.invariant.same) c.write_hex-2.ensures)
+    (writes_then _ (encode_lower first) (encode_lower block) c.write_hex-2.result c.loop-place.invariant.written c.write_hex-2.ensures)

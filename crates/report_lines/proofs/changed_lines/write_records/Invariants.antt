@@ -1,6 +1,6 @@
 use Rattle.std.proofs.Common.{◌≡◌, ◌++◌, ℕ, List, [], take, unwrap_or}
 use Rattle.std.specs.List.{concat}
-use Rattle.std.specs.Io.KnownBytes.{Appends}
+use Rattle.report_lines.specs.Streams.{WritesWhole}
 use Rattle.hex.specs.Hex.{encode_lower}
 use Rattle.hostfiles.specs.Files.{told}
 use Rattle.hostfiles.specs.Seen.{own_of}
@@ -11,6 +11,5 @@ abbrev pub invariant-loop-place : goal.invariant-loop-place
 invariant-loop-place g l = record {
   first : List ℕ;
   split : first ++ l.block.items ≡ concat (take l.place (unwrap_or (told l.file.host.now (own_of l.file) l.file.key) []));
-  written : Appends (g.W.Writer.holds l.initial.writer) (g.W.Writer.holds l.writer) (encode_lower first);
-  same : g.W.Writer.failures l.writer ≡ g.W.Writer.failures l.initial.writer;
+  written : WritesWhole (g.W.Writer.output l.initial.writer) (g.W.Writer.output l.writer) (encode_lower first);
 }
