@@ -17,8 +17,8 @@ LIMIT = 1500
 """The most lines for the first group."""
 
 CHECKPOINT_WORDS = {
-    'AllStand', 'CountsAnew', 'Effects', 'EffectsAtFault', 'EndsAs', 'KeepsUntouched', 'LeavesNoneOut', 'RanTo', 'Reran', 'SameOptions',
-    'StopsForMemory', 'TicksTo', 'ask', 'rerun_start', 'with_no_checkpoint',
+    'AllStand', 'RestartsCount', 'Effects', 'EffectsAtFault', 'EndsAs', 'KeepsUntouched', 'AddsAllDueTo', 'RerunsTo', 'AddsDueTo', 'SameOptions',
+    'StopsForMemory', 'TicksTo', 'session_answers', 'rerun_start', 'with_no_checkpoint',
 }
 """The words of clauses that say which steps a run executes again, what becomes of the checkpoints and of the meter, and which allocations may
 fail. They count only for the last group."""
@@ -32,7 +32,7 @@ GROUPS = {
     'What the program does': [('cpmrun', 'command_line', ['command'])],
     CHECKPOINTS: [
         ('replay', 'runner', ['Runner::new', 'Runner::edit', 'Runner::rerun', 'prefix_dependence', 'plain_run_is_cold']),
-        ('machine', 'laws', ['whole_is_laid']),
+        ('machine', 'laws', ['plain_machine_is_laid']),
         ('replay', 'report', ['Report::journal']),
         ('edit_lines', 'stream', ['replay']),
     ],

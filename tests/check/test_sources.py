@@ -219,7 +219,7 @@ class SourcesTest(RuleTest):
         self.refuse(line for line in struct_lines('crates/pagemem/src/cells.rt', 'Cells') if 'look' in line.text.lower())
 
     def test_a_saved_state_holds_no_looks_and_no_text(self) -> None:
-        self.refuse(looks_and_texts('crates/machine/src/kept.rt', 'Kept'))
+        self.refuse(looks_and_texts('crates/machine/src/saved_state.rt', 'SavedState'))
 
     def test_a_checkpoint_holds_no_looks_and_no_text(self) -> None:
         self.refuse(looks_and_texts('crates/replay/src/ring.rt', 'Checkpoint'))

@@ -26,11 +26,6 @@ WORDS = {re.compile(rf'\b({words})\b'): better for words, better in PLAINER.item
 FILES = ['*.md', 'docs/*.md', 'docs/cpmrun.1', 'examples/*.md', 'examples/python/*.md', 'tests/*.md', 'crates/*/src/*.rt', 'crates/*/specs/**/*.antt',
          'crates/*/proofs/**/*.antt']
 
-# a module's name
-ALLOWED = {
-    ('crates/hostfiles/src/lib.rt', 'told'),
-}
-
 
 def comments(path: str, text: str) -> list[str]:
     """Returns the comments of a source, or all lines of a page."""
@@ -44,7 +39,7 @@ class Words(unittest.TestCase):
         for line in lines:
             for words, better in WORDS.items():
                 found = words.search(line)
-                if found and (name, found[0]) not in ALLOWED:
+                if found:
                     with self.subTest(file=name):
                         self.fail(f'{found[0]!r} (write: {better}) in: {line.strip()}')
 

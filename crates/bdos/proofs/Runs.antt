@@ -7,7 +7,7 @@ use Rattle.i8080.specs.Registers.{onward}
 use Rattle.i8080.specs.Performs.{Reads}
 use Rattle.console_calls.proofs.Scanning.{end_of-ending, asked-ending, one_less, none_left}
 use Rattle.filenames.specs.declared.drive.Drive.{Drive}
-use Rattle.bdos.specs.FileCalls.{bytes_at, block_read}
+use Rattle.bdos.specs.FileCalls.{bytes_at, block_reading}
 use Rattle.file_calls.specs.declared.block.Block.{Block}
 
 end_more : (byte : ℕ → ℕ) (n a : ℕ) → end_of (bytes_at (suc n) a) byte ≡ byte a ∷ end_of (bytes_at n (onward a 1)) byte
@@ -63,8 +63,8 @@ read_at n a b {m = m} {m1 = m1} {cells = cells} e h = subst (λ (x : ℕ). Reads
 
 -- A control block whose first byte was already read.
 pub block_of : (length : ℕ) (drive : Drive) (dr at a : ℕ) {m m1 : Memory} {cells fcb : List ℕ} → a ≡ onward at 1 → Reads (bytes_at (length - 1) a) m cells m1 → fcb ≡ dr ∷ cells ++ replicate (36 - length) 0
-    → Reads (block_read drive dr length at) m (record { drive = drive; fcb = fcb }) m1
-unfolding block_read
+    → Reads (block_reading drive dr length at) m (record { drive = drive; fcb = fcb }) m1
+unfolding block_reading
 block_of length drive dr at a {m = m} {m1 = m1} {cells = cells} e h f =
     let w : Reads (bytes_at (length - 1) (onward at 1)) m cells m1 = read_at (length - 1) a (onward at 1) e h in
     let block : List ℕ → Block = λ rest. record { drive = drive; fcb = dr ∷ rest ++ replicate (36 - length) 0 } in

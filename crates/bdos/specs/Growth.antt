@@ -9,11 +9,11 @@ use Rattle.file_calls.specs.declared.finding.Finding.{Finding}
 use Rattle.file_calls.specs.declared.finding.Finding.TheVariants as finding
 use Rattle.bdos.specs.declared.function.SystemFunction.{SystemFunction}
 use Rattle.bdos.specs.declared.function.SystemFunction.TheVariants.{OfFile, SearchNext, DeleteFile, OfDesk}
-use Rattle.bdos.specs.FileCalls.{drive_named}
+use Rattle.bdos.specs.FileCalls.{drive_of_byte}
 
 -- Whether the first byte of the control block at DE names a drive.
 abbrev pub names_drive : Regs → Spot → (ℕ → ℕ) → Bool
-names_drive r spot byte = is_some (drive_named spot.drive (byte (word r.e r.d)))
+names_drive r spot byte = is_some (drive_of_byte spot.drive (byte (word r.e r.d)))
 
 -- Whether a call can run out of memory: a call that names a file, for what it asks, writes and does, if its drive is there; function
 -- 18 if there is a search to continue; and the console calls that can. The other calls never fail.

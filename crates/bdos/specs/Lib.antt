@@ -1,5 +1,5 @@
-pub mod Questions
+pub mod SystemQuestions
 pub mod FileCalls
-pub mod Fulfils
-pub mod Calls
+pub mod PerformsSystemCall
+pub mod SystemCalls
 pub mod Growth

@@ -1,15 +1,15 @@
 ghost use Rattle.std.specs.Prelude.{◌≡◌, ◌≤◌, List, ℕ, true, is_some, Ok, OnErr, length, if◌then◌else◌};
-ghost use Rattle.file_calls.specs.Answers.{drives_of};
+ghost use Rattle.file_calls.specs.TableView.{table_view};
 ghost use Rattle.i8080.specs.Memory.{bytes};
 ghost use Rattle.i8080.specs.Performs.{Reads};
-ghost use Rattle.bdos.specs.FileCalls.{file_call, delete_call, search_next_call, drive_named, block_read};
-ghost use Rattle.bdos.specs.Calls.{call, system_function};
+ghost use Rattle.bdos.specs.FileCalls.{file_call, delete_call, search_next_call, drive_of_byte, block_reading};
+ghost use Rattle.bdos.specs.SystemCalls.{call, system_function};
 ghost use Rattle.bdos.specs.Growth.{may_grow, names_drive};
-ghost use Rattle.bdos.specs.Fulfils.{Serves};
-ghost use Rattle.bdos.specs.Fulfils.{Fulfils, scene};
+ghost use Rattle.bdos.specs.PerformsSystemCall.{Serves};
+ghost use Rattle.bdos.specs.PerformsSystemCall.{PerformsSystemCall, scene};
 
-use crate::carry_on::carry_on;
 use crate::cells::fetch_cells;
+use crate::findings::apply_finding;
 use crate::function::SystemFunction;
 use console_calls::{Cause, Desk, Served, give_back};
 use cpmfiles::Table;
@@ -26,7 +26,7 @@ use std::alloc::AllocError;
 /// # Errors
 ///
 /// `Err` means out of memory. A call that asks about no file, writes nothing and sends nothing is never an `Err`.
-#[tactic(auto, unfolding(crate::specs::Calls::call))]
+#[tactic(auto, unfolding(crate::specs::SystemCalls::call))]
 #[inline(always)]
 pub fn call<B: Bus>(
     regs: &mut Regs,
@@ -36,8 +36,8 @@ pub fn call<B: Bus>(
     script: &[u8],
 ) -> Result<Served, AllocError>
     ensures serves { (n : ℕ) → length script.now ≤ n → Serves n script.now
-        (scene regs.old (B.memory bus.old) desk.old (drives_of table.old)) result
-        (scene regs.new (B.memory bus.new) desk.new (drives_of table.new)) }
+        (scene regs.old (B.memory bus.old) desk.old (table_view table.old)) result
+        (scene regs.new (B.memory bus.new) desk.new (table_view table.new)) }
     ensures grows { OnErr result (may_grow (system_function regs.old.c) regs.old desk.old.desk.spot
         (bytes (B.memory bus.old)) script.now ≡ true) }
 {
@@ -58,21 +58,22 @@ fn file_call<B: Bus>(
     desk: &mut Desk,
     function: FileFunction,
 ) -> Result<Served, AllocError>
-    ensures fulfils { (script : List ℕ) → Fulfils (file_call function regs.old desk.old.desk.spot) script
-        (scene regs.old (B.memory bus.old) desk.old (drives_of table.old)) result
-        (scene regs.new (B.memory bus.new) desk.new (drives_of table.new)) }
+    ensures fulfils { (script : List ℕ)
+        → PerformsSystemCall (file_call function regs.old desk.old.desk.spot) script
+        (scene regs.old (B.memory bus.old) desk.old (table_view table.old)) result
+        (scene regs.new (B.memory bus.new) desk.new (table_view table.new)) }
     ensures grows { OnErr result
         (names_drive regs.old desk.old.desk.spot (bytes (B.memory bus.old)) ≡ true) }
 {
     let at = word_of(regs.e, regs.d);
     let dr = fetch(bus, at);
-    let Some(drive) = drive_named(desk.drive(), dr) else {
+    let Some(drive) = drive_of_byte(desk.drive(), dr) else {
         return Ok(Served::Stop(Cause::BadDrive(dr)));
     };
     let block = fetch_block(bus, at, drive, dr, function.has_random_place());
     let to = fetch_word(bus, regs.sp);
     match &function.inquire(table.host, table.changes, &block) {
-        Ok(finding) => carry_on(finding, regs, bus, table, desk, to),
+        Ok(finding) => apply_finding(finding, regs, bus, table, desk, to),
         Err(error) => Err(*error),
     }
 }
@@ -85,26 +86,26 @@ fn delete_call<B: Bus>(
     table: &mut Table<'_>,
     desk: &Desk,
 ) -> Result<Served, AllocError>
-    ensures fulfils { (script : List ℕ) → Fulfils (delete_call regs.old desk.now.desk.spot) script
-        (scene regs.old (B.memory bus.old) desk.now (drives_of table.old)) result
-        (scene regs.new (B.memory bus.new) desk.now (drives_of table.new)) }
+    ensures fulfils { (script : List ℕ) → PerformsSystemCall (delete_call regs.old desk.now.desk.spot) script
+        (scene regs.old (B.memory bus.old) desk.now (table_view table.old)) result
+        (scene regs.new (B.memory bus.new) desk.now (table_view table.new)) }
     ensures grows { OnErr result
         (names_drive regs.old desk.now.desk.spot (bytes (B.memory bus.old)) ≡ true) }
 {
     let at = word_of(regs.e, regs.d);
     let dr = fetch(bus, at);
-    let Some(drive) = drive_named(desk.drive(), dr) else {
+    let Some(drive) = drive_of_byte(desk.drive(), dr) else {
         return Ok(Served::Stop(Cause::BadDrive(dr)));
     };
     let block = fetch_block(bus, at, drive, dr, false);
     let to = fetch_word(bus, regs.sp);
-    let value = value_of(delete_files(table, &block)?);
+    let value = deletion_value(delete_files(table, &block)?);
     give_back(regs, value, to);
     Ok(Served::Went)
 }
 
 // Returns the value of a deletion: 0 if a file was deleted, else 0FFH.
-fn value_of(is_some_deleted: bool) -> u16
+fn deletion_value(is_some_deleted: bool) -> u16
     ensures { result ≡ (if is_some_deleted then 0 else 0xff) }
 {
     if is_some_deleted { 0 } else { 0xff }
@@ -118,19 +119,20 @@ fn search_next_call<B: Bus>(
     table: &mut Table<'_>,
     desk: &mut Desk,
 ) -> Result<Served, AllocError>
-    ensures fulfils { (script : List ℕ) → Fulfils (search_next_call regs.old desk.old.desk.spot) script
-        (scene regs.old (B.memory bus.old) desk.old (drives_of table.old)) result
-        (scene regs.new (B.memory bus.new) desk.new (drives_of table.new)) }
+    ensures fulfils { (script : List ℕ)
+        → PerformsSystemCall (search_next_call regs.old desk.old.desk.spot) script
+        (scene regs.old (B.memory bus.old) desk.old (table_view table.old)) result
+        (scene regs.new (B.memory bus.new) desk.new (table_view table.new)) }
     ensures grows { OnErr result (is_some desk.old.desk.spot.search ≡ true) }
 {
     let to = fetch_word(bus, regs.sp);
     let finding = search_next(table.host, table.changes, desk.search());
-    carry_on(&finding, regs, bus, table, desk, to)
+    apply_finding(&finding, regs, bus, table, desk, to)
 }
 
 // Returns the drive that the first byte of a control block names, if it names one.
-fn drive_named(current: Drive, dr: u8) -> Option<Drive>
-    ensures { result ≡ drive_named current dr }
+fn drive_of_byte(current: Drive, dr: u8) -> Option<Drive>
+    ensures { result ≡ drive_of_byte current dr }
 {
     match dr {
         0 => Some(current),
@@ -141,7 +143,7 @@ fn drive_named(current: Drive, dr: u8) -> Option<Drive>
 // Reads the control block at an address, whose drive byte was already read: 36 bytes, or 33 bytes followed by zeros.
 fn fetch_block<B: Bus>(bus: &mut B, at: u16, drive: Drive, dr: u8, whole: bool) -> Block
     ensures { let length = if whole then 36 else 33 in
-        Reads (block_read drive dr length at) (B.memory bus.old) result (B.memory bus.new) }
+        Reads (block_reading drive dr length at) (B.memory bus.old) result (B.memory bus.new) }
 {
     let mut bytes = [0; 36];
     bytes[0] = dr;

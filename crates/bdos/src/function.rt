@@ -1,5 +1,5 @@
 ghost use Rattle.std.specs.Prelude.{◌≡◌};
-ghost use Rattle.bdos.specs.Calls.{system_function};
+ghost use Rattle.bdos.specs.SystemCalls.{system_function};
 
 use file_calls::FileFunction;
 

@@ -1,12 +1,12 @@
 //! The calls of the BDOS of CP/M 2.2, over any memory and any files.
 //!
 //! - `function`, `calls`: the calls by their numbers; `call`, and the first part of a call that names a file
-//! - `carry_on`, `cells`: what a call does with what it found; the cells of control blocks and of the buffer
+//! - `findings`, `cells`: what a call does with what it found; the cells of control blocks and of the buffer
 #![tactic(auto)]
 
 mod calls;
-mod carry_on;
 mod cells;
+mod findings;
 mod function;
 
 pub use calls::call;

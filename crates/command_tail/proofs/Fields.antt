@@ -5,7 +5,7 @@ use Rattle.std.proofs.lemmas.List.{take-replicate, drop-replicate, drop_all, tak
 use Rattle.std.proofs.lemmas.Bool.Decides.{nat_tests, leb_tells}
 use Rattle.std.proofs.Math.Seq.{take-append-add}
 use Rattle.std.proofs.Math.Nat.{min-eq_left, min-eq_right}
-use Rattle.command_tail.specs.Words.{is_star, field_of, drive_byte, name_text, named_by}
+use Rattle.command_tail.specs.Words.{is_star, field_of, drive_byte, name_text, drive_and_name}
 use Rattle.filenames.specs.Names.{is_dot}
 
 one_on : (n m : ℕ) → nat_lt n m ≡ nat_lt (1 + n) (suc m)
@@ -44,8 +44,8 @@ length_field n part = length-take-le n _ (omega (arith, length-append {A = ℕ},
 length_fields : (name kind : List ℕ) → length (field_of 8 name ++ field_of 3 kind) ≡ 11
 length_fields name kind = length-append (field_of 8 name) (field_of 3 kind) ∙ ap (λ n. n + length (field_of 3 kind)) (length_field 8 name) ∙ ap (λ n. 8 + n) (length_field 3 kind)
 
-pub length_named : (word : List ℕ) → length (named_by word) ≡ 12
-unfolding named_by
+pub length_named : (word : List ℕ) → length (drive_and_name word) ≡ 12
+unfolding drive_and_name
 length_named word = ap suc (length_fields (before_first is_dot (name_text word)) (before_first is_dot (after_first is_dot (name_text word))))
 
 -- The fields after the drive byte.
@@ -82,8 +82,8 @@ field_filled n star end rest part filled front place within e r f t = elim (leb_
 
 -- The fields of a word, from its parts before and after the dots.
 pub name_named : (word : List ℕ) (drive : ℕ) (text name behind kind : List ℕ) → drive ≡ drive_byte word → text ≡ name_text word → name ≡ before_first is_dot text → behind ≡ after_first is_dot text
-    → kind ≡ before_first is_dot behind → drive ∷ (field_of 8 name ++ field_of 3 kind) ≡ named_by word
-unfolding named_by
+    → kind ≡ before_first is_dot behind → drive ∷ (field_of 8 name ++ field_of 3 kind) ≡ drive_and_name word
+unfolding drive_and_name
 name_named word drive text name behind kind d t n b k =
     ap (λ x. x ∷ (field_of 8 name ++ field_of 3 kind)) d
     ∙ ap (λ x. drive_byte word ∷ (field_of 8 x ++ field_of 3 kind)) (n ∙ ap (before_first is_dot) t)

@@ -13,11 +13,11 @@ without_blanks text = drop (position_or_len (λ b. not (is_blank b)) text) text
 abbrev pub first_word : List ℕ → List ℕ
 first_word text = before_first is_blank (without_blanks text)
 
-abbrev pub behind_first_word : List ℕ → List ℕ
-behind_first_word text = drop (position_or_len is_blank (without_blanks text)) (without_blanks text)
+abbrev pub after_first_word : List ℕ → List ℕ
+after_first_word text = drop (position_or_len is_blank (without_blanks text)) (without_blanks text)
 
 abbrev pub second_word : List ℕ → List ℕ
-second_word text = first_word (behind_first_word text)
+second_word text = first_word (after_first_word text)
 
 -- Whether a word's second byte is `:`, and its first a letter A to Z.
 abbrev pub names_drive : List ℕ → Bool
@@ -39,7 +39,7 @@ abbrev pub field_of : ℕ → List ℕ → List ℕ
 field_of n part = take n (before_first is_star part ++ replicate n (if list_any is_star part then 63 else 32))
 
 -- The drive byte; a field of 8 bytes for the text before the first `.`, and one of 3 for the text between that and the next.
-unfoldable pub named_by : List ℕ → List ℕ
-named_by word =
+unfoldable pub drive_and_name : List ℕ → List ℕ
+drive_and_name word =
     drive_byte word ∷ field_of 8 (before_first is_dot (name_text word))
     ++ field_of 3 (before_first is_dot (after_first is_dot (name_text word)))

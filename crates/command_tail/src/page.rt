@@ -1,10 +1,10 @@
 // Page zero with a command tail.
 
 ghost use Rattle.std.specs.Prelude.{◌≡◌, ◌+◌, ◌≤◌, length};
-ghost use Rattle.command_tail.specs.PageZero.{page_zero, page_of, tail_cells, written};
+ghost use Rattle.command_tail.specs.PageZero.{page_zero, page_with_tail, tail_cells, with_bytes_at};
 
-use crate::word::{named_by, split_word};
-use filenames::fill;
+use crate::word::{drive_and_name, split_word};
+use filenames::copy_uppercase;
 
 /// The maximum length of a command tail, in bytes.
 pub const TAIL_LIMIT: usize = 126;
@@ -22,21 +22,21 @@ pub fn page_zero(tail: &[u8]) -> [u8; 256]
     ensures { result ≡ page_zero tail.now }
 {
     let mut raised = [0; TAIL_LIMIT];
-    fill(&mut raised, tail);
-    page_of(&raised[..tail.len()])
+    copy_uppercase(&mut raised, tail);
+    page_with_tail(&raised[..tail.len()])
 }
 
 // Returns page zero with a tail in upper case.
-fn page_of(tail: &[u8]) -> [u8; 256]
+fn page_with_tail(tail: &[u8]) -> [u8; 256]
     requires { length tail.now ≤ TAIL_LIMIT }
-    ensures { result ≡ page_of tail.now }
+    ensures { result ≡ page_with_tail tail.now }
 {
     let (first, rest) = split_word(tail);
     let (second, _) = split_word(rest);
     let mut page = [0; 256];
     write(&mut page, 0, &JUMPS);
-    write(&mut page, 0x5c, &named_by(first));
-    write(&mut page, 0x6c, &named_by(second));
+    write(&mut page, 0x5c, &drive_and_name(first));
+    write(&mut page, 0x6c, &drive_and_name(second));
     write(&mut page, 0x80, &tail_cells(tail));
     page
 }
@@ -44,7 +44,7 @@ fn page_of(tail: &[u8]) -> [u8; 256]
 // Overwrites the cells from an address on.
 fn write(cells: &mut [u8], at: usize, bytes: &[u8])
     requires { at + length bytes.now ≤ length cells.old }
-    ensures { cells.new ≡ written cells.old at bytes.now }
+    ensures { cells.new ≡ with_bytes_at cells.old at bytes.now }
 {
     cells[at..at + bytes.len()].copy_from_slice(bytes);
 }

@@ -1,18 +1,18 @@
 // The words of a command tail, with the drive and the name in a word.
 
 ghost use Rattle.std.specs.Prelude.{◌≡◌, length};
-ghost use Rattle.command_tail.specs.Words.{without_blanks, first_word, behind_first_word, drive_byte, name_text, field_of, named_by};
+ghost use Rattle.command_tail.specs.Words.{without_blanks, first_word, after_first_word, drive_byte, name_text, field_of, drive_and_name};
 
-use filenames::{first, halves};
+use filenames::{find_byte, split_at_dot};
 
 /// Returns the first word of a text, and the text after it. Words are separated by blanks; if there is no word, both
 /// are empty.
 pub fn split_word(text: &[u8]) -> (&[u8], &[u8])
     ensures word { result.0.now ≡ first_word text.now }
-    ensures rest { result.1.now ≡ behind_first_word text.now }
+    ensures rest { result.1.now ≡ after_first_word text.now }
 {
     let text = without_blanks(text);
-    let end = first(text, b' ');
+    let end = find_byte(text, b' ');
     (&text[..end], &text[end..])
 }
 
@@ -30,12 +30,12 @@ fn without_blanks(text: &[u8]) -> &[u8]
 
 /// Returns the drive byte and the name in a word. The drive byte is 1 to 26 if the word begins with a letter A to Z and
 /// `:`, else 0. The field of the name has 8 bytes, and the field of the type 3.
-pub fn named_by(word: &[u8]) -> [u8; 12]
-    ensures { result ≡ named_by word.now }
+pub fn drive_and_name(word: &[u8]) -> [u8; 12]
+    ensures { result ≡ drive_and_name word.now }
 {
     let (drive, text) = split_drive(word);
-    let (name, behind) = halves(text);
-    let (kind, _) = halves(behind);
+    let (name, behind) = split_at_dot(text);
+    let (kind, _) = split_at_dot(behind);
     let mut bytes = [drive; 12];
     fill_field(&mut bytes[1..9], name);
     fill_field(&mut bytes[9..12], kind);
@@ -58,7 +58,7 @@ fn split_drive(word: &[u8]) -> (u8, &[u8])
 fn fill_field(field: &mut [u8], part: &[u8])
     ensures { field.new ≡ field_of (length field.old) part.now }
 {
-    let star = first(part, b'*');
+    let star = find_byte(part, b'*');
     let rest = if star < part.len() { b'?' } else { b' ' };
     let end = star.min(field.len());
     field.fill(rest);

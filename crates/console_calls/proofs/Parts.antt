@@ -6,9 +6,9 @@ use Rattle.i8080.specs.declared.registers.Regs.{Regs}
 use Rattle.i8080.specs.Memory.{Memory}
 use Rattle.console_calls.specs.declared.served.Served.{Served}
 use Rattle.console_calls.specs.Desk.{Desk}
-use Rattle.console_calls.specs.Questions.{StateTree}
-use Rattle.console_calls.specs.Calls.{CallEnd}
-use Rattle.console_calls.specs.Serves.{Fulfils}
+use Rattle.console_calls.specs.StateQuestions.{StateTree}
+use Rattle.console_calls.specs.ConsoleCalls.{CallEnd}
+use Rattle.console_calls.specs.PerformsCall.{PerformsCall}
 
 abbrev pub FulfilsBy : StateTree CallEnd → List ℕ → Regs → Memory → Desk → (ℕ → Bool) → Result Served AllocError → Regs → Memory → Desk → (ℕ → Bool) → Type 0
-FulfilsBy t script r m d was result r' m' d' is = Fulfils t script (record { regs = r; memory = m; desk = d; looked = was }) result (record { regs = r'; memory = m'; desk = d'; looked = is })
+FulfilsBy t script r m d was result r' m' d' is = PerformsCall t script (record { regs = r; memory = m; desk = d; looked = was }) result (record { regs = r'; memory = m'; desk = d'; looked = is })

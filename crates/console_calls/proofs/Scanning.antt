@@ -9,10 +9,10 @@ use Rattle.i8080.specs.Registers.{onward}
 use Rattle.i8080.specs.Performs.{Reads}
 use Rattle.i8080.proofs.BoundLemmas.{bound_all}
 use Rattle.console_calls.proofs.Looking.{one_more, some_more, here}
-use Rattle.console_calls.specs.Desk.{Desk, Shown, printed, printed_all}
+use Rattle.console_calls.specs.Desk.{Desk, ConsoleText, printed_byte, printed_bytes}
 use Rattle.console_calls.specs.DeskAfter.{desk_showing, desk_printing}
 use Rattle.console_calls.specs.Strings.{ending, string_at}
-use Rattle.console_calls.specs.Printing.{Grown, printed_if}
+use Rattle.console_calls.specs.Printing.{GrowsText, desk_after_string}
 
 pub end_of-ending : {E F : Type 0} (h : E → F) (t : Reading E) (byte : ℕ → ℕ) → end_of (ending h t) byte ≡ h (end_of t byte)
 end_of-ending h (Done e) byte = refl
@@ -54,12 +54,12 @@ nothing_asked : (byte : ℕ → ℕ) (a : ℕ) → asked (string_at 0 a) byte �
 unfolding string_at
 nothing_asked byte a = refl
 
-print_first : (d : Desk) (v : ℕ) (rest : Option (List ℕ)) → option_map (desk_printing d) (option_map (λ r. v ∷ r) rest) ≡ option_map (desk_printing (desk_showing d (printed d.spot.column v))) rest
+print_first : (d : Desk) (v : ℕ) (rest : Option (List ℕ)) → option_map (desk_printing d) (option_map (λ r. v ∷ r) rest) ≡ option_map (desk_printing (desk_showing d (printed_byte d.spot.column v))) rest
 print_first d v None = refl
-print_first d v (Some rest) = ap (λ text. Some (record { spot = record d.spot { column = (printed_all d.spot.column (v ∷ rest)).column }; text = text })) (sym (append_assoc d.text (printed d.spot.column v).bytes (printed_all (printed d.spot.column v).column rest).bytes))
+print_first d v (Some rest) = ap (λ text. Some (record { spot = record d.spot { column = (printed_bytes d.spot.column (v ∷ rest)).column }; text = text })) (sym (append_assoc d.text (printed_byte d.spot.column v).bytes (printed_bytes (printed_byte d.spot.column v).column rest).bytes))
 
 -- One pass of the loop: a byte other than `$` was read and printed.
-pub desk_on : (byte : ℕ → ℕ) (n i a v : ℕ) (d d' : Desk) → i < n → v ≡ byte a → v ≢ 0x24 → d' ≡ desk_showing d (printed d.spot.column v)
+pub desk_on : (byte : ℕ → ℕ) (n i a v : ℕ) (d d' : Desk) → i < n → v ≡ byte a → v ≢ 0x24 → d' ≡ desk_showing d (printed_byte d.spot.column v)
     → option_map (desk_printing d') (end_of (string_at (n - (i + 1)) (onward a 1)) byte) ≡ option_map (desk_printing d) (end_of (string_at (n - i) a) byte)
 desk_on byte n i a v d d' h e other p =
     rw (p, one_less n i h, goes_on byte (n - (i + 1)) a (rw (← e) other), e) (sym (print_first d (byte a) _))
@@ -105,7 +105,7 @@ pub found_none : (d : Desk) (string : Option (List ℕ)) → None ≡ option_map
 found_none d None h = refl
 found_none d (Some s) h = cc
 
-pub desk_is : (d d' : Desk) (string : Option (List ℕ)) → Some d' ≡ option_map (desk_printing d) string → d' ≡ printed_if d string
+pub desk_is : (d d' : Desk) (string : Option (List ℕ)) → Some d' ≡ option_map (desk_printing d) string → d' ≡ desk_after_string d string
 desk_is d d' None h = cc
 desk_is d d' (Some s) h = cc
 
@@ -114,7 +114,7 @@ grown_by : (d : Desk) (text more : List ℕ) → length d.text ≤ length text �
     → (length d.text ≤ length (text ++ more)) × (take (length d.text) (text ++ more) ≡ d.text)
 grown_by d text more h e = (omega (arith, length-append text more), take-append-le (length d.text) text more h ∙ e)
 
-pub grown_on : (d d1 : Desk) (s : Shown) → Grown d d1 → Grown d (desk_showing d1 s)
+pub grown_on : (d d1 : Desk) (s : ConsoleText) → GrowsText d d1 → GrowsText d (desk_showing d1 s)
 grown_on d d1 s h = let both = grown_by d d1.text s.bytes h.longer h.since in record { longer = both.0; since = both.1; cursor = h.cursor }
 
 -- The next cell is looked at, whatever it holds.

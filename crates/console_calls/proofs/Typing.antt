@@ -2,12 +2,12 @@
 use Rattle.std.proofs.Common.{◌≡◌, ℕ, zero, suc, cond, ◌+◌, ◌-◌, ◌<◌, ◌≤◌, ◌||◌, ◌==◌, Bool, true, false, nat_lt, List, [], ◌∷◌, length, get_or, Option, Some, None, slice_get, refl, ap, sym, ◌∙◌, arith}
 use Rattle.std.proofs.lemmas.Bool.Decides.{nat_tests}
 use Rattle.std.proofs.lemmas.Option.{slice_get-get_or, slice_get_past}
-use Rattle.interaction_trees.specs.Tree.{Return, Query, result_of, asked}
+use Rattle.interaction_trees.specs.Tree.{Return, Query, result_of, questions_of}
 use Rattle.i8080.specs.Memory.{is_among}
 use Rattle.console_calls.specs.declared.line.LineEnd.TheVariants as code
-use Rattle.console_calls.specs.Places.{is_ahead}
-use Rattle.console_calls.specs.Questions.{Input, answers, addresses, script_places}
-use Rattle.console_calls.specs.Line.{Line, Typed, Goes, Ends, Boots, LineEnd, Ended, Booted, Short, no_line, typing, typed, typed_on, type_byte}
+use Rattle.console_calls.specs.ScriptLooks.{is_ahead}
+use Rattle.console_calls.specs.StateQuestions.{Input, answers, addresses, script_offsets}
+use Rattle.console_calls.specs.Line.{Line, LineStep, Goes, Ends, Boots, LineEnd, Ended, Booted, Short, no_line, line_tree, line_after_answer, line_after_step, type_byte}
 use Rattle.console_calls.specs.Types.{Types}
 use Rattle.console_calls.proofs.Trees.{or_assoc, or_false}
 
@@ -22,45 +22,45 @@ ahead_next : (k i j : ℕ) → (is_ahead k i j || j == k + i) ≡ is_ahead k (i 
 ahead_next k i j = grind (arith, nat_tests)
 
 -- No cell is asked for.
-pub no_cells : (byte : ℕ → ℕ) (script : List ℕ) (n m k : ℕ) (l : Line) → addresses (asked (answers byte script) (typing n m k l)) ≡ []
-unfolding typing
+pub no_cells : (byte : ℕ → ℕ) (script : List ℕ) (n m k : ℕ) (l : Line) → addresses (questions_of (answers byte script) (line_tree n m k l)) ≡ []
+unfolding line_tree
 no_cells byte script zero m k l = refl
 no_cells byte script (suc n) m k l = by (λ l. no_cells byte script n m (k + 1) l) (nat_lt (length l.stored) m) where
-  by_typed : ((l : Line) → addresses (asked (answers byte script) (typing n m (k + 1) l)) ≡ []) → (t : Typed) → addresses (asked (answers byte script) (typed_on (typing n m (k + 1)) k t)) ≡ []
+  by_typed : ((l : Line) → addresses (questions_of (answers byte script) (line_tree n m (k + 1) l)) ≡ []) → (t : LineStep) → addresses (questions_of (answers byte script) (line_after_step (line_tree n m (k + 1)) k t)) ≡ []
   by_typed h (Goes l) = h l
   by_typed h (Ends l) = refl
   by_typed h Boots = refl
 
-  by_answer : ((l : Line) → addresses (asked (answers byte script) (typing n m (k + 1) l)) ≡ []) → (a : Option ℕ) → addresses (asked (answers byte script) (typed (typing n m (k + 1)) k l a)) ≡ []
+  by_answer : ((l : Line) → addresses (questions_of (answers byte script) (line_tree n m (k + 1) l)) ≡ []) → (a : Option ℕ) → addresses (questions_of (answers byte script) (line_after_answer (line_tree n m (k + 1)) k l a)) ≡ []
   by_answer h None = refl
   by_answer h (Some b) = by_typed h (type_byte l b)
 
-  by : ((l : Line) → addresses (asked (answers byte script) (typing n m (k + 1) l)) ≡ []) → (b : Bool) → addresses (asked (answers byte script) (cond b (Query (Input k) (typed (typing n m (k + 1)) k l)) (Return (Ended l k)))) ≡ []
+  by : ((l : Line) → addresses (questions_of (answers byte script) (line_tree n m (k + 1) l)) ≡ []) → (b : Bool) → addresses (questions_of (answers byte script) (cond b (Query (Input k) (line_after_answer (line_tree n m (k + 1)) k l)) (Return (Ended l k)))) ≡ []
   by h true = by_answer h (slice_get script k)
   by h false = refl
 
 module _ (byte : ℕ → ℕ) (script : List ℕ) (n m k : ℕ) (l : Line) where
   -- The next byte is asked for.
-  asks_result : length l.stored < m → result_of (answers byte script) (typing (suc n) m k l) ≡ result_of (answers byte script) (typed (typing n m (k + 1)) k l (slice_get script k))
-  unfolding typing
+  asks_result : length l.stored < m → result_of (answers byte script) (line_tree (suc n) m k l) ≡ result_of (answers byte script) (line_after_answer (line_tree n m (k + 1)) k l (slice_get script k))
+  unfolding line_tree
   asks_result h = rw (below (length l.stored) m h) refl
 
-  asks_places : length l.stored < m → script_places (asked (answers byte script) (typing (suc n) m k l)) ≡ k ∷ script_places (asked (answers byte script) (typed (typing n m (k + 1)) k l (slice_get script k)))
-  unfolding typing
+  asks_places : length l.stored < m → script_offsets (questions_of (answers byte script) (line_tree (suc n) m k l)) ≡ k ∷ script_offsets (questions_of (answers byte script) (line_after_answer (line_tree n m (k + 1)) k l (slice_get script k)))
+  unfolding line_tree
   asks_places h = rw (below (length l.stored) m h) refl
 
-  full_result : m ≤ length l.stored → result_of (answers byte script) (typing (suc n) m k l) ≡ Ended l k
-  unfolding typing
+  full_result : m ≤ length l.stored → result_of (answers byte script) (line_tree (suc n) m k l) ≡ Ended l k
+  unfolding line_tree
   full_result h = rw (above (length l.stored) m h) refl
 
-  full_places : m ≤ length l.stored → script_places (asked (answers byte script) (typing (suc n) m k l)) ≡ []
-  unfolding typing
+  full_places : m ≤ length l.stored → script_offsets (questions_of (answers byte script) (line_tree (suc n) m k l)) ≡ []
+  unfolding line_tree
   full_places h = rw (above (length l.stored) m h) refl
 
 -- The first i bytes were taken and make this line.
 pub record IsTyped (script : List ℕ) (m k i : ℕ) (l : Line) : Type 0 where
-  pub ends : (byte : ℕ → ℕ) (fuel : ℕ) → result_of (answers byte script) (typing (i + fuel) m k no_line) ≡ result_of (answers byte script) (typing fuel m (k + i) l)
-  pub places : (byte : ℕ → ℕ) (fuel j : ℕ) → is_among j (script_places (asked (answers byte script) (typing (i + fuel) m k no_line))) ≡ (is_ahead k i j || is_among j (script_places (asked (answers byte script) (typing fuel m (k + i) l))))
+  pub ends : (byte : ℕ → ℕ) (fuel : ℕ) → result_of (answers byte script) (line_tree (i + fuel) m k no_line) ≡ result_of (answers byte script) (line_tree fuel m (k + i) l)
+  pub places : (byte : ℕ → ℕ) (fuel j : ℕ) → is_among j (script_offsets (questions_of (answers byte script) (line_tree (i + fuel) m k no_line))) ≡ (is_ahead k i j || is_among j (script_offsets (questions_of (answers byte script) (line_tree fuel m (k + i) l))))
 
 nothing_ahead : (k j : ℕ) → is_ahead k 0 j ≡ false
 nothing_ahead k j = grind (arith, nat_tests)
@@ -75,9 +75,9 @@ pub nothing_typed : (script : List ℕ) (m k : ℕ) → IsTyped script m k 0 no_
 nothing_typed script m k = record {
   ends = λ byte fuel. rw (zero_more fuel, more_zero k) refl;
   places = λ byte fuel j.
-      ap (λ (n : ℕ). is_among j (script_places (asked (answers byte script) (typing n m k no_line)))) (zero_more fuel)
-      ∙ ap (λ (at : ℕ). is_among j (script_places (asked (answers byte script) (typing fuel m at no_line)))) (sym (more_zero k))
-      ∙ ap (λ (b : Bool). b || is_among j (script_places (asked (answers byte script) (typing fuel m (k + 0) no_line)))) (sym (nothing_ahead k j));
+      ap (λ (n : ℕ). is_among j (script_offsets (questions_of (answers byte script) (line_tree n m k no_line)))) (zero_more fuel)
+      ∙ ap (λ (at : ℕ). is_among j (script_offsets (questions_of (answers byte script) (line_tree fuel m at no_line)))) (sym (more_zero k))
+      ∙ ap (λ (b : Bool). b || is_among j (script_offsets (questions_of (answers byte script) (line_tree fuel m (k + 0) no_line)))) (sym (nothing_ahead k j));
 }
 
 one_later : (i fuel : ℕ) → (i + 1) + fuel ≡ i + suc fuel
@@ -91,21 +91,21 @@ module _ {script : List ℕ} {m k i : ℕ} {l l' : Line} (t : IsTyped script m k
   pub goes_typed : Goes l' ≡ type_byte l b → IsTyped script m k (i + 1) l'
   goes_typed e = record {
     ends = λ byte fuel.
-        ap (λ (n : ℕ). result_of (answers byte script) (typing n m k no_line)) (one_later i fuel)
+        ap (λ (n : ℕ). result_of (answers byte script) (line_tree n m k no_line)) (one_later i fuel)
         ∙ t.ends byte (suc fuel)
         ∙ asks_result byte script fuel m (k + i) l room
-        ∙ ap (λ (a : Option ℕ). result_of (answers byte script) (typed (typing fuel m (k + i + 1)) (k + i) l a)) is
-        ∙ ap (λ (x : Typed). result_of (answers byte script) (typed_on (typing fuel m (k + i + 1)) (k + i) x)) (sym e)
-        ∙ ap (λ (at : ℕ). result_of (answers byte script) (typing fuel m at l')) (one_on k i);
+        ∙ ap (λ (a : Option ℕ). result_of (answers byte script) (line_after_answer (line_tree fuel m (k + i + 1)) (k + i) l a)) is
+        ∙ ap (λ (x : LineStep). result_of (answers byte script) (line_after_step (line_tree fuel m (k + i + 1)) (k + i) x)) (sym e)
+        ∙ ap (λ (at : ℕ). result_of (answers byte script) (line_tree fuel m at l')) (one_on k i);
     places = λ byte fuel j.
-        let rest : List ℕ = script_places (asked (answers byte script) (typing fuel m (k + (i + 1)) l')) in
-        ap (λ (n : ℕ). is_among j (script_places (asked (answers byte script) (typing n m k no_line)))) (one_later i fuel)
+        let rest : List ℕ = script_offsets (questions_of (answers byte script) (line_tree fuel m (k + (i + 1)) l')) in
+        ap (λ (n : ℕ). is_among j (script_offsets (questions_of (answers byte script) (line_tree n m k no_line)))) (one_later i fuel)
         ∙ t.places byte (suc fuel) j
         ∙ ap (λ (ks : List ℕ). is_ahead k i j || is_among j ks)
         (asks_places byte script fuel m (k + i) l room
-        ∙ ap (λ (a : Option ℕ). (k + i) ∷ script_places (asked (answers byte script) (typed (typing fuel m (k + i + 1)) (k + i) l a))) is
-        ∙ ap (λ (x : Typed). (k + i) ∷ script_places (asked (answers byte script) (typed_on (typing fuel m (k + i + 1)) (k + i) x))) (sym e)
-        ∙ ap (λ (at : ℕ). (k + i) ∷ script_places (asked (answers byte script) (typing fuel m at l'))) (one_on k i))
+        ∙ ap (λ (a : Option ℕ). (k + i) ∷ script_offsets (questions_of (answers byte script) (line_after_answer (line_tree fuel m (k + i + 1)) (k + i) l a))) is
+        ∙ ap (λ (x : LineStep). (k + i) ∷ script_offsets (questions_of (answers byte script) (line_after_step (line_tree fuel m (k + i + 1)) (k + i) x))) (sym e)
+        ∙ ap (λ (at : ℕ). (k + i) ∷ script_offsets (questions_of (answers byte script) (line_tree fuel m at l'))) (one_on k i))
         ∙ sym (or_assoc (is_ahead k i j) (j == k + i) (is_among j rest))
         ∙ ap (λ (b : Bool). b || is_among j rest) (ahead_next k i j);
   }
@@ -116,12 +116,12 @@ left i n h = omega arith
 
 module _ {script : List ℕ} {m k i : ℕ} {l : Line} (t : IsTyped script m k i l) (byte : ℕ → ℕ) (n : ℕ) (within : i ≤ n) where
   -- From the end of the rest to the end of the whole.
-  ends_as : (e : LineEnd) → result_of (answers byte script) (typing (suc (n - i)) m (k + i) l) ≡ e → result_of (answers byte script) (typing (suc n) m k no_line) ≡ e
-  ends_as e h = ap (λ (x : ℕ). result_of (answers byte script) (typing x m k no_line)) (left i n within) ∙ t.ends byte (suc (n - i)) ∙ h
+  ends_as : (e : LineEnd) → result_of (answers byte script) (line_tree (suc (n - i)) m (k + i) l) ≡ e → result_of (answers byte script) (line_tree (suc n) m k no_line) ≡ e
+  ends_as e h = ap (λ (x : ℕ). result_of (answers byte script) (line_tree x m k no_line)) (left i n within) ∙ t.ends byte (suc (n - i)) ∙ h
 
-  asks_as : (ks : List ℕ) → script_places (asked (answers byte script) (typing (suc (n - i)) m (k + i) l)) ≡ ks
-      → (j : ℕ) → is_among j (script_places (asked (answers byte script) (typing (suc n) m k no_line))) ≡ (is_ahead k i j || is_among j ks)
-  asks_as ks h j = ap (λ (x : ℕ). is_among j (script_places (asked (answers byte script) (typing x m k no_line)))) (left i n within) ∙ t.places byte (suc (n - i)) j
+  asks_as : (ks : List ℕ) → script_offsets (questions_of (answers byte script) (line_tree (suc (n - i)) m (k + i) l)) ≡ ks
+      → (j : ℕ) → is_among j (script_offsets (questions_of (answers byte script) (line_tree (suc n) m k no_line))) ≡ (is_ahead k i j || is_among j ks)
+  asks_as ks h j = ap (λ (x : ℕ). is_among j (script_offsets (questions_of (answers byte script) (line_tree x m k no_line)))) (left i n within) ∙ t.places byte (suc (n - i)) j
       ∙ ap (λ (x : List ℕ). is_ahead k i j || is_among j x) h
 
   one_place : (j : ℕ) → (is_ahead k i j || is_among j ((k + i) ∷ [])) ≡ is_ahead k (i + 1) j
@@ -140,13 +140,13 @@ module _ {script : List ℕ} {m k i : ℕ} {l : Line} (t : IsTyped script m k i 
     ends_types l' e = record {
       ends = ends_as (Ended l' (k + (i + 1)))
           (asks_result byte script (n - i) m (k + i) l room
-          ∙ ap (λ (a : Option ℕ). result_of (answers byte script) (typed (typing (n - i) m (k + i + 1)) (k + i) l a)) is
-          ∙ ap (λ (x : Typed). result_of (answers byte script) (typed_on (typing (n - i) m (k + i + 1)) (k + i) x)) (sym e)
+          ∙ ap (λ (a : Option ℕ). result_of (answers byte script) (line_after_answer (line_tree (n - i) m (k + i + 1)) (k + i) l a)) is
+          ∙ ap (λ (x : LineStep). result_of (answers byte script) (line_after_step (line_tree (n - i) m (k + i + 1)) (k + i) x)) (sym e)
           ∙ ap (λ (at : ℕ). Ended l' at) (one_on k i));
       places = λ j. asks_as ((k + i) ∷ [])
           (asks_places byte script (n - i) m (k + i) l room
-          ∙ ap (λ (a : Option ℕ). (k + i) ∷ script_places (asked (answers byte script) (typed (typing (n - i) m (k + i + 1)) (k + i) l a))) is
-          ∙ ap (λ (x : Typed). (k + i) ∷ script_places (asked (answers byte script) (typed_on (typing (n - i) m (k + i + 1)) (k + i) x))) (sym e)) j
+          ∙ ap (λ (a : Option ℕ). (k + i) ∷ script_offsets (questions_of (answers byte script) (line_after_answer (line_tree (n - i) m (k + i + 1)) (k + i) l a))) is
+          ∙ ap (λ (x : LineStep). (k + i) ∷ script_offsets (questions_of (answers byte script) (line_after_step (line_tree (n - i) m (k + i + 1)) (k + i) x))) (sym e)) j
           ∙ one_place j;
     }
 
@@ -154,12 +154,12 @@ module _ {script : List ℕ} {m k i : ℕ} {l : Line} (t : IsTyped script m k i 
     boots_types e = record {
       ends = ends_as Booted
           (asks_result byte script (n - i) m (k + i) l room
-          ∙ ap (λ (a : Option ℕ). result_of (answers byte script) (typed (typing (n - i) m (k + i + 1)) (k + i) l a)) is
-          ∙ ap (λ (x : Typed). result_of (answers byte script) (typed_on (typing (n - i) m (k + i + 1)) (k + i) x)) (sym e));
+          ∙ ap (λ (a : Option ℕ). result_of (answers byte script) (line_after_answer (line_tree (n - i) m (k + i + 1)) (k + i) l a)) is
+          ∙ ap (λ (x : LineStep). result_of (answers byte script) (line_after_step (line_tree (n - i) m (k + i + 1)) (k + i) x)) (sym e));
       places = λ j. asks_as ((k + i) ∷ [])
           (asks_places byte script (n - i) m (k + i) l room
-          ∙ ap (λ (a : Option ℕ). (k + i) ∷ script_places (asked (answers byte script) (typed (typing (n - i) m (k + i + 1)) (k + i) l a))) is
-          ∙ ap (λ (x : Typed). (k + i) ∷ script_places (asked (answers byte script) (typed_on (typing (n - i) m (k + i + 1)) (k + i) x))) (sym e)) j
+          ∙ ap (λ (a : Option ℕ). (k + i) ∷ script_offsets (questions_of (answers byte script) (line_after_answer (line_tree (n - i) m (k + i + 1)) (k + i) l a))) is
+          ∙ ap (λ (x : LineStep). (k + i) ∷ script_offsets (questions_of (answers byte script) (line_after_step (line_tree (n - i) m (k + i + 1)) (k + i) x))) (sym e)) j
           ∙ one_place j;
     }
 
@@ -168,10 +168,10 @@ module _ {script : List ℕ} {m k i : ℕ} {l : Line} (t : IsTyped script m k i 
   short_types room is = record {
     ends = ends_as Short
         (asks_result byte script (n - i) m (k + i) l room
-        ∙ ap (λ (a : Option ℕ). result_of (answers byte script) (typed (typing (n - i) m (k + i + 1)) (k + i) l a)) is);
+        ∙ ap (λ (a : Option ℕ). result_of (answers byte script) (line_after_answer (line_tree (n - i) m (k + i + 1)) (k + i) l a)) is);
     places = λ j. asks_as ((k + i) ∷ [])
         (asks_places byte script (n - i) m (k + i) l room
-        ∙ ap (λ (a : Option ℕ). (k + i) ∷ script_places (asked (answers byte script) (typed (typing (n - i) m (k + i + 1)) (k + i) l a))) is) j
+        ∙ ap (λ (a : Option ℕ). (k + i) ∷ script_offsets (questions_of (answers byte script) (line_after_answer (line_tree (n - i) m (k + i + 1)) (k + i) l a))) is) j
         ∙ one_place j;
   }
 

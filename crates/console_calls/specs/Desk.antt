@@ -29,39 +29,39 @@ column_after_all column [] = column
 column_after_all column (byte ∷ rest) = column_after_all (column_after column byte) rest
 
 -- Bytes that are sent, and the column after them.
-pub record Shown : Type 0 where
+pub record ConsoleText : Type 0 where
   pub bytes : List ℕ
   pub column : ℕ
 
 -- A byte sent at a column.
-abbrev pub sent : ℕ → ℕ → Shown
-sent column byte = record { bytes = byte ∷ []; column = column_after column byte }
+abbrev pub sent_byte : ℕ → ℕ → ConsoleText
+sent_byte column byte = record { bytes = byte ∷ []; column = column_after column byte }
 
 -- Blanks, at least one, up to the next column that is a multiple of 8. (Tabs are expanded: [Interface Guide 1979, function 2])
-abbrev pub tabbed : ℕ → Shown
-tabbed column = let blanks = 8 - column % 8 in record { bytes = replicate blanks 0x20; column = column + blanks }
+abbrev pub tab_blanks : ℕ → ConsoleText
+tab_blanks column = let blanks = 8 - column % 8 in record { bytes = replicate blanks 0x20; column = column + blanks }
 
 -- A byte printed at a column.
-abbrev pub printed : ℕ → ℕ → Shown
-printed column byte = if byte == 0x09 then tabbed column else sent column byte
+abbrev pub printed_byte : ℕ → ℕ → ConsoleText
+printed_byte column byte = if byte == 0x09 then tab_blanks column else sent_byte column byte
 
 -- Whether function 1 echoes the byte that it takes. [Interface Guide 1979, function 1]
 abbrev pub is_echoed : ℕ → Bool
 is_echoed byte = nat_le 0x20 byte || byte == 0x08 || byte == 0x09 || byte == 0x0a || byte == 0x0d
 
 -- What function 1 prints for the byte that it takes.
-abbrev pub echoed : ℕ → ℕ → Shown
-echoed column byte = if is_echoed byte then printed column byte else record { bytes = []; column = column }
+abbrev pub echoed_byte : ℕ → ℕ → ConsoleText
+echoed_byte column byte = if is_echoed byte then printed_byte column byte else record { bytes = []; column = column }
 
 -- One after the other: the bytes of the first, and then of the second.
-abbrev pub followed : Shown → Shown → Shown
-followed s t = record { bytes = s.bytes ++ t.bytes; column = t.column }
+abbrev pub joined_text : ConsoleText → ConsoleText → ConsoleText
+joined_text s t = record { bytes = s.bytes ++ t.bytes; column = t.column }
 
 -- Bytes printed from a column on.
-abbrev pub printed_all : ℕ → List ℕ → Shown
-printed_all column [] = record { bytes = []; column = column }
-printed_all column (byte ∷ rest) = followed (printed column byte) (printed_all (printed column byte).column rest)
+abbrev pub printed_bytes : ℕ → List ℕ → ConsoleText
+printed_bytes column [] = record { bytes = []; column = column }
+printed_bytes column (byte ∷ rest) = joined_text (printed_byte column byte) (printed_bytes (printed_byte column byte).column rest)
 
 -- The spot after these bytes were sent.
-abbrev pub spot_showing : Spot → Shown → Spot
+abbrev pub spot_showing : Spot → ConsoleText → Spot
 spot_showing spot s = record spot { column = s.column }

@@ -1,18 +1,18 @@
 -- A desk after bytes were sent, printed or taken, and after a rollback. (This project's own.)
 use Rattle.std.specs.Prelude.{◌≡◌, ℕ, ◌+◌, List, [], ◌∷◌, ◌++◌, take}
 use Rattle.console_calls.specs.declared.desk.Spot.{Spot}
-use Rattle.console_calls.specs.Desk.{Desk, column_after_all, Shown, printed_all, spot_showing}
+use Rattle.console_calls.specs.Desk.{Desk, column_after_all, ConsoleText, printed_bytes, spot_showing}
 
 -- Bytes sent from a column on.
-abbrev pub sent_all : ℕ → List ℕ → Shown
-sent_all column bytes = record { bytes = bytes; column = column_after_all column bytes }
+abbrev pub sent_bytes : ℕ → List ℕ → ConsoleText
+sent_bytes column bytes = record { bytes = bytes; column = column_after_all column bytes }
 
 -- The desk after these bytes were sent.
-abbrev pub desk_showing : Desk → Shown → Desk
+abbrev pub desk_showing : Desk → ConsoleText → Desk
 desk_showing d s = record { spot = spot_showing d.spot s; text = d.text ++ s.bytes }
 
 -- The new desk is the old one after what is sent at its column.
-abbrev pub Shows : Desk → Desk → (ℕ → Shown) → Type 0
+abbrev pub Shows : Desk → Desk → (ℕ → ConsoleText) → Type 0
 Shows old new what = new ≡ desk_showing old (what old.spot.column)
 
 -- The desk at another spot.
@@ -33,4 +33,4 @@ desk_back spot length d = record { spot = spot; text = take length d.text }
 
 -- The desk after bytes were printed.
 abbrev pub desk_printing : Desk → List ℕ → Desk
-desk_printing d bytes = desk_showing d (printed_all d.spot.column bytes)
+desk_printing d bytes = desk_showing d (printed_bytes d.spot.column bytes)

@@ -1,13 +1,13 @@
 pub mod Desk
 pub mod DeskAfter
-pub mod Places
-pub mod Questions
+pub mod ScriptLooks
+pub mod StateQuestions
 pub mod Strings
 pub mod Line
 pub mod Types
 pub mod Printing
 pub mod Functions
-pub mod Calls
-pub mod Serves
+pub mod ConsoleCalls
+pub mod PerformsCall
 pub mod Growth
 pub use Rattle.filenames.specs.declared.drive.Drive

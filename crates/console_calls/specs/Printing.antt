@@ -15,12 +15,12 @@ abbrev pub string_in : ℕ → Memory → Option (List ℕ)
 string_in at m = end_of (string_at 65536 at) (bytes m)
 
 -- The desk after the string, unchanged if there is none.
-abbrev pub printed_if : Desk → Option (List ℕ) → Desk
-printed_if d None = d
-printed_if d (Some string) = desk_printing d string
+abbrev pub desk_after_string : Desk → Option (List ℕ) → Desk
+desk_after_string d None = d
+desk_after_string d (Some string) = desk_printing d string
 
 -- Text was only added, and nothing was taken.
-pub record Grown (d d' : Desk) : Type 0 where
+pub record GrowsText (d d' : Desk) : Type 0 where
   pub longer : length d.text ≤ length d'.text
   pub since : take (length d.text) d'.text ≡ d.text
   pub cursor : d'.spot.cursor ≡ d.spot.cursor
@@ -28,11 +28,11 @@ pub record Grown (d d' : Desk) : Type 0 where
 -- The effect of a function that prints byte by byte: without a `$`, and on an error, some bytes stay printed.
 pub record Scans (at : ℕ) (m : Memory) (d : Desk) (result : Result Bool AllocError) (m' : Memory) (d' : Desk) : Type 0 where
   pub found : IfOk result (λ b. b ≡ is_some (string_in at m))
-  pub printed : IfOk result (λ b. b ≡ true → d' ≡ printed_if d (string_in at m))
+  pub printed : IfOk result (λ b. b ≡ true → d' ≡ desk_after_string d (string_in at m))
   pub looks : OnOk result (m'.looks ≡ looks_after (string_at 65536 at) m)
   pub err_looks : OnErr result (Extends m.looks m'.looks)
   pub err_bound : OnErr result (Extends m'.looks (looks_after (string_at 65536 at) m))
-  pub grown : Grown d d'
+  pub grown : GrowsText d d'
   pub own : m'.own ≡ m.own
   pub beneath : m'.beneath ≡ m.beneath
   pub lender : m'.lender ≡ m.lender
@@ -40,7 +40,7 @@ pub record Scans (at : ℕ) (m : Memory) (d : Desk) (result : Result Bool AllocE
 -- The effect of a function that prints the whole string or nothing.
 pub record Prints (at : ℕ) (m : Memory) (d : Desk) (result : Result Bool AllocError) (m' : Memory) (d' : Desk) : Type 0 where
   pub found : IfOk result (λ b. b ≡ is_some (string_in at m))
-  pub desk : OnOk result (d' ≡ printed_if d (string_in at m))
+  pub desk : OnOk result (d' ≡ desk_after_string d (string_in at m))
   pub err_desk : OnErr result (d' ≡ d)
   pub looks : OnOk result (m'.looks ≡ looks_after (string_at 65536 at) m)
   pub err_looks : OnErr result (Extends m.looks m'.looks)

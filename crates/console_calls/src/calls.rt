@@ -3,12 +3,12 @@ ghost use Rattle.std.specs.Prelude.{OnOk, OnErr, if◌then◌else◌, Ok};
 ghost use Rattle.std.specs.Option.{option_map_or};
 ghost use Rattle.i8080.specs.Memory.{write_all};
 ghost use Rattle.i8080.specs.Registers.{onward};
-ghost use Rattle.console_calls.specs.Calls as calls;
-ghost use Rattle.console_calls.specs.Calls.{at_caller, line_cells};
+ghost use Rattle.console_calls.specs.ConsoleCalls as calls;
+ghost use Rattle.console_calls.specs.ConsoleCalls.{at_caller, line_cells};
 ghost use Rattle.console_calls.specs.Desk.{is_echoed};
 ghost use Rattle.console_calls.specs.Functions.{function_of};
 ghost use Rattle.console_calls.specs.Growth.{may_grow};
-ghost use Rattle.console_calls.specs.Serves.{CarriesOut};
+ghost use Rattle.console_calls.specs.PerformsCall.{MakesCall};
 ghost use Rattle.console_calls.specs.Printing.{Prints, Scans};
 
 use crate::cause::Cause;
@@ -34,14 +34,14 @@ const VERSION: u16 = 0x0022;
 /// # Errors
 ///
 /// `Err` means out of memory. A call that neither writes memory nor sends bytes is never an `Err`.
-#[tactic(auto, unfolding(crate::specs::Calls::call))]
+#[tactic(auto, unfolding(crate::specs::ConsoleCalls::console_call))]
 pub fn call<B: Bus>(
     regs: &mut Regs,
     bus: &mut B,
     desk: &mut Desk,
     script: &[u8],
 ) -> Result<Served, AllocError>
-    ensures carries { (n : ℕ) → length script.now ≤ n → CarriesOut (calls.call n) script.now
+    ensures carries { (n : ℕ) → length script.now ≤ n → MakesCall (calls.console_call n) script.now
         (regs.old, B.memory bus.old, desk.old) result (regs.new, B.memory bus.new, desk.new) }
     ensures grows { OnErr result
         (may_grow (function_of regs.old.c) regs.old desk.old.desk.spot script.now ≡ true) }
@@ -76,7 +76,7 @@ fn console_input<B: Bus>(
     desk: &mut Desk,
     script: &[u8],
 ) -> Result<Served, AllocError>
-    ensures carries { CarriesOut calls.console_input script.now
+    ensures carries { MakesCall calls.console_input script.now
         (regs.old, B.memory bus.old, desk.old) result (regs.new, B.memory bus.new, desk.new) }
     ensures grows { OnErr result
         (option_map_or is_echoed (slice_get script.now desk.old.desk.spot.cursor) false ≡ true) }
@@ -99,7 +99,7 @@ fn direct_console<B: Bus>(
     desk: &mut Desk,
     script: &[u8],
 ) -> Result<Served, AllocError>
-    ensures carries { CarriesOut calls.direct_console script.now
+    ensures carries { MakesCall calls.direct_console script.now
         (regs.old, B.memory bus.old, desk.old) result (regs.new, B.memory bus.new, desk.new) }
     ensures grows { OnErr result (not (regs.old.e == 0xff) ≡ true) }
 {
@@ -111,7 +111,7 @@ fn direct_console<B: Bus>(
 
 // Executes function 6 with 0FFH in E, which takes a byte of the script, or returns 0 if none is left.
 fn direct_input<B: Bus>(regs: &mut Regs, bus: &mut B, desk: &mut Desk, script: &[u8]) -> Served
-    ensures { CarriesOut calls.direct_input script.now
+    ensures { MakesCall calls.direct_input script.now
         (regs.old, B.memory bus.old, desk.old) (Ok result) (regs.new, B.memory bus.new, desk.new) }
 {
     let to = fetch_word(bus, regs.sp);
@@ -132,7 +132,7 @@ fn direct_output<B: Bus>(
     bus: &mut B,
     desk: &mut Desk,
 ) -> Result<Served, AllocError>
-    ensures { (script : List ℕ) → CarriesOut calls.direct_output script
+    ensures { (script : List ℕ) → MakesCall calls.direct_output script
         (regs.old, B.memory bus.old, desk.old) result (regs.new, B.memory bus.new, desk.new) }
 {
     let to = fetch_word(bus, regs.sp);
@@ -143,7 +143,7 @@ fn direct_output<B: Bus>(
 
 // Executes function 11, which returns whether a byte of the script is left.
 fn console_status<B: Bus>(regs: &mut Regs, bus: &mut B, desk: &mut Desk, script: &[u8]) -> Served
-    ensures { CarriesOut calls.console_status script.now
+    ensures { MakesCall calls.console_status script.now
         (regs.old, B.memory bus.old, desk.old) (Ok result) (regs.new, B.memory bus.new, desk.new) }
 {
     let to = fetch_word(bus, regs.sp);
@@ -160,7 +160,7 @@ fn console_output<B: Bus>(
     bus: &mut B,
     desk: &mut Desk,
 ) -> Result<Served, AllocError>
-    ensures { (script : List ℕ) → CarriesOut calls.console_output script
+    ensures { (script : List ℕ) → MakesCall calls.console_output script
         (regs.old, B.memory bus.old, desk.old) result (regs.new, B.memory bus.new, desk.new) }
 {
     let to = fetch_word(bus, regs.sp);
@@ -172,7 +172,7 @@ fn console_output<B: Bus>(
 // Executes function 7, which returns the I/O byte.
 #[tactic(auto, using(crate::proofs::Looking::until_it_failed))]
 fn get_io_byte<B: Bus>(regs: &mut Regs, bus: &mut B, desk: &Desk) -> Served
-    ensures { (script : List ℕ) → CarriesOut calls.get_io_byte script
+    ensures { (script : List ℕ) → MakesCall calls.get_io_byte script
         (regs.old, B.memory bus.old, desk.now) (Ok result) (regs.new, B.memory bus.new, desk.now) }
 {
     let byte = fetch(bus, IO_BYTE);
@@ -184,7 +184,7 @@ fn get_io_byte<B: Bus>(regs: &mut Regs, bus: &mut B, desk: &Desk) -> Served
 // Executes function 8, which sets the I/O byte to E.
 #[tactic(auto, using(crate::proofs::Looking::until_it_failed))]
 fn set_io_byte<B: Bus>(regs: &mut Regs, bus: &mut B, desk: &Desk) -> Result<Served, AllocError>
-    ensures { (script : List ℕ) → CarriesOut calls.set_io_byte script
+    ensures { (script : List ℕ) → MakesCall calls.set_io_byte script
         (regs.old, B.memory bus.old, desk.now) result (regs.new, B.memory bus.new, desk.now) }
 {
     let to = fetch_word(bus, regs.sp);
@@ -196,7 +196,7 @@ fn set_io_byte<B: Bus>(regs: &mut Regs, bus: &mut B, desk: &Desk) -> Result<Serv
 
 // Executes function 12, which returns the version.
 fn version_number<B: Bus>(regs: &mut Regs, bus: &mut B, desk: &Desk) -> Served
-    ensures { (script : List ℕ) → CarriesOut calls.version_number script
+    ensures { (script : List ℕ) → MakesCall calls.version_number script
         (regs.old, B.memory bus.old, desk.now) (Ok result) (regs.new, B.memory bus.new, desk.now) }
 {
     let to = fetch_word(bus, regs.sp);
@@ -211,7 +211,7 @@ fn string_output<B: Bus>(
     bus: &mut B,
     desk: &mut Desk,
 ) -> Result<Served, AllocError>
-    ensures { (script : List ℕ) → CarriesOut calls.string_output script
+    ensures { (script : List ℕ) → MakesCall calls.string_output script
         (regs.old, B.memory bus.old, desk.old) result (regs.new, B.memory bus.new, desk.new) }
 {
     let to = fetch_word(bus, regs.sp);
@@ -249,7 +249,7 @@ fn line_input<B: Bus>(
     desk: &mut Desk,
     script: &[u8],
 ) -> Result<Served, AllocError>
-    ensures { (n : ℕ) → length script.now ≤ n → CarriesOut (calls.line_input n) script.now
+    ensures { (n : ℕ) → length script.now ≤ n → MakesCall (calls.line_input n) script.now
         (regs.old, B.memory bus.old, desk.old) result (regs.new, B.memory bus.new, desk.new) }
 {
     let at = word_of(regs.e, regs.d);

@@ -1,10 +1,10 @@
 ghost use Rattle.std.specs.Prelude.{◌≡◌, ◌≤◌, ◌<◌, ◌+◌, ℕ, true, false, length, Ok, IfOk, OnOk, OnErr, IfSome, IfNone};
 ghost use Rattle.console_calls.specs.Desk as desk;
-ghost use Rattle.console_calls.specs.Desk.{first_desk, printed, tabbed, sent, echoed, is_echoed};
-ghost use Rattle.console_calls.specs.DeskAfter.{Shows, sent_all, at_spot, desk_taking, desk_appending, desk_back};
-ghost use Rattle.console_calls.specs.Places.{IsSpotOf, LeavesOut, LooksAhead, is_within};
+ghost use Rattle.console_calls.specs.Desk.{first_desk, printed_byte, tab_blanks, sent_byte, echoed_byte, is_echoed};
+ghost use Rattle.console_calls.specs.DeskAfter.{Shows, sent_bytes, at_spot, desk_taking, desk_appending, desk_back};
+ghost use Rattle.console_calls.specs.ScriptLooks.{IsSpotOf, LeavesOut, LooksAhead, is_within};
 
-use crate::places::Places;
+use crate::script_looks::ScriptLooks;
 use directory::Search;
 use filenames::Drive;
 use std::alloc::{AllocError, Global};
@@ -37,14 +37,14 @@ impl Spot {
 pub struct Desk {
     spot: Spot,
     text: Vec<u8>,
-    places: Places,
+    places: ScriptLooks,
 }
 
 impl Model for Desk {
     ghost use Rattle.std.specs.Prelude.{length, ◌≤◌, ◌<◌};
-    ghost use Rattle.console_calls.specs.Places.{Watched};
+    ghost use Rattle.console_calls.specs.ScriptLooks.{DeskLooks};
 
-    ghost Value = { Watched };
+    ghost Value = { DeskLooks };
 
     ghost view = { λ d. record {
       desk = record { spot = d.spot; text = d.text.items };
@@ -84,17 +84,17 @@ impl Desk {
         Desk {
             spot,
             text: Vec::new(alloc),
-            places: Places { from: 0, to: 0 },
+            places: ScriptLooks { from: 0, to: 0 },
         }
     }
 
     /// Creates a desk from a spot and its text, with no offset looked at.
-    pub fn over(spot: Spot, text: Vec<u8>) -> Desk
+    pub fn from_parts(spot: Spot, text: Vec<u8>) -> Desk
         requires { IsSpotOf spot (length text.items) }
         ensures desk { result.desk ≡ record { spot = spot; text = text.items } }
         ensures places { (k : ℕ) → is_within result.places k ≡ false }
     {
-        let places = Places {
+        let places = ScriptLooks {
             from: spot.cursor,
             to: spot.cursor,
         };
@@ -129,7 +129,7 @@ impl Desk {
     /// Prints a byte on the console. A tab becomes blanks up to the next column that is a multiple of 8. An `Err` means out
     /// of memory and changes nothing.
     pub fn print(&mut self, byte: u8) -> Result<(), AllocError>
-        ensures ok { OnOk result (Shows self.old.desk self.new.desk (λ column. printed column byte)) }
+        ensures ok { OnOk result (Shows self.old.desk self.new.desk (λ column. printed_byte column byte)) }
         ensures places { self.new.places ≡ self.old.places }
         ensures err { OnErr result (self.new ≡ self.old) }
     {
@@ -165,7 +165,7 @@ impl Desk {
     }
 
     /// Returns the script offsets that were looked at.
-    pub fn places(&self) -> Places
+    pub fn script_looks(&self) -> ScriptLooks
         ensures { result ≡ self.now.places }
     {
         let Desk {
@@ -193,7 +193,7 @@ impl Desk {
         ensures none { IfNone result ((j : ℕ) → is_within self.old.places j ≡ false) }
         ensures same { IfNone result (self.new ≡ self.old) }
     {
-        let Places { from, to } = self.places;
+        let ScriptLooks { from, to } = self.places;
         if from < self.spot.cursor {
             self.places.from = from + 1;
             return Some(from as u64);
@@ -315,7 +315,7 @@ impl Desk {
     }
 
     fn send(&mut self, byte: u8) -> Result<(), AllocError>
-        ensures ok { OnOk result (Shows self.old.desk self.new.desk (λ column. sent column byte)) }
+        ensures ok { OnOk result (Shows self.old.desk self.new.desk (λ column. sent_byte column byte)) }
         ensures places { self.new.places ≡ self.old.places }
         ensures err { OnErr result (self.new ≡ self.old) }
     {
@@ -336,7 +336,7 @@ impl Desk {
 
     /// Sends bytes without expanding tabs. An `Err` means out of memory and changes nothing.
     pub(crate) fn send_all(&mut self, bytes: &[u8]) -> Result<(), AllocError>
-        ensures ok { OnOk result (Shows self.old.desk self.new.desk (λ column. sent_all column bytes.now)) }
+        ensures ok { OnOk result (Shows self.old.desk self.new.desk (λ column. sent_bytes column bytes.now)) }
         ensures places { self.new.places ≡ self.old.places }
         ensures err { OnErr result (self.new ≡ self.old) }
     {
@@ -346,7 +346,7 @@ impl Desk {
     }
 
     fn tab(&mut self) -> Result<(), AllocError>
-        ensures ok { OnOk result (Shows self.old.desk self.new.desk tabbed) }
+        ensures ok { OnOk result (Shows self.old.desk self.new.desk tab_blanks) }
         ensures places { self.new.places ≡ self.old.places }
         ensures err { OnErr result (self.new ≡ self.old) }
     {
@@ -359,7 +359,7 @@ impl Desk {
     /// Prints a byte of the script if function 1 echoes it: a byte from 20H on, a backspace, a tab, a line feed or a
     /// carriage return. An `Err` means out of memory and changes nothing.
     pub(crate) fn echo(&mut self, byte: u8) -> Result<(), AllocError>
-        ensures ok { OnOk result (Shows self.old.desk self.new.desk (λ column. echoed column byte)) }
+        ensures ok { OnOk result (Shows self.old.desk self.new.desk (λ column. echoed_byte column byte)) }
         ensures places { self.new.places ≡ self.old.places }
         ensures err { OnErr result (self.new ≡ self.old) }
         ensures grows { OnErr result (is_echoed byte ≡ true) }

@@ -1,8 +1,8 @@
 // The calls for drives and the buffer address. They write no memory, so they never run out of memory.
 
 ghost use Rattle.std.specs.Prelude.{List, ℕ, Ok};
-ghost use Rattle.console_calls.specs.Calls as calls;
-ghost use Rattle.console_calls.specs.Serves.{CarriesOut};
+ghost use Rattle.console_calls.specs.ConsoleCalls as calls;
+ghost use Rattle.console_calls.specs.PerformsCall.{MakesCall};
 
 use crate::calls::give_back;
 use crate::cause::Cause;
@@ -19,7 +19,7 @@ const DRIVES: u16 = 0x000f;
 
 /// Executes function 13, which selects drive A and the buffer in page zero.
 pub fn reset_disks<B: Bus>(regs: &mut Regs, bus: &mut B, desk: &mut Desk) -> Served
-    ensures { (script : List ℕ) → CarriesOut calls.reset_disks script
+    ensures { (script : List ℕ) → MakesCall calls.reset_disks script
         (regs.old, B.memory bus.old, desk.old) (Ok result) (regs.new, B.memory bus.new, desk.new) }
 {
     let to = fetch_word(bus, regs.sp);
@@ -31,7 +31,7 @@ pub fn reset_disks<B: Bus>(regs: &mut Regs, bus: &mut B, desk: &mut Desk) -> Ser
 
 /// Executes function 14, which sets the current drive. Stops if there is no such drive.
 pub fn select_disk<B: Bus>(regs: &mut Regs, bus: &mut B, desk: &mut Desk) -> Served
-    ensures { (script : List ℕ) → CarriesOut calls.select_disk script
+    ensures { (script : List ℕ) → MakesCall calls.select_disk script
         (regs.old, B.memory bus.old, desk.old) (Ok result) (regs.new, B.memory bus.new, desk.new) }
 {
     let Some(drive) = Drive::from_number(regs.e) else {
@@ -45,7 +45,7 @@ pub fn select_disk<B: Bus>(regs: &mut Regs, bus: &mut B, desk: &mut Desk) -> Ser
 
 /// Executes function 24, which returns a bit for each drive.
 pub fn login_vector<B: Bus>(regs: &mut Regs, bus: &mut B, desk: &Desk) -> Served
-    ensures { (script : List ℕ) → CarriesOut calls.login_vector script
+    ensures { (script : List ℕ) → MakesCall calls.login_vector script
         (regs.old, B.memory bus.old, desk.now) (Ok result) (regs.new, B.memory bus.new, desk.now) }
 {
     let to = fetch_word(bus, regs.sp);
@@ -55,7 +55,7 @@ pub fn login_vector<B: Bus>(regs: &mut Regs, bus: &mut B, desk: &Desk) -> Served
 
 /// Executes function 25, which returns the current drive.
 pub fn current_disk<B: Bus>(regs: &mut Regs, bus: &mut B, desk: &Desk) -> Served
-    ensures { (script : List ℕ) → CarriesOut calls.current_disk script
+    ensures { (script : List ℕ) → MakesCall calls.current_disk script
         (regs.old, B.memory bus.old, desk.now) (Ok result) (regs.new, B.memory bus.new, desk.now) }
 {
     let to = fetch_word(bus, regs.sp);
@@ -65,7 +65,7 @@ pub fn current_disk<B: Bus>(regs: &mut Regs, bus: &mut B, desk: &Desk) -> Served
 
 /// Executes function 26, which sets the buffer address.
 pub fn set_buffer_address<B: Bus>(regs: &mut Regs, bus: &mut B, desk: &mut Desk) -> Served
-    ensures { (script : List ℕ) → CarriesOut calls.set_buffer_address script
+    ensures { (script : List ℕ) → MakesCall calls.set_buffer_address script
         (regs.old, B.memory bus.old, desk.old) (Ok result) (regs.new, B.memory bus.new, desk.new) }
 {
     let to = fetch_word(bus, regs.sp);

@@ -2,7 +2,7 @@
 //!
 //! - `function`, `calls`: the calls by their numbers; `call`, with one function for each
 //! - `disks`: the calls for drives and the buffer address
-//! - `desk`, `places`: the desk, which sends and prints and takes bytes of the script; the script offsets that were
+//! - `desk`, `script_looks`: the desk, which sends and prints and takes bytes of the script; the script offsets that were
 //!   looked at
 //! - `line`: the line that function 10 takes from the script
 //! - `cause`, `served`: why a run stops; what a call did
@@ -14,12 +14,12 @@ mod desk;
 mod disks;
 mod function;
 mod line;
-mod places;
+mod script_looks;
 mod served;
 
 pub use calls::{call, give_back};
 pub use cause::Cause;
 pub use desk::{Desk, Spot};
 pub use function::Function;
-pub use places::Places;
+pub use script_looks::ScriptLooks;
 pub use served::Served;

@@ -1,6 +1,6 @@
 ghost use Rattle.std.specs.Prelude.{◌≡◌, ◌≤◌, ◌<◌, ◌+◌, length, reverse, ◌++◌, IfOk, OnOk};
-ghost use Rattle.console_calls.specs.Line.{no_line, shown, kept, taken_back, rubbed_out, type_byte};
-ghost use Rattle.console_calls.specs.Types.{typed_of, looks_of, FitsIn, TakesLine};
+ghost use Rattle.console_calls.specs.Line.{no_line, echo_of, line_with_byte, line_after_backspace, line_after_rubout, type_byte};
+ghost use Rattle.console_calls.specs.Types.{line_step_of, look_count_of, FitsIn, TakesLine};
 
 use std::alloc::{AllocError, Global};
 use std::marker::Model;
@@ -23,7 +23,7 @@ impl Model for Line {
 
 /// What a byte does to a line.
 #[derive(Clone, Copy)]
-pub(crate) enum Took {
+pub(crate) enum LineStep {
     /// The line continues.
     Goes,
     /// The line ends.
@@ -73,25 +73,25 @@ impl Line {
     }
 
     // Applies a byte of the script to the line.
-    fn take(&mut self, byte: u8) -> Result<Took, AllocError>
-        ensures typed { IfOk result (λ t. typed_of t self.new ≡ type_byte self.old byte) }
+    fn take(&mut self, byte: u8) -> Result<LineStep, AllocError>
+        ensures typed { IfOk result (λ t. line_step_of t self.new ≡ type_byte self.old byte) }
         ensures longer { length self.new.stored ≤ length self.old.stored + 1 }
     {
         match byte {
             b'\r' | b'\n' => {
                 self.sends.push(b'\r')?;
-                return Ok(Took::Ends);
+                return Ok(LineStep::Ends);
             }
             0x08 => self.take_back()?,
             0x7f => self.rub_out()?,
-            0x03 if self.stored.is_empty() => return Ok(Took::Boots),
+            0x03 if self.stored.is_empty() => return Ok(LineStep::Boots),
             _ => self.keep(byte)?,
         }
-        Ok(Took::Goes)
+        Ok(LineStep::Goes)
     }
 
     fn keep(&mut self, byte: u8) -> Result<(), AllocError>
-        ensures ok { OnOk result (self.new ≡ kept byte self.old) }
+        ensures ok { OnOk result (self.new ≡ line_with_byte byte self.old) }
         ensures longer { length self.new.stored ≤ length self.old.stored + 1 }
     {
         self.stored.push(byte)?;
@@ -99,7 +99,7 @@ impl Line {
     }
 
     fn take_back(&mut self) -> Result<(), AllocError>
-        ensures ok { OnOk result (self.new ≡ taken_back self.old.stored self.old) }
+        ensures ok { OnOk result (self.new ≡ line_after_backspace self.old.stored self.old) }
         ensures longer { length self.new.stored ≤ length self.old.stored }
     {
         if self.stored.pop().is_some() {
@@ -109,7 +109,7 @@ impl Line {
     }
 
     fn rub_out(&mut self) -> Result<(), AllocError>
-        ensures ok { OnOk result (self.new ≡ rubbed_out self.old.stored self.old) }
+        ensures ok { OnOk result (self.new ≡ line_after_rubout self.old.stored self.old) }
         ensures longer { length self.new.stored ≤ length self.old.stored }
     {
         let Some(last) = self.stored.pop() else {
@@ -120,7 +120,7 @@ impl Line {
 
     // Sends a stored byte, a control byte as `^` and a letter.
     fn show(&mut self, byte: u8) -> Result<(), AllocError>
-        ensures ok { OnOk result (self.new ≡ record self.old { sends = self.old.sends ++ shown byte }) }
+        ensures ok { OnOk result (self.new ≡ record self.old { sends = self.old.sends ++ echo_of byte }) }
         ensures stored { self.new.stored ≡ self.old.stored }
     {
         if byte < b' ' {
@@ -141,7 +141,7 @@ pub(crate) fn take_line(
 ) -> Result<LineEnd, AllocError>
     requires { cursor < 9223372036854775808 }
     ensures types { IfOk result (TakesLine script.now capacity cursor) }
-    ensures looks { IfOk result (λ e. cursor + looks_of e ≤ 9223372036854775808) }
+    ensures looks { IfOk result (λ e. cursor + look_count_of e ≤ 9223372036854775808) }
     ensures fits { IfOk result (λ e. FitsIn capacity cursor e) }
 {
     let mut line = Line::new(alloc);
@@ -151,9 +151,9 @@ pub(crate) fn take_line(
             return Ok(LineEnd::Ended(line, taken));
         }
         match line.take(script[place])? {
-            Took::Goes => taken += 1,
-            Took::Ends => return Ok(LineEnd::Ended(line, taken + 1)),
-            Took::Boots => return Ok(LineEnd::Booted(taken + 1)),
+            LineStep::Goes => taken += 1,
+            LineStep::Ends => return Ok(LineEnd::Ended(line, taken + 1)),
+            LineStep::Boots => return Ok(LineEnd::Booted(taken + 1)),
         }
     }
     if line.len() >= capacity as usize {

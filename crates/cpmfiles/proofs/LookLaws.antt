@@ -2,60 +2,60 @@
 use Rattle.std.proofs.Common.{◌≡◌, ℕ, Bool, true, false, cond, is_some, nat_lt, refl, sym, subst}
 use Rattle.std.specs.FinMap.{get}
 use Rattle.hostfiles.specs.Hosts.{Key, Host}
-use Rattle.hostfiles.specs.Files.{Own, has, length_at, entry_at, is_below}
-use Rattle.hostfiles.specs.Looks.{Extends, look_has, look_length, look_records, look_record_by, look_content, look_read, look_directory}
-use Rattle.hostfiles.specs.declared.looks.Looks.{Looks}
+use Rattle.hostfiles.specs.Files.{OwnFiles, has, length_at, entry_at, is_host_part}
+use Rattle.hostfiles.specs.FileLooks.{KeepsAsks, look_has, look_length, look_records, look_record_by, look_content, look_read, look_directory}
+use Rattle.hostfiles.specs.declared.looks.FileLooks.{FileLooks}
 use Rattle.hostfiles.proofs.LookLemmas as lemmas
 pub use Rattle.hostfiles.proofs.LookLemmas.{extends_same, extends_trans, extends_by_has, extends_by_length, extends_by_record, extends_by_directory}
 
 -- ---- the first looks are among all looks
 
-pub within_has : (own : Own) (key : Key) (l m : Looks) → Extends l m → Extends l (look_has own key m)
+pub within_has : (own : OwnFiles) (key : Key) (l m : FileLooks) → KeepsAsks l m → KeepsAsks l (look_has own key m)
 within_has own key l m h =
     lemmas.extends_trans l m _ h (lemmas.extends_by_has (entry_at own key).base key m _ refl)
 
-pub within_length : (own : Own) (key : Key) (l m : Looks) → Extends l m → Extends l (look_length own key m)
+pub within_length : (own : OwnFiles) (key : Key) (l m : FileLooks) → KeepsAsks l m → KeepsAsks l (look_length own key m)
 within_length own key l m h =
     lemmas.extends_trans l m _ h (lemmas.extends_by_length (entry_at own key).base (entry_at own key).grown key m _ refl)
 
-pub within_content : (own : Own) (key : Key) (k : ℕ) (l m : Looks) → Extends l m → Extends l (look_content own key k m)
-within_content own key k l m h = by_case (is_some (get (entry_at own key).records k)) (is_below k (entry_at own key).grown) where
-  by_case : (b c : Bool) → Extends l (cond b m (cond c (look_record_by (entry_at own key).base key k m) m))
+pub within_content : (own : OwnFiles) (key : Key) (k : ℕ) (l m : FileLooks) → KeepsAsks l m → KeepsAsks l (look_content own key k m)
+within_content own key k l m h = by_case (is_some (get (entry_at own key).records k)) (is_host_part k (entry_at own key).grown) where
+  by_case : (b c : Bool) → KeepsAsks l (cond b m (cond c (look_record_by (entry_at own key).base key k m) m))
   by_case true c = h
   by_case false true = lemmas.extends_trans l m _ h (lemmas.extends_by_record (entry_at own key).base key k m _ refl)
   by_case false false = h
 
-pub within_directory : (drive : ℕ) (l m : Looks) → Extends l m → Extends l (look_directory drive m)
+pub within_directory : (drive : ℕ) (l m : FileLooks) → KeepsAsks l m → KeepsAsks l (look_directory drive m)
 within_directory drive l m h = lemmas.extends_trans l m _ h (lemmas.extends_by_directory drive m _ refl)
 
-pub within_records : (host : Host) (own : Own) (key : Key) (l m : Looks) → Extends l (look_has own key m) → Extends l (look_records host own key m)
+pub within_records : (host : Host) (own : OwnFiles) (key : Key) (l m : FileLooks) → KeepsAsks l (look_has own key m) → KeepsAsks l (look_records host own key m)
 within_records host own key l m h = by_case (has host own key) where
-  by_case : (b : Bool) → Extends l (cond b (look_length own key (look_has own key m)) (look_has own key m))
+  by_case : (b : Bool) → KeepsAsks l (cond b (look_length own key (look_has own key m)) (look_has own key m))
   by_case true = within_length own key l (look_has own key m) h
   by_case false = h
 
-pub within_read : (host : Host) (own : Own) (key : Key) (k : ℕ) (l m : Looks) → Extends l (look_records host own key m)
-    → Extends l (look_read host own key k m)
+pub within_read : (host : Host) (own : OwnFiles) (key : Key) (k : ℕ) (l m : FileLooks) → KeepsAsks l (look_records host own key m)
+    → KeepsAsks l (look_read host own key k m)
 within_read host own key k l m h = by_case (has host own key) (nat_lt k (length_at host own key)) where
-  by_case : (b c : Bool) → Extends l (cond b (cond c (look_content own key k (look_records host own key m)) (look_records host own key m)) (look_records host own key m))
+  by_case : (b c : Bool) → KeepsAsks l (cond b (cond c (look_content own key k (look_records host own key m)) (look_records host own key m)) (look_records host own key m))
   by_case true true = within_content own key k l (look_records host own key m) h
   by_case true false = h
   by_case false c = h
 
 -- A read first asks whether the file is there, and then how long it is.
-pub within_read_first : (host : Host) (own : Own) (key : Key) (k : ℕ) (l m : Looks) → Extends l (look_has own key m)
-    → Extends l (look_read host own key k m)
+pub within_read_first : (host : Host) (own : OwnFiles) (key : Key) (k : ℕ) (l m : FileLooks) → KeepsAsks l (look_has own key m)
+    → KeepsAsks l (look_read host own key k m)
 within_read_first host own key k l m h = within_read host own key k l m (within_records host own key l m h)
 
-pub within_read_length : (host : Host) (own : Own) (key : Key) (k : ℕ) (l m : Looks) → has host own key ≡ true
-    → Extends l (look_length own key (look_has own key m)) → Extends l (look_read host own key k m)
+pub within_read_length : (host : Host) (own : OwnFiles) (key : Key) (k : ℕ) (l m : FileLooks) → has host own key ≡ true
+    → KeepsAsks l (look_length own key (look_has own key m)) → KeepsAsks l (look_read host own key k m)
 within_read_length host own key k l m there h =
     within_read host own key k l m
-    (subst (λ b. Extends l (cond b (look_length own key (look_has own key m)) (look_has own key m))) (sym there) h)
+    (subst (λ b. KeepsAsks l (cond b (look_length own key (look_has own key m)) (look_has own key m))) (sym there) h)
 
 -- A rename asks about the second key after the first.
-pub within_second : (own : Own) (old new : Key) (l m : Looks) → Extends l (look_has own old m)
-    → Extends l (look_has own new (look_has own old m))
+pub within_second : (own : OwnFiles) (old new : Key) (l m : FileLooks) → KeepsAsks l (look_has own old m)
+    → KeepsAsks l (look_has own new (look_has own old m))
 within_second own old new l m h = within_has own new l (look_has own old m) h
 
 -- The rules for questions one after another.

@@ -1,3 +1,3 @@
 pub mod Tables
 pub mod Renaming
-pub mod Leaving
+pub mod TableParts

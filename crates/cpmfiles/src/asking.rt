@@ -3,21 +3,21 @@
 
 ghost use Rattle.std.specs.Prelude.{◌≡◌, true, Ok, OnErr, slice_index};
 ghost use Rattle.std.specs.Option.{option_map};
-ghost use Rattle.directory.specs.Entries.{position_in};
-ghost use Rattle.hostfiles.specs.Files.{has, records, place, shapes};
-ghost use Rattle.hostfiles.specs.Looks.{look_has, look_records, look_read, look_directory};
+ghost use Rattle.directory.specs.Entries.{position_of};
+ghost use Rattle.hostfiles.specs.Files.{has, records, record_at, shapes};
+ghost use Rattle.hostfiles.specs.FileLooks.{look_has, look_records, look_read, look_directory};
 ghost use Rattle.hostfiles.specs.Asking.{Inquires};
 ghost use Rattle.filenames.specs.Names.{is_sayable};
 ghost use Rattle.cpmfiles.specs.Renaming.{is_rename};
-ghost use Rattle.cpmfiles.specs.Tables.{can_make, can_rename, extent_count, look_made, look_renamed, next_bytes};
+ghost use Rattle.cpmfiles.specs.Tables.{can_make, can_rename, extent_count, look_make, look_rename, next_bytes};
 
 use crate::table::has_wildcard;
 use directory::{Position, next_entry};
 use filenames::{Key, is_sayable};
 use hostfiles::changes::Changes;
+use hostfiles::directory_view::DirectoryView;
+use hostfiles::file_view::FileView;
 use hostfiles::host::HostFiles;
-use hostfiles::listed::Listed;
-use hostfiles::seen::SeenFile;
 use records::Record;
 use std::alloc::AllocError;
 
@@ -26,7 +26,7 @@ pub fn has(host: &HostFiles, changes: &mut Changes, key: &Key) -> Result<bool, A
     ensures { Inquires result (λ own. has host.now own key.now)
         (λ own. look_has own key.now) changes.old changes.new }
 {
-    SeenFile::find(host, &changes.journal, key).ask_presence(&mut changes.looks)
+    FileView::find(host, &changes.journal, key).ask_presence(&mut changes.looks)
 }
 
 /// Returns the length of the file of the key in records, holes included; `None` if there is no file.
@@ -39,7 +39,7 @@ pub fn records(
     ensures { Inquires result (λ own. records host.now own key.now)
         (λ own. look_records host.now own key.now) changes.old changes.new }
 {
-    let file = SeenFile::find(host, &changes.journal, key);
+    let file = FileView::find(host, &changes.journal, key);
     if !file.ask_presence(&mut changes.looks)? {
         return Ok(None);
     }
@@ -62,7 +62,7 @@ pub fn extent(
     if records(host, changes, key)?.is_none() {
         return Ok(None);
     }
-    Ok(Some(SeenFile::find(host, &changes.journal, key).count(extent)))
+    Ok(Some(FileView::find(host, &changes.journal, key).count(extent)))
 }
 
 /// Reads record `k` of the file of the key. Returns `None` if there is no file, if `k` is not below its length, or
@@ -74,10 +74,10 @@ pub fn read(
     key: &Key,
     k: u32,
 ) -> Result<Option<Record>, AllocError>
-    ensures { Inquires result (λ own. place host.now own key.now k)
+    ensures { Inquires result (λ own. record_at host.now own key.now k)
         (λ own. look_read host.now own key.now k) changes.old changes.new }
 {
-    let file = SeenFile::find(host, &changes.journal, key);
+    let file = FileView::find(host, &changes.journal, key);
     if !file.ask_presence(&mut changes.looks)? {
         return Ok(None);
     }
@@ -92,7 +92,7 @@ pub fn read(
 #[tactic(auto, using(crate::proofs::LookLaws::extends_same))]
 pub fn can_make(host: &HostFiles, changes: &mut Changes, key: &Key) -> Result<bool, AllocError>
     ensures inquires { Inquires result (λ own. can_make host.now own key.now)
-        (λ own. look_made own key.now) changes.old changes.new }
+        (λ own. look_make own key.now) changes.old changes.new }
     ensures grows { OnErr result (is_sayable key.now ≡ true) }
 {
     if !is_sayable(key) {
@@ -112,7 +112,7 @@ pub fn can_rename(
     new: &Key,
 ) -> Result<bool, AllocError>
     ensures inquires { Inquires result (λ own. can_rename host.now own old.now new.now)
-        (λ own. look_renamed own old.now new.now) changes.old changes.new }
+        (λ own. look_rename own old.now new.now) changes.old changes.new }
     ensures grows { OnErr result (is_rename old.now new.now ≡ true) }
 {
     if has_wildcard(old) {
@@ -142,7 +142,7 @@ pub fn search(
     let drive = pattern[0];
     changes.looks.mark_directory(drive);
     let last = position_after(drive, after);
-    let listed = Listed {
+    let listed = DirectoryView {
         host,
         journal: &changes.journal,
     };
@@ -154,10 +154,10 @@ pub fn search(
 
 // Returns the position of the entry that was returned last, if there is one.
 fn position_after(drive: u8, after: Option<[u8; 32]>) -> Option<Position>
-    ensures { result ≡ option_map (position_in drive) after }
+    ensures { result ≡ option_map (position_of drive) after }
 {
     match after {
-        Some(bytes) => Some(Position::of_bytes(drive, &bytes)),
+        Some(bytes) => Some(Position::from_bytes(drive, &bytes)),
         None => None,
     }
 }

@@ -10,6 +10,6 @@ pub mod laws;
 pub mod table;
 
 pub use filenames::{Fcb, Key, Name, NameError};
-pub use hostfiles::{Ask, Changes, FilesError, HostFiles, Journal, Looks};
+pub use hostfiles::{Ask, Changes, FileLooks, FilesError, HostFiles, Journal};
 pub use records::{EXTENT_RECORDS, PLACES, RECORD_BYTES, Record, Records};
 pub use table::Table;

@@ -1,20 +1,20 @@
 // Host files together with what a run did to them.
 
 ghost use Rattle.std.specs.Prelude.{◌≡◌, ◌<◌, true, false, OnOk, OnErr, IfOk, Some, Ok, slice_index};
-ghost use Rattle.hostfiles.specs.Files.{has, records, length_at, place, shapes, made, renamed, stored, wrote, wrote_filled};
-ghost use Rattle.hostfiles.specs.Looks.{look_has, look_records, look_read, look_directory, Extends};
+ghost use Rattle.hostfiles.specs.Files.{has, records, length_at, record_at, shapes, after_make, after_rename, after_write, after_write_with_holes, after_write_with_zeros};
+ghost use Rattle.hostfiles.specs.FileLooks.{look_has, look_records, look_read, look_directory, KeepsAsks};
 ghost use Rattle.hostfiles.specs.Asking.{AsksFor, Inquires};
-ghost use Rattle.cpmfiles.specs.Tables.{can_make, can_rename, extent_count, look_made, look_renamed};
+ghost use Rattle.cpmfiles.specs.Tables.{can_make, can_rename, extent_count, look_make, look_rename};
 ghost use Rattle.filenames.specs.Names.{is_sayable};
 ghost use Rattle.cpmfiles.specs.Renaming.{has_wildcard, is_rename};
-ghost use Rattle.cpmfiles.specs.Tables.{count_deleted, look_deleted, NamedAreGone, next_bytes};
-ghost use Rattle.cpmfiles.specs.Leaving.{own_in, looks_in, StandsOver, DoesIf};
+ghost use Rattle.cpmfiles.specs.Tables.{count_deleted, look_delete, NamedAreGone, next_bytes};
+ghost use Rattle.cpmfiles.specs.TableParts.{own_of_table, looks_of_table, StandsOver, DoesIf};
 
 use crate::asking;
 use filenames::Key;
 use hostfiles::changes::Changes;
+use hostfiles::directory_view::without_matches;
 use hostfiles::host::HostFiles;
-use hostfiles::listed::without_matches;
 use records::Record;
 use std::alloc::AllocError;
 
@@ -66,16 +66,16 @@ impl Table<'_> {
     #[tactic(auto, using(crate::proofs::LookLaws::asked_in_turn))]
     pub fn read(&mut self, key: &Key, k: u32, bytes: &mut Record) -> Result<bool, AllocError>
         ensures found { IfOk result (λ b. b ≡ true →
-            place self.old.host.now (own_in self.old) key.now k ≡ Some bytes.new) }
+            record_at self.old.host.now (own_of_table self.old) key.now k ≡ Some bytes.new) }
         ensures none { IfOk result (λ b. b ≡ false →
-            place self.old.host.now (own_in self.old) key.now k ≡ None) }
+            record_at self.old.host.now (own_of_table self.old) key.now k ≡ None) }
         ensures not_read { IfOk result (λ b. b ≡ false → bytes.new ≡ bytes.old) }
         ensures err { OnErr result (bytes.new ≡ bytes.old) }
-        ensures looks { OnOk result (looks_in self.new ≡
-            look_read self.old.host.now (own_in self.old) key.now k (looks_in self.old)) }
-        ensures extends { Extends (looks_in self.old) (looks_in self.new) }
-        ensures bound { OnErr result (Extends (looks_in self.new)
-            (look_read self.old.host.now (own_in self.old) key.now k (looks_in self.old))) }
+        ensures looks { OnOk result (looks_of_table self.new ≡
+            look_read self.old.host.now (own_of_table self.old) key.now k (looks_of_table self.old)) }
+        ensures extends { KeepsAsks (looks_of_table self.old) (looks_of_table self.new) }
+        ensures bound { OnErr result (KeepsAsks (looks_of_table self.new)
+            (look_read self.old.host.now (own_of_table self.old) key.now k (looks_of_table self.old))) }
         ensures stays { self.new.changes.now.journal ≡ self.old.changes.now.journal }
         ensures over { StandsOver self.old self.new }
     {
@@ -102,13 +102,13 @@ impl Table<'_> {
     /// A write past the end leaves holes between the end and the record.
     pub fn write(&mut self, key: &Key, k: u32, bytes: &Record) -> Result<bool, AllocError>
         requires { k < 65536 }
-        ensures asks { AsksFor result (has self.old.host.now (own_in self.old) key.now)
-            (look_records self.old.host.now (own_in self.old) key.now)
-            (looks_in self.old) (looks_in self.new) }
+        ensures asks { AsksFor result (has self.old.host.now (own_of_table self.old) key.now)
+            (look_records self.old.host.now (own_of_table self.old) key.now)
+            (looks_of_table self.old) (looks_of_table self.new) }
         ensures does { DoesIf result
-            (wrote (length_at self.old.host.now (own_in self.old) key.now)
-            (own_in self.old) key.now k bytes.now)
-            (own_in self.old) (own_in self.new) }
+            (after_write_with_holes (length_at self.old.host.now (own_of_table self.old) key.now)
+            (own_of_table self.old) key.now k bytes.now)
+            (own_of_table self.old) (own_of_table self.new) }
         ensures over { StandsOver self.old self.new }
     {
         self.store(key, k, bytes, false)
@@ -118,13 +118,13 @@ impl Table<'_> {
     /// A write past the end writes zeros between the end and the record.
     pub fn write_filled(&mut self, key: &Key, k: u32, bytes: &Record) -> Result<bool, AllocError>
         requires { k < 65536 }
-        ensures asks { AsksFor result (has self.old.host.now (own_in self.old) key.now)
-            (look_records self.old.host.now (own_in self.old) key.now)
-            (looks_in self.old) (looks_in self.new) }
+        ensures asks { AsksFor result (has self.old.host.now (own_of_table self.old) key.now)
+            (look_records self.old.host.now (own_of_table self.old) key.now)
+            (looks_of_table self.old) (looks_of_table self.new) }
         ensures does { DoesIf result
-            (wrote_filled (length_at self.old.host.now (own_in self.old) key.now)
-            (own_in self.old) key.now k bytes.now)
-            (own_in self.old) (own_in self.new) }
+            (after_write_with_zeros (length_at self.old.host.now (own_of_table self.old) key.now)
+            (own_of_table self.old) key.now k bytes.now)
+            (own_of_table self.old) (own_of_table self.new) }
         ensures over { StandsOver self.old self.new }
     {
         self.store(key, k, bytes, true)
@@ -133,13 +133,13 @@ impl Table<'_> {
     // Writes a record, if there is a file. The gap between the end and the record becomes zeros if `filled`, else holes.
     fn store(&mut self, key: &Key, k: u32, bytes: &Record, filled: bool) -> Result<bool, AllocError>
         requires { k < 65536 }
-        ensures asks { AsksFor result (has self.old.host.now (own_in self.old) key.now)
-            (look_records self.old.host.now (own_in self.old) key.now)
-            (looks_in self.old) (looks_in self.new) }
+        ensures asks { AsksFor result (has self.old.host.now (own_of_table self.old) key.now)
+            (look_records self.old.host.now (own_of_table self.old) key.now)
+            (looks_of_table self.old) (looks_of_table self.new) }
         ensures does { DoesIf result
-            (stored filled (length_at self.old.host.now (own_in self.old) key.now)
-            (own_in self.old) key.now k bytes.now)
-            (own_in self.old) (own_in self.new) }
+            (after_write filled (length_at self.old.host.now (own_of_table self.old) key.now)
+            (own_of_table self.old) key.now k bytes.now)
+            (own_of_table self.old) (own_of_table self.new) }
         ensures over { StandsOver self.old self.new }
     {
         let Some(n) = self.records(key)? else {
@@ -159,9 +159,10 @@ impl Table<'_> {
         after: Option<[u8; 32]>,
     ) -> Result<Option<[u8; 32]>, AllocError>
         ensures answer { result ≡
-            Ok (next_bytes pattern.now ex after (shapes self.old.host.now (own_in self.old))) }
-        ensures looks { looks_in self.new ≡ look_directory (slice_index pattern.now 0) (looks_in self.old) }
-        ensures extends { Extends (looks_in self.old) (looks_in self.new) }
+            Ok (next_bytes pattern.now ex after (shapes self.old.host.now (own_of_table self.old))) }
+        ensures looks { looks_of_table self.new
+            ≡ look_directory (slice_index pattern.now 0) (looks_of_table self.old) }
+        ensures extends { KeepsAsks (looks_of_table self.old) (looks_of_table self.new) }
         ensures stays { self.new.changes.now.journal ≡ self.old.changes.now.journal }
         ensures over { StandsOver self.old self.new }
     {
@@ -172,9 +173,10 @@ impl Table<'_> {
     /// `false`. An invalid key is never an `Err`.
     #[tactic(auto, using(crate::proofs::LookLaws::extends_same))]
     pub fn make(&mut self, key: &Key) -> Result<bool, AllocError>
-        ensures asks { AsksFor result (can_make self.old.host.now (own_in self.old) key.now)
-            (look_made (own_in self.old) key.now) (looks_in self.old) (looks_in self.new) }
-        ensures does { DoesIf result (made (own_in self.old) key.now) (own_in self.old) (own_in self.new) }
+        ensures asks { AsksFor result (can_make self.old.host.now (own_of_table self.old) key.now)
+            (look_make (own_of_table self.old) key.now) (looks_of_table self.old) (looks_of_table self.new) }
+        ensures does { DoesIf result (after_make (own_of_table self.old) key.now) (own_of_table self.old)
+            (own_of_table self.new) }
         ensures grows { OnErr result (is_sayable key.now ≡ true) }
         ensures over { StandsOver self.old self.new }
     {
@@ -188,11 +190,12 @@ impl Table<'_> {
     /// Deletes each file whose key matches a pattern, and returns their number. The pattern's drive is matched exactly.
     #[tactic(auto, using(crate::proofs::LookLaws::extends_same))]
     pub fn delete(&mut self, pattern: &Key) -> Result<u64, AllocError>
-        ensures asks { AsksFor result (count_deleted self.old.host.now (own_in self.old) pattern.now)
-            (look_deleted (own_in self.old) pattern.now) (looks_in self.old) (looks_in self.new) }
+        ensures asks { AsksFor result (count_deleted self.old.host.now (own_of_table self.old) pattern.now)
+            (look_delete (own_of_table self.old) pattern.now) (looks_of_table self.old)
+            (looks_of_table self.new) }
         ensures done { OnOk result
-            (NamedAreGone self.old.host.now (own_in self.old) pattern.now (own_in self.new)) }
-        ensures err { OnErr result (own_in self.new ≡ own_in self.old) }
+            (NamedAreGone self.old.host.now (own_of_table self.old) pattern.now (own_of_table self.new)) }
+        ensures err { OnErr result (own_of_table self.new ≡ own_of_table self.old) }
         ensures over { StandsOver self.old self.new }
     {
         if has_wildcard(pattern) {
@@ -204,11 +207,12 @@ impl Table<'_> {
     // Deletes the file of a key, if there is one.
     fn delete_one(&mut self, key: &Key) -> Result<u64, AllocError>
         requires { has_wildcard key.now ≡ false }
-        ensures asks { AsksFor result (count_deleted self.old.host.now (own_in self.old) key.now)
-            (look_deleted (own_in self.old) key.now) (looks_in self.old) (looks_in self.new) }
+        ensures asks { AsksFor result (count_deleted self.old.host.now (own_of_table self.old) key.now)
+            (look_delete (own_of_table self.old) key.now) (looks_of_table self.old)
+            (looks_of_table self.new) }
         ensures done { OnOk result
-            (NamedAreGone self.old.host.now (own_in self.old) key.now (own_in self.new)) }
-        ensures err { OnErr result (own_in self.new ≡ own_in self.old) }
+            (NamedAreGone self.old.host.now (own_of_table self.old) key.now (own_of_table self.new)) }
+        ensures err { OnErr result (own_of_table self.new ≡ own_of_table self.old) }
         ensures over { StandsOver self.old self.new }
     {
         if !self.has(key)? {
@@ -223,11 +227,12 @@ impl Table<'_> {
     #[tactic(auto, using(crate::proofs::LookLaws::extends_by_directory))]
     fn delete_all(&mut self, pattern: &Key) -> Result<u64, AllocError>
         requires { has_wildcard pattern.now ≡ true }
-        ensures asks { AsksFor result (count_deleted self.old.host.now (own_in self.old) pattern.now)
-            (look_deleted (own_in self.old) pattern.now) (looks_in self.old) (looks_in self.new) }
+        ensures asks { AsksFor result (count_deleted self.old.host.now (own_of_table self.old) pattern.now)
+            (look_delete (own_of_table self.old) pattern.now) (looks_of_table self.old)
+            (looks_of_table self.new) }
         ensures done { OnOk result
-            (NamedAreGone self.old.host.now (own_in self.old) pattern.now (own_in self.new)) }
-        ensures err { OnErr result (own_in self.new ≡ own_in self.old) }
+            (NamedAreGone self.old.host.now (own_of_table self.old) pattern.now (own_of_table self.new)) }
+        ensures err { OnErr result (own_of_table self.new ≡ own_of_table self.old) }
         ensures over { StandsOver self.old self.new }
     {
         self.changes.looks.mark_directory(pattern[0]);
@@ -241,10 +246,12 @@ impl Table<'_> {
     /// `Err`.
     #[tactic(auto, using(crate::proofs::LookLaws::asked_in_turn))]
     pub fn rename(&mut self, old: &Key, new: &Key) -> Result<bool, AllocError>
-        ensures asks { AsksFor result (can_rename self.old.host.now (own_in self.old) old.now new.now)
-            (look_renamed (own_in self.old) old.now new.now) (looks_in self.old) (looks_in self.new) }
+        ensures asks { AsksFor result (can_rename self.old.host.now (own_of_table self.old) old.now new.now)
+            (look_rename (own_of_table self.old) old.now new.now) (looks_of_table self.old)
+            (looks_of_table self.new) }
         ensures does { DoesIf result
-            (renamed (own_in self.old) old.now new.now) (own_in self.old) (own_in self.new) }
+            (after_rename (own_of_table self.old) old.now new.now) (own_of_table self.old)
+            (own_of_table self.new) }
         ensures grows { OnErr result (is_rename old.now new.now ≡ true) }
         ensures over { StandsOver self.old self.new }
     {

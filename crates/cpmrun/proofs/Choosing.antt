@@ -2,7 +2,7 @@
 use Rattle.std.proofs.Common.{◌≡◌, ℕ, List, refl, inr, Some, None, Result, Err, IfErr}
 use Rattle.std.specs.Borrow.{Bor}
 use Rattle.command_words.specs.declared.words.Words.{Words}
-use Rattle.machine.specs.Given.{Session}
+use Rattle.machine.specs.Inputs.{Session}
 use Rattle.replay.specs.RunnerView.{with_no_checkpoint}
 use Rattle.folders.specs.FileSystem.{text_at}
 use Rattle.cpmrun.specs.declared.fault.Fault.{Fault}

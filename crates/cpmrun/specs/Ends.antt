@@ -4,7 +4,7 @@ use Rattle.std.specs.Io.KnownBytes.{Consumes}
 use Rattle.command_words.specs.Outcome.{ComesTo}
 use Rattle.command_words.specs.declared.outcome.Outcome.TheVariants.{Information}
 use Rattle.command_words.specs.declared.words.Words.{Words}
-use Rattle.machine.specs.Given.{Session}
+use Rattle.machine.specs.Inputs.{Session}
 use Rattle.edit_lines.specs.declared.ending.ReplayFault.{ReplayFault}
 use Rattle.edit_lines.specs.declared.ending.ReplayFault.TheVariants as replay_fault
 use Rattle.cpmrun.specs.declared.fault.Fault.{Fault}

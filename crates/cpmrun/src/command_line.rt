@@ -1,7 +1,7 @@
 // The whole program except its `main`.
 
 ghost use Rattle.std.specs.Prelude.{◌≡◌, ◌⊎◌, ◌^◌, ◌<◌, ℕ, None, IfOk, IfErr, OnOk, OnErr, map, string_bytes};
-ghost use Rattle.machine.specs.Given.{Session};
+ghost use Rattle.machine.specs.Inputs.{Session};
 ghost use Rattle.replay.specs.Options.{refusal_of};
 ghost use Rattle.replay.specs.RunnerView.{with_no_checkpoint};
 ghost use Rattle.folders.specs.Failures.{CountsFailures, KeepsFiles};
@@ -52,9 +52,10 @@ fn replay_session<R: Reader, W: Writer>(
         (W.output writer.old) (W.output writer.new) meter.new) }
     ensures fault { IfErr result
         (λ f. BreaksOffWith f (R.input reader.old).left session (W.output writer.old) (W.output writer.new)) }
-    ensures read { result ≡ Err ReplayFault.Read → (R.input reader.old).failures < (R.input reader.new).failures }
+    ensures read { result ≡ Err ReplayFault.Read
+        → (R.input reader.old).failures < (R.input reader.new).failures }
 {
-    let mut runner = Runner::within(alloc, session, options)?;
+    let mut runner = Runner::with_valid_options(alloc, session, options)?;
     replay(alloc, &mut runner, meter, reader, writer)
 }
 

@@ -15,8 +15,8 @@ use Rattle.keymaps.proofs.Views.{same_key}
 use Rattle.keymaps.proofs.Left.{rises}
 use Rattle.directory.specs.declared.entry.Entry.{Entry}
 use Rattle.directory.specs.declared.entry.Position.{Position}
-use Rattle.directory.specs.Entries.{Shape, Shapes, entries_at, entries_of, count_in, count_by, with_entry, first_where, listed, is_after, is_match, matches, next_entry}
-use Rattle.directory.specs.Parts.{chunk_from, entry_by, above}
+use Rattle.directory.specs.Entries.{Shape, Shapes, entries_at, entries_of, count_in, count_if_any, with_entry, first_where, listing_entries, is_after, is_match, matches, next_entry}
+use Rattle.directory.specs.Parts.{file_entries_from, entry_with_count, entries_above}
 use Rattle.keymaps.proofs.Rising.{first_of_both, second_of_both, here, begins, ends, find_below, below_less}
 
 abbrev pub or_else : {X : Type 0} → Option X → Option X → Option X
@@ -56,90 +56,90 @@ abbrev pub chunk : Key → Option Shape → List Entry
 chunk k None = []
 chunk k (Some s) = entries_of k s
 
-pub listed_here : (p : Entry → Bool) (k : Key) (v : Option Shape) (es : List (Key × Shape)) → first_where p (listed (here k v ++ es)) ≡ or_else (first_where p (chunk k v)) (first_where p (listed es))
+pub listed_here : (p : Entry → Bool) (k : Key) (v : Option Shape) (es : List (Key × Shape)) → first_where p (listing_entries (here k v ++ es)) ≡ or_else (first_where p (chunk k v)) (first_where p (listing_entries es))
 listed_here p k None es = refl
-listed_here p k (Some s) es = first_append p (entries_of k s) (listed es)
+listed_here p k (Some s) es = first_append p (entries_of k s) (listing_entries es)
 
 -- One turn of the walk over keys: k is the least key that passes, in either tree; there may be no file with key k.
 pub turn : (m : Shapes) (test : Entry → Bool) (p : Key → Bool) → ((x y : Key) → p x ≡ true → slice_cmp nat_cmp x y ≡ Less → p y ≡ true) → (k : Key) → p k ≡ true
     → ((x : Key) → p x ≡ true → slice_cmp nat_cmp x k ≡ Less → get m x ≡ None)
-    → first_where test (listed (filter (λ e. p e.0) (entries m))) ≡ or_else (first_where test (chunk k (get m k))) (first_where test (listed (filter (λ e. is_lt (slice_cmp nat_cmp k e.0)) (entries m))))
+    → first_where test (listing_entries (filter (λ e. p e.0) (entries m))) ≡ or_else (first_where test (chunk k (get m k))) (first_where test (listing_entries (filter (λ e. is_lt (slice_cmp nat_cmp k e.0)) (entries m))))
 turn m test p up k pk none =
-    ap (λ es. first_where test (listed es)) (begins nat_list_cmp_total same_key p up k pk (entries m) (entries_sorted m) (λ x px l. sym (get-entries m x) ∙ none x px l))
+    ap (λ es. first_where test (listing_entries es)) (begins nat_list_cmp_total same_key p up k pk (entries m) (entries_sorted m) (λ x px l. sym (get-entries m x) ∙ none x px l))
     ∙ listed_here test k _ _
-    ∙ ap (λ v. or_else (first_where test (chunk k v)) (first_where test (listed (filter (λ e. is_lt (slice_cmp nat_cmp k e.0)) (entries m))))) (sym (get-entries m k))
+    ∙ ap (λ v. or_else (first_where test (chunk k v)) (first_where test (listing_entries (filter (λ e. is_lt (slice_cmp nat_cmp k e.0)) (entries m))))) (sym (get-entries m k))
 
 -- The end of the walk.
-pub past_all : (m : Shapes) (test : Entry → Bool) (p : Key → Bool) → ((x : Key) → p x ≡ true → get m x ≡ None) → first_where test (listed (filter (λ e. p e.0) (entries m))) ≡ None
+pub past_all : (m : Shapes) (test : Entry → Bool) (p : Key → Bool) → ((x : Key) → p x ≡ true → get m x ≡ None) → first_where test (listing_entries (filter (λ e. p e.0) (entries m))) ≡ None
 past_all m test p none =
-    ap (λ es. first_where test (listed es)) (ends nat_list_cmp_total same_key p (entries m) (λ x px. sym (get-entries m x) ∙ none x px))
+    ap (λ es. first_where test (listing_entries es)) (ends nat_list_cmp_total same_key p (entries m) (λ x px. sym (get-entries m x) ∙ none x px))
 
 -- An entry of a later extent that matches.
 abbrev pub later : ℕ → Key → ℕ → Entry → Bool
 later n pattern ex e = nat_lt n e.extent && matches pattern ex e
 
 parts : (d : Position) (pattern : Key) (ex : ℕ) (es : List (Key × Shape)) → T (is_sorted (slice_cmp nat_cmp) es)
-    → first_where (λ e. is_after (Some d) e && matches pattern ex e) (listed es)
-    ≡ or_else (first_where (later d.extent pattern ex) (chunk d.key (find (slice_cmp nat_cmp) d.key es))) (first_where (matches pattern ex) (listed (filter (λ e. is_lt (slice_cmp nat_cmp d.key e.0)) es)))
+    → first_where (λ e. is_after (Some d) e && matches pattern ex e) (listing_entries es)
+    ≡ or_else (first_where (later d.extent pattern ex) (chunk d.key (find (slice_cmp nat_cmp) d.key es))) (first_where (matches pattern ex) (listing_entries (filter (λ e. is_lt (slice_cmp nat_cmp d.key e.0)) es)))
 parts d pattern ex [] h = refl
 parts d pattern ex (e ∷ es) h =
     let test : Entry → Bool = λ x. is_after (Some d) x && matches pattern ex x in
-    let above = first_of_both (below_all (slice_cmp nat_cmp) e.0 es) (is_sorted (slice_cmp nat_cmp) es) h in
+    let entries_above = first_of_both (below_all (slice_cmp nat_cmp) e.0 es) (is_sorted (slice_cmp nat_cmp) es) h in
     let rest = second_of_both (below_all (slice_cmp nat_cmp) e.0 es) (is_sorted (slice_cmp nat_cmp) es) h in
     let found = first_where (later d.extent pattern ex) in
     let fits = first_where (matches pattern ex) in
     let more : List (Key × Shape) = filter (λ e. is_lt (slice_cmp nat_cmp d.key e.0)) es in
-    first_append test (entries_of e.0 e.1) (listed es)
+    first_append test (entries_of e.0 e.1) (listing_entries es)
     ∙ ap (or_else (first_where test (entries_of e.0 e.1))) (parts d pattern ex es rest)
-    ∙ elim (slice_cmp nat_cmp d.key e.0) as (λ r. slice_cmp nat_cmp d.key e.0 ≡ r → or_else (first_where test (entries_of e.0 e.1)) (or_else (found (chunk d.key (find (slice_cmp nat_cmp) d.key es))) (fits (listed more)))
-    ≡ or_else (found (chunk d.key (cond (is_eq r) (Some e.1) (find (slice_cmp nat_cmp) d.key es)))) (fits (listed (cond (is_lt r) (e ∷ more) more)))) [
+    ∙ elim (slice_cmp nat_cmp d.key e.0) as (λ r. slice_cmp nat_cmp d.key e.0 ≡ r → or_else (first_where test (entries_of e.0 e.1)) (or_else (found (chunk d.key (find (slice_cmp nat_cmp) d.key es))) (fits (listing_entries more)))
+    ≡ or_else (found (chunk d.key (cond (is_eq r) (Some e.1) (find (slice_cmp nat_cmp) d.key es)))) (fits (listing_entries (cond (is_lt r) (e ∷ more) more)))) [
       | Less ↦ λ r.
-          let none = find_below nat_list_cmp_total same_key d.key es (below_less nat_list_cmp_total same_key d.key e.0 es r above) in
-          ap (λ v. or_else v (or_else (found (chunk d.key (find (slice_cmp nat_cmp) d.key es))) (fits (listed more)))) (alike_of e.0 e.1 test (matches pattern ex) (λ n c. ap (λ r. (is_lt r || (is_eq r && nat_lt d.extent n)) && matches pattern ex (record { key = e.0; extent = n; count = c })) r))
-          ∙ ap (λ v. or_else (fits (entries_of e.0 e.1)) (or_else (found (chunk d.key v)) (fits (listed more)))) none
-          ∙ sym (first_append (matches pattern ex) (entries_of e.0 e.1) (listed more))
-          ∙ ap (λ v. or_else (found (chunk d.key v)) (fits (listed (e ∷ more)))) (sym none)
+          let none = find_below nat_list_cmp_total same_key d.key es (below_less nat_list_cmp_total same_key d.key e.0 es r entries_above) in
+          ap (λ v. or_else v (or_else (found (chunk d.key (find (slice_cmp nat_cmp) d.key es))) (fits (listing_entries more)))) (alike_of e.0 e.1 test (matches pattern ex) (λ n c. ap (λ r. (is_lt r || (is_eq r && nat_lt d.extent n)) && matches pattern ex (record { key = e.0; extent = n; count = c })) r))
+          ∙ ap (λ v. or_else (fits (entries_of e.0 e.1)) (or_else (found (chunk d.key v)) (fits (listing_entries more)))) none
+          ∙ sym (first_append (matches pattern ex) (entries_of e.0 e.1) (listing_entries more))
+          ∙ ap (λ v. or_else (found (chunk d.key v)) (fits (listing_entries (e ∷ more)))) (sym none)
       | Equal ↦ λ r.
-          let none = subst (λ x. find (slice_cmp nat_cmp) x es ≡ None) (sym (same_key d.key e.0 r)) (find_below nat_list_cmp_total same_key e.0 es above) in
-          ap (λ v. or_else v (or_else (found (chunk d.key (find (slice_cmp nat_cmp) d.key es))) (fits (listed more)))) (alike_of e.0 e.1 test (later d.extent pattern ex) (λ n c. ap (λ r. (is_lt r || (is_eq r && nat_lt d.extent n)) && matches pattern ex (record { key = e.0; extent = n; count = c })) r))
-          ∙ ap (λ v. or_else (found (entries_of e.0 e.1)) (or_else (found (chunk d.key v)) (fits (listed more)))) none
-          ∙ ap (λ x. or_else (found (entries_of x e.1)) (fits (listed more))) (sym (same_key d.key e.0 r))
+          let none = subst (λ x. find (slice_cmp nat_cmp) x es ≡ None) (sym (same_key d.key e.0 r)) (find_below nat_list_cmp_total same_key e.0 es entries_above) in
+          ap (λ v. or_else v (or_else (found (chunk d.key (find (slice_cmp nat_cmp) d.key es))) (fits (listing_entries more)))) (alike_of e.0 e.1 test (later d.extent pattern ex) (λ n c. ap (λ r. (is_lt r || (is_eq r && nat_lt d.extent n)) && matches pattern ex (record { key = e.0; extent = n; count = c })) r))
+          ∙ ap (λ v. or_else (found (entries_of e.0 e.1)) (or_else (found (chunk d.key v)) (fits (listing_entries more)))) none
+          ∙ ap (λ x. or_else (found (entries_of x e.1)) (fits (listing_entries more))) (sym (same_key d.key e.0 r))
       | Greater ↦ λ r.
-          ap (λ v. or_else v (or_else (found (chunk d.key (find (slice_cmp nat_cmp) d.key es))) (fits (listed more))))
+          ap (λ v. or_else v (or_else (found (chunk d.key (find (slice_cmp nat_cmp) d.key es))) (fits (listing_entries more))))
           (alike_of e.0 e.1 test (λ x. false) (λ n c. ap (λ r. (is_lt r || (is_eq r && nat_lt d.extent n)) && matches pattern ex (record { key = e.0; extent = n; count = c })) r) ∙ nowhere (entries_of e.0 e.1))
     ] refl
 
 -- Search next: first the later extents of the current file with the last entry's key, then the keys above it.
 pub next_after : (d : Position) (pattern : Key) (ex : ℕ) (m : Shapes)
-    → next_entry pattern ex (Some d) m ≡ or_else (first_where (later d.extent pattern ex) (chunk d.key (get m d.key))) (first_where (matches pattern ex) (listed (filter (λ e. is_lt (slice_cmp nat_cmp d.key e.0)) (entries m))))
+    → next_entry pattern ex (Some d) m ≡ or_else (first_where (later d.extent pattern ex) (chunk d.key (get m d.key))) (first_where (matches pattern ex) (listing_entries (filter (λ e. is_lt (slice_cmp nat_cmp d.key e.0)) (entries m))))
 next_after d pattern ex m =
     parts d pattern ex (entries m) (entries_sorted m)
-    ∙ ap (λ v. or_else (first_where (later d.extent pattern ex) (chunk d.key v)) (first_where (matches pattern ex) (listed (filter (λ e. is_lt (slice_cmp nat_cmp d.key e.0)) (entries m))))) (sym (get-entries m d.key))
+    ∙ ap (λ v. or_else (first_where (later d.extent pattern ex) (chunk d.key v)) (first_where (matches pattern ex) (listing_entries (filter (λ e. is_lt (slice_cmp nat_cmp d.key e.0)) (entries m))))) (sym (get-entries m d.key))
 
 all_pass : (es : List (Key × Shape)) → filter (λ e. true) es ≡ es
 all_pass [] = refl
 all_pass (e ∷ es) = ap (λ fs. e ∷ fs) (all_pass es)
 
 -- Search first: all keys.
-pub next_first : (pattern : Key) (ex : ℕ) (m : Shapes) → next_entry pattern ex None m ≡ first_where (matches pattern ex) (listed (filter (λ e. true) (entries m)))
-next_first pattern ex m = ap (λ es. first_where (matches pattern ex) (listed es)) (sym (all_pass (entries m)))
+pub next_first : (pattern : Key) (ex : ℕ) (m : Shapes) → next_entry pattern ex None m ≡ first_where (matches pattern ex) (listing_entries (filter (λ e. true) (entries m)))
+next_first pattern ex m = ap (λ es. first_where (matches pattern ex) (listing_entries es)) (sym (all_pass (entries m)))
 
 -- ---- the extents of one file
 
-no_entries : (k : Key) (es : List ℕ) → entries_at k (count_by None) es ≡ []
+no_entries : (k : Key) (es : List ℕ) → entries_at k (count_if_any None) es ≡ []
 no_entries k [] = refl
 no_entries k (e ∷ es) = no_entries k es
 
-pub chunk_start : (k : Key) (v : Option Shape) → chunk k v ≡ chunk_from k v 0
-unfolding chunk_from entries_of
+pub chunk_start : (k : Key) (v : Option Shape) → chunk k v ≡ file_entries_from k v 0
+unfolding file_entries_from entries_of
 chunk_start k None = sym (no_entries k (range_with_len 0 512))
 chunk_start k (Some s) = refl
 
-pub chunk_more : (k : Key) (v : Option Shape) (n : ℕ) → n < 512 → chunk_from k v n ≡ with_entry k n (count_by v n) (chunk_from k v (n + 1))
-unfolding chunk_from
+pub chunk_more : (k : Key) (v : Option Shape) (n : ℕ) → n < 512 → file_entries_from k v n ≡ with_entry k n (count_if_any v n) (file_entries_from k v (n + 1))
+unfolding file_entries_from
 chunk_more k v n l =
     let left : 512 - n ≡ suc (512 - (n + 1)) = omega arith in
-    ap (λ m. entries_at k (count_by v) (range_with_len n m)) left
+    ap (λ m. entries_at k (count_if_any v) (range_with_len n m)) left
 
 none_at : (k : Key) (c : ℕ → Option ℕ) (b a : ℕ) → ((e : ℕ) → a ≤ e → e < a + b → c e ≡ None) → entries_at k c (range_with_len a b) ≡ []
 none_at k c zero a h = refl
@@ -148,9 +148,9 @@ none_at k c (suc b) a h =
     ∙ none_at k c b (a + 1) (λ e l u. h e (omega arith) (omega arith))
 
 -- If no extent from n on has an entry, the list is empty.
-pub chunk_past : (k : Key) (v : Option Shape) (n : ℕ) → ((e : ℕ) → n ≤ e → e < 512 → count_by v e ≡ None) → chunk_from k v n ≡ []
-unfolding chunk_from
-chunk_past k v n h = none_at k (count_by v) (512 - n) n (λ e l u. h e l (omega arith))
+pub chunk_past : (k : Key) (v : Option Shape) (n : ℕ) → ((e : ℕ) → n ≤ e → e < 512 → count_if_any v e ≡ None) → file_entries_from k v n ≡ []
+unfolding file_entries_from
+chunk_past k v n h = none_at k (count_if_any v) (512 - n) n (λ e l u. h e l (omega arith))
 
 pub is_later : (n a : ℕ) → n < a → nat_lt n a ≡ true
 is_later n a l = search (rules)
@@ -194,8 +194,8 @@ later_in k c n pattern ex (suc b) a low = elim (cases_lt n a) [
       ∙ ap (λ m. first_where (matches pattern ex) (entries_at k c (range_with_len (n + 1) m))) same
 ]
 
-pub chunk_later : (k : Key) (v : Option Shape) (n : ℕ) (pattern : Key) (ex : ℕ) → first_where (later n pattern ex) (chunk k v) ≡ first_where (matches pattern ex) (chunk_from k v (n + 1))
-unfolding chunk_from entries_of
+pub chunk_later : (k : Key) (v : Option Shape) (n : ℕ) (pattern : Key) (ex : ℕ) → first_where (later n pattern ex) (chunk k v) ≡ first_where (matches pattern ex) (file_entries_from k v (n + 1))
+unfolding file_entries_from entries_of
 chunk_later k None n pattern ex = sym (ap (first_where (matches pattern ex)) (no_entries k (range_with_len (n + 1) (512 - (n + 1)))))
 chunk_later k (Some s) n pattern ex = later_in k (count_in s) n pattern ex 512 0 (omega arith)
 
@@ -204,19 +204,19 @@ chunk_later k (Some s) n pattern ex = later_in k (count_in s) n pattern ex 512 0
 no_match_at : (k : Key) (c : ℕ → Option ℕ) (pattern : Key) (ex : ℕ) → is_match pattern k ≡ false → (es : List ℕ) → first_where (matches pattern ex) (entries_at k c es) ≡ None
 no_match_at k c pattern ex differs es = alike_at k c (matches pattern ex) (λ x. false) (λ n m. ap (λ b. b && (ex == 63 || ex == n)) differs) es ∙ nowhere (entries_at k c es)
 
-pub no_match : (k : Key) (v : Option Shape) (n : ℕ) (pattern : Key) (ex : ℕ) → is_match pattern k ≡ false → first_where (matches pattern ex) (chunk_from k v n) ≡ None
-unfolding chunk_from
-no_match k v n pattern ex differs = no_match_at k (count_by v) pattern ex differs (range_with_len n (512 - n))
+pub no_match : (k : Key) (v : Option Shape) (n : ℕ) (pattern : Key) (ex : ℕ) → is_match pattern k ≡ false → first_where (matches pattern ex) (file_entries_from k v n) ≡ None
+unfolding file_entries_from
+no_match k v n pattern ex differs = no_match_at k (count_if_any v) pattern ex differs (range_with_len n (512 - n))
 
 -- If every extent fits, the first match is the first entry.
 first_of_any : (k : Key) (c : ℕ → Option ℕ) (pattern : Key) → is_match pattern k ≡ true → (es : List ℕ) → first_where (matches pattern 63) (entries_at k c es) ≡ slice_get (entries_at k c es) 0
 first_of_any k c pattern same es = alike_at k c (matches pattern 63) (λ x. true) (λ n m. ap (λ b. b && true) same) es ∙ first_passes (entries_at k c es)
 
-pub any_extent : (k : Key) (v : Option Shape) (n : ℕ) (pattern : Key) (ex : ℕ) → is_match pattern k ≡ true → ex ≡ 63 → first_where (matches pattern ex) (chunk_from k v n) ≡ slice_get (chunk_from k v n) 0
-unfolding chunk_from
+pub any_extent : (k : Key) (v : Option Shape) (n : ℕ) (pattern : Key) (ex : ℕ) → is_match pattern k ≡ true → ex ≡ 63 → first_where (matches pattern ex) (file_entries_from k v n) ≡ slice_get (file_entries_from k v n) 0
+unfolding file_entries_from
 any_extent k v n pattern ex same is =
-    ap (λ x. first_where (matches pattern x) (entries_at k (count_by v) (range_with_len n (512 - n)))) is
-    ∙ first_of_any k (count_by v) pattern same (range_with_len n (512 - n))
+    ap (λ x. first_where (matches pattern x) (entries_at k (count_if_any v) (range_with_len n (512 - n)))) is
+    ∙ first_of_any k (count_if_any v) pattern same (range_with_len n (512 - n))
 
 -- If one extent fits, the entry of another extent does not match.
 passed_over : (k : Key) (e : ℕ) (x : Option ℕ) (pattern : Key) (ex : ℕ) (xs : List Entry) → (ex == 63) ≡ false → (ex == e) ≡ false
@@ -230,7 +230,7 @@ passed_over k e (Some n) pattern ex xs one other =
 
 -- The entry of this extent does.
 taken_there : (k : Key) (e : ℕ) (x : Option ℕ) (pattern : Key) (ex : ℕ) (xs : List Entry) → is_match pattern k ≡ true → (ex == 63) ≡ false → (ex == e) ≡ true
-    → first_where (matches pattern ex) xs ≡ None → first_where (matches pattern ex) (with_entry k e x xs) ≡ entry_by k e x
+    → first_where (matches pattern ex) xs ≡ None → first_where (matches pattern ex) (with_entry k e x xs) ≡ entry_with_count k e x
 taken_there k e None pattern ex xs same one it none = none
 taken_there k e (Some n) pattern ex xs same one it none =
     let d : Entry = record { key = k; extent = e; count = n } in
@@ -251,7 +251,7 @@ none_past k c pattern ex one (suc b) a l =
     ∙ none_past k c pattern ex one b (a + 1) (omega arith)
 
 one_of : (k : Key) (c : ℕ → Option ℕ) (pattern : Key) (ex : ℕ) → is_match pattern k ≡ true → (ex == 63) ≡ false → (b a : ℕ) → a ≤ ex → ex < a + b
-    → first_where (matches pattern ex) (entries_at k c (range_with_len a b)) ≡ entry_by k ex (c ex)
+    → first_where (matches pattern ex) (entries_at k c (range_with_len a b)) ≡ entry_with_count k ex (c ex)
 one_of k c pattern ex same one zero a l u = absurd (omega arith)
 one_of k c pattern ex same one (suc b) a l u = elim (cases_lt a ex) [
   | inl below ↦
@@ -260,48 +260,48 @@ one_of k c pattern ex same one (suc b) a l u = elim (cases_lt a ex) [
   | inr past ↦
       let here : ex ≡ a = omega arith in
       taken_there k a (c a) pattern ex (entries_at k c (range_with_len (a + 1) b)) same one (itself ex a here) (none_past k c pattern ex one b (a + 1) (omega arith))
-      ∙ ap (λ n. entry_by k n (c n)) (sym here)
+      ∙ ap (λ n. entry_with_count k n (c n)) (sym here)
 ]
 
-pub past_extent : (k : Key) (v : Option Shape) (n : ℕ) (pattern : Key) (ex : ℕ) → (ex ≡ 63 → ⊥) → ex < n → first_where (matches pattern ex) (chunk_from k v n) ≡ None
-unfolding chunk_from
-past_extent k v n pattern ex one l = none_past k (count_by v) pattern ex (differ ex 63 one) (512 - n) n l
+pub past_extent : (k : Key) (v : Option Shape) (n : ℕ) (pattern : Key) (ex : ℕ) → (ex ≡ 63 → ⊥) → ex < n → first_where (matches pattern ex) (file_entries_from k v n) ≡ None
+unfolding file_entries_from
+past_extent k v n pattern ex one l = none_past k (count_if_any v) pattern ex (differ ex 63 one) (512 - n) n l
 
 pub one_extent : (k : Key) (v : Option Shape) (n : ℕ) (pattern : Key) (ex : ℕ) → is_match pattern k ≡ true → (ex ≡ 63 → ⊥) → n ≤ ex → ex < 512
-    → first_where (matches pattern ex) (chunk_from k v n) ≡ entry_by k ex (count_by v ex)
-unfolding chunk_from
-one_extent k v n pattern ex same one l u = one_of k (count_by v) pattern ex same (differ ex 63 one) (512 - n) n l (omega arith)
+    → first_where (matches pattern ex) (file_entries_from k v n) ≡ entry_with_count k ex (count_if_any v ex)
+unfolding file_entries_from
+one_extent k v n pattern ex same one l u = one_of k (count_if_any v) pattern ex same (differ ex 63 one) (512 - n) n l (omega arith)
 
-first_with : (k : Key) (e : ℕ) (x : Option ℕ) (xs : List Entry) → slice_get (with_entry k e x xs) 0 ≡ or_else (entry_by k e x) (slice_get xs 0)
+first_with : (k : Key) (e : ℕ) (x : Option ℕ) (xs : List Entry) → slice_get (with_entry k e x xs) 0 ≡ or_else (entry_with_count k e x) (slice_get xs 0)
 first_with k e None xs = refl
 first_with k e (Some n) xs = refl
 
 -- One turn over the extents of a file.
-pub extent_turn : (k : Key) (v : Option Shape) (n : ℕ) → n < 512 → slice_get (chunk_from k v n) 0 ≡ or_else (entry_by k n (count_by v n)) (slice_get (chunk_from k v (n + 1)) 0)
-extent_turn k v n l = ap (λ es. slice_get es 0) (chunk_more k v n l) ∙ first_with k n (count_by v n) (chunk_from k v (n + 1))
+pub extent_turn : (k : Key) (v : Option Shape) (n : ℕ) → n < 512 → slice_get (file_entries_from k v n) 0 ≡ or_else (entry_with_count k n (count_if_any v n)) (slice_get (file_entries_from k v (n + 1)) 0)
+extent_turn k v n l = ap (λ es. slice_get es 0) (chunk_more k v n l) ∙ first_with k n (count_if_any v n) (file_entries_from k v (n + 1))
 
 pub key_turn : (m : Shapes) (pattern : Key) (ex : ℕ) (after : Option Key) (k : Key) → is_above after k ≡ true
     → ((x : Key) → is_above after x ≡ true → slice_cmp nat_cmp x k ≡ Less → get m x ≡ None)
-    → first_where (matches pattern ex) (above after m) ≡ or_else (first_where (matches pattern ex) (chunk_from k (get m k) 0)) (first_where (matches pattern ex) (above (Some k) m))
-unfolding above
+    → first_where (matches pattern ex) (entries_above after m) ≡ or_else (first_where (matches pattern ex) (file_entries_from k (get m k) 0)) (first_where (matches pattern ex) (entries_above (Some k) m))
+unfolding entries_above
 key_turn m pattern ex after k pk none =
     turn m (matches pattern ex) (is_above after) (rises after) k pk none
-    ∙ ap (λ c. or_else (first_where (matches pattern ex) c) (first_where (matches pattern ex) (listed (filter (λ e. is_above (Some k) e.0) (entries m))))) (chunk_start k (get m k))
+    ∙ ap (λ c. or_else (first_where (matches pattern ex) c) (first_where (matches pattern ex) (listing_entries (filter (λ e. is_above (Some k) e.0) (entries m))))) (chunk_start k (get m k))
 
-pub key_end : (m : Shapes) (pattern : Key) (ex : ℕ) (after : Option Key) → ((x : Key) → is_above after x ≡ true → get m x ≡ None) → first_where (matches pattern ex) (above after m) ≡ None
-unfolding above
+pub key_end : (m : Shapes) (pattern : Key) (ex : ℕ) (after : Option Key) → ((x : Key) → is_above after x ≡ true → get m x ≡ None) → first_where (matches pattern ex) (entries_above after m) ≡ None
+unfolding entries_above
 key_end m pattern ex after none = past_all m (matches pattern ex) (is_above after) none
 
-pub search_first : (pattern : Key) (ex : ℕ) (m : Shapes) → next_entry pattern ex None m ≡ first_where (matches pattern ex) (above None m)
-unfolding above
+pub search_first : (pattern : Key) (ex : ℕ) (m : Shapes) → next_entry pattern ex None m ≡ first_where (matches pattern ex) (entries_above None m)
+unfolding entries_above
 search_first pattern ex m = next_first pattern ex m
 
 pub search_next : (d : Position) (pattern : Key) (ex : ℕ) (m : Shapes)
-    → next_entry pattern ex (Some d) m ≡ or_else (first_where (matches pattern ex) (chunk_from d.key (get m d.key) (d.extent + 1))) (first_where (matches pattern ex) (above (Some d.key) m))
-unfolding above
+    → next_entry pattern ex (Some d) m ≡ or_else (first_where (matches pattern ex) (file_entries_from d.key (get m d.key) (d.extent + 1))) (first_where (matches pattern ex) (entries_above (Some d.key) m))
+unfolding entries_above
 search_next d pattern ex m =
     next_after d pattern ex m
-    ∙ ap (λ v. or_else v (first_where (matches pattern ex) (listed (filter (λ e. is_above (Some d.key) e.0) (entries m))))) (chunk_later d.key (get m d.key) d.extent pattern ex)
+    ∙ ap (λ v. or_else v (first_where (matches pattern ex) (listing_entries (filter (λ e. is_above (Some d.key) e.0) (entries m))))) (chunk_later d.key (get m d.key) d.extent pattern ex)
 
 -- ---- a match that is found, and one that is not
 

@@ -32,9 +32,9 @@ count_in [] e = if e == 0 then Some 0 else None
 count_in (b ∷ bs) e = if nat_lt 0 (count_at (b ∷ bs) e) then Some (count_at (b ∷ bs) e) else None
 
 -- The same if there may be no file.
-abbrev pub count_by : Option Shape → ℕ → Option ℕ
-count_by None e = None
-count_by (Some s) e = count_in s e
+abbrev pub count_if_any : Option Shape → ℕ → Option ℕ
+count_if_any None e = None
+count_if_any (Some s) e = count_in s e
 
 -- An entry with this count and then the others, or only the others without a count.
 abbrev pub with_entry : Key → ℕ → Option ℕ → List Entry → List Entry
@@ -55,11 +55,11 @@ abbrev pub Listing : Type 0
 Listing = List (Key × Shape)
 
 -- All entries of these files, by key.
-abbrev pub listed : Listing → List Entry
-listed files = flat_map (λ e. entries_of e.0 e.1) files
+abbrev pub listing_entries : Listing → List Entry
+listing_entries files = flat_map (λ e. entries_of e.0 e.1) files
 
 abbrev pub directory : Shapes → List Entry
-directory m = listed (entries m)
+directory m = listing_entries (entries m)
 
 -- The first element that passes a test, if any.
 abbrev pub first_where : {X : Type 0} → (X → Bool) → List X → Option X
@@ -91,7 +91,7 @@ first_match pattern ex es = first_where (matches pattern ex) es
 
 -- The first match after a position, if there is one, among the entries of files.
 abbrev pub next_among : Key → ℕ → Option Position → Listing → Option Entry
-next_among pattern ex after files = first_where (λ e. is_after after e && matches pattern ex e) (listed files)
+next_among pattern ex after files = first_where (λ e. is_after after e && matches pattern ex e) (listing_entries files)
 
 abbrev pub next_entry : Key → ℕ → Option Position → Shapes → Option Entry
 next_entry pattern ex after m = next_among pattern ex after (entries m)
@@ -103,5 +103,5 @@ abbrev pub entry_bytes : Entry → List ℕ
 entry_bytes e = 0 ∷ drop 1 e.key ++ (e.extent % 32) ∷ 0 ∷ (e.extent / 32) ∷ e.count ∷ replicate 16 0
 
 -- The position of the entry with these bytes, on a drive.
-abbrev pub position_in : ℕ → List ℕ → Position
-position_in drive bytes = record { key = drive ∷ take 11 (drop 1 bytes); extent = slice_index bytes 12 + 32 * slice_index bytes 14 }
+abbrev pub position_of : ℕ → List ℕ → Position
+position_of drive bytes = record { key = drive ∷ take 11 (drop 1 bytes); extent = slice_index bytes 12 + 32 * slice_index bytes 14 }

@@ -1,7 +1,7 @@
 // Directory entries.
 
 ghost use Rattle.std.specs.Prelude.{◌≡◌, ◌<◌};
-ghost use Rattle.directory.specs.Entries.{entry_bytes, position_in};
+ghost use Rattle.directory.specs.Entries.{entry_bytes, position_of};
 
 use filenames::Key;
 
@@ -55,8 +55,8 @@ impl Entry {
 
 impl Position {
     /// Returns the position of the entry with these 32 bytes, on a drive.
-    pub fn of_bytes(drive: u8, bytes: &[u8; 32]) -> Position
-        ensures { result ≡ position_in drive bytes.now }
+    pub fn from_bytes(drive: u8, bytes: &[u8; 32]) -> Position
+        ensures { result ≡ position_of drive bytes.now }
     {
         let mut key = [drive; 12];
         key[1..12].copy_from_slice(&bytes[1..12]);

@@ -9,4 +9,4 @@ pub mod search;
 
 pub use entry::{Entry, Position, Search};
 pub use pattern::is_match;
-pub use search::{FileShape, Files, KeyedFile, next_entry};
+pub use search::{DirectoryFiles, FileShape, KeyedFile, next_entry};

@@ -5,8 +5,8 @@ ghost use Rattle.std.specs.List.{slice_get};
 ghost use Rattle.std.specs.FinMap.{get};
 ghost use Rattle.keymaps.specs.Order.{is_above};
 ghost use Rattle.keymaps.specs.Walks.{EachAbove, EachBetween, IsAbsent};
-ghost use Rattle.directory.specs.Entries.{Shape, Shapes, count_by, first_match, is_match, next_entry};
-ghost use Rattle.directory.specs.Parts.{entries_from, chunk_from, entry_by, above};
+ghost use Rattle.directory.specs.Entries.{Shape, Shapes, count_if_any, first_match, is_match, next_entry};
+ghost use Rattle.directory.specs.Parts.{entries_from, file_entries_from, entry_with_count, entries_above};
 
 use crate::entry::{Entry, Position};
 use crate::pattern::is_match;
@@ -21,12 +21,12 @@ pub trait FileShape {
 
     /// Returns the count of an extent's entry, or `None` if the extent has no entry.
     fn entry_count(&self, extent: u32) -> Option<u8>
-        ensures { result ≡ count_by (shape self.now) extent };
+        ensures { result ≡ count_if_any (shape self.now) extent };
 
     /// Returns an extent, at most 512, from which on the file has no entry.
     fn extents(&self) -> u32
         ensures within { result ≤ 512 }
-        ensures none { (e : ℕ) → result ≤ e → e < 512 → count_by (shape self.now) e ≡ None };
+        ensures none { (e : ℕ) → result ≤ e → e < 512 → count_if_any (shape self.now) e ≡ None };
 }
 
 /// A key and its file, found together.
@@ -39,7 +39,7 @@ pub struct KeyedFile<F> {
 }
 
 /// Files by key, as a search sees them.
-pub trait Files {
+pub trait DirectoryFiles {
     ghost use Rattle.std.specs.Prelude.{ℕ, List, Option};
     ghost use Rattle.directory.specs.Entries.{Shapes};
 
@@ -67,7 +67,7 @@ pub trait Files {
 // Returns the entry of an extent, if it has one.
 fn entry_at<F: FileShape>(file: &F, key: &Key, extent: u32) -> Option<Entry>
     requires { extent < 512 }
-    ensures entry { result ≡ entry_by key.now extent (count_by (F.shape file.now) extent) }
+    ensures entry { result ≡ entry_with_count key.now extent (count_if_any (F.shape file.now) extent) }
     ensures within { IfSome result (λ e. e.extent < 512) }
 {
     let count = file.entry_count(extent)?;
@@ -80,7 +80,7 @@ fn entry_at<F: FileShape>(file: &F, key: &Key, extent: u32) -> Option<Entry>
 
 // Returns a file's first entry from an extent on.
 fn first_from<F: FileShape>(file: &F, key: &Key, from: u32) -> Option<Entry>
-    ensures entry { result ≡ slice_get (chunk_from key.now (F.shape file.now) from) 0 }
+    ensures entry { result ≡ slice_get (file_entries_from key.now (F.shape file.now) from) 0 }
     ensures within { IfSome result (λ e. e.extent < 512) }
 {
     for extent in from..file.extents() {
@@ -96,7 +96,7 @@ fn may_match(pattern: &Key, ex: u8, key: &Key, from: u32) -> bool
     ensures yes { result ≡ true → is_match pattern.now key.now ≡ true }
     ensures reached { result ≡ true → ex < from → ex ≡ 63 }
     ensures no { result ≡ false → (s : Option Shape) →
-        first_match pattern.now ex (chunk_from key.now s from) ≡ None }
+        first_match pattern.now ex (file_entries_from key.now s from) ≡ None }
 {
     // 63 is `?`, which matches every extent.
     if ex != 63 && (ex as u32) < from {
@@ -109,7 +109,7 @@ fn may_match(pattern: &Key, ex: u8, key: &Key, from: u32) -> bool
 fn first_extent<F: FileShape>(file: &F, key: &Key, from: u32, ex: u8) -> Option<Entry>
     requires { ex < from → ex ≡ 63 }
     ensures entry { (pattern : List ℕ) → is_match pattern key.now ≡ true →
-        result ≡ first_match pattern ex (chunk_from key.now (F.shape file.now) from) }
+        result ≡ first_match pattern ex (file_entries_from key.now (F.shape file.now) from) }
     ensures within { IfSome result (λ e. e.extent < 512) }
 {
     if ex == 63 {
@@ -120,7 +120,13 @@ fn first_extent<F: FileShape>(file: &F, key: &Key, from: u32, ex: u8) -> Option<
 
 // Returns the first match among the extents from one on of the file with a key. Looks the file up at most once, and only if
 // an entry of it may match.
-fn first_further<T: Files>(files: &T, key: &Key, from: u32, pattern: &Key, ex: u8) -> Option<Entry>
+fn first_further<T: DirectoryFiles>(
+    files: &T,
+    key: &Key,
+    from: u32,
+    pattern: &Key,
+    ex: u8,
+) -> Option<Entry>
     ensures entry { result ≡ first_match pattern.now ex (entries_from (T.files files.now) key.now from) }
     ensures within { IfSome result (λ e. e.extent < 512) }
 {
@@ -131,8 +137,13 @@ fn first_further<T: Files>(files: &T, key: &Key, from: u32, pattern: &Key, ex: u
 }
 
 // Returns the first match among the files above a key. Each file is found together with its key.
-fn first_above<T: Files>(files: &T, pattern: &Key, ex: u8, low: Option<Key>) -> Option<Entry>
-    ensures entry { result ≡ first_match pattern.now ex (above low (T.files files.now)) }
+fn first_above<T: DirectoryFiles>(
+    files: &T,
+    pattern: &Key,
+    ex: u8,
+    low: Option<Key>,
+) -> Option<Entry>
+    ensures entry { result ≡ first_match pattern.now ex (entries_above low (T.files files.now)) }
     ensures within { IfSome result (λ e. e.extent < 512) }
 {
     let mut after = low;
@@ -152,7 +163,7 @@ fn first_above<T: Files>(files: &T, pattern: &Key, ex: u8, low: Option<Key>) -> 
 /// Returns the first matching entry after a position, or of the whole directory if `after` is `None`, in the order of keys
 /// and then of extents, among the current files. `ex` is the extent, or 63 (`?`) for every extent. The search resumes at the
 /// position and not from the start.
-pub fn next_entry<T: Files>(
+pub fn next_entry<T: DirectoryFiles>(
     files: &T,
     pattern: &Key,
     ex: u8,

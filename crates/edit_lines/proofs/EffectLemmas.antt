@@ -1,8 +1,8 @@
 -- The effect of one more line, one more byte and the end of the input on a runner and a meter.
 use Rattle.std.proofs.Common.{◌≡◌, ℕ, ◌+◌, ◌-◌, ◌<◌, List, [], ◌∷◌, ◌++◌, length, refl, sym, ap, subst, ◌∙◌, arith, append_assoc, length-append, inl, inr, Result, Ok, Err}
 use Rattle.std.proofs.lemmas.List.{append-nil}
-use Rattle.replay.specs.Plain.{PlainRun, plain_run}
-use Rattle.replay.specs.RunnerView.{RunnerView, SameOptions, Reran, LeavesNoneOut, CountsAnew, rerun_start}
+use Rattle.replay.specs.PlainRun.{PlainRun, plain_run}
+use Rattle.replay.specs.RunnerView.{RunnerView, SameOptions, AddsDueTo, AddsAllDueTo, RestartsCount, rerun_start}
 use Rattle.edit_lines.specs.declared.line.Command.{Command}
 use Rattle.edit_lines.specs.declared.ending.ReplayFault.{ReplayFault}
 use Rattle.edit_lines.specs.declared.ending.ReplayFault.TheVariants.{Malformed, LineTooLong, Read, Write, OutOfMemory}
@@ -28,16 +28,16 @@ SameOptions-trans a b d p q = record { spacing = q.spacing ∙ p.spacing; slots 
 -- The effect of a run, from its report.
 pub run_effect : (old : RunnerView) (meter : ℕ) (new : RunnerView) (metered : ℕ) (run : PlainRun) → run ≡ plain_run old.session → new.session ≡ old.session
     → SameOptions old new → metered + rerun_start old ≡ meter + run.steps
-    → Reran old new run.steps × LeavesNoneOut old new run.steps × CountsAnew old new run.steps → RunEffect old meter new metered
+    → AddsDueTo old new run.steps × AddsAllDueTo old new run.steps × RestartsCount old new run.steps → RunEffect old meter new metered
 run_effect old meter new metered run is session options ticked made =
     let steps : run.steps ≡ (plain_run old.session).steps = ap (λ (r : PlainRun). r.steps) is in
     record {
       session = session;
       options = options;
       ticked = rw steps at ticked;
-      reran = subst (λ (k : ℕ). Reran old new k) steps made.0;
-      complete = subst (λ (k : ℕ). LeavesNoneOut old new k) steps made.1;
-      counted = subst (λ (k : ℕ). CountsAnew old new k) steps made.2;
+      reran = subst (λ (k : ℕ). AddsDueTo old new k) steps made.0;
+      complete = subst (λ (k : ℕ). AddsAllDueTo old new k) steps made.1;
+      counted = subst (λ (k : ℕ). RestartsCount old new k) steps made.2;
     }
 
 -- What a line did, from what its command did.

@@ -1,7 +1,7 @@
 -- A replay is a function of its first session and its lines.
 use Rattle.std.proofs.Common.{◌≡◌, ℕ, ◌+◌, ◌≤◌, List, [], ◌∷◌, ◌++◌, length, refl, sym, ap, subst, ◌∙◌, arith, inl, inr}
 use Rattle.std.specs.List.{concat}
-use Rattle.machine.specs.Given.{Session}
+use Rattle.machine.specs.Inputs.{Session}
 use Rattle.edit_lines.specs.declared.line.Command.{Command}
 use Rattle.edit_lines.specs.EditLine.{EditLine}
 use Rattle.edit_lines.specs.Replay.{ExecutesLines, none, more, ReplayEnd, Finished, MalformedAt, TooLongAt, EndsAt, Replays, reply, session_after}

@@ -2,14 +2,14 @@
 use Rattle.std.proofs.Common.{◌≡◌, ℕ, List, ◌++◌, Result, Ok, Err, codes, refl, ap, subst, ◌∙◌}
 use Rattle.report_lines.specs.Streams.{Output, WritesPart, WritesWhole}
 use Rattle.replay.specs.Edits.{edited}
-use Rattle.replay.specs.EditAnswers.{AnswersEdit, number_of}
+use Rattle.replay.specs.EditAnswers.{AnswersEdit, edit_error_number}
 use Rattle.replay.specs.declared.edit.Edit.{Edit}
 use Rattle.replay.specs.declared.edit.EditError.{EditError}
 use Rattle.replay.specs.declared.edit.EditError.TheVariants.{PastEnd, ScriptTooLong, NoSuchFile, FileTooLong, TooManyFiles, OutsideProgram, LimitTooLarge, OutOfMemory}
 use Rattle.hostfiles.specs.Hosts.{Host}
-use Rattle.machine.specs.WholeFiles.{Files}
-use Rattle.machine.specs.Given.{Session}
-use Rattle.replay.specs.Plain.{PlainRun}
+use Rattle.machine.specs.PlainFiles.{Files}
+use Rattle.machine.specs.Inputs.{Session}
+use Rattle.replay.specs.PlainRun.{PlainRun}
 use Rattle.edit_lines.specs.declared.ending.ReplayFault.{ReplayFault}
 use Rattle.edit_lines.specs.declared.ending.ReplayFault.TheVariants.{Malformed, LineTooLong, Read, Write}
 use Rattle.edit_lines.specs.declared.ending.ReplayFault.TheVariants as fault
@@ -32,7 +32,7 @@ report_is s run head text host all first printed files done =
     ∙ ap (λ (m : Files). ((report_head run.cause run.steps run.machine.core.regs ++ text_line run.machine.core.desk.text) ++ changed_lines s.files m) ++ line (codes "end")) done
 
 -- The refusal that the edit returned.
-pub refused_by : (wanted : Result Session ℕ) (e : EditError) (after : Session) → (e ≡ OutOfMemory → ⊥) → AnswersEdit {U = Unit {0}} wanted (Err e) after → wanted ≡ Err (number_of e)
+pub refused_by : (wanted : Result Session ℕ) (e : EditError) (after : Session) → (e ≡ OutOfMemory → ⊥) → AnswersEdit {U = Unit {0}} wanted (Err e) after → wanted ≡ Err (edit_error_number e)
 refused_by wanted PastEnd after not a = a
 refused_by wanted ScriptTooLong after not a = a
 refused_by wanted NoSuchFile after not a = a

@@ -6,7 +6,7 @@ use Rattle.std.specs.Char.{to_ascii_uppercase}
 use Rattle.std.proofs.lemmas.Bool.Decides.{nat_tests}
 use Rattle.std.proofs.lemmas.Str.{IsUtf8-from_ascii}
 use Rattle.std.proofs.lemmas.Str.Ascii.{IsAscii-nil, IsAscii-cons}
-use Rattle.filenames.specs.Names.{Key, is_allowed, is_dot, is_colon, is_valid, named, plain_name, key_of, drive_of, on_drive, name_of}
+use Rattle.filenames.specs.Names.{Key, is_allowed, is_dot, is_colon, is_valid, key_or_refusal, name_without_drive, key_of, drive_of, name_on_drive, name_of}
 use Rattle.filenames.proofs.FieldLemmas.{both}
 
 raised_ascii : (b : ℕ) → is_allowed (to_ascii_uppercase b) ≡ true → b < 128
@@ -37,8 +37,8 @@ halves_ascii (b ∷ bs) n k =
 abbrev chosen : Bool → Bool → Bool → Key → Result Key ℕ
 chosen a b c key = cond a (Err 1) (cond b (Err 2) (cond c (Ok key) (Err 3)))
 
-named_valid : (drive : ℕ) (name kind key : List ℕ) → named drive name kind ≡ Ok key → (is_valid name ≡ true) × (is_valid kind ≡ true)
-unfolding named
+named_valid : (drive : ℕ) (name kind key : List ℕ) → key_or_refusal drive name kind ≡ Ok key → (is_valid name ≡ true) × (is_valid kind ≡ true)
+unfolding key_or_refusal
 named_valid drive name kind key h =
     by (length name == 0) (nat_lt 8 (length name) || nat_lt 3 (length kind)) (is_valid name && is_valid kind) (λ e. both (is_valid name) (is_valid kind) e) h where
       by : {P : Type 0} (a b c : Bool) → (c ≡ true → P) → chosen a b c (key_of drive name kind) ≡ Ok key → P
@@ -47,7 +47,7 @@ named_valid drive name kind key h =
       by false false true f h = f refl
       by false false false f h = cc
 
-plain_ascii : (drive : ℕ) (text key : List ℕ) → plain_name drive text ≡ Ok key → IsAscii text
+plain_ascii : (drive : ℕ) (text key : List ℕ) → name_without_drive drive text ≡ Ok key → IsAscii text
 plain_ascii drive text key h = let p = named_valid drive (before_first is_dot text) (after_first is_dot text) key h in halves_ascii text p.0 p.1
 
 letter_ascii : (b : ℕ) → is_some (drive_of b) ≡ true → b < 128
@@ -56,12 +56,12 @@ letter_ascii b h = grind (arith, nat_tests)
 colon_ascii : (b : ℕ) → is_colon b ≡ true → b < 128
 colon_ascii b h = grind (arith, nat_tests)
 
-drive_ascii : (d : Option ℕ) (text key : List ℕ) → on_drive d text ≡ Ok key → (is_some d ≡ true) × IsAscii text
+drive_ascii : (d : Option ℕ) (text key : List ℕ) → name_on_drive d text ≡ Ok key → (is_some d ≡ true) × IsAscii text
 drive_ascii None text key h = cc
 drive_ascii (Some drive) text key h = (refl, plain_ascii drive text key h)
 
 -- A name of two bytes or more.
-letter_or_plain : (a b : ℕ) (bs key : List ℕ) (t : Bool) → is_colon b ≡ t → cond t (on_drive (drive_of a) bs) (plain_name 0 (a ∷ b ∷ bs)) ≡ Ok key → IsAscii (a ∷ b ∷ bs)
+letter_or_plain : (a b : ℕ) (bs key : List ℕ) (t : Bool) → is_colon b ≡ t → cond t (name_on_drive (drive_of a) bs) (name_without_drive 0 (a ∷ b ∷ bs)) ≡ Ok key → IsAscii (a ∷ b ∷ bs)
 letter_or_plain a b bs key true t h = let p = drive_ascii (drive_of a) bs key h in IsAscii-cons a (b ∷ bs) (letter_ascii a p.0) (IsAscii-cons b bs (colon_ascii b t) p.1)
 letter_or_plain a b bs key false t h = plain_ascii 0 (a ∷ b ∷ bs) key h
 
@@ -71,7 +71,7 @@ said_ascii [] key h = IsAscii-nil
 said_ascii (a ∷ []) key h = plain_ascii 0 (a ∷ []) key h
 said_ascii (a ∷ b ∷ bs) key h =
     let more : nat_lt 1 (suc (suc (length bs))) ≡ true = search rules in
-    letter_or_plain a b bs key (is_colon b) refl (sym (ap (λ t. cond (t && is_colon b) (on_drive (drive_of a) bs) (plain_name 0 (a ∷ b ∷ bs))) more) ∙ h)
+    letter_or_plain a b bs key (is_colon b) refl (sym (ap (λ t. cond (t && is_colon b) (name_on_drive (drive_of a) bs) (name_without_drive 0 (a ∷ b ∷ bs))) more) ∙ h)
 
 pub said_text : (text key : List ℕ) → name_of text ≡ Ok key → IsUtf8 text
 said_text text key h = IsUtf8-from_ascii text (said_ascii text key h)

@@ -7,7 +7,7 @@ use Rattle.std.specs.Io.KnownBytes.{IsAtEnd}
 use Rattle.std.proofs.KnownBytes.{Appends-nil}
 use Rattle.report_lines.specs.Streams.{Output, WritesWhole}
 use Rattle.report_lines.proofs.WrittenPieces.{whole_nil, whole_then}
-use Rattle.machine.specs.Given.{Session}
+use Rattle.machine.specs.Inputs.{Session}
 use Rattle.replay.specs.RunnerView.{RunnerView}
 use Rattle.edit_lines.specs.declared.line.Command.{Command}
 use Rattle.edit_lines.specs.declared.ending.ReplayFault.{ReplayFault}

@@ -6,7 +6,7 @@ use Rattle.report_lines.specs.Streams.{Output}
 use Rattle.edit_lines.specs.declared.line.Command.{Command}
 use Rattle.edit_lines.specs.declared.line.Command.TheVariants.{Edit, Run, DropOldest}
 use Rattle.replay.specs.declared.edit.Edit.TheVariants.{Insert, Replace, Remove, Poke, SetFile, RemoveFile, SetLimit}
-use Rattle.machine.specs.Given.{Session}
+use Rattle.machine.specs.Inputs.{Session}
 use Rattle.edit_lines.specs.declared.ending.ReplayFault.{ReplayFault}
 use Rattle.edit_lines.specs.declared.ending.ReplayFault.TheVariants.{OutOfMemory}
 use Rattle.edit_lines.specs.declared.limits.TheConstants.{LINE_LIMIT, LINES_LIMIT}

@@ -1,10 +1,10 @@
 -- What the lines of an edit text do, one after the other, to a runner and its checkpoints and to the meter. (This project's own.)
 use Rattle.std.specs.Prelude.{◌≡◌, ℕ, ◌+◌, ◌-◌, ◌⊎◌, List, [], ◌∷◌, ◌++◌, length, Result, Ok, Err}
-use Rattle.machine.specs.Given.{Session}
-use Rattle.machine.specs.Machine.{ask}
-use Rattle.replay.specs.Plain.{plain_run}
+use Rattle.machine.specs.Inputs.{Session}
+use Rattle.machine.specs.Machine.{session_answers}
+use Rattle.replay.specs.PlainRun.{plain_run}
 use Rattle.replay.specs.Edits.{edited}
-use Rattle.replay.specs.RunnerView.{RunnerView, SameOptions, KeepsUntouched, DropsOldest, Reran, LeavesNoneOut, CountsAnew, TicksTo, rerun_start}
+use Rattle.replay.specs.RunnerView.{RunnerView, SameOptions, KeepsUntouched, DropsOldest, AddsDueTo, AddsAllDueTo, RestartsCount, TicksTo, rerun_start}
 use Rattle.edit_lines.specs.declared.line.Command.{Command}
 use Rattle.edit_lines.specs.declared.line.Command.TheVariants.{Edit, Run, DropOldest}
 use Rattle.edit_lines.specs.declared.ending.ReplayFault.{ReplayFault}
@@ -16,7 +16,7 @@ use Rattle.edit_lines.specs.Pieces.{pieces, lines_of}
 abbrev pub EditEffect : Result Session ℕ → RunnerView → RunnerView → Type 0
 EditEffect (Ok s) old new =
     (new.session ≡ s) × SameOptions old new × (new.refused ≡ old.refused)
-    × KeepsUntouched (ask old.session) (ask new.session) old.checkpoints new.checkpoints
+    × KeepsUntouched (session_answers old.session) (session_answers new.session) old.checkpoints new.checkpoints
 EditEffect (Err n) old new = new ≡ old
 
 -- A run adds to the meter the steps from the kept one where it begins, and makes the checkpoints that are due.
@@ -24,9 +24,9 @@ pub record RunEffect (old : RunnerView) (meter : ℕ) (new : RunnerView) (metere
   pub session : new.session ≡ old.session
   pub options : SameOptions old new
   pub ticked : metered + rerun_start old ≡ meter + (plain_run old.session).steps
-  pub reran : Reran old new (plain_run old.session).steps
-  pub complete : LeavesNoneOut old new (plain_run old.session).steps
-  pub counted : CountsAnew old new (plain_run old.session).steps
+  pub reran : AddsDueTo old new (plain_run old.session).steps
+  pub complete : AddsAllDueTo old new (plain_run old.session).steps
+  pub counted : RestartsCount old new (plain_run old.session).steps
 
 -- What a command does to a runner and a meter.
 abbrev pub Effect : Command → RunnerView → ℕ → RunnerView → ℕ → Type 0
@@ -49,9 +49,9 @@ IsUnchanged old meter new metered = (new ≡ old) × (metered ≡ meter)
 pub record RunCutShort (old : RunnerView) (meter : ℕ) (new : RunnerView) (metered : ℕ) : Type 0 where
   pub session : new.session ≡ old.session
   pub options : SameOptions old new
-  pub ticked : TicksTo (ask old.session) old.session.limit (rerun_start old) meter metered
-  pub reran : Reran old new old.session.limit
-  pub counted : CountsAnew old new old.session.limit
+  pub ticked : TicksTo (session_answers old.session) old.session.limit (rerun_start old) meter metered
+  pub reran : AddsDueTo old new old.session.limit
+  pub counted : RestartsCount old new old.session.limit
 
 -- What a command did, by its result. If its reply could not be written, it was executed. If memory ran out, nothing was done, or
 -- it is a run that was cut short.

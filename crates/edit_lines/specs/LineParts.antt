@@ -1,9 +1,9 @@
 -- The meaning of the words of a line, by their number, and which lines may need memory. (This project's own.)
 use Rattle.std.specs.Prelude.{◌≡◌, ℕ, ◌<◌, ◌⊎◌, List, [], ◌∷◌, length, codes, Ok}
 use Rattle.replay.specs.declared.edit.Edit.TheVariants.{Insert, Replace, Remove, Poke, SetFile, RemoveFile, SetLimit}
-use Rattle.machine.specs.Given.{Session}
+use Rattle.machine.specs.Inputs.{Session}
 use Rattle.replay.specs.Edits.{edited}
-use Rattle.replay.specs.EditAnswers.{TakesMemory}
+use Rattle.replay.specs.EditAnswers.{EditAllocates}
 use Rattle.edit_lines.specs.declared.line.Command.{Command}
 use Rattle.edit_lines.specs.declared.line.Command.TheVariants.{Edit, Run, DropOldest}
 use Rattle.edit_lines.specs.declared.line.Words.{Words}
@@ -55,7 +55,7 @@ NamesBytes (DropOldest n) = ⊥
 
 -- The commands that may need memory in a session: a run, and an insertion or a file that the session does not refuse.
 abbrev pub WantsMemory : Session → Command → Type 0
-WantsMemory s (Edit e) = TakesMemory e × ((t : Session) × (edited s e ≡ Ok t))
+WantsMemory s (Edit e) = EditAllocates e × ((t : Session) × (edited s e ≡ Ok t))
 WantsMemory s Run = Unit {0}
 WantsMemory s (DropOldest n) = ⊥
 

@@ -3,8 +3,8 @@
 use Rattle.std.specs.Prelude.{◌≡◌, ℕ, ◌+◌, ◌<◌, ◌≤◌, ◌⊎◌, List, [], ◌∷◌, ◌++◌, length, codes, Result, Ok, Err}
 use Rattle.std.specs.Fmt.{decimal}
 use Rattle.std.specs.List.{concat}
-use Rattle.machine.specs.Given.{Session}
-use Rattle.replay.specs.Plain.{plain_run}
+use Rattle.machine.specs.Inputs.{Session}
+use Rattle.replay.specs.PlainRun.{plain_run}
 use Rattle.replay.specs.Edits.{edited}
 use Rattle.edit_lines.specs.declared.line.Command.{Command}
 use Rattle.edit_lines.specs.declared.line.Command.TheVariants.{Edit, Run, DropOldest}

@@ -1,7 +1,7 @@
 -- The reply to `run`. (This project's own.)
 use Rattle.std.specs.Prelude.{ℕ, List, ◌++◌, codes}
-use Rattle.machine.specs.Given.{Session}
-use Rattle.replay.specs.Plain.{PlainRun}
+use Rattle.machine.specs.Inputs.{Session}
+use Rattle.replay.specs.PlainRun.{PlainRun}
 use Rattle.report_lines.specs.FirstLines.{line, report_head, text_line}
 use Rattle.report_lines.specs.ChangedLines.{changed_lines}
 

@@ -1,5 +1,5 @@
 ghost use Rattle.std.specs.Prelude.{◌≡◌, ℕ, ◌+◌, ◌^◌, ◌<◌, ◌≤◌, OnOk};
-ghost use Rattle.replay.specs.Plain.{plain_run};
+ghost use Rattle.replay.specs.PlainRun.{plain_run};
 ghost use Rattle.replay.specs.RunnerView.{DropsOldest, SameOptions, rerun_start};
 ghost use Rattle.replay.specs.Report.{run_of, session_of};
 ghost use Rattle.edit_lines.specs.Effects.{CommandTakesEffect, LineTakesEffect};

@@ -1,6 +1,6 @@
 ghost use Rattle.std.specs.Prelude.{◌≡◌, ℕ, ◌+◌, ◌*◌, ◌^◌, ◌<◌, ◌≤◌, List, ◌∷◌, ◌++◌, [], length, IfOk, OnOk, IfErr, OnErr, vec_capacity, vec_len};
 ghost use Rattle.std.specs.Io.KnownBytes.{Consumes, IsAtEnd};
-ghost use Rattle.machine.specs.Given.{Session};
+ghost use Rattle.machine.specs.Inputs.{Session};
 ghost use Rattle.report_lines.specs.Streams.{WritesWhole};
 ghost use Rattle.replay.specs.RunnerView.{SameOptions};
 ghost use Rattle.edit_lines.specs.declared.limits.TheConstants.{LINE_LIMIT, LINES_LIMIT};
@@ -192,7 +192,8 @@ pub fn replay<R: Reader, W: Writer>(
     requires reader { (R.input reader.old).failures < 2 ^ 63 }
     requires writer { (W.output writer.old).failures < 2 ^ 63 }
     ensures ok { IfOk result (λ e. (bytes : List ℕ) × (text : List ℕ)
-        × Consumes (R.input reader.old).left (R.input reader.new).left bytes × IsAtEnd (R.input reader.new).left
+        × Consumes (R.input reader.old).left (R.input reader.new).left bytes
+        × IsAtEnd (R.input reader.new).left
         × WritesWhole (W.output writer.old) (W.output writer.new) text
         × Replays runner.old.session (lines_of bytes) text runner.new.session (Finished e.lines)
         × Effects runner.old meter.old (lines_of bytes) runner.new meter.new) }
@@ -206,7 +207,8 @@ pub fn replay<R: Reader, W: Writer>(
         × StopsForMemory runner.old meter.old (W.output writer.old) bytes
         runner.new meter.new (W.output writer.new) }
     ensures options { SameOptions runner.old runner.new }
-    ensures read { result ≡ Err ReplayFault.Read → (R.input reader.old).failures < (R.input reader.new).failures }
+    ensures read { result ≡ Err ReplayFault.Read
+        → (R.input reader.old).failures < (R.input reader.new).failures }
 {
     let mut place = Place {
         line: Vec::new(alloc),

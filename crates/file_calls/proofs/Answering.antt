@@ -2,15 +2,15 @@
 use Rattle.std.proofs.Common.{◌≡◌}
 use Rattle.interaction_trees.specs.Tree.{result_of}
 use Rattle.hostfiles.specs.Hosts.{Host}
-use Rattle.hostfiles.specs.Files.{Own, entry_at}
-use Rattle.file_calls.specs.Questions.{FileQuestion, IsThere, ShapeOf, Content, FilesOn}
-use Rattle.file_calls.specs.Answers.{file_answers, shape_here}
-use Rattle.file_calls.specs.Passing.{IsSound, part, host_answers}
+use Rattle.hostfiles.specs.Files.{OwnFiles, entry_at}
+use Rattle.file_calls.specs.FileQuestions.{FileQuestion, IsThere, ShapeOf, Content, FilesOn}
+use Rattle.file_calls.specs.TableView.{file_answers, shape_of_key}
+use Rattle.file_calls.specs.HostTrees.{AreSoundOwnFiles, host_tree, host_answers}
 use Rattle.file_calls.proofs.Parts.{there_is, shape_here_is, content_is}
 use Rattle.file_calls.proofs.Names.{same_files}
 
-pub answers_are : (host : Host) (own : Own) → IsSound host own → (q : FileQuestion) → result_of (host_answers host) (part own q) ≡ file_answers host own q
-unfolding shape_here
+pub answers_are : (host : Host) (own : OwnFiles) → AreSoundOwnFiles host own → (q : FileQuestion) → result_of (host_answers host) (host_tree own q) ≡ file_answers host own q
+unfolding shape_of_key
 answers_are host own sound (IsThere key) = there_is host key (entry_at own key).base
 answers_are host own sound (ShapeOf key) = shape_here_is host key (entry_at own key) (sound.at key).grown
 answers_are host own sound (Content key k) = content_is host key k (entry_at own key)

@@ -11,21 +11,21 @@ use Rattle.hostfiles.proofs.Views.{same_key, key_of}
 use Rattle.directory.proofs.Walk.{is_later}
 use Rattle.directory.specs.Entries.{Listing, is_match, fits_name}
 use Rattle.hostfiles.specs.Hosts.{Key, Host}
-use Rattle.hostfiles.specs.Files.{Own, has, nothing, deleted, shapes}
-use Rattle.hostfiles.specs.Looks.{look_has, look_directory, Extends}
+use Rattle.hostfiles.specs.Files.{OwnFiles, has, gone_entry, after_delete, shapes}
+use Rattle.hostfiles.specs.FileLooks.{look_has, look_directory, KeepsAsks}
 use Rattle.std.proofs.Math.Bool.{or-false, and-true, and-false}
 use Rattle.hostfiles.specs.declared.journal.Entry.{Entry}
 use Rattle.hostfiles.proofs.DeleteLemmas.{there}
 use Rattle.cpmfiles.specs.Tables as tables
-use Rattle.cpmfiles.specs.Tables.{is_named, count_deleted, look_deleted}
+use Rattle.cpmfiles.specs.Tables.{is_named, count_deleted, look_delete}
 use Rattle.cpmfiles.specs.Renaming.{has_wildcard}
 use Rattle.interaction_trees.specs.Tree.{Query, Return}
 use Rattle.file_calls.specs.declared.block.Block.{Block}
-use Rattle.file_calls.specs.Questions.{IsThere, FilesOn, is_on, files_on}
-use Rattle.file_calls.specs.Answers.{Drives}
-use Rattle.file_calls.specs.FileCalls as calls
-use Rattle.file_calls.specs.FileCalls.{matching, deletion}
-use Rattle.file_calls.specs.Deletes.{Deletes, without}
+use Rattle.file_calls.specs.FileQuestions.{IsThere, FilesOn, is_on, files_on}
+use Rattle.file_calls.specs.TableView.{TableView}
+use Rattle.file_calls.specs.Findings as calls
+use Rattle.file_calls.specs.Findings.{matching_keys, deletion}
+use Rattle.file_calls.specs.Deletes.{Deletes, own_without}
 use Rattle.file_calls.specs.Changes.{is_some_named}
 
 -- Whether a key is in a list.
@@ -39,12 +39,12 @@ taken_twice false true x r = refl
 taken_twice false false x r = refl
 
 -- What is own of a key after the keys of a list were deleted.
-get-without : (keys : List Key) (own : Own) (q : Key) → get (without own keys) q ≡ cond (is_listed q keys) (Some nothing) (get own q)
+get-without : (keys : List Key) (own : OwnFiles) (q : Key) → get (own_without own keys) q ≡ cond (is_listed q keys) (Some gone_entry) (get own q)
 get-without [] own q = refl
 get-without (key ∷ keys) own q =
-    get-without keys (deleted own key) q
-    ∙ ap (cond (is_listed q keys) (Some nothing)) (get-insert nat_list_cmp_total own key nothing q)
-    ∙ taken_twice (is_listed q keys) (eq_by_cmp (slice_cmp nat_cmp) q key) (Some nothing) (get own q)
+    get-without keys (after_delete own key) q
+    ∙ ap (cond (is_listed q keys) (Some gone_entry)) (get-insert nat_list_cmp_total own key gone_entry q)
+    ∙ taken_twice (is_listed q keys) (eq_by_cmp (slice_cmp nat_cmp) q key) (Some gone_entry) (get own q)
 
 keys_filtered : (p : Key → Bool) (es : Listing) → map (λ e. e.0) (filter (λ e. p e.0) es) ≡ filter p (map (λ e. e.0) es)
 keys_filtered p [] = refl
@@ -59,7 +59,7 @@ once : (a f h : Bool) → ((a && f) && (a && h)) ≡ ((a && f) && h)
 once true f h = refl
 once false f h = refl
 
-listed_names : (host : Host) (own : Own) (pattern q : Key) → is_listed q (matching pattern (files_on (slice_index pattern 0) (shapes host own))) ≡ (is_match pattern q && has host own q)
+listed_names : (host : Host) (own : OwnFiles) (pattern q : Key) → is_listed q (matching_keys pattern (files_on (slice_index pattern 0) (shapes host own))) ≡ (is_match pattern q && has host own q)
 unfolding files_on
 listed_names host own pattern q =
     let all = entries (shapes host own) in
@@ -86,7 +86,7 @@ some_named [] = refl
 some_named (k ∷ ks) = is_later 0 (length (k ∷ ks)) (omega arith)
 
 -- The list of a single key, if there is a file with it.
-one_listed : (host : Host) (own : Own) (key q : Key) → is_listed q (cond (has host own key) (key ∷ []) []) ≡ (eq_by_cmp (slice_cmp nat_cmp) q key && has host own q)
+one_listed : (host : Host) (own : OwnFiles) (key q : Key) → is_listed q (cond (has host own key) (key ∷ []) []) ≡ (eq_by_cmp (slice_cmp nat_cmp) q key && has host own q)
 one_listed host own key q = by_case (eq_by_cmp (slice_cmp nat_cmp) q key) refl where
   by_there : (b : Bool) → is_listed q (cond b (key ∷ []) []) ≡ (b && eq_by_cmp (slice_cmp nat_cmp) q key)
   by_there true = or-false (eq_by_cmp (slice_cmp nat_cmp) q key)
@@ -97,10 +97,10 @@ one_listed host own key q = by_case (eq_by_cmp (slice_cmp nat_cmp) q key) refl w
   by_case false e = by_there (has host own key) ∙ ap (λ b. has host own key && b) e ∙ and-false (has host own key)
 
 -- Two changes that own the same of each key are equal.
-same_own : (host : Host) (own after : Own) (names : List Key) (named : Key → Bool) → ((q : Key) → get after q ≡ cond (named q && has host own q) (Some nothing) (get own q))
-    → ((q : Key) → is_listed q names ≡ (named q && has host own q)) → after ≡ without own names
-same_own host own after names named at listed = same_map nat_list_cmp_total same_key after (without own names) (λ q.
-    at q ∙ ap (λ b. cond b (Some nothing) (get own q)) (sym (listed q)) ∙ sym (get-without names own q))
+same_own : (host : Host) (own after : OwnFiles) (names : List Key) (named : Key → Bool) → ((q : Key) → get after q ≡ cond (named q && has host own q) (Some gone_entry) (get own q))
+    → ((q : Key) → is_listed q names ≡ (named q && has host own q)) → after ≡ own_without own names
+same_own host own after names named at listed = same_map nat_list_cmp_total same_key after (own_without own names) (λ q.
+    at q ∙ ap (λ b. cond b (Some gone_entry) (get own q)) (sym (listed q)) ∙ sym (get-without names own q))
 
 count_there : (b : Bool) (key : Key) → nat_lt 0 (cond b 1 0) ≡ is_some_named (cond b (key ∷ []) [])
 count_there true key = refl
@@ -109,26 +109,26 @@ count_there false key = refl
 on_its_drive : (pattern k : Key) → is_match pattern k ≡ true → is_on (slice_index pattern 0) k ≡ true
 on_its_drive pattern k = elim (slice_index pattern 0 == slice_index k 0) as (λ b. (b && fits_name (drop 1 pattern) (drop 1 k)) ≡ true → b ≡ true) [ true ↦ λ e. refl | false ↦ λ e. e ]
 
-count_listed : (host : Host) (own : Own) (pattern : Key) → length (filter (λ e. is_match pattern e.0) (entries (shapes host own))) ≡ length (matching pattern (files_on (slice_index pattern 0) (shapes host own)))
+count_listed : (host : Host) (own : OwnFiles) (pattern : Key) → length (filter (λ e. is_match pattern e.0) (entries (shapes host own))) ≡ length (matching_keys pattern (files_on (slice_index pattern 0) (shapes host own)))
 unfolding files_on
 count_listed host own pattern =
     sym (ap (λ ks. length (filter (is_match pattern) ks)) (keys_filtered (is_on (slice_index pattern 0)) (entries (shapes host own)))
     ∙ counted_on (is_match pattern) (is_on (slice_index pattern 0)) (on_its_drive pattern) (entries (shapes host own)))
 
-module _ (b : Block) (v v' : Drives) (n : ℕ) where
+module _ (b : Block) (v v' : TableView) (n : ℕ) where
   abbrev key : Key
   key = calls.key_of b
 
-  pub deletes : n ≡ count_deleted v.host v.own key → tables.NamedAreGone v.host v.own key v'.own → v'.looks ≡ look_deleted v.own key v.looks → Extends v.looks v'.looks → v'.host ≡ v.host → v'.lender ≡ v.lender
+  pub deletes : n ≡ count_deleted v.host v.own key → tables.NamedAreGone v.host v.own key v'.own → v'.looks ≡ look_delete v.own key v.looks → KeepsAsks v.looks v'.looks → v'.host ≡ v.host → v'.lender ≡ v.lender
       → Deletes (deletion b) v (Ok (nat_lt 0 n)) v'
   deletes count d looks extends host lender = by_case (has_wildcard key) count d.at looks where
     by_case : (w : Bool) → n ≡ cond w (length (filter (λ e. is_match key e.0) (entries (shapes v.host v.own)))) (cond (has v.host v.own key) 1 0)
-        → ((q : Key) → get v'.own q ≡ cond (cond w (is_match key q) (eq_by_cmp (slice_cmp nat_cmp) q key) && has v.host v.own q) (Some nothing) (get v.own q))
+        → ((q : Key) → get v'.own q ≡ cond (cond w (is_match key q) (eq_by_cmp (slice_cmp nat_cmp) q key) && has v.host v.own q) (Some gone_entry) (get v.own q))
         → v'.looks ≡ cond w (look_directory (slice_index key 0) v.looks) (look_has v.own key v.looks)
-        → Deletes (cond w (Query (FilesOn (drive_number b.drive)) (λ files. Return (matching key files))) (Query (IsThere key) (λ there. Return (cond there (key ∷ []) [])))) v (Ok (nat_lt 0 n)) v'
+        → Deletes (cond w (Query (FilesOn (drive_number b.drive)) (λ files. Return (matching_keys key files))) (Query (IsThere key) (λ there. Return (cond there (key ∷ []) [])))) v (Ok (nat_lt 0 n)) v'
     by_case true c at l = record {
-      found = ap (nat_lt 0) (c ∙ count_listed v.host v.own key) ∙ some_named (matching key (files_on (drive_number b.drive) (shapes v.host v.own)));
-      own = same_own v.host v.own v'.own (matching key (files_on (drive_number b.drive) (shapes v.host v.own))) (is_match key) at (listed_names v.host v.own key);
+      found = ap (nat_lt 0) (c ∙ count_listed v.host v.own key) ∙ some_named (matching_keys key (files_on (drive_number b.drive) (shapes v.host v.own)));
+      own = same_own v.host v.own v'.own (matching_keys key (files_on (drive_number b.drive) (shapes v.host v.own))) (is_match key) at (listed_names v.host v.own key);
       looks = l;
       err_own = tt;
       extends = extends;

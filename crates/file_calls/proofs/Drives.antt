@@ -3,12 +3,12 @@ use Rattle.std.proofs.Common.{◌≡◌, ℕ, Bool, true, false, cond, ◌&&◌,
 use Rattle.std.specs.List.{filter}
 use Rattle.std.specs.FinMap.{entries}
 use Rattle.std.proofs.Math.Bool.{and-false}
-use Rattle.directory.specs.Entries.{Shape, Shapes, Listing, listed, next_among, first_where, entries_of, is_after, matches, is_match, fits_name, next_entry}
+use Rattle.directory.specs.Entries.{Shape, Shapes, Listing, listing_entries, next_among, first_where, entries_of, is_after, matches, is_match, fits_name, next_entry}
 use Rattle.directory.specs.declared.entry.Entry.{Entry}
 use Rattle.directory.specs.declared.entry.Position.{Position}
 use Rattle.directory.proofs.Walk.{or_else, alike_of, first_append}
 use Rattle.hostfiles.specs.Hosts.{Key}
-use Rattle.file_calls.specs.Questions.{is_on, files_on}
+use Rattle.file_calls.specs.FileQuestions.{is_on, files_on}
 
 nowhere : (es : List Entry) → first_where (λ e. false) es ≡ None
 nowhere [] = refl
@@ -19,16 +19,16 @@ left_out : (p : Entry → Bool) (q : Key → Bool) → ((k : Key) (s : Shape) �
     → first_where p (flat_map (λ x. entries_of x.0 x.1) (filter (λ x. q x.0) xs)) ≡ first_where p (flat_map (λ x. entries_of x.0 x.1) xs)
 left_out p q none [] = refl
 left_out p q none (x ∷ xs) = by_case (left_out p q none xs) (q x.0) refl where
-  by_case : first_where p (listed (filter (λ x. q x.0) xs)) ≡ first_where p (listed xs) → (b : Bool) → q x.0 ≡ b
-      → first_where p (listed (cond b (x ∷ filter (λ x. q x.0) xs) (filter (λ x. q x.0) xs))) ≡ first_where p (entries_of x.0 x.1 ++ listed xs)
+  by_case : first_where p (listing_entries (filter (λ x. q x.0) xs)) ≡ first_where p (listing_entries xs) → (b : Bool) → q x.0 ≡ b
+      → first_where p (listing_entries (cond b (x ∷ filter (λ x. q x.0) xs) (filter (λ x. q x.0) xs))) ≡ first_where p (entries_of x.0 x.1 ++ listing_entries xs)
   by_case more true e =
-      first_append p (entries_of x.0 x.1) (listed (filter (λ x. q x.0) xs))
+      first_append p (entries_of x.0 x.1) (listing_entries (filter (λ x. q x.0) xs))
       ∙ ap (or_else (first_where p (entries_of x.0 x.1))) more
-      ∙ sym (first_append p (entries_of x.0 x.1) (listed xs))
+      ∙ sym (first_append p (entries_of x.0 x.1) (listing_entries xs))
   by_case more false e =
       more
-      ∙ ap (λ o. or_else o (first_where p (listed xs))) (sym (none x.0 x.1 e))
-      ∙ sym (first_append p (entries_of x.0 x.1) (listed xs))
+      ∙ ap (λ o. or_else o (first_where p (listing_entries xs))) (sym (none x.0 x.1 e))
+      ∙ sym (first_append p (entries_of x.0 x.1) (listing_entries xs))
 
 -- No entry of a file on another drive matches.
 elsewhere : (pattern : Key) (ex : ℕ) (after : Option Position) (k : Key) (s : Shape) → is_on (slice_index pattern 0) k ≡ false

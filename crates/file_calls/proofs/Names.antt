@@ -13,14 +13,14 @@ use Rattle.hostfiles.proofs.Views.{same_key}
 use Rattle.directory.specs.Entries.{Shape}
 use Rattle.records.specs.Records.{zeros}
 use Rattle.hostfiles.specs.Hosts.{Key, Record, Host}
-use Rattle.hostfiles.specs.Files.{Own, entry_at, records_of, stands_on, is_there, file_of, shape_at, shapes}
+use Rattle.hostfiles.specs.Files.{OwnFiles, entry_at, host_records, base_key, is_there, file_of, shape_at, shapes}
 use Rattle.hostfiles.specs.File.{shape_of}
 use Rattle.hostfiles.specs.declared.journal.Base.{Base}
 use Rattle.hostfiles.specs.declared.journal.Base.TheVariants.{Same, Gone, New, Moved}
 use Rattle.hostfiles.specs.declared.journal.Entry.{Entry}
 use Rattle.hostfiles.proofs.FileLemmas.{get-shapes}
-use Rattle.file_calls.specs.Questions.{is_on, files_on}
-use Rattle.file_calls.specs.Passing.{names_on, hosts_with, shape_by, IsSound}
+use Rattle.file_calls.specs.FileQuestions.{is_on, files_on}
+use Rattle.file_calls.specs.HostTrees.{names_on, hosts_with, shape_with, AreSoundOwnFiles}
 use Rattle.file_calls.proofs.Parts.{shape_is}
 
 pub find-mapped : {A B : Type 0} (g : A → B) (q : Key) (es : List (Key × A)) → find (slice_cmp nat_cmp) q (map (λ e. (e.0, g e.1)) es) ≡ option_map g (find (slice_cmp nat_cmp) q es)
@@ -69,36 +69,36 @@ module _ (host : Host) (drive : ℕ) where
   blank_length None = refl
   blank_length (Some f) = length-replicate (length f) zeros
 
-  known_length : (q : Key) → is_on drive q ≡ true → length (records_of known (Some q)) ≡ length (records_of host (Some q))
+  known_length : (q : Key) → is_on drive q ≡ true → length (host_records known (Some q)) ≡ length (host_records host (Some q))
   known_length q on = ap (λ o. length (unwrap_or o [])) (known_at q on) ∙ blank_length (get host q)
 
-  module _ (own : Own) (sound : IsSound host own) (q : Key) (on : is_on drive q ≡ true) where
+  module _ (own : OwnFiles) (sound : AreSoundOwnFiles host own) (q : Key) (on : is_on drive q ≡ true) where
     there_alike : (b : Base) → is_there known q b ≡ is_there host q b
     there_alike Same = known_there q on
     there_alike Gone = refl
     there_alike New = refl
     there_alike (Moved old) = refl
 
-    length_alike : (b : Base) → (entry_at own q).base ≡ b → length (records_of known (stands_on q b)) ≡ length (records_of host (stands_on q b))
+    length_alike : (b : Base) → (entry_at own q).base ≡ b → length (host_records known (base_key q b)) ≡ length (host_records host (base_key q b))
     length_alike Same is = known_length q on
     length_alike Gone is = refl
     length_alike New is = refl
-    length_alike (Moved old) is = known_length old (ap (λ d. drive == d) ((sound.at q).drive old (ap (stands_on q) is)) ∙ on)
+    length_alike (Moved old) is = known_length old (ap (λ d. drive == d) ((sound.at q).drive old (ap (base_key q) is)) ∙ on)
 
     shape_alike : shape_at known own q ≡ shape_at host own q
     shape_alike =
         let e : Entry = entry_at own q in
         ap (λ (b : Bool). option_map shape_of (cond b (Some (file_of known q e)) None)) (there_alike e.base)
         ∙ elim (is_there host q e.base) as (λ b. option_map shape_of (cond b (Some (file_of known q e)) None) ≡ option_map shape_of (cond b (Some (file_of host q e)) None)) [
-          | true ↦ ap (λ (s : Shape). Some s) (sym (shape_is known q e) ∙ ap (λ n. shape_by n e) (length_alike e.base refl) ∙ shape_is host q e)
+          | true ↦ ap (λ (s : Shape). Some s) (sym (shape_is known q e) ∙ ap (λ n. shape_with n e) (length_alike e.base refl) ∙ shape_is host q e)
           | false ↦ refl
         ]
 
-  found : (own : Own) → IsSound host own → (q : Key) (b : Bool) → is_on drive q ≡ b → cond b (get (shapes known own) q) None ≡ cond b (get (shapes host own) q) None
+  found : (own : OwnFiles) → AreSoundOwnFiles host own → (q : Key) (b : Bool) → is_on drive q ≡ b → cond b (get (shapes known own) q) None ≡ cond b (get (shapes host own) q) None
   found own sound q true on = get-shapes known own q ∙ shape_alike own sound q on ∙ sym (get-shapes host own q)
   found own sound q false off = refl
 
-  pub same_files : (own : Own) → IsSound host own → files_on drive (shapes known own) ≡ files_on drive (shapes host own)
+  pub same_files : (own : OwnFiles) → AreSoundOwnFiles host own → files_on drive (shapes known own) ≡ files_on drive (shapes host own)
   unfolding files_on
   same_files own sound =
       let of : (m : _) (q : Key) → find (slice_cmp nat_cmp) q (filter (λ e. is_on drive e.0) (entries m)) ≡ cond (is_on drive q) (get m q) None = λ m q.

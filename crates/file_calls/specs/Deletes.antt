@@ -2,35 +2,35 @@
 use Rattle.std.specs.Prelude.{◌≡◌, Bool, List, [], ◌∷◌, IfOk, OnOk, OnErr}
 use Rattle.std.specs.declared.result.Result.{Result}
 use Rattle.std.specs.declared.alloc.AllocError.{AllocError}
-use Rattle.interaction_trees.specs.Tree.{result_of, asked}
+use Rattle.interaction_trees.specs.Tree.{result_of, questions_of}
 use Rattle.hostfiles.specs.Hosts.{Key}
-use Rattle.hostfiles.specs.Files.{Own, deleted, made, renamed, stored}
-use Rattle.hostfiles.specs.Looks.{Extends}
-use Rattle.file_calls.specs.Questions.{FileTree}
-use Rattle.file_calls.specs.Answers.{Drives, file_answers, look_for_all}
+use Rattle.hostfiles.specs.Files.{OwnFiles, after_delete, after_make, after_rename, after_write}
+use Rattle.hostfiles.specs.FileLooks.{KeepsAsks}
+use Rattle.file_calls.specs.FileQuestions.{FileTree}
+use Rattle.file_calls.specs.TableView.{TableView, file_answers, look_for_all}
 use Rattle.file_calls.specs.Changes.{is_some_named, FileChange, Unchanged, Made, Deleted, Renamed, Stored}
 
 -- What is own after the files of these keys were deleted, one after another.
-abbrev pub without : Own → List Key → Own
-without own [] = own
-without own (key ∷ keys) = without (deleted own key) keys
+abbrev pub own_without : OwnFiles → List Key → OwnFiles
+own_without own [] = own
+own_without own (key ∷ keys) = own_without (after_delete own key) keys
 
 -- What is own after a change.
-abbrev pub own_with : FileChange → Own → Own
-own_with Unchanged own = own
-own_with (Made key) own = made own key
-own_with (Deleted keys) own = without own keys
-own_with (Renamed old new) own = renamed own old new
-own_with (Stored w r) own = stored w.filled w.length own w.key w.place r
+abbrev pub own_after_change : FileChange → OwnFiles → OwnFiles
+own_after_change Unchanged own = own
+own_after_change (Made key) own = after_make own key
+own_after_change (Deleted keys) own = own_without own keys
+own_after_change (Renamed old new) own = after_rename own old new
+own_after_change (Stored w r) own = after_write w.filled w.length own w.key w.place r
 
 -- The function deletes the files of the keys that a tree of questions ends with, and returns whether there are any.
-pub record Deletes (t : FileTree (List Key)) (v : Drives) (result : Result Bool AllocError) (v' : Drives) : Type 0 where
+pub record Deletes (t : FileTree (List Key)) (v : TableView) (result : Result Bool AllocError) (v' : TableView) : Type 0 where
   pub found : IfOk result (λ some. some ≡ is_some_named (result_of (file_answers v.host v.own) t))
-  pub own : OnOk result (v'.own ≡ without v.own (result_of (file_answers v.host v.own) t))
-  pub looks : OnOk result (v'.looks ≡ look_for_all v.own (asked (file_answers v.host v.own) t) v.looks)
+  pub own : OnOk result (v'.own ≡ own_without v.own (result_of (file_answers v.host v.own) t))
+  pub looks : OnOk result (v'.looks ≡ look_for_all v.own (questions_of (file_answers v.host v.own) t) v.looks)
   pub err_own : OnErr result (v'.own ≡ v.own)
-  pub extends : Extends v.looks v'.looks
+  pub extends : KeepsAsks v.looks v'.looks
   -- After an error there are only the earlier looks and some looks of the whole tree.
-  pub bound : OnErr result (Extends v'.looks (look_for_all v.own (asked (file_answers v.host v.own) t) v.looks))
+  pub bound : OnErr result (KeepsAsks v'.looks (look_for_all v.own (questions_of (file_answers v.host v.own) t) v.looks))
   pub host : v'.host ≡ v.host
   pub lender : v'.lender ≡ v.lender

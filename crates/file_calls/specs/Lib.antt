@@ -1,8 +1,8 @@
-pub mod Questions
-pub mod Answers
+pub mod FileQuestions
+pub mod TableView
 pub mod Asks
-pub mod FileCalls
-pub mod Apart
+pub mod Findings
+pub mod DistinctKeys
 pub mod Deletes
 pub mod Changes
-pub mod Passing
+pub mod HostTrees

@@ -1,6 +1,6 @@
 ghost use Rattle.std.specs.Prelude.{◌≡◌, ◌∷◌};
 ghost use Rattle.filenames.specs.Drives.{drive_number};
-ghost use Rattle.file_calls.specs.FileCalls.{key_of, new_key_of};
+ghost use Rattle.file_calls.specs.Findings.{key_of, new_key_of};
 
 use filenames::{Drive, Fcb, Key};
 

@@ -1,6 +1,6 @@
 ghost use Rattle.std.specs.Prelude.{◌≡◌, true, IfOk, OnErr, if◌then◌else◌};
-ghost use Rattle.file_calls.specs.FileCalls.{found, block_length};
-ghost use Rattle.file_calls.specs.Apart.{IsApart};
+ghost use Rattle.file_calls.specs.Findings.{finding_of, block_length};
+ghost use Rattle.file_calls.specs.DistinctKeys.{HasDistinctKeys};
 ghost use Rattle.file_calls.specs.Asks.{Asks, is_asking};
 
 use crate::block::Block;
@@ -66,9 +66,9 @@ impl FileFunction {
         changes: &mut Changes,
         block: &Block,
     ) -> Result<Finding, AllocError>
-        ensures asks { Asks (found self block.now) host.now changes.old result changes.new }
-        ensures apart { IfOk result IsApart }
-        ensures grows { OnErr result (is_asking (found self block.now) ≡ true) }
+        ensures asks { Asks (finding_of self block.now) host.now changes.old result changes.new }
+        ensures apart { IfOk result HasDistinctKeys }
+        ensures grows { OnErr result (is_asking (finding_of self block.now) ≡ true) }
     {
         match self {
             FileFunction::Open => open_file(host, changes, block),

@@ -3,36 +3,36 @@
 
 ghost use Rattle.std.specs.Prelude.{◌≡◌, slice_index, length, true, IfOk, OnErr, Ok};
 ghost use Rattle.std.specs.Option.{option_map};
-ghost use Rattle.directory.specs.Entries.{position_in, count_at};
-ghost use Rattle.hostfiles.specs.Looks.{look_length};
-ghost use Rattle.hostfiles.specs.Seen.{own_of};
+ghost use Rattle.directory.specs.Entries.{position_of, count_at};
+ghost use Rattle.hostfiles.specs.FileLooks.{look_length};
+ghost use Rattle.hostfiles.specs.FileView.{view_own};
 ghost use Rattle.hostfiles.specs.Asking.{AsksFor};
-ghost use Rattle.file_calls.specs.FileCalls as calls;
-ghost use Rattle.file_calls.specs.FileCalls.{missing, searching};
-ghost use Rattle.file_calls.specs.Apart.{IsApart};
-ghost use Rattle.file_calls.specs.Answers.{shape_found};
+ghost use Rattle.file_calls.specs.Findings as calls;
+ghost use Rattle.file_calls.specs.Findings.{missing_value, search_finding};
+ghost use Rattle.file_calls.specs.DistinctKeys.{HasDistinctKeys};
+ghost use Rattle.file_calls.specs.TableView.{shape_of_view};
 ghost use Rattle.file_calls.specs.Asks.{Asks, is_asking};
 
 use crate::block::Block;
 use crate::finding::{Finding, Write};
-use cpmfiles::{Changes, EXTENT_RECORDS, HostFiles, Key, Looks, PLACES, asking};
+use cpmfiles::{Changes, EXTENT_RECORDS, FileLooks, HostFiles, Key, PLACES, asking};
 use directory::Search;
-use hostfiles::SeenFile;
+use hostfiles::FileView;
 use std::alloc::AllocError;
 
 // Returns the length of a file in records, holes included.
 #[tactic(auto, using(crate::proofs::Shapes::places))]
-fn length(file: &SeenFile<'_>, looks: &mut Looks) -> Result<u32, AllocError>
-    ensures { AsksFor result (length (shape_found file.now))
-        (look_length (own_of file.now) file.now.key) looks.old looks.new }
+fn length(file: &FileView<'_>, looks: &mut FileLooks) -> Result<u32, AllocError>
+    ensures { AsksFor result (length (shape_of_view file.now))
+        (look_length (view_own file.now) file.now.key) looks.old looks.new }
 {
     file.ask_length(looks)
 }
 
 // Returns the record count of an extent.
 #[tactic(auto, using(crate::proofs::Shapes::counted))]
-fn count(file: &SeenFile<'_>, extent: u32) -> u8
-    ensures { result ≡ count_at (shape_found file.now) extent }
+fn count(file: &FileView<'_>, extent: u32) -> u8
+    ensures { result ≡ count_at (shape_of_view file.now) extent }
 {
     file.count(extent)
 }
@@ -45,10 +45,10 @@ pub fn open_file(
     block: &Block,
 ) -> Result<Finding, AllocError>
     ensures asks { Asks (calls.open_file block.now) host.now changes.old result changes.new }
-    ensures apart { IfOk result IsApart }
+    ensures apart { IfOk result HasDistinctKeys }
 {
     let key = block.key();
-    let file = SeenFile::find(host, &changes.journal, &key);
+    let file = FileView::find(host, &changes.journal, &key);
     if !file.ask_presence(&mut changes.looks)? {
         return Ok(Finding::Value(0xff));
     }
@@ -64,7 +64,7 @@ pub fn close_file(
     block: &Block,
 ) -> Result<Finding, AllocError>
     ensures asks { Asks (calls.close_file block.now) host.now changes.old result changes.new }
-    ensures apart { IfOk result IsApart }
+    ensures apart { IfOk result HasDistinctKeys }
 {
     if !asking::has(host, changes, &block.key())? {
         return Ok(Finding::Value(0xff));
@@ -75,7 +75,7 @@ pub fn close_file(
 /// Finds the first matching entry of the directory (function 17). Allocates nothing.
 pub fn search_first(host: &HostFiles, changes: &mut Changes, block: &Block) -> Finding
     ensures asks { Asks (calls.search_first block.now) host.now changes.old (Ok result) changes.new }
-    ensures apart { IsApart result }
+    ensures apart { HasDistinctKeys result }
 {
     search(host, changes, &block.key(), block.fcb.ex(), None)
 }
@@ -86,7 +86,7 @@ pub fn search_first(host: &HostFiles, changes: &mut Changes, block: &Block) -> F
 #[inline(always)]
 pub fn search_next(host: &HostFiles, changes: &mut Changes, last: Option<Search>) -> Finding
     ensures asks { Asks (calls.search_next last) host.now changes.old (Ok result) changes.new }
-    ensures apart { IsApart result }
+    ensures apart { HasDistinctKeys result }
 {
     match last {
         Some(last) => search(host, changes, &last.pattern, last.extent, Some(last.last)),
@@ -104,9 +104,9 @@ fn search(
     extent: u8,
     after: Option<[u8; 32]>,
 ) -> Finding
-    ensures asks { let last = option_map (position_in (slice_index pattern.now 0)) after in
-        Asks (searching pattern.now extent last) host.now changes.old (Ok result) changes.new }
-    ensures apart { IsApart result }
+    ensures asks { let last = option_map (position_of (slice_index pattern.now 0)) after in
+        Asks (search_finding pattern.now extent last) host.now changes.old (Ok result) changes.new }
+    ensures apart { HasDistinctKeys result }
 {
     match asking::search(host, changes, pattern, extent, after) {
         Some(last) => Finding::FirstEntry(Search {
@@ -126,11 +126,11 @@ pub fn read_sequential(
     block: &Block,
 ) -> Result<Finding, AllocError>
     ensures asks { Asks (calls.read_sequential block.now) host.now changes.old result changes.new }
-    ensures apart { IfOk result IsApart }
+    ensures apart { IfOk result HasDistinctKeys }
 {
     let key = block.key();
     let place = block.fcb.place();
-    let file = SeenFile::find(host, &changes.journal, &key);
+    let file = FileView::find(host, &changes.journal, &key);
     if !file.ask_presence(&mut changes.looks)? {
         return Ok(Finding::Value(0xff));
     }
@@ -151,11 +151,11 @@ pub fn write_sequential(
     block: &Block,
 ) -> Result<Finding, AllocError>
     ensures asks { Asks (calls.write_sequential block.now) host.now changes.old result changes.new }
-    ensures apart { IfOk result IsApart }
+    ensures apart { IfOk result HasDistinctKeys }
 {
     let key = block.key();
     let place = block.fcb.place();
-    let file = SeenFile::find(host, &changes.journal, &key);
+    let file = FileView::find(host, &changes.journal, &key);
     if !file.ask_presence(&mut changes.looks)? {
         return Ok(Finding::Value(0xff));
     }
@@ -179,7 +179,7 @@ pub fn make_file(
     block: &Block,
 ) -> Result<Finding, AllocError>
     ensures asks { Asks (calls.make_file block.now) host.now changes.old result changes.new }
-    ensures apart { IfOk result IsApart }
+    ensures apart { IfOk result HasDistinctKeys }
     ensures grows { OnErr result (is_asking (calls.make_file block.now) ≡ true) }
 {
     let key = block.key();
@@ -197,7 +197,7 @@ pub fn rename_file(
     block: &Block,
 ) -> Result<Finding, AllocError>
     ensures asks { Asks (calls.rename_file block.now) host.now changes.old result changes.new }
-    ensures apart { IfOk result IsApart }
+    ensures apart { IfOk result HasDistinctKeys }
     ensures grows { OnErr result (is_asking (calls.rename_file block.now) ≡ true) }
 {
     let (old, new) = (block.key(), block.new_key());
@@ -216,11 +216,11 @@ pub fn read_random(
     block: &Block,
 ) -> Result<Finding, AllocError>
     ensures asks { Asks (calls.read_random block.now) host.now changes.old result changes.new }
-    ensures apart { IfOk result IsApart }
+    ensures apart { IfOk result HasDistinctKeys }
 {
     let key = block.key();
     let place = block.fcb.random();
-    let file = SeenFile::find(host, &changes.journal, &key);
+    let file = FileView::find(host, &changes.journal, &key);
     if !file.ask_presence(&mut changes.looks)? {
         return Ok(Finding::Value(0xff));
     }
@@ -228,17 +228,17 @@ pub fn read_random(
         return Ok(Finding::Value(6));
     }
     if place >= length(&file, &mut changes.looks)? {
-        return Ok(Finding::Value(missing(&file, place)));
+        return Ok(Finding::Value(missing_value(&file, place)));
     }
     match file.ask_record(&mut changes.looks, place)? {
         Some(record) => Ok(Finding::Found(record, place)),
-        None => Ok(Finding::Value(missing(&file, place))),
+        None => Ok(Finding::Value(missing_value(&file, place))),
     }
 }
 
 // Returns the value for a random record number without a record: 4 if its extent holds no record, else 1.
-fn missing(file: &SeenFile<'_>, place: u32) -> u8
-    ensures { result ≡ missing (shape_found file.now) place }
+fn missing_value(file: &FileView<'_>, place: u32) -> u8
+    ensures { result ≡ missing_value (shape_of_view file.now) place }
 {
     if count(file, place / EXTENT_RECORDS) == 0 {
         4
@@ -257,11 +257,11 @@ pub fn write_random(
     filled: bool,
 ) -> Result<Finding, AllocError>
     ensures asks { Asks (calls.write_random filled block.now) host.now changes.old result changes.new }
-    ensures apart { IfOk result IsApart }
+    ensures apart { IfOk result HasDistinctKeys }
 {
     let key = block.key();
     let place = block.fcb.random();
-    let file = SeenFile::find(host, &changes.journal, &key);
+    let file = FileView::find(host, &changes.journal, &key);
     if !file.ask_presence(&mut changes.looks)? {
         return Ok(Finding::Value(0xff));
     }
@@ -285,7 +285,7 @@ pub fn file_size(
     block: &Block,
 ) -> Result<Finding, AllocError>
     ensures asks { Asks (calls.file_size block.now) host.now changes.old result changes.new }
-    ensures apart { IfOk result IsApart }
+    ensures apart { IfOk result HasDistinctKeys }
 {
     match asking::records(host, changes, &block.key())? {
         Some(places) => Ok(Finding::Length(places)),
@@ -297,7 +297,7 @@ pub fn file_size(
 #[tactic(auto, using(crate::proofs::Extending::extends_same))]
 pub fn set_random(host: &HostFiles, changes: &mut Changes, block: &Block) -> Finding
     ensures asks { Asks (calls.set_random block.now) host.now changes.old (Ok result) changes.new }
-    ensures apart { IsApart result }
+    ensures apart { HasDistinctKeys result }
 {
     Finding::RandomPlace(block.fcb.place())
 }

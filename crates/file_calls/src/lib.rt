@@ -22,4 +22,4 @@ pub use delete::delete_files;
 pub use finding::{Finding, Write};
 pub use function::FileFunction;
 pub use inquiry::search_next;
-pub use laws::{host_files_answer, what_was_done_is_sound};
+pub use laws::{host_files_answer, own_files_are_sound};

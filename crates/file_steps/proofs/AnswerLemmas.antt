@@ -13,8 +13,8 @@ use Rattle.keymaps.proofs.Views.{same_key, key_of}
 use Rattle.hostfiles.specs.Hosts.{Key, Record, Host}
 use Rattle.hostfiles.specs.declared.looks.Ask.{Ask}
 use Rattle.hostfiles.specs.declared.looks.Ask.TheVariants.{Has, Length, Rec, Directory}
-use Rattle.file_calls.specs.Questions.{is_on}
-use Rattle.file_calls.specs.Passing.{names_on, host_answers}
+use Rattle.file_calls.specs.FileQuestions.{is_on}
+use Rattle.file_calls.specs.HostTrees.{names_on, host_answers}
 use Rattle.file_steps.specs.Touch.{record_of}
 use Rattle.file_steps.specs.Setting.{with_file}
 

@@ -11,13 +11,13 @@ use Rattle.std.specs.FinMap.{get}
 use Rattle.hostfiles.specs.Hosts.{Key, Record, Host}
 use Rattle.hostfiles.specs.declared.looks.Ask.{Ask}
 use Rattle.hostfiles.specs.declared.looks.Ask.TheVariants.{Has, Length, Rec, Directory}
-use Rattle.file_calls.specs.Questions.{is_on}
-use Rattle.file_calls.specs.Passing.{host_answers}
-use Rattle.file_steps.specs.declared.steps.FileSteps.{FileSteps}
+use Rattle.file_calls.specs.FileQuestions.{is_on}
+use Rattle.file_calls.specs.HostTrees.{host_answers}
+use Rattle.file_steps.specs.declared.file_steps.FileSteps.{FileSteps}
 use Rattle.file_steps.specs.FirstSteps.{Steps, step_in}
-use Rattle.file_steps.specs.PlaceSteps.{IsEarliestFrom}
+use Rattle.file_steps.specs.SequentialSteps.{IsEarliestFrom}
 use Rattle.file_steps.specs.RecordSteps.{step_of_record, step_within, steps_of}
-use Rattle.file_steps.specs.Steps.{lesser, step_of_ask}
+use Rattle.file_steps.specs.FileSteps.{lesser_step, step_of_ask}
 use Rattle.file_steps.specs.Touch.{count_of, record_of, IsFileTouch, IsPlaceTouch}
 use Rattle.file_steps.specs.Setting.{with_file}
 use Rattle.file_steps.proofs.AnswerLemmas.{file_here, cases_key, answers_apart, directory_same, names_tell}
@@ -30,7 +30,7 @@ pub record IsLesser (is_same : Bool) (step : Option ℕ) (least t : ℕ) : Type 
   pub below : (m : ℕ) → step ≡ Some m → m < t → is_same ≡ true
   pub here : (t ≡ least) ⊎ ((step ≡ Some t) × (is_same ≡ false))
 
-lesser_is : (b : Bool) (step : Option ℕ) (least : ℕ) → IsLesser b step least (cond b least (lesser step least))
+lesser_is : (b : Bool) (step : Option ℕ) (least : ℕ) → IsLesser b step least (cond b least (lesser_step step least))
 lesser_is true step least = record { within = omega arith; below = λ m e l. refl; here = inl refl }
 lesser_is false None least = record { within = omega arith; below = λ m e l. cc; here = inl refl }
 lesser_is false (Some n) least = elim (nat_lt n least) as (λ b. nat_lt n least ≡ b → IsLesser false (Some n) least (cond b n least)) [
@@ -38,7 +38,7 @@ lesser_is false (Some n) least = elim (nat_lt n least) as (λ b. nat_lt n least 
   | false ↦ λ e. record { within = omega arith; below = λ m is l. (let same : n ≡ m = cc in absurd (grind (arith, nat_tests))); here = inl refl }
 ] refl
 
-pub lesser_by : (b : Bool) (step : Option ℕ) (least t : ℕ) → t ≡ cond b least (lesser step least) → IsLesser b step least t
+pub lesser_by : (b : Bool) (step : Option ℕ) (least t : ℕ) → t ≡ cond b least (lesser_step step least) → IsLesser b step least t
 lesser_by b step least t e = subst (IsLesser b step least) (sym e) (lesser_is b step least)
 
 -- ---- the records of a file

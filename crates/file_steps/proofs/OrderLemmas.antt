@@ -4,7 +4,7 @@ use Rattle.std.specs.Prelude.{◌==◌, slice_get, slice_set, if◌then◌else�
 use Rattle.std.proofs.lemmas.Bool.{cases_lt, cases_Bool}
 use Rattle.std.proofs.lemmas.Bool.Decides.{nat_tests}
 use Rattle.file_steps.specs.declared.first_steps.Look.{Look}
-use Rattle.file_steps.specs.Noting.{erased}
+use Rattle.file_steps.specs.Noting.{step_below}
 use Rattle.file_steps.specs.FirstSteps.{IsInOrder, HasLook, Rise, latest_of, step_at, step_or_none}
 
 -- ---- one more look, or one less
@@ -96,7 +96,7 @@ in_order_more steps steps' looks c order below here others = record { noted = no
       | inr other ↦ has_more looks c k m (order.noted k m (sym (others k (λ same. let yes = eq-eqb k c.place same in let both : false ≡ true = sym other ∙ yes in cc)) ∙ e))
     ]
 
-kept_below : (from : ℕ) (o : Option ℕ) (m : ℕ) → erased from o ≡ Some m → (o ≡ Some m) × (m < from)
+kept_below : (from : ℕ) (o : Option ℕ) (m : ℕ) → step_below from o ≡ Some m → (o ≡ Some m) × (m < from)
 kept_below from None m e = absurd (cc)
 kept_below from (Some n) m e = elim (cases_lt n from) [
   | inl low ↦ grind (arith, nat_tests)
@@ -105,13 +105,13 @@ kept_below from (Some n) m e = elim (cases_lt n from) [
 
 -- The last look is removed, and its index erased.
 pub in_order_less : (steps steps' : List ℕ) (looks : List Look) (c : Look) (from : ℕ) → IsInOrder steps (looks ++ c ∷ []) → from ≤ c.step
-    → ((k : ℕ) → step_at steps' k ≡ (if k == c.place then erased from (step_at steps k) else step_at steps k)) → IsInOrder steps' looks
+    → ((k : ℕ) → step_at steps' k ≡ (if k == c.place then step_below from (step_at steps k) else step_at steps k)) → IsInOrder steps' looks
 in_order_less steps steps' looks c from order late entries = record { noted = noted; rise = (rise_less looks c order.rise).0 }
   where
     noted : (k m : ℕ) → step_at steps' k ≡ Some m → HasLook looks k m
     noted k m e = elim (cases_Bool (k == c.place)) [
       | inl same ↦
-          let kept : erased from (step_at steps k) ≡ Some m = sym (rw same at (entries k)) ∙ e in
+          let kept : step_below from (step_at steps k) ≡ Some m = sym (rw same at (entries k)) ∙ e in
           let (there, below) = kept_below from (step_at steps k) m kept in
           elim (has_left looks c k m (order.noted k m there)) [ inl h ↦ h | inr last ↦ absurd (omega (arith, last.1, below, late)) ]
       | inr other ↦
@@ -123,26 +123,26 @@ in_order_less steps steps' looks c from order late entries = record { noted = no
     ]
 
 -- The erased entries stay the same.
-pub still_erased : (steps old steps' : List ℕ) (place from : ℕ) → ((k : ℕ) → erased from (step_at steps k) ≡ erased from (step_at old k))
-    → ((k : ℕ) → step_at steps' k ≡ (if k == place then erased from (step_at steps k) else step_at steps k)) → (k : ℕ) → erased from (step_at steps' k) ≡ erased from (step_at old k)
+pub still_erased : (steps old steps' : List ℕ) (place from : ℕ) → ((k : ℕ) → step_below from (step_at steps k) ≡ step_below from (step_at old k))
+    → ((k : ℕ) → step_at steps' k ≡ (if k == place then step_below from (step_at steps k) else step_at steps k)) → (k : ℕ) → step_below from (step_at steps' k) ≡ step_below from (step_at old k)
 still_erased steps old steps' place from same entries k = elim (cases_Bool (k == place)) [
-  | inl here ↦ ap (erased from) (rw here at (entries k)) ∙ twice (step_at steps k) ∙ same k
-  | inr other ↦ ap (erased from) (rw other at (entries k)) ∙ same k
+  | inl here ↦ ap (step_below from) (rw here at (entries k)) ∙ twice (step_at steps k) ∙ same k
+  | inr other ↦ ap (step_below from) (rw other at (entries k)) ∙ same k
 ]
   where
-    twice : (o : Option ℕ) → erased from (erased from o) ≡ erased from o
+    twice : (o : Option ℕ) → step_below from (step_below from o) ≡ step_below from o
     twice None = refl
     twice (Some n) = elim (cases_lt n from) [ inl low ↦ grind (arith, nat_tests) | inr high ↦ grind (arith, nat_tests) ]
 
 -- If no look is as late as `from`, no entry is.
-pub none_as_late : (steps : List ℕ) (looks : List Look) (from : ℕ) → IsInOrder steps looks → (looks ≡ []) ⊎ (latest_of looks < from) → (k : ℕ) → step_at steps k ≡ erased from (step_at steps k)
+pub none_as_late : (steps : List ℕ) (looks : List Look) (from : ℕ) → IsInOrder steps looks → (looks ≡ []) ⊎ (latest_of looks < from) → (k : ℕ) → step_at steps k ≡ step_below from (step_at steps k)
 none_as_late steps looks from order early k = by_entry (step_at steps k) refl
   where
     below : (m : ℕ) → (looks ≡ []) ⊎ (latest_of looks < from) → HasLook looks k m → m < from
     below m (inl none) h = absurd (subst (λ xs. HasLook xs k m) none h)
     below m (inr low) h = let b = has_below looks k m h in omega arith
 
-    by_entry : (o : Option ℕ) → step_at steps k ≡ o → o ≡ erased from o
+    by_entry : (o : Option ℕ) → step_at steps k ≡ o → o ≡ step_below from o
     by_entry None e = refl
     by_entry (Some m) e = let low = below m early (order.noted k m e) in grind (arith, nat_tests)
 

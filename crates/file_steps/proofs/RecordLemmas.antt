@@ -9,11 +9,11 @@ use Rattle.std.specs.Map.Calls.{RetainsPairs}
 use Rattle.std.specs.BTreeMap.{is_at}
 use Rattle.keymaps.proofs.Views.{same_key, key_of}
 use Rattle.hostfiles.specs.Hosts.{Key}
-use Rattle.file_steps.specs.Noting.{or_else, mark, erased}
+use Rattle.file_steps.specs.Noting.{or_else, step_if, step_below}
 use Rattle.file_steps.specs.FirstSteps.{Steps, step_in}
 use Rattle.file_steps.specs.RecordSteps.{AreWithin, steps_of, step_within}
 
-no_mark : (r : Option ℕ) (n : ℕ) → r ≡ or_else r (mark false n)
+no_mark : (r : Option ℕ) (n : ℕ) → r ≡ or_else r (step_if false n)
 no_mark None n = refl
 no_mark (Some m) n = refl
 
@@ -34,10 +34,10 @@ module _ (old new : List (Key × Steps)) (key : Key) (steps : Steps) (put : (q :
             rw (value, test) (others q)
       ] refl
 
-  pub noted_in : (place step : ℕ) → ((k : ℕ) → step_in steps.entries k ≡ or_else (step_within (steps_of old key) k) (mark (k == place) step))
-      → (q : Key) (k : ℕ) → step_within (steps_of new q) k ≡ or_else (step_within (steps_of old q) k) (mark (eq_by_cmp (slice_cmp nat_cmp) q key && (k == place)) step)
+  pub noted_in : (place step : ℕ) → ((k : ℕ) → step_in steps.entries k ≡ or_else (step_within (steps_of old key) k) (step_if (k == place) step))
+      → (q : Key) (k : ℕ) → step_within (steps_of new q) k ≡ or_else (step_within (steps_of old q) k) (step_if (eq_by_cmp (slice_cmp nat_cmp) q key && (k == place)) step)
   noted_in place step h = each_file
-      (λ q b s. (k : ℕ) → step_within s k ≡ or_else (step_within (steps_of old q) k) (mark (b && (k == place)) step))
+      (λ q b s. (k : ℕ) → step_within s k ≡ or_else (step_within (steps_of old q) k) (step_if (b && (k == place)) step))
       h (λ q k. no_mark (step_within (steps_of old q) k) step)
 
   pub same_in : ((k : ℕ) → step_in steps.entries k ≡ step_within (steps_of old key) k) → (q : Key) (k : ℕ) → step_within (steps_of new q) k ≡ step_within (steps_of old q) k
@@ -53,7 +53,7 @@ within_more m n files h all = λ q s e. let l = all q s e in omega arith
 
 -- The steps of one file after those from `from` on are erased.
 abbrev pub ErasesIn : ℕ → Steps → Steps → Type 0
-ErasesIn from v w = ((k : ℕ) → step_in w.entries k ≡ erased from (step_in v.entries k)) × ((w.latest ≤ v.latest) × (w.latest ≤ from))
+ErasesIn from v w = ((k : ℕ) → step_in w.entries k ≡ step_below from (step_in v.entries k)) × ((w.latest ≤ v.latest) × (w.latest ≤ from))
 
 abbrev Erases : ℕ → Option Steps → Option Steps → Type 0
 Erases from None o = o ≡ None
@@ -72,9 +72,9 @@ module _ {F : Type 0} (T : F → Key → Steps → Bool → Steps → F → Type
         | false ↦ more
       ])
 
-  pub erased_in : (old new : List (Key × Steps)) → RetainsPairs T f old new → (q : Key) (k : ℕ) → step_within (steps_of new q) k ≡ erased from (step_within (steps_of old q) k)
+  pub erased_in : (old new : List (Key × Steps)) → RetainsPairs T f old new → (q : Key) (k : ℕ) → step_within (steps_of new q) k ≡ step_below from (step_within (steps_of old q) k)
   erased_in old new r q k =
-      elim (steps_of old q) as (λ o. Erases from o (steps_of new q) → step_within (steps_of new q) k ≡ erased from (step_within o k)) [
+      elim (steps_of old q) as (λ o. Erases from o (steps_of new q) → step_within (steps_of new q) k ≡ step_below from (step_within o k)) [
         | None ↦ λ h. ap (λ s. step_within s k) h
         | Some v ↦ λ h. ap (λ s. step_within s k) h.1 ∙ h.2.0 k
       ] (erases old new r (is_at (slice_cmp nat_cmp q)))

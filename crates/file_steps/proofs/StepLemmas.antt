@@ -10,27 +10,27 @@ use Rattle.std.specs.Cmp.Lexicographic.{slice_cmp, nat_list_cmp_total}
 use Rattle.std.specs.FinMap.{FinMap, IsAntisymmetric, get, insert, empty, get-insert, get-empty}
 use Rattle.keymaps.proofs.Views.{same_key, key_of}
 use Rattle.hostfiles.specs.Hosts.{Key}
-use Rattle.hostfiles.specs.Looks.{is_same_ask}
+use Rattle.hostfiles.specs.FileLooks.{is_same_ask}
 use Rattle.hostfiles.specs.declared.looks.Ask.{Ask}
 use Rattle.hostfiles.specs.declared.looks.Ask.TheVariants.{Has, Length, Rec, Directory}
-use Rattle.file_steps.specs.declared.steps.FileSteps.{FileSteps}
-use Rattle.file_steps.specs.RecordSteps.{RecordNotes, NotesRecord, SameRecords, step_of_record}
-use Rattle.file_steps.specs.Steps.{SameSteps, or_else, mark, erased, step_of_ask}
+use Rattle.file_steps.specs.declared.file_steps.FileSteps.{FileSteps}
+use Rattle.file_steps.specs.RecordSteps.{RecordNotes, NotesRecord, SameRecordSteps, step_of_record}
+use Rattle.file_steps.specs.FileSteps.{SameSteps, or_else, step_if, step_below, step_of_ask}
 
 -- ---- notes
 
-unmarked : (r : Option ℕ) (n : ℕ) → r ≡ or_else r (mark false n)
+unmarked : (r : Option ℕ) (n : ℕ) → r ≡ or_else r (step_if false n)
 unmarked None n = refl
 unmarked (Some m) n = refl
 
-marked : (b : Bool) (r : Option ℕ) (n : ℕ) → (b ≡ true → r ≡ None) → cond b (Some n) r ≡ or_else r (mark b n)
+marked : (b : Bool) (r : Option ℕ) (n : ℕ) → (b ≡ true → r ≡ None) → cond b (Some n) r ≡ or_else r (step_if b n)
 marked true r n h = ap (λ x. or_else x (Some n)) (sym (h refl))
 marked false r n h = unmarked r n
 
 abbrev pub NotedAs : FileSteps → FileSteps → Ask → ℕ → Type 0
-NotedAs old new ask step = (q : Ask) → step_of_ask new q ≡ or_else (step_of_ask old q) (mark (is_same_ask q ask) step)
+NotedAs old new ask step = (q : Ask) → step_of_ask new q ≡ or_else (step_of_ask old q) (step_if (is_same_ask q ask) step)
 
-pub noted_already : (s : FileSteps) (ask : Ask) (step m : ℕ) → step_of_ask s ask ≡ Some m → (q : Ask) (b : Bool) → (b ≡ true → q ≡ ask) → step_of_ask s q ≡ or_else (step_of_ask s q) (mark b step)
+pub noted_already : (s : FileSteps) (ask : Ask) (step m : ℕ) → step_of_ask s ask ≡ Some m → (q : Ask) (b : Bool) → (b ≡ true → q ≡ ask) → step_of_ask s q ≡ or_else (step_of_ask s q) (step_if b step)
 noted_already s ask step m there q true is = let e : step_of_ask s q ≡ Some m = ap (step_of_ask s) (is refl) ∙ there in rw e refl
 noted_already s ask step m there q false is = unmarked (step_of_ask s q) step
 
@@ -63,7 +63,7 @@ noted_still s ask step m there = λ q. noted_already s ask step m there q (is_sa
 
 -- The steps after an insertion at a key that has no step.
 module _ {K : Type 0} {R : K → K → Ordering} where
-  entered : IsTotalOrder R → IsAntisymmetric R → (m : FinMap R ℕ) (k : K) (step : ℕ) → get m k ≡ None → (q : K) → get (insert m k step) q ≡ or_else (get m q) (mark (eq_by_cmp R q k) step)
+  entered : IsTotalOrder R → IsAntisymmetric R → (m : FinMap R ℕ) (k : K) (step : ℕ) → get m k ≡ None → (q : K) → get (insert m k step) q ≡ or_else (get m q) (step_if (eq_by_cmp R q k) step)
   entered o same m k step none q = get-insert o m k step q ∙ marked (eq_by_cmp R q k) (get m q) step (λ e. ap (get m) (key_of same q k e) ∙ none)
 
 pub noted_has : (s : FileSteps) (key : Key) (step : ℕ) → get s.has key ≡ None → NotedAs s (record s { has = insert s.has key step }) (Has key) step
@@ -86,7 +86,7 @@ noted_record s records key place step notes (Rec a k) = notes a k
 noted_record s records key place step notes (Directory d) = unmarked (get_or s.directories d None) step
 
 -- The same records.
-pub same_records : (s : FileSteps) (records : RecordNotes) → SameRecords s.records records → SameSteps s (record s { records = records })
+pub same_records : (s : FileSteps) (records : RecordNotes) → SameRecordSteps s.records records → SameSteps s (record s { records = records })
 same_records s records same (Has a) = refl
 same_records s records same (Length a) = refl
 same_records s records same (Rec a k) = same a k
@@ -115,9 +115,9 @@ read_twice (x ∷ xs) zero d = refl
 read_twice (x ∷ xs) (suc i) d = read_twice xs i d
 
 -- One more step.
-pub erased_more : (ds es : List (Option ℕ)) (from i : ℕ) (x : Option ℕ) → i < length ds → es ≡ map (erased from) (take i ds) ++ drop i ds → x ≡ erased from (get_or es i None)
-    → slice_set es i x ≡ map (erased from) (take (i + 1) ds) ++ drop (i + 1) ds
-erased_more ds es from i x low so is = ap (slice_set es i) is ∙ map_over_more (erased from) ds es i (get_or es i None) low so (sym (read_twice es i None))
+pub erased_more : (ds es : List (Option ℕ)) (from i : ℕ) (x : Option ℕ) → i < length ds → es ≡ map (step_below from) (take i ds) ++ drop i ds → x ≡ step_below from (get_or es i None)
+    → slice_set es i x ≡ map (step_below from) (take (i + 1) ds) ++ drop (i + 1) ds
+erased_more ds es from i x low so is = ap (slice_set es i) is ∙ map_over_more (step_below from) ds es i (get_or es i None) low so (sym (read_twice es i None))
 
 -- ---- no step
 

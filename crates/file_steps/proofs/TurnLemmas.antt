@@ -5,32 +5,32 @@ use Rattle.std.specs.List.Sorted.{IsNonDecreasing}
 use Rattle.std.proofs.lemmas.Bool.{cases_lt, cases_Bool, lt-ltb, le-ltb}
 use Rattle.std.proofs.lemmas.List.{length-append, length-drop, length-map, length-take-le, length_push, get_or_append_left, get_or-append_right, get_or-drop, get_or-map, get_or-take, get_or_push, get_or_default, get_or_past}
 use Rattle.std.proofs.lemmas.List.Sorted.{IsNonDecreasingBy-push}
-use Rattle.file_steps.specs.Noting.{or_else, mark, erased}
+use Rattle.file_steps.specs.Noting.{or_else, step_if, step_below}
 use Rattle.file_steps.specs.FirstSteps.{step_in}
-use Rattle.file_steps.specs.PlaceSteps.{AreInTurn, IsEarliestFrom, joined, last_step}
+use Rattle.file_steps.specs.SequentialSteps.{AreSequential, IsEarliestFrom, all_steps, last_step}
 
 -- ---- the step of one index
 
 module _ (xs : List ℕ) (ys : List (Option ℕ)) where
-  pub in_turn_at : (k : ℕ) → k < length xs → step_in (joined xs ys) k ≡ Some (slice_index xs k)
+  pub in_turn_at : (k : ℕ) → k < length xs → step_in (all_steps xs ys) k ≡ Some (slice_index xs k)
   in_turn_at k h =
       get_or_append_left (map (λ (n : ℕ). Some n) xs) (drop (length xs) ys) None k (omega (arith, length-map xs (λ (n : ℕ). Some n)))
       ∙ get_or-map (λ (n : ℕ). Some n) xs k 0 None h
 
-  pub other_at : (k : ℕ) → length xs ≤ k → step_in (joined xs ys) k ≡ step_in ys k
+  pub other_at : (k : ℕ) → length xs ≤ k → step_in (all_steps xs ys) k ≡ step_in ys k
   other_at k h =
       get_or-append_right (map (λ (n : ℕ). Some n) xs) (drop (length xs) ys) (length xs) k None (length-map xs (λ (n : ℕ). Some n)) h
       ∙ get_or-drop (length xs) ys (k - length xs) None
       ∙ ap (λ n. step_in ys n) (let e : length xs + (k - length xs) ≡ k = omega arith in e)
 
-  pub length-joined : length (joined xs ys) ≡ max (length xs) (length ys)
+  pub length-joined : length (all_steps xs ys) ≡ max (length xs) (length ys)
   length-joined = simp (length-append, length-map, length-drop) (omega arith)
 
 -- If no other index past the ones in order has a step, no index past one of these has an earlier step.
-pub earliest : (xs : List ℕ) (ys : List (Option ℕ)) → AreInTurn xs ys → length ys ≤ length xs → (place : ℕ) → place < length xs → IsEarliestFrom (joined xs ys) place
+pub earliest : (xs : List ℕ) (ys : List (Option ℕ)) → AreSequential xs ys → length ys ≤ length xs → (place : ℕ) → place < length xs → IsEarliestFrom (all_steps xs ys) place
 earliest xs ys turn short place h = (slice_index xs place, in_turn_at xs ys place h, later)
   where
-    later : (k n : ℕ) → place ≤ k → step_in (joined xs ys) k ≡ Some n → slice_index xs place ≤ n
+    later : (k n : ℕ) → place ≤ k → step_in (all_steps xs ys) k ≡ Some n → slice_index xs place ≤ n
     later k n behind there = elim (cases_lt k (length xs)) [
       | inl inside ↦
           let both : Some (slice_index xs k) ≡ Some n = sym (in_turn_at xs ys k inside) ∙ there in
@@ -51,7 +51,7 @@ pub none_if : (o : Option ℕ) → is_some o ≡ false → o ≡ None
 none_if None e = refl
 none_if (Some n) e = cc
 
-not_here : (k place step : ℕ) → (k ≡ place → ⊥) → mark (k == place) step ≡ None
+not_here : (k place step : ℕ) → (k ≡ place → ⊥) → step_if (k == place) step ≡ None
 not_here k place step ne = elim (cases_Bool (k == place)) [
   | inl same ↦ absurd (ne (eqb-true k place same))
   | inr other ↦ rw other refl
@@ -61,14 +61,14 @@ not_here k place step ne = elim (cases_Bool (k == place)) [
 
 module _ (xs : List ℕ) (ys : List (Option ℕ)) (step : ℕ) where
   -- An index in order has its step, and keeps it.
-  pub kept_in_turn : (place : ℕ) → place < length xs → (k : ℕ) → step_in (joined xs ys) k ≡ or_else (step_in (joined xs ys) k) (mark (k == place) step)
+  pub kept_in_turn : (place : ℕ) → place < length xs → (k : ℕ) → step_in (all_steps xs ys) k ≡ or_else (step_in (all_steps xs ys) k) (step_if (k == place) step)
   kept_in_turn place h k = elim (cases_lt k (length xs)) [
     | inl inside ↦ rw (in_turn_at xs ys k inside) refl
-    | inr past ↦ rw (not_here k place step (λ same. omega (arith, same))) (sym (or_none (step_in (joined xs ys) k)))
+    | inr past ↦ rw (not_here k place step (λ same. omega (arith, same))) (sym (or_none (step_in (all_steps xs ys) k)))
   ]
 
   module _ (none : step_in ys (length xs) ≡ None) where
-    pub pushed_at : (k : ℕ) → step_in (joined (xs ++ step ∷ []) ys) k ≡ or_else (step_in (joined xs ys) k) (mark (k == length xs) step)
+    pub pushed_at : (k : ℕ) → step_in (all_steps (xs ++ step ∷ []) ys) k ≡ or_else (step_in (all_steps xs ys) k) (step_if (k == length xs) step)
     pushed_at k = elim (cases_lt k (length xs)) [
       | inl inside ↦
           in_turn_at (xs ++ step ∷ []) ys k (omega (arith, length_push xs step))
@@ -87,7 +87,7 @@ module _ (xs : List ℕ) (ys : List (Option ℕ)) (step : ℕ) where
       ])
     ]
 
-    pub in_turn_pushed : AreInTurn xs ys → last_step xs ≤ step → AreInTurn (xs ++ step ∷ []) ys
+    pub in_turn_pushed : AreSequential xs ys → last_step xs ≤ step → AreSequential (xs ++ step ∷ []) ys
     in_turn_pushed turn below = record {
       rise = IsNonDecreasingBy-push (λ x. x) xs step turn.rise (λ d some. omega (arith, get_or_default xs (length xs - 1) d 0 (omega arith), below));
       apart = λ k h. elim (cases_lt k (length xs)) [
@@ -97,8 +97,8 @@ module _ (xs : List ℕ) (ys : List (Option ℕ)) (step : ℕ) where
     }
 
   -- Another index gets a step.
-  module _ (ys' : List (Option ℕ)) (place : ℕ) (past : length xs ≤ place) (noted : (k : ℕ) → step_in ys' k ≡ or_else (step_in ys k) (mark (k == place) step)) where
-    pub noted_at : (k : ℕ) → step_in (joined xs ys') k ≡ or_else (step_in (joined xs ys) k) (mark (k == place) step)
+  module _ (ys' : List (Option ℕ)) (place : ℕ) (past : length xs ≤ place) (noted : (k : ℕ) → step_in ys' k ≡ or_else (step_in ys k) (step_if (k == place) step)) where
+    pub noted_at : (k : ℕ) → step_in (all_steps xs ys') k ≡ or_else (step_in (all_steps xs ys) k) (step_if (k == place) step)
     noted_at k = elim (cases_lt k (length xs)) [
       | inl inside ↦ rw (in_turn_at xs ys k inside) (in_turn_at xs ys' k inside)
       | inr beyond ↦ rw (other_at xs ys k beyond) (other_at xs ys' k beyond ∙ noted k)
@@ -107,7 +107,7 @@ module _ (xs : List ℕ) (ys : List (Option ℕ)) (step : ℕ) where
 -- ---- the same steps
 
 module _ (xs : List ℕ) (ys ys' : List (Option ℕ)) (same : (k : ℕ) → step_in ys' k ≡ step_in ys k) where
-  pub same_at : (k : ℕ) → step_in (joined xs ys') k ≡ step_in (joined xs ys) k
+  pub same_at : (k : ℕ) → step_in (all_steps xs ys') k ≡ step_in (all_steps xs ys) k
   same_at k = elim (cases_lt k (length xs)) [
     | inl inside ↦ in_turn_at xs ys' k inside ∙ sym (in_turn_at xs ys k inside)
     | inr past ↦ other_at xs ys' k past ∙ same k ∙ sym (other_at xs ys k past)
@@ -115,30 +115,30 @@ module _ (xs : List ℕ) (ys ys' : List (Option ℕ)) (same : (k : ℕ) → step
 
 -- ---- the steps below one
 
-below_stays : (n from : ℕ) → n < from → erased from (Some n) ≡ Some n
+below_stays : (n from : ℕ) → n < from → step_below from (Some n) ≡ Some n
 below_stays n from h = rw (lt-ltb n from h) refl
 
-past_goes : (n from : ℕ) → from ≤ n → erased from (Some n) ≡ None
+past_goes : (n from : ℕ) → from ≤ n → step_below from (Some n) ≡ None
 past_goes n from h = rw (le-ltb n from h) refl
 
-module _ (xs : List ℕ) (ys ys' : List (Option ℕ)) (i from : ℕ) (turn : AreInTurn xs ys) (within : i ≤ length xs)
+module _ (xs : List ℕ) (ys ys' : List (Option ℕ)) (i from : ℕ) (turn : AreSequential xs ys) (within : i ≤ length xs)
     (below : (k : ℕ) → k < i → slice_index xs k < from) (past : (k : ℕ) → i ≤ k → k < length xs → from ≤ slice_index xs k)
-    (others : (k : ℕ) → step_in ys' k ≡ erased from (step_in ys k)) where
-  pub erased_at : (k : ℕ) → step_in (joined (take i xs) ys') k ≡ erased from (step_in (joined xs ys) k)
+    (others : (k : ℕ) → step_in ys' k ≡ step_below from (step_in ys k)) where
+  pub erased_at : (k : ℕ) → step_in (all_steps (take i xs) ys') k ≡ step_below from (step_in (all_steps xs ys) k)
   erased_at k = elim (cases_lt k i) [
     | inl low ↦
         in_turn_at (take i xs) ys' k (omega (arith, length-take-le i xs within))
         ∙ ap (λ (n : ℕ). Some n) (get_or-take i xs k 0 low)
         ∙ sym (below_stays (slice_index xs k) from (below k low))
-        ∙ ap (erased from) (sym (in_turn_at xs ys k (omega arith)))
+        ∙ ap (step_below from) (sym (in_turn_at xs ys k (omega arith)))
     | inr high ↦
         other_at (take i xs) ys' k (omega (arith, length-take-le i xs within)) ∙ others k
         ∙ elim (cases_lt k (length xs)) [
           | inl inside ↦
-              ap (erased from) (turn.apart k inside)
+              ap (step_below from) (turn.apart k inside)
               ∙ sym (past_goes (slice_index xs k) from (past k high inside))
-              ∙ ap (erased from) (sym (in_turn_at xs ys k inside))
-          | inr beyond ↦ ap (erased from) (sym (other_at xs ys k beyond))
+              ∙ ap (step_below from) (sym (in_turn_at xs ys k inside))
+          | inr beyond ↦ ap (step_below from) (sym (other_at xs ys k beyond))
         ]
   ]
 

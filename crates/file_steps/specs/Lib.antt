@@ -1,7 +1,7 @@
 pub mod Noting
 pub mod FirstSteps
-pub mod PlaceSteps
+pub mod SequentialSteps
 pub mod RecordSteps
-pub mod Steps
+pub mod FileSteps
 pub mod Touch
 pub mod Setting

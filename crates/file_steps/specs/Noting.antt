@@ -7,11 +7,11 @@ or_else None b = b
 or_else (Some a) b = Some a
 
 -- A step, if a test passes.
-abbrev pub mark : Bool → ℕ → Option ℕ
-mark true n = Some n
-mark false n = None
+abbrev pub step_if : Bool → ℕ → Option ℕ
+step_if true n = Some n
+step_if false n = None
 
 -- What is left of a step after the steps from t on are erased.
-abbrev pub erased : ℕ → Option ℕ → Option ℕ
-erased t None = None
-erased t (Some m) = if nat_lt m t then Some m else None
+abbrev pub step_below : ℕ → Option ℕ → Option ℕ
+step_below t None = None
+step_below t (Some m) = if nat_lt m t then Some m else None

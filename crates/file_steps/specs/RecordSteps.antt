@@ -6,7 +6,7 @@ use Rattle.std.specs.Map.{lookup}
 use Rattle.std.specs.BTreeMap.{is_at}
 use Rattle.std.specs.Coded.{Coded, code_by, coded_ℕ, coded_list, coded_option, coded×}
 use Rattle.hostfiles.specs.Hosts.{Key}
-use Rattle.file_steps.specs.Noting.{or_else, mark, erased}
+use Rattle.file_steps.specs.Noting.{or_else, step_if, step_below}
 use Rattle.file_steps.specs.FirstSteps.{Steps, step_in}
 
 -- The steps of the records of each file that has one, and an upper bound of these steps.
@@ -34,15 +34,15 @@ AreWithin n files = (key : Key) (steps : Steps) → steps_of files key ≡ Some 
 -- A record has this step, unless it had one before, and all other steps are unchanged.
 abbrev pub NotesRecord : RecordNotes → Key → ℕ → ℕ → RecordNotes → Type 0
 NotesRecord old key place step new =
-    (q : Key) (k : ℕ) → step_of_record new q k ≡ or_else (step_of_record old q k) (mark (eq_by_cmp (slice_cmp nat_cmp) q key && (k == place)) step)
+    (q : Key) (k : ℕ) → step_of_record new q k ≡ or_else (step_of_record old q k) (step_if (eq_by_cmp (slice_cmp nat_cmp) q key && (k == place)) step)
 
 -- The steps are the same.
-abbrev pub SameRecords : RecordNotes → RecordNotes → Type 0
-SameRecords old new = (q : Key) (k : ℕ) → step_of_record new q k ≡ step_of_record old q k
+abbrev pub SameRecordSteps : RecordNotes → RecordNotes → Type 0
+SameRecordSteps old new = (q : Key) (k : ℕ) → step_of_record new q k ≡ step_of_record old q k
 
 -- The steps from `from` on are erased.
 abbrev pub ErasesRecords : ℕ → RecordNotes → RecordNotes → Type 0
-ErasesRecords from old new = (q : Key) (k : ℕ) → step_of_record new q k ≡ erased from (step_of_record old q k)
+ErasesRecords from old new = (q : Key) (k : ℕ) → step_of_record new q k ≡ step_below from (step_of_record old q k)
 
 abbrev pub steps_code : Coded Steps
 steps_code = code_by (List (Option ℕ) × ℕ) (coded× (coded_list (coded_option coded_ℕ)) coded_ℕ) (λ s. (s.entries, s.latest)) (λ p. record { entries = p.0; latest = p.1 }) (λ _. refl)

@@ -2,10 +2,10 @@
 use Rattle.std.specs.Prelude.{◌≡◌, ◌<◌, ◌≤◌, ◌⊎◌, ℕ, List, [], Option, Some, length, option_map, unwrap_or, slice_get}
 use Rattle.hostfiles.specs.Hosts.{Key, Record, Host}
 use Rattle.hostfiles.specs.declared.looks.Ask.{Ask}
-use Rattle.file_calls.specs.Passing.{host_answers}
-use Rattle.file_steps.specs.declared.steps.FileSteps.{FileSteps}
+use Rattle.file_calls.specs.HostTrees.{host_answers}
+use Rattle.file_steps.specs.declared.file_steps.FileSteps.{FileSteps}
 use Rattle.file_steps.specs.RecordSteps.{step_of_record}
-use Rattle.file_steps.specs.Steps.{step_of_ask}
+use Rattle.file_steps.specs.FileSteps.{step_of_ask}
 
 -- The first step of a question that the new host files answer differently, or `least`.
 pub record IsFileTouch (old new : Host) (steps : FileSteps) (least touch : ℕ) : Type 0 where

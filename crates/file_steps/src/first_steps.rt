@@ -1,5 +1,5 @@
 ghost use Rattle.std.specs.Prelude.{◌≡◌, ◌<◌, ◌≤◌, ◌==◌, [], ℕ, None, OnOk, OnErr, if◌then◌else◌, vec_len, length};
-ghost use Rattle.file_steps.specs.Noting.{erased, or_else, mark};
+ghost use Rattle.file_steps.specs.Noting.{step_below, or_else, step_if};
 ghost use Rattle.file_steps.specs.FirstSteps.{IsInOrder, latest_of, step_at, step_in};
 
 use std::alloc::{AllocError, Global};
@@ -51,7 +51,7 @@ impl FirstSteps {
 
     /// Returns the first step that looked at an index, if there is one.
     #[tactic(auto, using(crate::proofs::EntryLemmas::entry_at))]
-    pub fn of(&self, place: usize) -> Option<u64>
+    pub fn get(&self, place: usize) -> Option<u64>
         ensures { result ≡ step_in self.now.entries place }
     {
         match self.steps.get(place) {
@@ -78,7 +78,7 @@ impl FirstSteps {
         requires held { step < 4294967295 }
         requires latest { self.old.latest ≤ step }
         ensures ok { OnOk result ((k : ℕ) → step_in self.new.entries k
-            ≡ or_else (step_in self.old.entries k) (mark (k == place) step)) }
+            ≡ or_else (step_in self.old.entries k) (step_if (k == place) step)) }
         ensures err { OnErr result ((k : ℕ) → step_in self.new.entries k ≡ step_in self.old.entries k) }
         ensures latest { self.new.latest ≤ step }
     {
@@ -89,7 +89,7 @@ impl FirstSteps {
     #[tactic(auto, using(crate::proofs::EntryLemmas::entry_at))]
     pub fn erase_from(&mut self, from: u64)
         ensures entries { (k : ℕ) → step_in self.new.entries k
-            ≡ erased from (step_in self.old.entries k) }
+            ≡ step_below from (step_in self.old.entries k) }
         ensures latest { (self.new.latest ≤ self.old.latest) × (self.new.latest ≤ from) }
     {
         erase_from(&mut self.steps, &mut self.looks, from);
@@ -107,7 +107,7 @@ fn enter(
     requires latest { latest_of looks.old.items ≤ step }
     requires order { IsInOrder steps.old.items looks.old.items }
     ensures ok { OnOk result ((k : ℕ) → step_at steps.new.items k
-        ≡ or_else (step_at steps.old.items k) (mark (k == place) step)) }
+        ≡ or_else (step_at steps.old.items k) (step_if (k == place) step)) }
     ensures err { OnErr result ((k : ℕ) → step_at steps.new.items k ≡ step_at steps.old.items k) }
     ensures latest { latest_of looks.new.items ≤ step }
     ensures order { IsInOrder steps.new.items looks.new.items }
@@ -134,7 +134,7 @@ fn grow_past(steps: &mut Vec<u32>, place: usize) -> Result<(), AllocError>
 // Erases every step from `from` on.
 fn erase_from(steps: &mut Vec<u32>, looks: &mut Vec<Look>, from: u64)
     requires { IsInOrder steps.old.items looks.old.items }
-    ensures entries { (k : ℕ) → step_at steps.new.items k ≡ erased from (step_at steps.old.items k) }
+    ensures entries { (k : ℕ) → step_at steps.new.items k ≡ step_below from (step_at steps.old.items k) }
     ensures latest { (latest_of looks.new.items ≤ latest_of looks.old.items)
         × (latest_of looks.new.items ≤ from) }
     ensures order { IsInOrder steps.new.items looks.new.items }
@@ -152,7 +152,7 @@ fn erase_from(steps: &mut Vec<u32>, looks: &mut Vec<Look>, from: u64)
 // Erases the step of an index if it is `from` or later.
 fn erase_at(steps: &mut Vec<u32>, place: usize, from: u64)
     ensures { (k : ℕ) → step_at steps.new.items k
-        ≡ (if k == place then erased from (step_at steps.old.items k) else step_at steps.old.items k) }
+        ≡ (if k == place then step_below from (step_at steps.old.items k) else step_at steps.old.items k) }
 {
     if place < steps.len() && u64::from(steps[place]) >= from {
         steps[place] = NO_STEP;

@@ -1,9 +1,9 @@
 // The first steps of the records of files.
 
 ghost use Rattle.std.specs.Prelude.{◌≡◌, ◌≤◌, ◌<◌, [], OnOk, OnErr, option_copied};
-ghost use Rattle.file_steps.specs.RecordSteps.{ErasesRecords, NotesRecord, SameRecords, step_of_record, steps_of};
+ghost use Rattle.file_steps.specs.RecordSteps.{ErasesRecords, NotesRecord, SameRecordSteps, step_of_record, steps_of};
 
-use crate::place_steps::PlaceSteps;
+use crate::sequential_steps::SequentialSteps;
 use hostfiles::Key;
 use std::alloc::{AllocError, Global};
 use std::collections::BTreeMap;
@@ -12,7 +12,7 @@ use std::marker::Model;
 /// For each record of a file that was asked for, the first step that asked for it.
 #[derive(Drop)]
 pub struct RecordSteps {
-    files: BTreeMap<Key, PlaceSteps>,
+    files: BTreeMap<Key, SequentialSteps>,
     latest: u64,
     alloc: Global,
 }
@@ -45,18 +45,18 @@ impl RecordSteps {
     }
 
     /// Returns the steps of the records of a file, if one was noted.
-    pub fn file(&self, key: &Key) -> Option<&PlaceSteps>
+    pub fn file(&self, key: &Key) -> Option<&SequentialSteps>
         ensures { option_copied result ≡ steps_of self.now.files key.now }
     {
         self.files.get(key)
     }
 
     /// Returns the step of a record, if it has one.
-    pub fn of(&self, key: &Key, place: u32) -> Option<u64>
+    pub fn get(&self, key: &Key, place: u32) -> Option<u64>
         ensures { result ≡ step_of_record self.now key.now place }
     {
         match self.file(key) {
-            Some(steps) => steps.of(place as usize),
+            Some(steps) => steps.get(place as usize),
             None => None,
         }
     }
@@ -71,14 +71,14 @@ impl RecordSteps {
         requires held { step < 4294967295 }
         requires latest { self.old.latest ≤ step }
         ensures ok { OnOk result (NotesRecord self.old key.now place step self.new) }
-        ensures err { OnErr result (SameRecords self.old self.new) }
+        ensures err { OnErr result (SameRecordSteps self.old self.new) }
         ensures latest { self.new.latest ≤ step }
     {
         self.latest = step;
         if let Some(steps) = self.files.get_mut(key) {
             return steps.note(place as usize, step);
         }
-        let mut steps = PlaceSteps::new(self.alloc);
+        let mut steps = SequentialSteps::new(self.alloc);
         steps.note(place as usize, step)?;
         self.files.insert(*key, steps)?;
         Ok(())

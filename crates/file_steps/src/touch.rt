@@ -1,11 +1,11 @@
 // The first step that the change of a host file touches.
 
 ghost use Rattle.std.specs.Prelude.{◌≡◌, ◌↔◌, IsTrue, is_some, option_copied, if◌then◌else◌, max};
-ghost use Rattle.file_steps.specs.Steps.{lesser};
+ghost use Rattle.file_steps.specs.FileSteps.{lesser_step};
 ghost use Rattle.file_steps.specs.Touch.{IsFileTouch, IsPlaceTouch, count_of, length_of, record_of};
 ghost use Rattle.file_steps.specs.Setting.{with_file};
 
-use crate::steps::FileSteps;
+use crate::file_steps::FileSteps;
 use hostfiles::{Ask, HostFile, HostFiles, Key, Record};
 
 impl FileSteps {
@@ -23,10 +23,10 @@ impl FileSteps {
     {
         let before = old.file(key);
         let is_same = is_same_presence(before, new);
-        let has = lesser_unless(is_same, self.of(&Ask::Has(*key)), least);
+        let has = lesser_step_unless(is_same, self.get(&Ask::Has(*key)), least);
         let is_same = is_same_length(before, new);
-        let length = lesser_unless(is_same, self.of(&Ask::Length(*key)), has);
-        let directory = lesser_unless(is_same, self.of(&Ask::Directory(key[0])), length);
+        let length = lesser_step_unless(is_same, self.get(&Ask::Length(*key)), has);
+        let directory = lesser_step_unless(is_same, self.get(&Ask::Directory(key[0])), length);
         self.touch_of_records(directory, key, before, new)
     }
 
@@ -44,13 +44,13 @@ impl FileSteps {
         let Some(steps) = self.records.file(key) else {
             return least;
         };
-        let end = longer(old, new);
+        let end = longer_length(old, new);
         let noted = steps.end();
         let mut touch = least;
         let mut place = 0;
         while place < end && (place as usize) < noted {
             let is_same = is_same_record(old, new, place);
-            touch = lesser_unless(is_same, steps.of(place as usize), touch);
+            touch = lesser_step_unless(is_same, steps.get(place as usize), touch);
             if !is_same && steps.is_earliest_from(place as usize) {
                 return touch;
             }
@@ -61,7 +61,7 @@ impl FileSteps {
 }
 
 // Returns the length of the longer of two files, in records; a file that is not there has length 0.
-fn longer(old: Option<&HostFile>, new: Option<&HostFile>) -> u32
+fn longer_length(old: Option<&HostFile>, new: Option<&HostFile>) -> u32
     ensures { result ≡ max (count_of (option_copied old.entry)) (count_of (option_copied new.entry)) }
 {
     count_of(old).max(count_of(new))
@@ -121,8 +121,8 @@ fn record_of(file: Option<&HostFile>, place: u32) -> Option<&Record>
 }
 
 // Returns the lesser of `step` and `least`; `least` if there is no step or the answer is the same.
-fn lesser_unless(is_same: bool, step: Option<u64>, least: u64) -> u64
-    ensures { result ≡ (if is_same then least else lesser step least) }
+fn lesser_step_unless(is_same: bool, step: Option<u64>, least: u64) -> u64
+    ensures { result ≡ (if is_same then least else lesser_step step least) }
 {
     match step {
         Some(step) if !is_same && step < least => step,

@@ -7,7 +7,7 @@ use Rattle.std.specs.Char.{to_ascii_uppercase}
 use Rattle.std.proofs.lemmas.List.{drop-replicate, length-append, length-replicate, take_at, drop_at, take_all, append-nil}
 use mathlib.Core.List.{append_assoc}
 use Rattle.filenames.proofs.FieldLemmas.{both}
-use Rattle.filenames.specs.Names.{Key, is_sayable, printed, drive_text, type_text, is_allowed, is_blank, is_field, name_field, type_field, padded, key_of, is_valid}
+use Rattle.filenames.specs.Names.{Key, is_sayable, display_text, drive_text, type_text, is_allowed, is_blank, is_field, name_field, type_field, padded, key_of, is_valid}
 
 abbrev blanks : ℕ → List ℕ
 blanks n = replicate n 32
@@ -111,8 +111,8 @@ moved_is_sayable (k ∷ ks) drive n d s =
 
 -- The pieces of a printed name, in order.
 pub printed_pieces : (key drive name dot kind : List ℕ) → drive ≡ drive_text (slice_index key 0) → name ≡ before_first is_blank (name_field key) → kind ≡ before_first is_blank (type_field key) → dot ++ kind ≡ type_text kind
-    → ((drive ++ name) ++ dot) ++ kind ≡ printed key
-unfolding printed
+    → ((drive ++ name) ++ dot) ++ kind ≡ display_text key
+unfolding display_text
 printed_pieces key drive name dot kind d n k before =
     append_assoc (drive ++ name) dot kind
     ∙ ap (λ x. (x ++ name) ++ (dot ++ kind)) d ∙ ap (λ x. (drive_text (slice_index key 0) ++ x) ++ (dot ++ kind)) n

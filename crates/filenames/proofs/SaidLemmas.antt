@@ -7,7 +7,7 @@ use Rattle.std.proofs.lemmas.Bool.Decides.{nat_tests}
 use Rattle.std.proofs.lemmas.List.{append-nil, take_at, take_all, drop_all, length-drop, length-take-le, take-append-drop, append_assoc}
 use Rattle.filenames.proofs.NameLemmas.{sayable_parts, drive_below}
 use Rattle.std.proofs.Math.Seq.{take-length}
-use Rattle.filenames.specs.Names.{Key, is_allowed, is_blank, is_dot, is_colon, is_field, is_valid, padded, key_of, named, plain_name, drive_of, on_drive, has_drive, name_of, drive_text, type_text, printed, is_sayable}
+use Rattle.filenames.specs.Names.{Key, is_allowed, is_blank, is_dot, is_colon, is_field, is_valid, padded, key_of, key_or_refusal, name_without_drive, drive_of, name_on_drive, has_drive, name_of, drive_text, type_text, display_text, is_sayable}
 use Rattle.filenames.proofs.FieldLemmas.{both}
 
 allowed_is_raised : (b : ℕ) → is_allowed b ≡ true → to_ascii_uppercase b ≡ b
@@ -112,8 +112,8 @@ record Fields (name kind first second : List ℕ) : Type 0 where
   name_filled : first ≡ name ++ replicate (8 - length name) 32
   kind_filled : second ≡ kind ++ replicate (3 - length kind) 32
 
-named_so : (drive : ℕ) (name kind first second : List ℕ) → Fields name kind first second → named drive name kind ≡ Ok (drive ∷ (first ++ second))
-unfolding named
+named_so : (drive : ℕ) (name kind first second : List ℕ) → Fields name kind first second → key_or_refusal drive name kind ≡ Ok (drive ∷ (first ++ second))
+unfolding key_or_refusal
 named_so drive name kind first second f =
     let raised_name = raised_again name f.name_allowed in
     let raised_kind = raised_again kind f.kind_allowed in
@@ -128,9 +128,9 @@ named_so drive name kind first second f =
     ∙ ap (λ x. Ok (drive ∷ (x ++ padded 3 kind))) (sym f.name_filled)
     ∙ ap (λ x. Ok (drive ∷ (first ++ x))) (sym f.kind_filled)
 
-plain_so : (drive : ℕ) (name kind first second : List ℕ) → Fields name kind first second → plain_name drive (name ++ type_text kind) ≡ Ok (drive ∷ (first ++ second))
+plain_so : (drive : ℕ) (name kind first second : List ℕ) → Fields name kind first second → name_without_drive drive (name ++ type_text kind) ≡ Ok (drive ∷ (first ++ second))
 plain_so drive name kind first second f =
-    ap (λ n. named drive n (after_first is_dot (name ++ type_text kind))) (cut_name name kind f.name_allowed) ∙ ap (named drive name) (cut_kind name kind f.name_allowed) ∙ named_so drive name kind first second f
+    ap (λ n. key_or_refusal drive n (after_first is_dot (name ++ type_text kind))) (cut_name name kind f.name_allowed) ∙ ap (key_or_refusal drive name) (cut_kind name kind f.name_allowed) ∙ named_so drive name kind first second f
 
 no_colon_first : (kind : List ℕ) → is_colon (slice_index (type_text kind) 0) ≡ false
 no_colon_first [] = refl
@@ -147,15 +147,15 @@ no_drive (b ∷ c ∷ bs) kind some h =
     let rest = (both (is_allowed b) (list_all is_allowed (c ∷ bs)) h).1 in
     and_no (nat_lt 1 (length (b ∷ c ∷ (bs ++ type_text kind)))) (is_colon c) (allowed_no_colon c (both (is_allowed c) (list_all is_allowed bs) rest).0)
 
-with_letter : (letter : ℕ) (text : List ℕ) → name_of (letter ∷ 58 ∷ text) ≡ on_drive (drive_of letter) text
+with_letter : (letter : ℕ) (text : List ℕ) → name_of (letter ∷ 58 ∷ text) ≡ name_on_drive (drive_of letter) text
 unfolding name_of
 with_letter letter text =
     let long : nat_lt 1 (suc (suc (length text))) ≡ true = search rules in
-    ap (λ b. cond (b && true) (on_drive (drive_of letter) text) (plain_name 0 (letter ∷ 58 ∷ text))) long
+    ap (λ b. cond (b && true) (name_on_drive (drive_of letter) text) (name_without_drive 0 (letter ∷ 58 ∷ text))) long
 
 said_so : (drive : ℕ) (name kind first second : List ℕ) → drive < 4 → Fields name kind first second → name_of (drive_text drive ++ (name ++ type_text kind)) ≡ Ok (drive ∷ (first ++ second))
 unfolding name_of
-said_so zero name kind first second d f = ap (λ b. cond b (on_drive (drive_of (slice_index (name ++ type_text kind) 0)) (drop 2 (name ++ type_text kind))) (plain_name 0 (name ++ type_text kind))) (no_drive name kind f.some f.name_allowed) ∙ plain_so 0 name kind first second f
+said_so zero name kind first second d f = ap (λ b. cond b (name_on_drive (drive_of (slice_index (name ++ type_text kind) 0)) (drop 2 (name ++ type_text kind))) (name_without_drive 0 (name ++ type_text kind))) (no_drive name kind f.some f.name_allowed) ∙ plain_so 0 name kind first second f
 said_so (suc zero) name kind first second d f = with_letter 66 (name ++ type_text kind) ∙ plain_so 1 name kind first second f
 said_so (suc (suc zero)) name kind first second d f = with_letter 67 (name ++ type_text kind) ∙ plain_so 2 name kind first second f
 said_so (suc (suc (suc zero))) name kind first second d f = with_letter 68 (name ++ type_text kind) ∙ plain_so 3 name kind first second f
@@ -168,8 +168,8 @@ some_before b bs h =
     omega arith
 
 -- A valid key is the key of its printed text.
-said_key : (drive b : ℕ) (bs : List ℕ) → length bs ≡ 10 → is_sayable (drive ∷ b ∷ bs) ≡ true → name_of (printed (drive ∷ b ∷ bs)) ≡ Ok (drive ∷ b ∷ bs)
-unfolding printed
+said_key : (drive b : ℕ) (bs : List ℕ) → length bs ≡ 10 → is_sayable (drive ∷ b ∷ bs) ≡ true → name_of (display_text (drive ∷ b ∷ bs)) ≡ Ok (drive ∷ b ∷ bs)
+unfolding display_text
 said_key drive b bs count h =
     let parts = sayable_parts (drive ∷ b ∷ bs) h in
     let first = take 8 (b ∷ bs) in
@@ -193,7 +193,7 @@ said_key drive b bs count h =
     ∙ said_so drive (before_first is_blank first) (before_first is_blank second) first second (drive_below drive parts.drive) fields
     ∙ ap (λ x. Ok (drive ∷ (first ++ x))) all ∙ ap (λ x. Ok (drive ∷ x)) (take-append-drop 8 (b ∷ bs))
 
-pub said_as_printed : (key : Key) → length key ≡ 12 → is_sayable key ≡ true → name_of (printed key) ≡ Ok key
+pub said_as_printed : (key : Key) → length key ≡ 12 → is_sayable key ≡ true → name_of (display_text key) ≡ Ok key
 said_as_printed [] count h = absurd (omega arith)
 said_as_printed (d ∷ []) count h = absurd (omega arith)
 said_as_printed (d ∷ b ∷ bs) count h = said_key d b bs (omega arith) h

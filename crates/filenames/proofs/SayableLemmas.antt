@@ -7,7 +7,7 @@ use Rattle.std.proofs.lemmas.Bool.Decides.{nat_tests}
 use Rattle.std.proofs.lemmas.List.{length-append}
 use Rattle.filenames.proofs.FieldLemmas.{both}
 use Rattle.filenames.proofs.NameLemmas.{key_is_sayable, padded_length, raised_length}
-use Rattle.filenames.specs.Names.{Key, is_dot, is_valid, padded, key_of, named, plain_name, drive_of, on_drive, has_drive, name_of, is_sayable}
+use Rattle.filenames.specs.Names.{Key, is_dot, is_valid, padded, key_of, key_or_refusal, name_without_drive, drive_of, name_on_drive, has_drive, name_of, is_sayable}
 
 -- The facts about the key of a name.
 abbrev IsKey : Key → Type 0
@@ -42,8 +42,8 @@ tested false true valid made key is e = cc
 tested false false false made key is e = cc
 tested false false true made key is e = let same : made ≡ key = cc in let p = is refl refl refl in (ap length (sym same) ∙ p.0, ap is_sayable (sym same) ∙ p.1)
 
-named_is_key : (drive : ℕ) (name kind : List ℕ) (key : Key) → drive < 4 → named drive name kind ≡ Ok key → IsKey key
-unfolding named
+named_is_key : (drive : ℕ) (name kind : List ℕ) (key : Key) → drive < 4 → key_or_refusal drive name kind ≡ Ok key → IsKey key
+unfolding key_or_refusal
 named_is_key drive name kind key d e =
     tested (length name == 0) (nat_lt 8 (length name) || nat_lt 3 (length kind)) (is_valid name && is_valid kind) (key_of drive name kind) key (key_is drive name kind d) e
 
@@ -58,11 +58,11 @@ four_letters raised h = grind (arith, nat_tests)
 drive_below_four : (letter drive : ℕ) → drive_of letter ≡ Some drive → drive < 4
 drive_below_four letter drive e = letter_of (nat_le 65 (to_ascii_uppercase letter) && nat_le (to_ascii_uppercase letter) 68) (to_ascii_uppercase letter) drive (four_letters (to_ascii_uppercase letter)) e
 
-on_drive_is_key : (o : Option ℕ) (text : List ℕ) (key : Key) → ((drive : ℕ) → o ≡ Some drive → drive < 4) → on_drive o text ≡ Ok key → IsKey key
+on_drive_is_key : (o : Option ℕ) (text : List ℕ) (key : Key) → ((drive : ℕ) → o ≡ Some drive → drive < 4) → name_on_drive o text ≡ Ok key → IsKey key
 on_drive_is_key None text key low e = cc
 on_drive_is_key (Some drive) text key low e = named_is_key drive (before_first is_dot text) (after_first is_dot text) key (low drive refl) e
 
-either_way : (has : Bool) (text : List ℕ) (key : Key) → cond has (on_drive (drive_of (slice_index text 0)) (drop 2 text)) (plain_name 0 text) ≡ Ok key → IsKey key
+either_way : (has : Bool) (text : List ℕ) (key : Key) → cond has (name_on_drive (drive_of (slice_index text 0)) (drop 2 text)) (name_without_drive 0 text) ≡ Ok key → IsKey key
 either_way true text key e = on_drive_is_key (drive_of (slice_index text 0)) (drop 2 text) key (drive_below_four (slice_index text 0)) e
 either_way false text key e = named_is_key 0 (before_first is_dot text) (after_first is_dot text) key (omega arith) e
 

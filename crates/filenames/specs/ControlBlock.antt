@@ -14,5 +14,5 @@ abbrev pub with_place : List ℕ → ℕ → List ℕ
 with_place fcb place = slice_set (slice_set (slice_set fcb 12 (place / 128 % 32)) 14 (place / 4096)) 32 (place % 128)
 
 -- The random record number, by r0 and r1.
-abbrev pub random_of : List ℕ → ℕ
-random_of fcb = slice_index fcb 33 + 256 * slice_index fcb 34
+abbrev pub random_place_of : List ℕ → ℕ
+random_place_of fcb = slice_index fcb 33 + 256 * slice_index fcb 34

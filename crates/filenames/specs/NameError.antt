@@ -5,13 +5,13 @@ use Rattle.filenames.specs.declared.name.NameError.{NameError}
 use Rattle.filenames.specs.declared.name.NameError.TheVariants.{Empty, TooLong, BadByte, BadLetter}
 
 -- The number of a refusal.
-abbrev pub number_of : NameError → ℕ
-number_of Empty = 1
-number_of TooLong = 2
-number_of BadByte = 3
-number_of BadLetter = 4
+abbrev pub name_error_number : NameError → ℕ
+name_error_number Empty = 1
+name_error_number TooLong = 2
+name_error_number BadByte = 3
+name_error_number BadLetter = 4
 
 -- The result is the wanted key, or the refusal with the wanted number.
-abbrev pub NamedAs : Result Key ℕ → Result Key NameError → Type 0
-NamedAs wanted (Ok key) = wanted ≡ Ok key
-NamedAs wanted (Err e) = wanted ≡ Err (number_of e)
+abbrev pub IsParsedAs : Result Key ℕ → Result Key NameError → Type 0
+IsParsedAs wanted (Ok key) = wanted ≡ Ok key
+IsParsedAs wanted (Err e) = wanted ≡ Err (name_error_number e)

@@ -33,24 +33,24 @@ abbrev pub is_valid : List ℕ → Bool
 is_valid text = list_all is_allowed (map to_ascii_uppercase text)
 
 -- The key of a name and a type on a drive, or the number of the first refusal that applies.
-unfoldable pub named : ℕ → List ℕ → List ℕ → Result Key ℕ
-named drive name kind =
+unfoldable pub key_or_refusal : ℕ → List ℕ → List ℕ → Result Key ℕ
+key_or_refusal drive name kind =
     if length name == 0 then Err 1
     else if nat_lt 8 (length name) || nat_lt 3 (length kind) then Err 2
     else if is_valid name && is_valid kind then Ok (key_of drive name kind)
     else Err 3
 
 -- The key of a text on a drive, or a refusal: the name is before the first `.`, and the type is after it.
-abbrev pub plain_name : ℕ → List ℕ → Result Key ℕ
-plain_name drive text = named drive (before_first is_dot text) (after_first is_dot text)
+abbrev pub name_without_drive : ℕ → List ℕ → Result Key ℕ
+name_without_drive drive text = key_or_refusal drive (before_first is_dot text) (after_first is_dot text)
 
 -- The drive with a letter A to D, in either case.
 abbrev pub drive_of : ℕ → Option ℕ
 drive_of letter = if nat_le 65 (to_ascii_uppercase letter) && nat_le (to_ascii_uppercase letter) 68 then Some (to_ascii_uppercase letter - 65) else None
 
-abbrev pub on_drive : Option ℕ → List ℕ → Result Key ℕ
-on_drive None text = Err 4
-on_drive (Some drive) text = plain_name drive text
+abbrev pub name_on_drive : Option ℕ → List ℕ → Result Key ℕ
+name_on_drive None text = Err 4
+name_on_drive (Some drive) text = name_without_drive drive text
 
 -- Whether the second byte of a text is `:`.
 abbrev pub has_drive : List ℕ → Bool
@@ -58,7 +58,7 @@ has_drive text = nat_lt 1 (length text) && is_colon (slice_index text 1)
 
 -- The key of a text, or the number of its refusal. Without a letter and `:`, the drive is A.
 unfoldable pub name_of : List ℕ → Result Key ℕ
-name_of text = if has_drive text then on_drive (drive_of (slice_index text 0)) (drop 2 text) else plain_name 0 text
+name_of text = if has_drive text then name_on_drive (drive_of (slice_index text 0)) (drop 2 text) else name_without_drive 0 text
 
 -- ---- valid keys
 
@@ -92,12 +92,12 @@ type_text [] = []
 type_text (b ∷ bs) = 46 ∷ b ∷ bs
 
 -- A printed name: `NAME` or `NAME.TYP`, with a letter and `:` on drives B to D.
-unfoldable pub printed : Key → List ℕ
-printed key = drive_text (slice_index key 0) ++ before_first is_blank (name_field key) ++ type_text (before_first is_blank (type_field key))
+unfoldable pub display_text : Key → List ℕ
+display_text key = drive_text (slice_index key 0) ++ before_first is_blank (name_field key) ++ type_text (before_first is_blank (type_field key))
 
 -- A valid key of twelve bytes is the key of its printed text.
-abbrev pub SaidAsPrinted : Type 0
-SaidAsPrinted = (key : Key) → length key ≡ 12 → is_sayable key ≡ true → name_of (printed key) ≡ Ok key
+abbrev pub ParsesBack : Type 0
+ParsesBack = (key : Key) → length key ≡ 12 → is_sayable key ≡ true → name_of (display_text key) ≡ Ok key
 
 -- The key of a text that is a name has twelve bytes and is valid.
 abbrev pub NamesAreSayable : Type 0

@@ -1,7 +1,7 @@
 // File control blocks.
 
 ghost use Rattle.std.specs.Prelude.{◌≡◌, ◌≤◌, ◌<◌, length, slice_index};
-ghost use Rattle.filenames.specs.ControlBlock.{place_of, random_of, name_at, with_place};
+ghost use Rattle.filenames.specs.ControlBlock.{place_of, random_place_of, name_at, with_place};
 
 use std::marker::Model;
 
@@ -48,14 +48,14 @@ impl Fcb {
     pub fn key(&self) -> [u8; 11]
         ensures { result ≡ name_at self.now 1 }
     {
-        eleven(&self.bytes[1..12])
+        name_bytes(&self.bytes[1..12])
     }
 
     /// Returns the eleven bytes of the new name and type of a rename, bytes 17 to 27.
     pub fn new_key(&self) -> [u8; 11]
         ensures { result ≡ name_at self.now 17 }
     {
-        eleven(&self.bytes[17..28])
+        name_bytes(&self.bytes[17..28])
     }
 
     /// Returns the extent byte, ex.
@@ -85,7 +85,7 @@ impl Fcb {
 
     /// Returns the low two bytes of the random record number, r0 and r1, as a number below 65,536.
     pub fn random(&self) -> u32
-        ensures place { result ≡ random_of self.now }
+        ensures place { result ≡ random_place_of self.now }
         ensures within { result < 65536 }
     {
         self.bytes[33] as u32 + 256 * self.bytes[34] as u32
@@ -100,7 +100,7 @@ impl Fcb {
 }
 
 // Returns eleven bytes as an array.
-fn eleven(bytes: &[u8]) -> [u8; 11]
+fn name_bytes(bytes: &[u8]) -> [u8; 11]
     requires { length bytes.now ≡ 11 }
     ensures { result ≡ bytes.now }
 {

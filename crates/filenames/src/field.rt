@@ -6,7 +6,7 @@ ghost use Rattle.std.specs.Char.{to_ascii_uppercase};
 ghost use Rattle.filenames.specs.Names.{is_allowed, is_dot, is_blank, is_field};
 
 /// Returns the index of the first such byte in a text, or the text's length if there is none.
-pub fn first(text: &[u8], byte: u8) -> usize
+pub fn find_byte(text: &[u8], byte: u8) -> usize
     ensures place { result ≡ position_or_len (λ b. b == byte) text.now }
     ensures within { result ≤ length text.now }
 {
@@ -19,11 +19,11 @@ pub fn first(text: &[u8], byte: u8) -> usize
 }
 
 /// Returns the text before the first `.`, and the text after it.
-pub fn halves(text: &[u8]) -> (&[u8], &[u8])
+pub fn split_at_dot(text: &[u8]) -> (&[u8], &[u8])
     ensures name { result.0.now ≡ before_first is_dot text.now }
     ensures kind { result.1.now ≡ after_first is_dot text.now }
 {
-    let end = first(text, b'.');
+    let end = find_byte(text, b'.');
     if end < text.len() {
         return (&text[..end], &text[end + 1..]);
     }
@@ -54,7 +54,7 @@ pub fn all_allowed(text: &[u8]) -> bool
 }
 
 /// Copies a text to the start of a field, with its letters in upper case.
-pub fn fill(field: &mut [u8], text: &[u8])
+pub fn copy_uppercase(field: &mut [u8], text: &[u8])
     requires { length text.now ≤ length field.old }
     ensures { field.new ≡ map to_ascii_uppercase text.now ++ drop (length text.now) field.old }
 {
@@ -80,7 +80,7 @@ pub fn field_text(field: &[u8]) -> &str
     requires { is_field field.now ≡ true }
     ensures { result.now ≡ before_first is_blank field.now }
 {
-    let end = first(field, b' ');
+    let end = find_byte(field, b' ');
     str::from_utf8(&field[..end]).unwrap()
 }
 

@@ -11,5 +11,5 @@ pub mod name;
 
 pub use control_block::Fcb;
 pub use drive::Drive;
-pub use field::{fill, first, halves};
-pub use name::{Key, Name, NameError, Pieces, is_sayable, names_say_their_keys};
+pub use field::{copy_uppercase, find_byte, split_at_dot};
+pub use name::{Key, Name, NameError, Pieces, display_texts_parse_back, is_sayable};

@@ -4,11 +4,11 @@ ghost use Rattle.std.specs.Prelude.{◌≡◌, ◌<◌, ◌≤◌, ◌++◌, ◌
 ghost use Rattle.std.specs.Option.{option_map};
 ghost use Rattle.filenames.specs.Drives.{drive_number};
 ghost use Rattle.std.specs.List.{before_first};
-ghost use Rattle.filenames.specs.Names.{name_of, plain_name, named, key_of, drive_of, drive_text, is_sayable, printed, type_text, dot_text};
-ghost use Rattle.filenames.specs.Names.{is_blank, name_field, type_field, SaidAsPrinted, NamesAreSayable};
+ghost use Rattle.filenames.specs.Names.{name_of, name_without_drive, key_or_refusal, key_of, drive_of, drive_text, is_sayable, display_text, type_text, dot_text};
+ghost use Rattle.filenames.specs.Names.{is_blank, name_field, type_field, ParsesBack, NamesAreSayable};
 
 use crate::drive::Drive;
-use crate::field::{all_allowed, field_text, fill, halves, is_allowed, is_field};
+use crate::field::{all_allowed, copy_uppercase, field_text, is_allowed, is_field, split_at_dot};
 use std::fmt;
 use std::marker::Model;
 use thiserror::Error;
@@ -67,11 +67,11 @@ pub enum NameError {
 }
 
 impl NameError {
-    ghost use Rattle.filenames.specs.NameError.{number_of};
+    ghost use Rattle.filenames.specs.NameError.{name_error_number};
 
     /// Returns the number of the refusal, 1 to 4.
     pub fn number(self) -> u8
-        ensures { result ≡ number_of self }
+        ensures { result ≡ name_error_number self }
     {
         match self {
             NameError::Empty => 1,
@@ -83,7 +83,7 @@ impl NameError {
 }
 
 impl Name {
-    ghost use Rattle.filenames.specs.NameError.{NamedAs};
+    ghost use Rattle.filenames.specs.NameError.{IsParsedAs};
 
     /// Parses a name: 1 to 8 bytes, optionally followed by `.` and a type of up to 3 bytes. A letter A to D and `:` before it
     /// select the drive, which is A without them. Letters are converted to upper case.
@@ -93,7 +93,7 @@ impl Name {
     /// `BadLetter` if it applies, otherwise the first of `Empty`, `TooLong` and `BadByte` that applies.
     #[tactic(auto, unfolding(crate::specs::Names::name_of))]
     pub fn parse(text: &str) -> Result<Name, NameError>
-        ensures { NamedAs (name_of text.now) result }
+        ensures { IsParsedAs (name_of text.now) result }
     {
         let bytes = text.as_bytes();
         if bytes.len() > 1 && bytes[1] == b':' {
@@ -107,16 +107,16 @@ impl Name {
 
     // Parses a text without a drive letter as a name on a drive.
     fn on_drive(drive: Drive, text: &[u8]) -> Result<Name, NameError>
-        ensures { NamedAs (plain_name (drive_number drive) text.now) result }
+        ensures { IsParsedAs (name_without_drive (drive_number drive) text.now) result }
     {
-        let (name, kind) = halves(text);
-        Name::named(drive, name, kind)
+        let (name, kind) = split_at_dot(text);
+        Name::from_fields(drive, name, kind)
     }
 
     // Creates the name with this name and type on a drive.
-    #[tactic(auto, unfolding(crate::specs::Names::named))]
-    fn named(drive: Drive, name: &[u8], kind: &[u8]) -> Result<Name, NameError>
-        ensures { NamedAs (named (drive_number drive) name.now kind.now) result }
+    #[tactic(auto, unfolding(crate::specs::Names::key_or_refusal))]
+    fn from_fields(drive: Drive, name: &[u8], kind: &[u8]) -> Result<Name, NameError>
+        ensures { IsParsedAs (key_or_refusal (drive_number drive) name.now kind.now) result }
     {
         if name.is_empty() {
             return Err(NameError::Empty);
@@ -147,7 +147,7 @@ impl Name {
     }
 
     /// Creates a name from a valid key.
-    pub fn of_key(key: &Key) -> Name
+    pub fn from_valid_key(key: &Key) -> Name
         requires { is_sayable key.now ≡ true }
         ensures { result ≡ key.now }
     {
@@ -162,7 +162,7 @@ impl Name {
     }
 
     /// Returns the same name on another drive.
-    pub fn moved_to(&self, drive: Drive) -> Name
+    pub fn with_drive(&self, drive: Drive) -> Name
         ensures moved { result ≡ slice_set self.now 0 (drive_number drive) }
         ensures drive { slice_index result 0 ≡ drive_number drive }
     {
@@ -178,7 +178,7 @@ impl Name {
         ensures kind { result.kind.now ≡ before_first is_blank (type_field self.now) }
         ensures dot { result.dot.now ≡ dot_text result.kind.now }
         ensures printed { result.drive.now ++ result.name.now ++ result.dot.now ++ result.kind.now
-            ≡ printed self.now }
+            ≡ display_text self.now }
     {
         let kind = field_text(&self.key[9..12]);
         Pieces {
@@ -197,7 +197,7 @@ impl Name {
         ensures exactly { IsSome result ↔ (is_sayable key.now ≡ true) }
     {
         if is_sayable(key) {
-            return Some(Name::of_key(key));
+            return Some(Name::from_valid_key(key));
         }
         None
     }
@@ -205,9 +205,9 @@ impl Name {
 
 impl fmt::Display for Name {
     ghost use Rattle.std.specs.Prelude.{Some};
-    ghost use Rattle.filenames.specs.Names.{printed};
+    ghost use Rattle.filenames.specs.Names.{display_text};
 
-    ghost output = { λ name. Some (printed name) };
+    ghost output = { λ name. Some (display_text name) };
 
     fn fmt<W: fmt::Write>(&self, f: &mut fmt::Formatter<W>) -> fmt::Result {
         let Pieces {
@@ -278,14 +278,14 @@ fn key_of(drive: Drive, name: &[u8], kind: &[u8]) -> Key
 {
     let mut key = [b' '; 12];
     key[0] = drive.number();
-    fill(&mut key[1..9], name);
-    fill(&mut key[9..12], kind);
+    copy_uppercase(&mut key[1..9], name);
+    copy_uppercase(&mut key[9..12], kind);
     key
 }
 
 /// A valid key is the key of its printed text, and the key of every text that is a name is valid. So the valid keys are
 /// exactly the keys of names.
-pub fn names_say_their_keys()
-    ensures printed { SaidAsPrinted }
+pub fn display_texts_parse_back()
+    ensures printed { ParsesBack }
     ensures valid { NamesAreSayable }
 {}

@@ -2,7 +2,7 @@
 use Rattle.std.proofs.Common.{◌≡◌, ℕ, Bool, true, false, cond, ◌&&◌, ◌||◌, List, [], ◌∷◌, length, drop, nat_lt, slice_index, Option, Some, None, refl, ap, sym, ◌∙◌}
 use Rattle.std.specs.Prelude.{Result, Ok, Err, slice_set, ◌==◌}
 use Rattle.std.specs.List.{before_first, after_first, list_any}
-use Rattle.filenames.specs.Names.{Key, is_colon, is_dot, is_valid, key_of, named, on_drive, drive_of, plain_name, has_drive, name_of}
+use Rattle.filenames.specs.Names.{Key, is_colon, is_dot, is_valid, key_of, key_or_refusal, name_on_drive, drive_of, name_without_drive, has_drive, name_of}
 use Rattle.folders.specs.Entries.{key_in, ok_or_none}
 
 -- A name without a `:` names no drive.
@@ -33,13 +33,13 @@ by_tests false false true drive key other e = ap Ok (sym e)
 by_tests false false false drive key other e = refl
 
 -- A name on a drive is the same name on drive A, put on that drive.
-named_on : (drive : ℕ) (name kind : List ℕ) → named drive name kind ≡ put_on drive (named 0 name kind)
-unfolding named
+named_on : (drive : ℕ) (name kind : List ℕ) → key_or_refusal drive name kind ≡ put_on drive (key_or_refusal 0 name kind)
+unfolding key_or_refusal
 named_on drive name kind = by_tests (length name == 0) (nat_lt 8 (length name) || nat_lt 3 (length kind)) (is_valid name && is_valid kind) drive (key_of 0 name kind) (key_of drive name kind) refl
 
-plain_of : (file : List ℕ) → list_any is_colon file ≡ false → name_of file ≡ plain_name 0 file
+plain_of : (file : List ℕ) → list_any is_colon file ≡ false → name_of file ≡ name_without_drive 0 file
 unfolding name_of
-plain_of file h = ap (λ b. cond b (on_drive (drive_of (slice_index file 0)) (drop 2 file)) (plain_name 0 file)) (no_letter file h)
+plain_of file h = ap (λ b. cond b (name_on_drive (drive_of (slice_index file 0)) (drop 2 file)) (name_without_drive 0 file)) (no_letter file h)
 
 key_by : (file : List ℕ) (drive : ℕ) → list_any is_colon file ≡ false → key_in drive file ≡ ok_or_none (put_on drive (name_of file))
 key_by file drive h = rw (h, plain_of file h) (ap ok_or_none (named_on drive (before_first is_dot file) (after_first is_dot file)))
@@ -56,13 +56,13 @@ either_none : (b : Bool) (r : Option Key) → r ≡ None → cond b None r ≡ N
 either_none true r e = refl
 either_none false r e = e
 
-nameless : (drive : ℕ) (kind : List ℕ) → ok_or_none (named drive [] kind) ≡ None
-unfolding named
+nameless : (drive : ℕ) (kind : List ℕ) → ok_or_none (key_or_refusal drive [] kind) ≡ None
+unfolding key_or_refusal
 nameless drive kind = refl
 
 -- A name that begins with a `.` (46) belongs to no host file.
 pub dotted_key : (file : List ℕ) (drive : ℕ) → key_in drive (46 ∷ file) ≡ None
-dotted_key file drive = either_none (list_any is_colon (46 ∷ file)) (ok_or_none (plain_name drive (46 ∷ file))) (nameless drive (after_first is_dot (46 ∷ file)))
+dotted_key file drive = either_none (list_any is_colon (46 ∷ file)) (ok_or_none (name_without_drive drive (46 ∷ file))) (nameless drive (after_first is_dot (46 ∷ file)))
 
 drive_by : (a b c : Bool) (drive : ℕ) (rest key : List ℕ) → ok_or_none (cond a (Err 1) (cond b (Err 2) (cond c (Ok (drive ∷ rest)) (Err 3)))) ≡ Some key → slice_index key 0 ≡ drive
 drive_by true b c drive rest key e = cc
@@ -70,8 +70,8 @@ drive_by false true c drive rest key e = cc
 drive_by false false false drive rest key e = cc
 drive_by false false true drive rest key e = let same : drive ∷ rest ≡ key = cc in ap (λ k. slice_index k 0) (sym same)
 
-named_drive : (drive : ℕ) (name kind : List ℕ) (key : Key) → ok_or_none (named drive name kind) ≡ Some key → slice_index key 0 ≡ drive
-unfolding named
+named_drive : (drive : ℕ) (name kind : List ℕ) (key : Key) → ok_or_none (key_or_refusal drive name kind) ≡ Some key → slice_index key 0 ≡ drive
+unfolding key_or_refusal
 named_drive drive name kind key e = drive_by (length name == 0) (nat_lt 8 (length name) || nat_lt 3 (length kind)) (is_valid name && is_valid kind) drive _ key e
 
 some_named : (b : Bool) (r : Option Key) (key : Key) → cond b None r ≡ Some key → r ≡ Some key
@@ -80,4 +80,4 @@ some_named false r key e = e
 
 -- The key of a file in the folder of a drive is on that drive.
 pub drive_in : (drive : ℕ) (file : List ℕ) (key : Key) → key_in drive file ≡ Some key → slice_index key 0 ≡ drive
-drive_in drive file key e = named_drive drive _ _ key (some_named (list_any is_colon file) (ok_or_none (plain_name drive file)) key e)
+drive_in drive file key e = named_drive drive _ _ key (some_named (list_any is_colon file) (ok_or_none (name_without_drive drive file)) key e)

@@ -9,7 +9,7 @@ use Rattle.filenames.specs.Names.{Key}
 use Rattle.folders.specs.Entries.{file_text, needs_slash, path_text, temporary_text}
 use Rattle.folders.specs.FileSystem.{Path, FileBytes, Becomes, ChangesAt, PutsInPlace, moved, moved_to}
 use Rattle.hostfiles.specs.Hosts.{Host}
-use Rattle.hostfiles.specs.Files.{Own, told}
+use Rattle.hostfiles.specs.Files.{OwnFiles, file_contents}
 use Rattle.std.specs.List.{concat, slice_get}
 use Rattle.std.specs.Option.{option_map, option_and_then}
 use Rattle.std.specs.Io.KnownBytes.{Appends}
@@ -123,5 +123,5 @@ paths_differ folder name e = no_longer _ (ap length e) (longer (folder ++ cond (
   no_longer m p q = let same : m ≡ m + 5 = sym p ∙ q in absurd (omega (arith, same))
 
 -- Equal files have equal contents.
-pub same_told : {host host' : Host} {own own' : Own} {key key' : Key} → host ≡ host' → own ≡ own' → key ≡ key' → told host own key ≡ told host' own' key'
+pub same_told : {host host' : Host} {own own' : OwnFiles} {key key' : Key} → host ≡ host' → own ≡ own' → key ≡ key' → file_contents host own key ≡ file_contents host' own' key'
 same_told h o k = cc

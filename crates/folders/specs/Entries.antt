@@ -2,7 +2,7 @@
 use Rattle.std.specs.Prelude.{ℕ, ◌==◌, ◌-◌, ◌++◌, ◌∷◌, [], Bool, false, not, List, Option, Some, None, Result, Ok, Err, if◌then◌else◌, codes, slice_get, slice_set, length}
 use Rattle.std.specs.List.{list_any}
 use Rattle.std.specs.Option.{option_map_or}
-use Rattle.filenames.specs.Names.{Key, is_colon, plain_name, printed}
+use Rattle.filenames.specs.Names.{Key, is_colon, name_without_drive, display_text}
 
 abbrev pub ok_or_none : Result Key ℕ → Option Key
 ok_or_none (Ok key) = Some key
@@ -10,11 +10,11 @@ ok_or_none (Err n) = None
 
 -- The key of a file in the folder of a drive, if its name there is valid. A name with a `:` is ignored.
 abbrev pub key_in : ℕ → List ℕ → Option Key
-key_in drive file = if list_any is_colon file then None else ok_or_none (plain_name drive file)
+key_in drive file = if list_any is_colon file then None else ok_or_none (name_without_drive drive file)
 
 -- The name in the folder: as printed on drive A, so without a letter and `:`.
 abbrev pub file_text : Key → List ℕ
-file_text key = printed (slice_set key 0 0)
+file_text key = display_text (slice_set key 0 0)
 
 -- The name while the file is written.
 abbrev pub temporary_text : Key → List ℕ

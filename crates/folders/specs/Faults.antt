@@ -1,7 +1,7 @@
 -- Why folders are not read or a file is not written, and the message for it. (This project's own.)
 use Rattle.std.specs.Prelude.{◌≡◌, ℕ, List, ◌++◌, codes, string_bytes}
 use Rattle.std.specs.Fmt.{decimal}
-use Rattle.filenames.specs.Names.{printed}
+use Rattle.filenames.specs.Names.{display_text}
 use Rattle.folders.specs.declared.fault.Fault.{Fault}
 use Rattle.folders.specs.declared.fault.Fault.TheVariants.{CannotRead, CannotWrite, TwoFiles, Refused}
 use Rattle.folders.specs.declared.fault.Failure.{Failure}
@@ -11,8 +11,8 @@ use Rattle.folders.specs.declared.fault.Failure.TheVariants.{AtFault, OutOfMemor
 abbrev pub text_of : Fault → List ℕ
 text_of (CannotRead path) = codes "cannot read " ++ string_bytes path
 text_of (CannotWrite path) = codes "cannot write " ++ string_bytes path
-text_of (TwoFiles name) = codes "two files are " ++ printed name
-text_of (Refused name n) = codes "file " ++ printed name ++ codes " refused " ++ decimal n
+text_of (TwoFiles name) = codes "two files are " ++ display_text name
+text_of (Refused name n) = codes "file " ++ display_text name ++ codes " refused " ++ decimal n
 
 -- The failure is such an error, or a failed allocation.
 abbrev pub FailsBy : (Fault → Type 0) → Failure → Type 0

@@ -17,7 +17,7 @@ pub fn name_in_folder(drive: Drive, file: &str) -> Option<Name>
         return None;
     }
     match Name::parse(file) {
-        Ok(name) => Some(name.moved_to(drive)),
+        Ok(name) => Some(name.with_drive(drive)),
         Err(_) => None,
     }
 }
@@ -26,7 +26,7 @@ pub fn name_in_folder(drive: Drive, file: &str) -> Option<Name>
 pub fn file_name(alloc: Global, name: &Name) -> Result<String, AllocError>
     ensures { IfOk result (λ s. string_bytes s ≡ file_text name.now) }
 {
-    let plain = name.moved_to(Drive::A);
+    let plain = name.with_drive(Drive::A);
     format!(in alloc; "{plain}")
 }
 
@@ -36,7 +36,7 @@ pub fn temporary_name(alloc: Global, name: &Name) -> Result<String, AllocError>
     ensures text { IfOk result (λ s. string_bytes s ≡ temporary_text name.now) }
     ensures passed_over { IfOk result (λ s. (drive : ℕ) → key_in drive (string_bytes s) ≡ None) }
 {
-    let plain = name.moved_to(Drive::A);
+    let plain = name.with_drive(Drive::A);
     format!(in alloc; ".{plain}.new")
 }
 

@@ -114,7 +114,8 @@ fn read_one<S: FileSystem>(
     ensures read { OnOk result (IfSome (S.files system.old).bytes (λ stored.
         IsRead stored (path_text folder.now file.now) (finmap.get files.new name))) }
     ensures err { OnErr result (files.new ≡ files.old) }
-    ensures fault { IfErr result (FailsBy (FailsFile (S.files system.old).bytes (path_text folder.now file.now)
+    ensures fault { IfErr result
+        (FailsBy (FailsFile (S.files system.old).bytes (path_text folder.now file.now)
         files.old name)) }
     ensures unchanged { KeepsFiles reported_failures result (S.files system.old) (S.files system.new) }
 {
@@ -145,7 +146,13 @@ fn read_listed<S: FileSystem>(
 {
     let mut after: Option<Key> = None;
     while let Some((key, file)) = listing.files.next_key_value(after) {
-        read_one(system, folder, file.as_str(), Name::of_key(key), files)?;
+        read_one(
+            system,
+            folder,
+            file.as_str(),
+            Name::from_valid_key(key),
+            files,
+        )?;
         after = Some(*key);
     }
     Ok(())

@@ -13,7 +13,7 @@ use crate::entry::{file_name, path_in, temporary_name};
 use crate::fault::{Failure, unwritten};
 use crate::file_system::{Contents, FileSystem};
 use filenames::Name;
-use hostfiles::{HostFiles, Journal, SeenFile};
+use hostfiles::{FileView, HostFiles, Journal};
 use std::alloc::{AllocError, Global};
 use std::io;
 use std::io::Write;
@@ -48,12 +48,12 @@ pub fn write_records<W: Write>(
     ensures { OnOk result (Appends (W.contents writer.old) (W.contents writer.new)
         (bytes_of host.now journal.now.entries name.now)) }
 {
-    let file = SeenFile::find(host, journal, &name.key());
-    let Some(count) = file.told_count() else {
+    let file = FileView::find(host, journal, &name.key());
+    let Some(count) = file.contents_count() else {
         return Ok(());
     };
     for place in 0..count {
-        if let Some(record) = file.told_record(place) {
+        if let Some(record) = file.contents_record(place) {
             writer.write_all(record.as_slice())?;
         }
     }

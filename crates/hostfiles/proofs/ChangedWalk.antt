@@ -11,34 +11,34 @@ use Rattle.keymaps.proofs.Left.{rises}
 use Rattle.keymaps.proofs.Rising.{here, begins, ends}
 use Rattle.filenames.specs.Names.{is_sayable}
 use Rattle.hostfiles.specs.Hosts.{Key, Host}
-use Rattle.hostfiles.specs.Files.{Own}
+use Rattle.hostfiles.specs.Files.{OwnFiles}
 use Rattle.hostfiles.specs.Changed.{is_changed_name, changed_names}
 use Rattle.hostfiles.proofs.Differences.{untouched_file}
 
 -- All keys above the bound `low` are above the bound `after`, and no changed name is between the two.
-pub record Passed (host : Host) (own : Own) (after low : Option Key) : Type 0 where
+pub record Passed (host : Host) (own : OwnFiles) (after low : Option Key) : Type 0 where
   pub up : (x : Key) → is_above low x ≡ true → is_above after x ≡ true
   pub none : (x : Key) → is_above after x ≡ true → is_above low x ≡ false → is_changed_name host own x ≡ false
 
 -- Nothing was done to any file between a bound and a key.
-abbrev pub NoneBetween : Own → Option Key → Key → Type 0
+abbrev pub NoneBetween : OwnFiles → Option Key → Key → Type 0
 NoneBetween own low k = (x : Key) → is_above low x ≡ true → slice_cmp nat_cmp x k ≡ Less → get own x ≡ None
 
-unchanged : (host : Host) (own : Own) (x : Key) → get own x ≡ None → is_changed_name host own x ≡ false
+unchanged : (host : Host) (own : OwnFiles) (x : Key) → get own x ≡ None → is_changed_name host own x ≡ false
 unchanged host own x h = ap (λ b. b && is_sayable x) (untouched_file host own x h)
 
-pub passed_none : (host : Host) (own : Own) (after : Option Key) → Passed host own after after
+pub passed_none : (host : Host) (own : OwnFiles) (after : Option Key) → Passed host own after after
 passed_none host own after = record { up = λ x h. h; none = λ x h n. cc }
 
 -- No changed name is below the least key above the bound.
-pub below_least : (host : Host) (own : Own) (after low : Option Key) (k : Key) → Passed host own after low → NoneBetween own low k
+pub below_least : (host : Host) (own : OwnFiles) (after low : Option Key) (k : Key) → Passed host own after low → NoneBetween own low k
     → (x : Key) → is_above after x ≡ true → slice_cmp nat_cmp x k ≡ Less → is_changed_name host own x ≡ false
 below_least host own after low k p none x a l = elim (is_above low x) as (λ b. is_above low x ≡ b → is_changed_name host own x ≡ false) [
   | true ↦ λ b. unchanged host own x (none x b l)
   | false ↦ λ b. p.none x a b
 ] refl
 
-pub passed_more : (host : Host) (own : Own) (after low : Option Key) (k : Key) → Passed host own after low → is_above low k ≡ true → NoneBetween own low k → is_changed_name host own k ≡ false → Passed host own after (Some k)
+pub passed_more : (host : Host) (own : OwnFiles) (after low : Option Key) (k : Key) → Passed host own after low → is_above low k ≡ true → NoneBetween own low k → is_changed_name host own k ≡ false → Passed host own after (Some k)
 passed_more host own after low k p up none here = record {
   up = λ x h. p.up x (elim (slice_cmp nat_cmp k x) as (λ r. slice_cmp nat_cmp k x ≡ r → is_lt r ≡ true → is_above low x ≡ true) [
     | Less ↦ λ r y. rises low k x up r
@@ -53,7 +53,7 @@ passed_more host own after low k p up none here = record {
 }
 
 -- Nothing was done to any file above the bound.
-pub changed_end : (host : Host) (own : Own) (after low : Option Key) → Passed host own after low → ((x : Key) → is_above low x ≡ true → get own x ≡ None)
+pub changed_end : (host : Host) (own : OwnFiles) (after low : Option Key) → Passed host own after low → ((x : Key) → is_above low x ≡ true → get own x ≡ None)
     → (x : Key) → is_above after x ≡ true → is_changed_name host own x ≡ false
 changed_end host own after low p none x a = elim (is_above low x) as (λ b. is_above low x ≡ b → is_changed_name host own x ≡ false) [
   | true ↦ λ b. unchanged host own x (none x b)
@@ -62,16 +62,16 @@ changed_end host own after low p none x a = elim (is_above low x) as (λ b. is_a
 
 -- ---- all changed names
 
-absent : (host : Host) (own : Own) (key : Key) → is_changed_name host own key ≡ true → is_some (get own key) ≡ true
+absent : (host : Host) (own : OwnFiles) (key : Key) → is_changed_name host own key ≡ true → is_some (get own key) ≡ true
 absent host own key h = elim (get own key) as (λ e. get own key ≡ e → is_some e ≡ true) [
   | None ↦ λ e. let not : is_changed_name host own key ≡ false = unchanged host own key e in cc
   | Some x ↦ λ e. refl
 ] refl
 
-get_changed : (host : Host) (own : Own) (key : Key) → get (changed_names host own) key ≡ cond (is_changed_name host own key) (get own key) None
+get_changed : (host : Host) (own : OwnFiles) (key : Key) → get (changed_names host own) key ≡ cond (is_changed_name host own key) (get own key) None
 get_changed host own key = get-retain_keys own (is_changed_name host own) key (λ x h. ap (is_changed_name host own) (sym (same_key key x h)))
 
-pub all_changed : (host : Host) (own : Own) (key : Key) → is_some (get (changed_names host own) key) ≡ is_changed_name host own key
+pub all_changed : (host : Host) (own : OwnFiles) (key : Key) → is_some (get (changed_names host own) key) ≡ is_changed_name host own key
 all_changed host own key = elim (is_changed_name host own key) as (λ b. is_changed_name host own key ≡ b → is_some (get (changed_names host own) key) ≡ b) [
   | true ↦ λ b. ap is_some (get_changed host own key ∙ ap (λ b. cond b (get own key) None) b) ∙ absent host own key b
   | false ↦ λ b. ap is_some (get_changed host own key ∙ ap (λ b. cond b (get own key) None) b)
@@ -102,16 +102,16 @@ keys_above_least m after k up there none =
 pub keys_above_end : {X : Type 0} (m : FinMap (slice_cmp nat_cmp) X) (after : Option Key) → ((x : Key) → is_above after x ≡ true → get m x ≡ None) → keys_above m after ≡ []
 keys_above_end m after none = ap (λ es. map (λ e. e.0) es) (ends nat_list_cmp_total same_key (is_above after) (entries m) (λ x a. sym (get-entries m x) ∙ none x a))
 
-lacks : (host : Host) (own : Own) (key : Key) → is_changed_name host own key ≡ false → get (changed_names host own) key ≡ None
+lacks : (host : Host) (own : OwnFiles) (key : Key) → is_changed_name host own key ≡ false → get (changed_names host own) key ≡ None
 lacks host own key h = get_changed host own key ∙ ap (λ b. cond b (get own key) None) h
 
 -- The changed keys above a bound begin at the least changed name above it.
-pub changed_next : (host : Host) (own : Own) (after : Option Key) (k : Key) → is_above after k ≡ true → is_changed_name host own k ≡ true
+pub changed_next : (host : Host) (own : OwnFiles) (after : Option Key) (k : Key) → is_above after k ≡ true → is_changed_name host own k ≡ true
     → ((x : Key) → is_above after x ≡ true → slice_cmp nat_cmp x k ≡ Less → is_changed_name host own x ≡ false)
     → keys_above (changed_names host own) after ≡ k ∷ keys_above (changed_names host own) (Some k)
 changed_next host own after k up here none =
     keys_above_least (changed_names host own) after k up (all_changed host own k ∙ here) (λ x a l. lacks host own x (none x a l))
 
-pub changed_none : (host : Host) (own : Own) (after : Option Key) → ((x : Key) → is_above after x ≡ true → is_changed_name host own x ≡ false)
+pub changed_none : (host : Host) (own : OwnFiles) (after : Option Key) → ((x : Key) → is_above after x ≡ true → is_changed_name host own x ≡ false)
     → keys_above (changed_names host own) after ≡ []
 changed_none host own after none = keys_above_end (changed_names host own) after (λ x a. lacks host own x (none x a))

@@ -5,9 +5,9 @@ use Rattle.std.proofs.lemmas.List.{get_or-take, get_or-drop, get_or_past, get_or
 use Rattle.std.proofs.lemmas.List.FromFn.{get_or-map-range_with_len, length-map-range_with_len}
 use Rattle.std.specs.Prelude.{◌==◌}
 use Rattle.std.specs.List.{range_with_len}
-use Rattle.directory.specs.Entries.{Shape, count_of, count_at, count_in, count_by}
+use Rattle.directory.specs.Entries.{Shape, count_of, count_at, count_in, count_if_any}
 use Rattle.hostfiles.specs.Hosts.{Key, Host}
-use Rattle.hostfiles.specs.Files.{Own, has, length_at, place_of, entry_at, file_of, shape_at}
+use Rattle.hostfiles.specs.Files.{OwnFiles, has, length_at, record_of, entry_at, file_of, shape_at}
 use Rattle.hostfiles.specs.File.{shape_of}
 
 -- Without a record the count is 0.
@@ -88,11 +88,11 @@ no_entry [] e one h = let other : (e == 0) ≡ false = search rules in ap (λ b.
 no_entry (b ∷ bs) e one h = ap (λ n. cond (nat_lt 0 n) (Some n) None) h
 
 -- An extent past the end of a file has no entry.
-pub past_entries : (host : Host) (own : Own) (key : Key) (e : ℕ) → 1 ≤ e → length_at host own key ≤ 128 * e → count_by (shape_at host own key) e ≡ None
+pub past_entries : (host : Host) (own : OwnFiles) (key : Key) (e : ℕ) → 1 ≤ e → length_at host own key ≤ 128 * e → count_if_any (shape_at host own key) e ≡ None
 past_entries host own key e one past =
     let s : Shape = shape_of (file_of host key (entry_at own key)) in
-    let none = none_past (place_of host key (entry_at own key)) (length_at host own key) e 0 (λ k l u. omega arith) in
-    elim (has host own key) as (λ b. count_by (option_map shape_of (cond b (Some (file_of host key (entry_at own key))) None)) e ≡ None) [
+    let none = none_past (record_of host key (entry_at own key)) (length_at host own key) e 0 (λ k l u. omega arith) in
+    elim (has host own key) as (λ b. count_if_any (option_map shape_of (cond b (Some (file_of host key (entry_at own key))) None)) e ≡ None) [
       | true ↦ no_entry s e one (count_empty s e none)
       | false ↦ refl
     ]

@@ -13,7 +13,7 @@ use Rattle.keymaps.proofs.Rising.{here, begins, ends}
 use Rattle.keymaps.proofs.Left.{rises}
 use Rattle.directory.specs.Entries.{Shape, is_match}
 use Rattle.hostfiles.specs.Hosts.{Key, Host}
-use Rattle.hostfiles.specs.Files.{Own, has, nothing, shapes, file_of, entry_at, deleted}
+use Rattle.hostfiles.specs.Files.{OwnFiles, has, gone_entry, shapes, file_of, entry_at, after_delete}
 use Rattle.hostfiles.specs.File.{shape_of}
 use Rattle.hostfiles.specs.declared.journal.Entry.{Entry}
 use Rattle.hostfiles.proofs.FileLemmas.{get-shapes, no_file, nothing_listed}
@@ -22,19 +22,19 @@ abbrev pub is_passed : Option Key → Key → Bool
 is_passed after q = not (is_above after q)
 
 -- All matching files with keys up to `after` are deleted, and nothing else is changed.
-abbrev pub DeletedTo : Host → Own → Key → Option Key → Own → Type 0
-DeletedTo host own pattern after left = (q : Key) → get left q ≡ cond (is_match pattern q && has host own q && is_passed after q) (Some nothing) (get own q)
+abbrev pub DeletedTo : Host → OwnFiles → Key → Option Key → OwnFiles → Type 0
+DeletedTo host own pattern after left = (q : Key) → get left q ≡ cond (is_match pattern q && has host own q && is_passed after q) (Some gone_entry) (get own q)
 
 abbrev pub matched : Key → List (Key × Shape) → ℕ
 matched pattern es = length (filter (λ e. is_match pattern e.0) es)
 
 -- They are counted, and the others are still to be counted.
-abbrev pub CountedTo : Host → Own → Key → Option Key → ℕ → Type 0
+abbrev pub CountedTo : Host → OwnFiles → Key → Option Key → ℕ → Type 0
 CountedTo host own pattern after count =
     count + matched pattern (filter (λ e. is_above after e.0) (entries (shapes host own))) ≡ matched pattern (entries (shapes host own))
 
 -- There is no file with a key that neither map has.
-pub not_there : (host : Host) (own : Own) (q : Key) → (get host q ≡ None) × (get own q ≡ None) → has host own q ≡ false
+pub not_there : (host : Host) (own : OwnFiles) (q : Key) → (get host q ≡ None) × (get own q ≡ None) → has host own q ≡ false
 not_there host own q h = absent (has host own q) (no_file host own q h.0 h.1) where
   absent : (b : Bool) → cond b (Some (file_of host q (entry_at own q))) None ≡ None → b ≡ false
   absent true h = cc
@@ -45,25 +45,25 @@ before_start true true x r = refl
 before_start true false x r = refl
 before_start false b x r = refl
 
-pub deleted_start : (host : Host) (own : Own) (pattern : Key) → DeletedTo host own pattern None own
-deleted_start host own pattern q = sym (before_start (is_match pattern q) (has host own q) (Some nothing) (get own q))
+pub deleted_start : (host : Host) (own : OwnFiles) (pattern : Key) → DeletedTo host own pattern None own
+deleted_start host own pattern q = sym (before_start (is_match pattern q) (has host own q) (Some gone_entry) (get own q))
 
 all_pass : (es : List (Key × Shape)) → filter (λ e. true) es ≡ es
 all_pass [] = refl
 all_pass (e ∷ es) = ap (λ fs. e ∷ fs) (all_pass es)
 
-pub counted_start : (host : Host) (own : Own) (pattern : Key) → CountedTo host own pattern None 0
+pub counted_start : (host : Host) (own : OwnFiles) (pattern : Key) → CountedTo host own pattern None 0
 counted_start host own pattern =
     let zero_on : 0 + matched pattern (filter (λ e. true) (entries (shapes host own))) ≡ matched pattern (filter (λ e. true) (entries (shapes host own))) = omega arith in
     zero_on ∙ ap (matched pattern) (all_pass (entries (shapes host own)))
 
 -- ---- the next key
 
-abbrev pub NoneBetween : Host → Own → Option Key → Key → Type 0
+abbrev pub NoneBetween : Host → OwnFiles → Option Key → Key → Type 0
 NoneBetween host own after k = (x : Key) → is_above after x ≡ true → slice_cmp nat_cmp x k ≡ Less → (get host x ≡ None) × (get own x ≡ None)
 
 -- A key above k was above the bound before; a key below k that was above that bound has no file.
-passed_on : (host : Host) (own : Own) (after : Option Key) (k q : Key) → is_above after k ≡ true → NoneBetween host own after k → slice_cmp nat_cmp k q ≢ Equal
+passed_on : (host : Host) (own : OwnFiles) (after : Option Key) (k q : Key) → is_above after k ≡ true → NoneBetween host own after k → slice_cmp nat_cmp k q ≢ Equal
     → (has host own q && is_passed (Some k) q) ≡ (has host own q && is_passed after q)
 passed_on host own after k q up none apart =
     elim (slice_cmp nat_cmp k q) as (λ r. slice_cmp nat_cmp k q ≡ r → (has host own q && not (is_lt r)) ≡ (has host own q && is_passed after q)) [
@@ -81,7 +81,7 @@ regrouped : (a b c : Bool) → (a && b && c) ≡ (a && (b && c))
 regrouped true b c = refl
 regrouped false b c = refl
 
-all_passed_on : (host : Host) (own : Own) (pattern : Key) (after : Option Key) (k q : Key) → is_above after k ≡ true → NoneBetween host own after k → slice_cmp nat_cmp k q ≢ Equal
+all_passed_on : (host : Host) (own : OwnFiles) (pattern : Key) (after : Option Key) (k q : Key) → is_above after k ≡ true → NoneBetween host own after k → slice_cmp nat_cmp k q ≢ Equal
     → (is_match pattern q && has host own q && is_passed (Some k) q) ≡ (is_match pattern q && has host own q && is_passed after q)
 all_passed_on host own pattern after k q up none apart =
     regrouped (is_match pattern q) (has host own q) (is_passed (Some k) q) ∙ ap (λ b. is_match pattern q && b) (passed_on host own after k q up none apart)
@@ -97,15 +97,15 @@ apart_of k q h e =
     cc
 
 -- If the key has no file that matches, nothing changes.
-pub deleted_past : (host : Host) (own : Own) (pattern : Key) (after : Option Key) (k : Key) (left : Own) → is_above after k ≡ true → NoneBetween host own after k → (is_match pattern k && has host own k) ≡ false
+pub deleted_past : (host : Host) (own : OwnFiles) (pattern : Key) (after : Option Key) (k : Key) (left : OwnFiles) → is_above after k ≡ true → NoneBetween host own after k → (is_match pattern k && has host own k) ≡ false
     → DeletedTo host own pattern after left → DeletedTo host own pattern (Some k) left
 deleted_past host own pattern after k left up none unmatched h q =
-    elim (eq_by_cmp (slice_cmp nat_cmp) q k) as (λ b. eq_by_cmp (slice_cmp nat_cmp) q k ≡ b → get left q ≡ cond (is_match pattern q && has host own q && is_passed (Some k) q) (Some nothing) (get own q)) [
+    elim (eq_by_cmp (slice_cmp nat_cmp) q k) as (λ b. eq_by_cmp (slice_cmp nat_cmp) q k ≡ b → get left q ≡ cond (is_match pattern q && has host own q && is_passed (Some k) q) (Some gone_entry) (get own q)) [
       | true ↦ λ b.
           let same : k ≡ q = sym (key_of same_key q k b) in
           let none_here : (is_match pattern q && has host own q) ≡ false = ap (λ x. is_match pattern x && has host own x) (sym same) ∙ unmatched in
-          h q ∙ ap (λ m. cond (m && is_passed after q) (Some nothing) (get own q)) none_here ∙ sym (ap (λ m. cond (m && is_passed (Some k) q) (Some nothing) (get own q)) none_here)
-      | false ↦ λ b. h q ∙ ap (λ m. cond m (Some nothing) (get own q)) (sym (all_passed_on host own pattern after k q up none (apart_of k q b)))
+          h q ∙ ap (λ m. cond (m && is_passed after q) (Some gone_entry) (get own q)) none_here ∙ sym (ap (λ m. cond (m && is_passed (Some k) q) (Some gone_entry) (get own q)) none_here)
+      | false ↦ λ b. h q ∙ ap (λ m. cond m (Some gone_entry) (get own q)) (sym (all_passed_on host own pattern after k q up none (apart_of k q b)))
     ] refl
 
 not_above_itself : (k : Key) → is_passed (Some k) k ≡ true
@@ -117,22 +117,22 @@ not_above_itself k =
     ] refl
 
 -- If it has one, the file is deleted.
-pub deleted_here : (host : Host) (own : Own) (pattern : Key) (after : Option Key) (k : Key) (left m : Own) → is_above after k ≡ true → NoneBetween host own after k → (is_match pattern k && has host own k) ≡ true
-    → DeletedTo host own pattern after left → m ≡ deleted left k → DeletedTo host own pattern (Some k) m
+pub deleted_here : (host : Host) (own : OwnFiles) (pattern : Key) (after : Option Key) (k : Key) (left m : OwnFiles) → is_above after k ≡ true → NoneBetween host own after k → (is_match pattern k && has host own k) ≡ true
+    → DeletedTo host own pattern after left → m ≡ after_delete left k → DeletedTo host own pattern (Some k) m
 deleted_here host own pattern after k left m up none matched h e q =
-    ap (λ x. get x q) e ∙ get-insert nat_list_cmp_total left k nothing q
-    ∙ elim (eq_by_cmp (slice_cmp nat_cmp) q k) as (λ b. eq_by_cmp (slice_cmp nat_cmp) q k ≡ b → cond b (Some nothing) (get left q) ≡ cond (is_match pattern q && has host own q && is_passed (Some k) q) (Some nothing) (get own q)) [
+    ap (λ x. get x q) e ∙ get-insert nat_list_cmp_total left k gone_entry q
+    ∙ elim (eq_by_cmp (slice_cmp nat_cmp) q k) as (λ b. eq_by_cmp (slice_cmp nat_cmp) q k ≡ b → cond b (Some gone_entry) (get left q) ≡ cond (is_match pattern q && has host own q && is_passed (Some k) q) (Some gone_entry) (get own q)) [
       | true ↦ λ b.
           let same : k ≡ q = sym (key_of same_key q k b) in
           let all : (is_match pattern q && has host own q && is_passed (Some k) q) ≡ true =
           ap (λ x. is_match pattern x && has host own x && is_passed (Some k) x) (sym same) ∙ ap (λ m. m && is_passed (Some k) k) matched ∙ not_above_itself k in
-          sym (ap (λ m. cond m (Some nothing) (get own q)) all)
-      | false ↦ λ b. h q ∙ ap (λ m. cond m (Some nothing) (get own q)) (sym (all_passed_on host own pattern after k q up none (apart_of k q b)))
+          sym (ap (λ m. cond m (Some gone_entry) (get own q)) all)
+      | false ↦ λ b. h q ∙ ap (λ m. cond m (Some gone_entry) (get own q)) (sym (all_passed_on host own pattern after k q up none (apart_of k q b)))
     ] refl
 
 -- ---- counting
 
-pub there : (host : Host) (own : Own) (k : Key) → is_some (get (shapes host own) k) ≡ has host own k
+pub there : (host : Host) (own : OwnFiles) (k : Key) → is_some (get (shapes host own) k) ≡ has host own k
 there host own k = ap is_some (get-shapes host own k) ∙ told (has host own k) where
   told : (b : Bool) → is_some (option_map shape_of (cond b (Some (file_of host k (entry_at own k))) None)) ≡ b
   told true = refl
@@ -159,14 +159,14 @@ matched_here pattern k (Some s) es =
       yes true = refl
       yes false = refl
 
-begin_here : (host : Host) (own : Own) (after : Option Key) (k : Key) → is_above after k ≡ true → NoneBetween host own after k
+begin_here : (host : Host) (own : OwnFiles) (after : Option Key) (k : Key) → is_above after k ≡ true → NoneBetween host own after k
     → filter (λ e. is_above after e.0) (entries (shapes host own)) ≡ here k (get (shapes host own) k) ++ filter (λ e. is_above (Some k) e.0) (entries (shapes host own))
 begin_here host own after k up none =
     begins nat_list_cmp_total same_key (is_above after) (rises after) k up (entries (shapes host own)) (entries_sorted (shapes host own))
     (λ x a l. sym (get-entries (shapes host own) x) ∙ nothing_listed host own x (none x a l))
     ∙ ap (λ v. here k v ++ filter (λ e. is_above (Some k) e.0) (entries (shapes host own))) (sym (get-entries (shapes host own) k))
 
-pub counted_here : (host : Host) (own : Own) (pattern : Key) (after : Option Key) (k : Key) (count : ℕ) (b : Bool) → is_above after k ≡ true → NoneBetween host own after k → (is_match pattern k && has host own k) ≡ b
+pub counted_here : (host : Host) (own : OwnFiles) (pattern : Key) (after : Option Key) (k : Key) (count : ℕ) (b : Bool) → is_above after k ≡ true → NoneBetween host own after k → (is_match pattern k && has host own k) ≡ b
     → CountedTo host own pattern after count → CountedTo host own pattern (Some k) (count + cond b 1 0)
 counted_here host own pattern after k count b up none e h =
     let rest = matched pattern (filter (λ e. is_above (Some k) e.0) (entries (shapes host own))) in
@@ -174,7 +174,7 @@ counted_here host own pattern after k count b up none e h =
     let grouped : count + cond b 1 0 + rest ≡ count + (cond b 1 0 + rest) = omega arith in
     grouped ∙ ap (λ n. count + n) (sym split) ∙ h
 
-pub counted_end : (host : Host) (own : Own) (pattern : Key) (after : Option Key) (count : ℕ) → ((x : Key) → is_above after x ≡ true → (get host x ≡ None) × (get own x ≡ None))
+pub counted_end : (host : Host) (own : OwnFiles) (pattern : Key) (after : Option Key) (count : ℕ) → ((x : Key) → is_above after x ≡ true → (get host x ≡ None) × (get own x ≡ None))
     → CountedTo host own pattern after count → count ≡ matched pattern (entries (shapes host own))
 counted_end host own pattern after count none h =
     let left = ap (matched pattern) (ends nat_list_cmp_total same_key (is_above after) (entries (shapes host own)) (λ x a. sym (get-entries (shapes host own) x) ∙ nothing_listed host own x (none x a))) in

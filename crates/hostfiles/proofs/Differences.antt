@@ -11,8 +11,8 @@ use Rattle.std.proofs.lemmas.Option.{unwrap_or-slice_get}
 use Rattle.std.specs.Ordering.{nat_cmp}
 use Rattle.records.specs.Records.{zeros}
 use Rattle.hostfiles.specs.Hosts.{Key, Record, Host}
-use Rattle.hostfiles.specs.Files.{Own, has, untouched, entry_at, is_there, place_of, place_by, is_below, length_of, length_at, file_of, records_of, stands_on, told}
-use Rattle.hostfiles.specs.File.{told_records}
+use Rattle.hostfiles.specs.Files.{OwnFiles, has, untouched_entry, entry_at, is_there, record_of, record_by, is_host_part, length_of, length_at, file_of, host_records, base_key, file_contents}
+use Rattle.hostfiles.specs.File.{contents_of}
 use Rattle.hostfiles.specs.declared.journal.Entry.{Entry}
 use Rattle.hostfiles.specs.declared.journal.Base.TheVariants.{Same}
 use Rattle.hostfiles.specs.Changed.{is_changed, ChangedIsOther}
@@ -23,24 +23,24 @@ records_decide = pointwise_decides bytes_decides
 
 -- ---- the contents of a file
 
-pub length_told : (host : Host) (key : Key) (e : Entry) → length (told_records (file_of host key e)) ≡ length_of host key e
-length_told host key e = length-map (file_of host key e) (λ place. unwrap_or place zeros) ∙ length-map-range_with_len (place_of host key e) 0 (length_of host key e)
+pub length_told : (host : Host) (key : Key) (e : Entry) → length (contents_of (file_of host key e)) ≡ length_of host key e
+length_told host key e = length-map (file_of host key e) (λ place. unwrap_or place zeros) ∙ length-map-range_with_len (record_of host key e) 0 (length_of host key e)
 
 pub record_told : (host : Host) (key : Key) (e : Entry) (k : ℕ) (d : Record) → k < length_of host key e
-    → get_or (told_records (file_of host key e)) k d ≡ unwrap_or (place_of host key e k) zeros
+    → get_or (contents_of (file_of host key e)) k d ≡ unwrap_or (record_of host key e k) zeros
 record_told host key e k d h =
-    let count = length-map-range_with_len (place_of host key e) 0 (length_of host key e) in
+    let count = length-map-range_with_len (record_of host key e) 0 (length_of host key e) in
     let at : 0 + k ≡ k = omega arith in
     get_or-map (λ place. unwrap_or place zeros) (file_of host key e) k None d (omega arith)
-    ∙ ap (λ place. unwrap_or place zeros) (get_or-map-range_with_len (place_of host key e) 0 (length_of host key e) k k None h at)
+    ∙ ap (λ place. unwrap_or place zeros) (get_or-map-range_with_len (record_of host key e) 0 (length_of host key e) k k None h at)
 
 -- ---- whether it is changed
 
-pub changed_by : (host : Host) (own : Own) (key : Key) (b : Bool) (f : Option (List Record)) → has host own key ≡ b → get host key ≡ f
-    → is_changed host own key ≡ not (is_same (option_map told_records (cond b (Some (file_of host key (entry_at own key))) None)) f)
+pub changed_by : (host : Host) (own : OwnFiles) (key : Key) (b : Bool) (f : Option (List Record)) → has host own key ≡ b → get host key ≡ f
+    → is_changed host own key ≡ not (is_same (option_map contents_of (cond b (Some (file_of host key (entry_at own key))) None)) f)
 changed_by host own key b f there here =
-    ap (λ c. not (is_same (option_map told_records (cond c (Some (file_of host key (entry_at own key))) None)) (get host key))) there
-    ∙ ap (λ g. not (is_same (option_map told_records (cond b (Some (file_of host key (entry_at own key))) None)) g)) here
+    ap (λ c. not (is_same (option_map contents_of (cond c (Some (file_of host key (entry_at own key))) None)) (get host key))) there
+    ∙ ap (λ g. not (is_same (option_map contents_of (cond b (Some (file_of host key (entry_at own key))) None)) g)) here
 
 not_true : (b : Bool) → b ≡ true → not b ≡ false
 not_true b h = ap not h
@@ -66,25 +66,25 @@ other_file f g h = not_false (pointwise bytes_eq f g) (λ e. h ((records_decide 
 
 -- If each record is the host file's, so are the contents.
 pub same_told : (host : Host) (key : Key) (e : Entry) (f : List Record) → length_of host key e ≡ length f
-    → ((k : ℕ) → k < length f → unwrap_or (place_of host key e k) zeros ≡ get_or f k zeros) → told_records (file_of host key e) ≡ f
+    → ((k : ℕ) → k < length f → unwrap_or (record_of host key e k) zeros ≡ get_or f k zeros) → contents_of (file_of host key e) ≡ f
 same_told host key e f long each =
-    let told = length_told host key e in
-    same_lists (told_records (file_of host key e)) f (told ∙ long)
+    let file_contents = length_told host key e in
+    same_lists (contents_of (file_of host key e)) f (file_contents ∙ long)
     (λ k d h. let below : k < length f = omega arith in let within : k < length_of host key e = omega arith in
     record_told host key e k d within ∙ each k below ∙ get_or_default f k zeros d below)
 
 pub same_records : (host : Host) (key : Key) (e : Entry) (f : List Record) → length_of host key e ≡ length f
-    → ((k : ℕ) → k < length f → unwrap_or (place_of host key e k) zeros ≡ get_or f k zeros) → false ≡ not (pointwise bytes_eq (told_records (file_of host key e)) f)
-same_records host key e f long each = sym (same_file (told_records (file_of host key e)) f (same_told host key e f long each))
+    → ((k : ℕ) → k < length f → unwrap_or (record_of host key e k) zeros ≡ get_or f k zeros) → false ≡ not (pointwise bytes_eq (contents_of (file_of host key e)) f)
+same_records host key e f long each = sym (same_file (contents_of (file_of host key e)) f (same_told host key e f long each))
 
 -- If one record is not the host file's, the contents are not.
 pub other_record : (host : Host) (key : Key) (e : Entry) (f : List Record) (k : ℕ) → length_of host key e ≡ length f → k < length f
-    → not (bytes_eq (unwrap_or (place_of host key e k) zeros) (get_or f k zeros)) ≡ true → true ≡ not (pointwise bytes_eq (told_records (file_of host key e)) f)
-other_record host key e f k long h differs = sym (other_file (told_records (file_of host key e)) f (λ same.
+    → not (bytes_eq (unwrap_or (record_of host key e k) zeros) (get_or f k zeros)) ≡ true → true ≡ not (pointwise bytes_eq (contents_of (file_of host key e)) f)
+other_record host key e f k long h differs = sym (other_file (contents_of (file_of host key e)) f (λ same.
     let within : k < length_of host key e = omega arith in
-    let one : unwrap_or (place_of host key e k) zeros ≡ get_or f k zeros = sym (record_told host key e k zeros within) ∙ ap (λ g. get_or g k zeros) same in
-    let told : bytes_eq (unwrap_or (place_of host key e k) zeros) (get_or f k zeros) ≡ true = (bytes_decides (unwrap_or (place_of host key e k) zeros) (get_or f k zeros)).1 one in
-    true≢false (sym told ∙ false_of _ differs)))
+    let one : unwrap_or (record_of host key e k) zeros ≡ get_or f k zeros = sym (record_told host key e k zeros within) ∙ ap (λ g. get_or g k zeros) same in
+    let file_contents : bytes_eq (unwrap_or (record_of host key e k) zeros) (get_or f k zeros) ≡ true = (bytes_decides (unwrap_or (record_of host key e k) zeros) (get_or f k zeros)).1 one in
+    true≢false (sym file_contents ∙ false_of _ differs)))
 
 -- The record with this number is the host file's.
 pub equal_record : (a b : Record) → not (bytes_eq a b) ≡ false → a ≡ b
@@ -94,33 +94,33 @@ equal_record a b h = (bytes_decides a b).0 (true_of (bytes_eq a b) h)
 
 -- An unwritten record of a file that comes from its own host file and has not grown.
 pub own_record : (host : Host) (key : Key) (e : Entry) (f : List Record) (k : ℕ) → e.base ≡ Same → e.grown ≡ None → get e.records k ≡ None → get host key ≡ Some f → k < length f
-    → unwrap_or (place_of host key e k) zeros ≡ get_or f k zeros
+    → unwrap_or (record_of host key e k) zeros ≡ get_or f k zeros
 own_record host key e f k base grown none here h =
-    ap (λ b. unwrap_or (place_by (records_of host (stands_on key b)) k (get e.records k) (is_below k e.grown)) zeros) base
-    ∙ ap (λ g. unwrap_or (place_by (records_of host (Some key)) k (get e.records k) (is_below k g)) zeros) grown
-    ∙ ap (λ r. unwrap_or (place_by (records_of host (Some key)) k r true) zeros) none
+    ap (λ b. unwrap_or (record_by (host_records host (base_key key b)) k (get e.records k) (is_host_part k e.grown)) zeros) base
+    ∙ ap (λ g. unwrap_or (record_by (host_records host (Some key)) k (get e.records k) (is_host_part k g)) zeros) grown
+    ∙ ap (λ r. unwrap_or (record_by (host_records host (Some key)) k r true) zeros) none
     ∙ ap (λ g. unwrap_or (slice_get (unwrap_or g []) k) zeros) here
     ∙ unwrap_or-slice_get f k zeros
 
-untouched_by : (host : Host) (own : Own) (key : Key) (f : Option (List Record)) → get host key ≡ f → get own key ≡ None → is_changed host own key ≡ false
+untouched_by : (host : Host) (own : OwnFiles) (key : Key) (f : Option (List Record)) → get host key ≡ f → get own key ≡ None → is_changed host own key ≡ false
 untouched_by host own key None here none =
-    changed_by host own key false None (ap (λ e. is_there host key (unwrap_or e untouched).base) none ∙ ap is_some here) here
+    changed_by host own key false None (ap (λ e. is_there host key (unwrap_or e untouched_entry).base) none ∙ ap is_some here) here
 untouched_by host own key (Some f) here none =
-    let entry : entry_at own key ≡ untouched = ap (λ e. unwrap_or e untouched) none in
-    let long : length_of host key untouched ≡ length f = ap (λ g. length (unwrap_or g [])) here in
-    changed_by host own key true (Some f) (ap (λ e. is_there host key (unwrap_or e untouched).base) none ∙ ap is_some here) here
-    ∙ ap (λ e. not (pointwise bytes_eq (told_records (file_of host key e)) f)) entry
-    ∙ same_file (told_records (file_of host key untouched)) f (same_told host key untouched f long
-    (λ k h. own_record host key untouched f k refl refl (get-empty nat_cmp k) here h))
+    let entry : entry_at own key ≡ untouched_entry = ap (λ e. unwrap_or e untouched_entry) none in
+    let long : length_of host key untouched_entry ≡ length f = ap (λ g. length (unwrap_or g [])) here in
+    changed_by host own key true (Some f) (ap (λ e. is_there host key (unwrap_or e untouched_entry).base) none ∙ ap is_some here) here
+    ∙ ap (λ e. not (pointwise bytes_eq (contents_of (file_of host key e)) f)) entry
+    ∙ same_file (contents_of (file_of host key untouched_entry)) f (same_told host key untouched_entry f long
+    (λ k h. own_record host key untouched_entry f k refl refl (get-empty nat_cmp k) here h))
 
-pub untouched_file : (host : Host) (own : Own) (key : Key) → get own key ≡ None → is_changed host own key ≡ false
+pub untouched_file : (host : Host) (own : OwnFiles) (key : Key) → get own key ≡ None → is_changed host own key ≡ false
 untouched_file host own key none = untouched_by host own key (get host key) refl none
 
 -- A file of another length is changed.
-pub other_length : (host : Host) (own : Own) (key : Key) (f : List Record) → has host own key ≡ true → get host key ≡ Some f → length_at host own key ≢ length f → is_changed host own key ≡ true
+pub other_length : (host : Host) (own : OwnFiles) (key : Key) (f : List Record) → has host own key ≡ true → get host key ≡ Some f → length_at host own key ≢ length f → is_changed host own key ≡ true
 other_length host own key f there here long =
     changed_by host own key true (Some f) there here
-    ∙ other_file (told_records (file_of host key (entry_at own key))) f (λ same. long (sym (length_told host key (entry_at own key)) ∙ ap length same))
+    ∙ other_file (contents_of (file_of host key (entry_at own key))) f (λ same. long (sym (length_told host key (entry_at own key)) ∙ ap length same))
 
 -- ---- the law
 
@@ -132,16 +132,16 @@ same_option (Some a) (Some b) = ((λ h. ap Some ((records_decide a b).0 h)), λ 
 
 pub changed_other : ChangedIsOther
 changed_other host own key =
-    let decides = same_option (told host own key) (get host key) in
-    ((λ h. decides.0 (true_of (is_same (told host own key) (get host key)) h)), λ h. not_true (is_same (told host own key) (get host key)) (decides.1 h))
+    let decides = same_option (file_contents host own key) (get host key) in
+    ((λ h. decides.0 (true_of (is_same (file_contents host own key) (get host key)) h)), λ h. not_true (is_same (file_contents host own key) (get host key)) (decides.1 h))
 
 -- ---- the same for the steps of the code
 
-pub unwritten_same : (host : Host) (own : Own) (key : Key) (e : Entry) (f : List Record) (k : ℕ) → entry_at own key ≡ e → e.base ≡ Same → e.grown ≡ None → get e.records k ≡ None
-    → get host key ≡ Some f → k < length f → false ≡ not (bytes_eq (unwrap_or (place_of host key (entry_at own key) k) zeros) (get_or f k zeros))
+pub unwritten_same : (host : Host) (own : OwnFiles) (key : Key) (e : Entry) (f : List Record) (k : ℕ) → entry_at own key ≡ e → e.base ≡ Same → e.grown ≡ None → get e.records k ≡ None
+    → get host key ≡ Some f → k < length f → false ≡ not (bytes_eq (unwrap_or (record_of host key (entry_at own key) k) zeros) (get_or f k zeros))
 unwritten_same host own key e f k entry base grown none here h =
-    sym (not_true _ ((bytes_decides (unwrap_or (place_of host key (entry_at own key) k) zeros) (get_or f k zeros)).1
-    (ap (λ x. unwrap_or (place_of host key x k) zeros) entry ∙ own_record host key e f k base grown none here h)))
+    sym (not_true _ ((bytes_decides (unwrap_or (record_of host key (entry_at own key) k) zeros) (get_or f k zeros)).1
+    (ap (λ x. unwrap_or (record_of host key x k) zeros) entry ∙ own_record host key e f k base grown none here h)))
 
 pub not_there : {X : Type 0} {x : X} (f : Option X) → f ≡ None → f ≡ Some x → ⊥
 not_there f none some = cc

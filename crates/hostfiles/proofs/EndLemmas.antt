@@ -6,50 +6,50 @@ use Rattle.std.proofs.lemmas.Option.{slice_get_past}
 use Rattle.std.specs.Ordering.{nat_cmp, eq_by_cmp}
 use Rattle.std.specs.Cmp.Lexicographic.{slice_cmp, nat_list_cmp_total}
 use Rattle.std.specs.FinMap.{get, insert, empty, get-empty, get-insert}
-use Rattle.records.specs.Records.{Kept, zeros, zeros_at}
+use Rattle.records.specs.Records.{RecordMap, zeros, zeros_at}
 use Rattle.records.proofs.KeptLemmas.{get_insert}
 use Rattle.keymaps.proofs.Views.{same_key, key_of}
 use Rattle.hostfiles.specs.Hosts.{Key, Record, Host}
-use Rattle.hostfiles.specs.Files.{Own, place_by, is_below, length_by, under, records_of, place_of, length_of, length_at, untouched, fresh, nothing, entry_at, made, deleted, moved, renamed, filled_gap, wrote_entry, wrote_filled_entry, wrote, wrote_filled}
-use Rattle.hostfiles.specs.Laid.{Ends}
+use Rattle.hostfiles.specs.Files.{OwnFiles, record_by, is_host_part, length_by, base_records, host_records, record_of, length_of, length_at, untouched_entry, new_entry, gone_entry, entry_at, after_make, after_delete, renamed_from, after_rename, gap_zeros, entry_with_holes, entry_with_zeros, after_write_with_holes, after_write_with_zeros}
+use Rattle.hostfiles.specs.Laid.{HasNoRecordPastEnd}
 use Rattle.hostfiles.specs.declared.journal.Entry.{Entry}
 use Rattle.hostfiles.proofs.LaidLemmas.{place_wrote, length_wrote, longer, stands_moved}
 
 abbrev EntryEnds : Host → Key → Entry → Type 0
-EntryEnds host q e = (p : ℕ) → length_of host q e ≤ p → place_of host q e p ≡ None
+EntryEnds host q e = (p : ℕ) → length_of host q e ≤ p → record_of host q e p ≡ None
 
-unwritten : (u : List Record) (p : ℕ) (b : Bool) → length u ≤ p → place_by u p None b ≡ None
+unwritten : (u : List Record) (p : ℕ) (b : Bool) → length u ≤ p → record_by u p None b ≡ None
 unwritten u p true h = slice_get_past u p h
 unwritten u p false h = refl
 
-nowhere : (u : List Record) (p : ℕ) (b : Bool) → length u ≤ p → place_by u p (get {R = nat_cmp} empty p) b ≡ None
-nowhere u p b h = ap (λ o. place_by u p o b) (get-empty nat_cmp p) ∙ unwritten u p b h
+nowhere : (u : List Record) (p : ℕ) (b : Bool) → length u ≤ p → record_by u p (get {R = nat_cmp} empty p) b ≡ None
+nowhere u p b h = ap (λ o. record_by u p o b) (get-empty nat_cmp p) ∙ unwritten u p b h
 
-untouched_ends : (host : Host) (q : Key) → EntryEnds host q untouched
-untouched_ends host q p h = nowhere (records_of host (Some q)) p true h
+untouched_ends : (host : Host) (q : Key) → EntryEnds host q untouched_entry
+untouched_ends host q p h = nowhere (host_records host (Some q)) p true h
 
-fresh_ends : (host : Host) (q : Key) → EntryEnds host q fresh
+fresh_ends : (host : Host) (q : Key) → EntryEnds host q new_entry
 fresh_ends host q p h = nowhere [] p (nat_lt p 0) h
 
-nothing_ends : (host : Host) (q : Key) → EntryEnds host q nothing
+nothing_ends : (host : Host) (q : Key) → EntryEnds host q gone_entry
 nothing_ends host q p h = nowhere [] p true h
 
 apart_at : (p k : ℕ) → k + 1 ≤ p → eqb p k ≡ false
 apart_at p k h = elim (eqb_tells p k) [ inl same ↦ absurd (let e : p ≡ k = same.1 in omega arith) | inr other ↦ other.0 ]
 
-wrote_ends : (host : Host) (key : Key) (e : Entry) (k : ℕ) (r : Record) → EntryEnds host key e → EntryEnds host key (wrote_entry (length_of host key e) k r e)
+wrote_ends : (host : Host) (key : Key) (e : Entry) (k : ℕ) (r : Record) → EntryEnds host key e → EntryEnds host key (entry_with_holes (length_of host key e) k r e)
 wrote_ends host key e k r h p l =
-    let size : length_of host key (wrote_entry (length_of host key e) k r e) ≡ length_of host key e + (k + 1 - length_of host key e) = length_wrote host key e k r ∙ longer (length_of host key e) k in
+    let size : length_of host key (entry_with_holes (length_of host key e) k r e) ≡ length_of host key e + (k + 1 - length_of host key e) = length_wrote host key e k r ∙ longer (length_of host key e) k in
     let past : length_of host key e ≤ p = omega arith in
-    place_wrote host key e (length_of host key e) k r p (h p) ∙ ap (λ b. cond b (Some r) (place_of host key e p)) (apart_at p k (omega arith)) ∙ h p past
+    place_wrote host key e (length_of host key e) k r p (h p) ∙ ap (λ b. cond b (Some r) (record_of host key e p)) (apart_at p k (omega arith)) ∙ h p past
 
-zeros_past : (m : Kept) (from c p : ℕ) → from + c ≤ p → get (zeros_at m from c) p ≡ get m p
+zeros_past : (m : RecordMap) (from c p : ℕ) → from + c ≤ p → get (zeros_at m from c) p ≡ get m p
 unfolding zeros_at
 zeros_past m from zero p h = refl
 zeros_past m from (suc c) p h =
     get_insert (zeros_at m from c) (from + c) zeros p ∙ ap (λ b. cond b (Some zeros) (get (zeros_at m from c) p)) (apart_at p (from + c) (omega arith)) ∙ zeros_past m from c p (omega arith)
 
-gap_past : (n k : ℕ) (m : Kept) (p : ℕ) → k ≤ p → get (filled_gap n k m) p ≡ get m p
+gap_past : (n k : ℕ) (m : RecordMap) (p : ℕ) → k ≤ p → get (gap_zeros n k m) p ≡ get m p
 gap_past n k m p h = elim (cases_lt n k) [
   | inl l ↦ let yes : nat_lt n k ≡ true = search rules in ap (λ b. get (cond b (zeros_at m n (k - n)) m) p) yes ∙ zeros_past m n (k - n) p (omega arith)
   | inr l ↦ let no_gap : nat_lt n k ≡ false = search rules in ap (λ b. get (cond b (zeros_at m n (k - n)) m) p) no_gap
@@ -57,41 +57,41 @@ gap_past n k m p h = elim (cases_lt n k) [
 
 -- An entry with its gap filled with zeros.
 abbrev with_gap : ℕ → ℕ → Entry → Entry
-with_gap n k e = record { base = e.base; grown = e.grown; records = filled_gap n k e.records }
+with_gap n k e = record { base = e.base; grown = e.grown; records = gap_zeros n k e.records }
 
-filled_ends : (host : Host) (key : Key) (e : Entry) (k : ℕ) (r : Record) → EntryEnds host key e → EntryEnds host key (wrote_filled_entry (length_of host key e) k r e)
+filled_ends : (host : Host) (key : Key) (e : Entry) (k : ℕ) (r : Record) → EntryEnds host key e → EntryEnds host key (entry_with_zeros (length_of host key e) k r e)
 filled_ends host key e k r h p l =
-    let size : length_of host key (wrote_entry (length_of host key e) k r e) ≡ length_of host key e + (k + 1 - length_of host key e) = length_wrote host key e k r ∙ longer (length_of host key e) k in
+    let size : length_of host key (entry_with_holes (length_of host key e) k r e) ≡ length_of host key e + (k + 1 - length_of host key e) = length_wrote host key e k r ∙ longer (length_of host key e) k in
     let past : length_of host key e ≤ p = omega arith in
     let beyond : k ≤ p = omega arith in
-    let none : place_of host key (with_gap (length_of host key e) k e) p ≡ None = ap (λ o. place_by (under host key e) p o (is_below p e.grown)) (gap_past (length_of host key e) k e.records p beyond) ∙ h p past in
+    let none : record_of host key (with_gap (length_of host key e) k e) p ≡ None = ap (λ o. record_by (base_records host key e) p o (is_host_part p e.grown)) (gap_past (length_of host key e) k e.records p beyond) ∙ h p past in
     place_wrote host key (with_gap (length_of host key e) k e) (length_of host key e) k r p (λ _. none)
-    ∙ ap (λ b. cond b (Some r) (place_of host key (with_gap (length_of host key e) k e) p)) (apart_at p k (omega arith)) ∙ none
+    ∙ ap (λ b. cond b (Some r) (record_of host key (with_gap (length_of host key e) k e) p)) (apart_at p k (omega arith)) ∙ none
 
-moved_ends : (host : Host) (old new : Key) (e : Entry) → EntryEnds host old e → EntryEnds host new (moved old e)
-moved_ends host old new e h = subst (λ s. (p : ℕ) → length_by (length (records_of host s)) e.grown ≤ p → place_by (records_of host s) p (get e.records p) (is_below p e.grown) ≡ None) (sym (stands_moved old new e.base)) h
+moved_ends : (host : Host) (old new : Key) (e : Entry) → EntryEnds host old e → EntryEnds host new (renamed_from old e)
+moved_ends host old new e h = subst (λ s. (p : ℕ) → length_by (length (host_records host s)) e.grown ≤ p → record_by (host_records host s) p (get e.records p) (is_host_part p e.grown) ≡ None) (sym (stands_moved old new e.base)) h
 
-ends_insert : (host : Host) (own : Own) (key : Key) (e : Entry) → ((q : Key) → Ends host own q) → EntryEnds host key e → (q : Key) → Ends host (insert own key e) q
-ends_insert host own key e all here q = subst (λ (x : Option Entry). EntryEnds host q (unwrap_or x untouched)) (sym (get-insert nat_list_cmp_total own key e q))
-    (elim (eq_by_cmp (slice_cmp nat_cmp) q key) as (λ b. eq_by_cmp (slice_cmp nat_cmp) q key ≡ b → EntryEnds host q (unwrap_or (cond b (Some e) (get own q)) untouched)) [
+ends_insert : (host : Host) (own : OwnFiles) (key : Key) (e : Entry) → ((q : Key) → HasNoRecordPastEnd host own q) → EntryEnds host key e → (q : Key) → HasNoRecordPastEnd host (insert own key e) q
+ends_insert host own key e all here q = subst (λ (x : Option Entry). EntryEnds host q (unwrap_or x untouched_entry)) (sym (get-insert nat_list_cmp_total own key e q))
+    (elim (eq_by_cmp (slice_cmp nat_cmp) q key) as (λ b. eq_by_cmp (slice_cmp nat_cmp) q key ≡ b → EntryEnds host q (unwrap_or (cond b (Some e) (get own q)) untouched_entry)) [
       | true ↦ λ b. subst (λ x. EntryEnds host x e) (sym (key_of same_key q key b)) here
       | false ↦ λ b. all q
     ] refl)
 
-pub ends_start : (host : Host) (q : Key) → Ends host empty q
-ends_start host q = subst (λ (x : Option Entry). EntryEnds host q (unwrap_or x untouched)) (sym (get-empty (slice_cmp nat_cmp) q)) (untouched_ends host q)
+pub ends_start : (host : Host) (q : Key) → HasNoRecordPastEnd host empty q
+ends_start host q = subst (λ (x : Option Entry). EntryEnds host q (unwrap_or x untouched_entry)) (sym (get-empty (slice_cmp nat_cmp) q)) (untouched_ends host q)
 
-pub ends_made : (host : Host) (own : Own) → ((q : Key) → Ends host own q) → (key q : Key) → Ends host (made own key) q
-ends_made host own all key = ends_insert host own key fresh all (fresh_ends host key)
+pub ends_made : (host : Host) (own : OwnFiles) → ((q : Key) → HasNoRecordPastEnd host own q) → (key q : Key) → HasNoRecordPastEnd host (after_make own key) q
+ends_made host own all key = ends_insert host own key new_entry all (fresh_ends host key)
 
-pub ends_deleted : (host : Host) (own : Own) → ((q : Key) → Ends host own q) → (key q : Key) → Ends host (deleted own key) q
-ends_deleted host own all key = ends_insert host own key nothing all (nothing_ends host key)
+pub ends_deleted : (host : Host) (own : OwnFiles) → ((q : Key) → HasNoRecordPastEnd host own q) → (key q : Key) → HasNoRecordPastEnd host (after_delete own key) q
+ends_deleted host own all key = ends_insert host own key gone_entry all (nothing_ends host key)
 
-pub ends_wrote : (host : Host) (own : Own) → ((q : Key) → Ends host own q) → (key : Key) (k : ℕ) (r : Record) (q : Key) → Ends host (wrote (length_at host own key) own key k r) q
-ends_wrote host own all key k r = ends_insert host own key (wrote_entry (length_at host own key) k r (entry_at own key)) all (wrote_ends host key (entry_at own key) k r (all key))
+pub ends_wrote : (host : Host) (own : OwnFiles) → ((q : Key) → HasNoRecordPastEnd host own q) → (key : Key) (k : ℕ) (r : Record) (q : Key) → HasNoRecordPastEnd host (after_write_with_holes (length_at host own key) own key k r) q
+ends_wrote host own all key k r = ends_insert host own key (entry_with_holes (length_at host own key) k r (entry_at own key)) all (wrote_ends host key (entry_at own key) k r (all key))
 
-pub ends_filled : (host : Host) (own : Own) → ((q : Key) → Ends host own q) → (key : Key) (k : ℕ) (r : Record) (q : Key) → Ends host (wrote_filled (length_at host own key) own key k r) q
-ends_filled host own all key k r = ends_insert host own key (wrote_filled_entry (length_at host own key) k r (entry_at own key)) all (filled_ends host key (entry_at own key) k r (all key))
+pub ends_filled : (host : Host) (own : OwnFiles) → ((q : Key) → HasNoRecordPastEnd host own q) → (key : Key) (k : ℕ) (r : Record) (q : Key) → HasNoRecordPastEnd host (after_write_with_zeros (length_at host own key) own key k r) q
+ends_filled host own all key k r = ends_insert host own key (entry_with_zeros (length_at host own key) k r (entry_at own key)) all (filled_ends host key (entry_at own key) k r (all key))
 
-pub ends_renamed : (host : Host) (own : Own) → ((q : Key) → Ends host own q) → (old new q : Key) → Ends host (renamed own old new) q
-ends_renamed host own all old new = ends_insert host (deleted own old) new (moved old (entry_at own old)) (ends_deleted host own all old) (moved_ends host old new (entry_at own old) (all old))
+pub ends_renamed : (host : Host) (own : OwnFiles) → ((q : Key) → HasNoRecordPastEnd host own q) → (old new q : Key) → HasNoRecordPastEnd host (after_rename own old new) q
+ends_renamed host own all old new = ends_insert host (after_delete own old) new (renamed_from old (entry_at own old)) (ends_deleted host own all old) (moved_ends host old new (entry_at own old) (all old))

@@ -14,14 +14,14 @@ use Rattle.records.proofs.KeptLemmas.{get_insert}
 use Rattle.records.proofs.Laws.{set_read}
 use Rattle.keymaps.proofs.Views.{same_key, key_of}
 use Rattle.hostfiles.specs.Hosts.{Key, Record, Host}
-use Rattle.hostfiles.specs.Files.{Own, place_by, is_below, grown_by, limit_by, length_by, under, records_of, stands_on, is_there, place_of, length_of, length_at, file_of, has, records, place, files, untouched, entry_at, deleted, moved, moved_base, renamed, wrote, wrote_entry}
+use Rattle.hostfiles.specs.Files.{OwnFiles, record_by, is_host_part, growth_after, limit_by, length_by, base_records, host_records, base_key, is_there, record_of, length_of, length_at, file_of, has, records, record_at, files, untouched_entry, entry_at, after_delete, renamed_from, base_renamed_from, after_rename, after_write_with_holes, entry_with_holes}
 use Rattle.hostfiles.specs.File.{File}
-use Rattle.hostfiles.specs.Laid.{Ends}
+use Rattle.hostfiles.specs.Laid.{HasNoRecordPastEnd}
 use Rattle.hostfiles.specs.File.{written}
 use Rattle.hostfiles.specs.declared.journal.Base.{Base}
 use Rattle.hostfiles.specs.declared.journal.Base.TheVariants.{Same, Gone, New, Moved}
 use Rattle.hostfiles.proofs.FileLemmas.{get-files, files-deleted}
-use Rattle.hostfiles.specs.declared.journal.Grown.{Grown}
+use Rattle.hostfiles.specs.declared.journal.Growth.{Growth}
 use Rattle.hostfiles.specs.declared.journal.Entry.{Entry}
 
 pub below : (p n : ℕ) → p < n → nat_lt p n ≡ true
@@ -31,40 +31,40 @@ pub not_below : (p n : ℕ) → n ≤ p → nat_lt p n ≡ false
 not_below p n h = search rules
 
 -- If there is no record when the host file's records count, it does not matter whether they count.
-past_end : (u : List Record) (p : ℕ) (o : Option Record) → place_by u p o true ≡ None → place_by u p o false ≡ place_by u p o true
+past_end : (u : List Record) (p : ℕ) (o : Option Record) → record_by u p o true ≡ None → record_by u p o false ≡ record_by u p o true
 past_end u p None h = sym h
 past_end u p (Some r) h = refl
 
-limit_kept : (u : List Record) (n k p : ℕ) (o : Option Record) (g : Option Grown) → (n ≤ p → place_by u p o (is_below p g) ≡ None)
-    → place_by u p o (nat_lt p (limit_by n g)) ≡ place_by u p o (is_below p g)
+limit_kept : (u : List Record) (n k p : ℕ) (o : Option Record) (g : Option Growth) → (n ≤ p → record_by u p o (is_host_part p g) ≡ None)
+    → record_by u p o (nat_lt p (limit_by n g)) ≡ record_by u p o (is_host_part p g)
 limit_kept u n k p o (Some g) h = refl
 limit_kept u n k p o None h = elim (cases_lt p n) [
-  | inl in_file ↦ ap (place_by u p o) (below p n in_file)
-  | inr past ↦ ap (place_by u p o) (not_below p n past) ∙ past_end u p o (h past)
+  | inl in_file ↦ ap (record_by u p o) (below p n in_file)
+  | inr past ↦ ap (record_by u p o) (not_below p n past) ∙ past_end u p o (h past)
 ]
 
-pub grown_kept : (u : List Record) (n k p : ℕ) (o : Option Record) (g : Option Grown) → (n ≤ p → place_by u p o (is_below p g) ≡ None)
-    → place_by u p o (is_below p (grown_by n k g)) ≡ place_by u p o (is_below p g)
-grown_kept u n k p o g h = elim (nat_lt k n) as (λ b. place_by u p o (is_below p (cond b g (Some (record { from = limit_by n g; to = k + 1 })))) ≡ place_by u p o (is_below p g)) [
+pub grown_kept : (u : List Record) (n k p : ℕ) (o : Option Record) (g : Option Growth) → (n ≤ p → record_by u p o (is_host_part p g) ≡ None)
+    → record_by u p o (is_host_part p (growth_after n k g)) ≡ record_by u p o (is_host_part p g)
+grown_kept u n k p o g h = elim (nat_lt k n) as (λ b. record_by u p o (is_host_part p (cond b g (Some (record { from = limit_by n g; to = k + 1 })))) ≡ record_by u p o (is_host_part p g)) [
   | true ↦ refl
   | false ↦ limit_kept u n k p o g h
 ]
 
-pub taken : (b : Bool) (u : List Record) (p : ℕ) (r : Record) (o : Option Record) (c : Bool) → place_by u p (cond b (Some r) o) c ≡ cond b (Some r) (place_by u p o c)
+pub taken : (b : Bool) (u : List Record) (p : ℕ) (r : Record) (o : Option Record) (c : Bool) → record_by u p (cond b (Some r) o) c ≡ cond b (Some r) (record_by u p o c)
 taken true u p r o c = refl
 taken false u p r o c = refl
 
 -- Each record number after a write.
-pub place_wrote : (host : Host) (key : Key) (e : Entry) (n k : ℕ) (r : Record) (p : ℕ) → (n ≤ p → place_of host key e p ≡ None)
-    → place_of host key (wrote_entry n k r e) p ≡ cond (eqb p k) (Some r) (place_of host key e p)
+pub place_wrote : (host : Host) (key : Key) (e : Entry) (n k : ℕ) (r : Record) (p : ℕ) → (n ≤ p → record_of host key e p ≡ None)
+    → record_of host key (entry_with_holes n k r e) p ≡ cond (eqb p k) (Some r) (record_of host key e p)
 place_wrote host key e n k r p h =
-    ap (λ o. place_by (under host key e) p o (is_below p (grown_by n k e.grown))) (get_insert e.records k r p)
-    ∙ taken (eqb p k) (under host key e) p r (get e.records p) (is_below p (grown_by n k e.grown))
-    ∙ ap (cond (eqb p k) (Some r)) (grown_kept (under host key e) n k p (get e.records p) e.grown h)
+    ap (λ o. record_by (base_records host key e) p o (is_host_part p (growth_after n k e.grown))) (get_insert e.records k r p)
+    ∙ taken (eqb p k) (base_records host key e) p r (get e.records p) (is_host_part p (growth_after n k e.grown))
+    ∙ ap (cond (eqb p k) (Some r)) (grown_kept (base_records host key e) n k p (get e.records p) e.grown h)
 
 -- The length after a write.
-pub length_wrote : (host : Host) (key : Key) (e : Entry) (k : ℕ) (r : Record) → length_of host key (wrote_entry (length_of host key e) k r e) ≡ cond (nat_lt k (length_of host key e)) (length_of host key e) (k + 1)
-length_wrote host key e k r = elim (nat_lt k (length_of host key e)) as (λ b. length_by (length (under host key e)) (cond b e.grown (Some (record { from = limit_by (length_of host key e) e.grown; to = k + 1 }))) ≡ cond b (length_of host key e) (k + 1)) [
+pub length_wrote : (host : Host) (key : Key) (e : Entry) (k : ℕ) (r : Record) → length_of host key (entry_with_holes (length_of host key e) k r e) ≡ cond (nat_lt k (length_of host key e)) (length_of host key e) (k + 1)
+length_wrote host key e k r = elim (nat_lt k (length_of host key e)) as (λ b. length_by (length (base_records host key e)) (cond b e.grown (Some (record { from = limit_by (length_of host key e) e.grown; to = k + 1 }))) ≡ cond b (length_of host key e) (k + 1)) [
   | true ↦ refl
   | false ↦ refl
 ]
@@ -115,24 +115,24 @@ module _ (P : ℕ → Option Record) (N k : ℕ) (r : Record) (z : Option Record
       ∙ sym (set_read room k (Some r) d (omega arith) i))
 
 -- The file after a write.
-pub file_wrote : (host : Host) (key : Key) (e : Entry) (k : ℕ) (r : Record) → ((p : ℕ) → length_of host key e ≤ p → place_of host key e p ≡ None)
-    → file_of host key (wrote_entry (length_of host key e) k r e) ≡ written k r (file_of host key e)
+pub file_wrote : (host : Host) (key : Key) (e : Entry) (k : ℕ) (r : Record) → ((p : ℕ) → length_of host key e ≤ p → record_of host key e p ≡ None)
+    → file_of host key (entry_with_holes (length_of host key e) k r e) ≡ written k r (file_of host key e)
 file_wrote host key e k r past =
-    list_written (place_of host key e) (length_of host key e) k r None past (place_of host key (wrote_entry (length_of host key e) k r e)) (length_of host key (wrote_entry (length_of host key e) k r e))
+    list_written (record_of host key e) (length_of host key e) k r None past (record_of host key (entry_with_holes (length_of host key e) k r e)) (length_of host key (entry_with_holes (length_of host key e) k r e))
     (length_wrote host key e k r) (λ p _. place_wrote host key e (length_of host key e) k r p (past p))
 
 -- ---- the map of all files
 
 -- The file with a key and this entry.
 abbrev pub entry_file : Host → Key → Option Entry → Option File
-entry_file host q x = cond (is_there host q (unwrap_or x untouched).base) (Some (file_of host q (unwrap_or x untouched))) None
+entry_file host q x = cond (is_there host q (unwrap_or x untouched_entry).base) (Some (file_of host q (unwrap_or x untouched_entry))) None
 
 pub some_cond : (b : Bool) (x f : File) → cond b (Some x) None ≡ Some f → (b ≡ true) × (x ≡ f)
 some_cond true x f h = (refl, (let inner : Some x ≡ Some f = h in cc))
 some_cond false x f h = cc
 
 -- Another entry at one key.
-pub files-insert : (host : Host) (own : Own) (key : Key) (e : Entry) (f : File) → entry_file host key (Some e) ≡ Some f → files host (insert own key e) ≡ insert (files host own) key f
+pub files-insert : (host : Host) (own : OwnFiles) (key : Key) (e : Entry) (f : File) → entry_file host key (Some e) ≡ Some f → files host (insert own key e) ≡ insert (files host own) key f
 files-insert host own key e f h = same_map nat_list_cmp_total same_key _ _ (λ q.
     get-files host (insert own key e) q
     ∙ ap (entry_file host q) (get-insert nat_list_cmp_total own key e q)
@@ -143,41 +143,41 @@ files-insert host own key e f h = same_map nat_list_cmp_total same_key _ _ (λ q
     ∙ ap (cond (eq_by_cmp (slice_cmp nat_cmp) q key) (Some f)) (sym (get-files host own q))
     ∙ sym (get-insert nat_list_cmp_total (files host own) key f q))
 
-pub files-wrote : (host : Host) (own : Own) (key : Key) (k : ℕ) (r : Record) (f : File) → Ends host own key → get (files host own) key ≡ Some f
-    → files host (wrote (length_at host own key) own key k r) ≡ insert (files host own) key (written k r f)
+pub files-wrote : (host : Host) (own : OwnFiles) (key : Key) (k : ℕ) (r : Record) (f : File) → HasNoRecordPastEnd host own key → get (files host own) key ≡ Some f
+    → files host (after_write_with_holes (length_at host own key) own key k r) ≡ insert (files host own) key (written k r f)
 files-wrote host own key k r f past h =
     let e = entry_at own key in
     let there = some_cond (is_there host key e.base) (file_of host key e) f (sym (get-files host own key) ∙ h) in
-    files-insert host own key (wrote_entry (length_at host own key) k r e) (written k r f)
-    (ap (λ b. cond b (Some (file_of host key (wrote_entry (length_at host own key) k r e))) None) there.0
+    files-insert host own key (entry_with_holes (length_at host own key) k r e) (written k r f)
+    (ap (λ b. cond b (Some (file_of host key (entry_with_holes (length_at host own key) k r e))) None) there.0
     ∙ ap (λ x. Some x) (file_wrote host key e k r past) ∙ ap (λ x. Some (written k r x)) there.1)
 
-pub stands_moved : (old new : Key) (b : Base) → stands_on new (moved_base old b) ≡ stands_on old b
+pub stands_moved : (old new : Key) (b : Base) → base_key new (base_renamed_from old b) ≡ base_key old b
 stands_moved old new Same = refl
 stands_moved old new Gone = refl
 stands_moved old new New = refl
 stands_moved old new (Moved x) = refl
 
-there_moved : (host : Host) (old new : Key) (b : Base) → is_there host old b ≡ true → is_there host new (moved_base old b) ≡ true
+there_moved : (host : Host) (old new : Key) (b : Base) → is_there host old b ≡ true → is_there host new (base_renamed_from old b) ≡ true
 there_moved host old new Same h = refl
 there_moved host old new Gone h = h
 there_moved host old new New h = refl
 there_moved host old new (Moved x) h = refl
 
 unfoldable file_over : List Record → Entry → File
-file_over u e = map (λ k. place_by u k (get e.records k) (is_below k e.grown)) (range_with_len 0 (length_by (length u) e.grown))
+file_over u e = map (λ k. record_by u k (get e.records k) (is_host_part k e.grown)) (range_with_len 0 (length_by (length u) e.grown))
 
 -- A renamed file still comes from its host file.
-file_moved : (host : Host) (old new : Key) (e : Entry) → file_of host new (moved old e) ≡ file_of host old e
+file_moved : (host : Host) (old new : Key) (e : Entry) → file_of host new (renamed_from old e) ≡ file_of host old e
 unfolding file_over
-file_moved host old new e = ap (λ s. file_over (records_of host s) e) (stands_moved old new e.base)
+file_moved host old new e = ap (λ s. file_over (host_records host s) e) (stands_moved old new e.base)
 
-pub files-renamed : (host : Host) (own : Own) (old new : Key) (f : File) → get (files host own) old ≡ Some f → files host (renamed own old new) ≡ insert (remove (files host own) old) new f
+pub files-renamed : (host : Host) (own : OwnFiles) (old new : Key) (f : File) → get (files host own) old ≡ Some f → files host (after_rename own old new) ≡ insert (remove (files host own) old) new f
 files-renamed host own old new f h =
     let e = entry_at own old in
     let there = some_cond (is_there host old e.base) (file_of host old e) f (sym (get-files host own old) ∙ h) in
-    files-insert host (deleted own old) new (moved old e) f
-    (ap (λ b. cond b (Some (file_of host new (moved old e))) None) (there_moved host old new e.base there.0) ∙ ap (λ x. Some x) (file_moved host old new e ∙ there.1))
+    files-insert host (after_delete own old) new (renamed_from old e) f
+    (ap (λ b. cond b (Some (file_of host new (renamed_from old e))) None) (there_moved host old new e.base there.0) ∙ ap (λ x. Some x) (file_moved host old new e ∙ there.1))
     ∙ ap (λ m. insert m new f) (files-deleted host own old)
 
 -- ---- the contents of a file
@@ -186,8 +186,8 @@ counted_by : (b : Bool) (P : ℕ → Option Record) (N : ℕ) → cond b (Some N
 counted_by true P N = ap (λ n. Some n) (sym (length-map-range_with_len P 0 N))
 counted_by false P N = refl
 
-pub files-counted : (host : Host) (own : Own) (key : Key) → records host own key ≡ option_map length (get (files host own) key)
-files-counted host own key = counted_by (has host own key) (place_of host key (entry_at own key)) (length_at host own key) ∙ ap (option_map length) (sym (get-files host own key))
+pub files-counted : (host : Host) (own : OwnFiles) (key : Key) → records host own key ≡ option_map length (get (files host own) key)
+files-counted host own key = counted_by (has host own key) (record_of host key (entry_at own key)) (length_at host own key) ∙ ap (option_map length) (sym (get-files host own key))
 
 read_by : (b : Bool) (P : ℕ → Option Record) (N k : ℕ) → cond b (cond (nat_lt k N) (P k) None) None ≡ option_and_then (λ f. get_or f k None) (cond b (Some (map P (range_with_len 0 N))) None)
 read_by false P N k = refl
@@ -196,5 +196,5 @@ read_by true P N k = elim (cases_lt k N) [
   | inr l ↦ let short = length-map-range_with_len P 0 N in ap (λ b. cond b (P k) None) (not_below k N l) ∙ sym (get_or_past (map P (range_with_len 0 N)) k None (omega arith))
 ]
 
-pub files-read : (host : Host) (own : Own) (key : Key) (k : ℕ) → place host own key k ≡ option_and_then (λ f. get_or f k None) (get (files host own) key)
-files-read host own key k = read_by (has host own key) (place_of host key (entry_at own key)) (length_at host own key) k ∙ ap (option_and_then (λ f. get_or f k None)) (sym (get-files host own key))
+pub files-read : (host : Host) (own : OwnFiles) (key : Key) (k : ℕ) → record_at host own key k ≡ option_and_then (λ f. get_or f k None) (get (files host own) key)
+files-read host own key k = read_by (has host own key) (record_of host key (entry_at own key)) (length_at host own key) k ∙ ap (option_and_then (λ f. get_or f k None)) (sym (get-files host own key))

@@ -7,70 +7,70 @@ use Rattle.std.specs.declared.cmp.Ordering.{Ordering}
 use Rattle.keymaps.proofs.Views.{same_key, same_place, places_total, there_still}
 use Rattle.std.proofs.lemmas.Bool.{and_parts}
 use Rattle.hostfiles.specs.Hosts.{Key}
-use Rattle.hostfiles.specs.Looks.{Extends, is_looked, asks_nothing, look_has_by, look_length_by, look_record_by, look_directory}
+use Rattle.hostfiles.specs.FileLooks.{KeepsAsks, is_looked, asks_nothing, look_has_by, look_length_by, look_record_by, look_directory}
 use Rattle.hostfiles.specs.declared.journal.Base.{Base}
 use Rattle.hostfiles.specs.declared.journal.Base.TheVariants.{Same, Gone, New, Moved}
-use Rattle.hostfiles.specs.declared.journal.Grown.{Grown}
-use Rattle.hostfiles.specs.declared.looks.Looks.{Looks}
+use Rattle.hostfiles.specs.declared.journal.Growth.{Growth}
+use Rattle.hostfiles.specs.declared.looks.FileLooks.{FileLooks}
 use Rattle.hostfiles.specs.declared.looks.Ask.{Ask}
 use Rattle.hostfiles.specs.declared.looks.Ask.TheVariants.{Has, Length, Rec, Directory}
 
-pub extends_same : (l m : Looks) → m ≡ l → Extends l m
+pub extends_same : (l m : FileLooks) → m ≡ l → KeepsAsks l m
 extends_same l m e = record { kept = λ q h. ap (λ x. is_looked x q) e ∙ h }
 
-pub extends_trans : (l m n : Looks) → Extends l m → Extends m n → Extends l n
+pub extends_trans : (l m n : FileLooks) → KeepsAsks l m → KeepsAsks m n → KeepsAsks l n
 extends_trans l m n a b = record { kept = λ q h. b.kept q (a.kept q h) }
 
-abbrev pub Keeps : Looks → Looks → Type 0
+abbrev pub Keeps : FileLooks → FileLooks → Type 0
 Keeps l m = (q : Ask) → is_looked l q ≡ true → is_looked m q ≡ true
 
-with_has : (l : Looks) (key : Key) → Keeps l (record l { has = insert l.has key tt })
+with_has : (l : FileLooks) (key : Key) → Keeps l (record l { has = insert l.has key tt })
 with_has l key (Has k) h = there_still nat_list_cmp_total same_key l.has key tt k h
 with_has l key (Length k) h = h
 with_has l key (Rec k n) h = h
 with_has l key (Directory d) h = h
 
-with_length : (l : Looks) (key : Key) → Keeps l (record l { lengths = insert l.lengths key tt })
+with_length : (l : FileLooks) (key : Key) → Keeps l (record l { lengths = insert l.lengths key tt })
 with_length l key (Has k) h = h
 with_length l key (Length k) h = there_still nat_list_cmp_total same_key l.lengths key tt k h
 with_length l key (Rec k n) h = h
 with_length l key (Directory d) h = h
 
-with_record : (l : Looks) (key : Key) (place : ℕ) → Keeps l (record l { records = insert l.records (key, place) tt })
+with_record : (l : FileLooks) (key : Key) (place : ℕ) → Keeps l (record l { records = insert l.records (key, place) tt })
 with_record l key place (Has k) h = h
 with_record l key place (Length k) h = h
 with_record l key place (Rec k n) h = there_still places_total same_place l.records (key, place) tt (k, n) h
 with_record l key place (Directory d) h = h
 
-by_has : (b : Base) (key : Key) (l : Looks) → Keeps l (look_has_by b key l)
+by_has : (b : Base) (key : Key) (l : FileLooks) → Keeps l (look_has_by b key l)
 by_has Same key l = with_has l key
 by_has Gone key l = λ q h. h
 by_has New key l = λ q h. h
 by_has (Moved old) key l = λ q h. h
 
-by_length : (b : Base) (g : Option Grown) (key : Key) (l : Looks) → Keeps l (look_length_by b g key l)
+by_length : (b : Base) (g : Option Growth) (key : Key) (l : FileLooks) → Keeps l (look_length_by b g key l)
 by_length b (Some g) key l = λ q h. h
 by_length Same None key l = with_length l key
 by_length Gone None key l = λ q h. h
 by_length New None key l = λ q h. h
 by_length (Moved old) None key l = with_length l old
 
-by_record : (b : Base) (key : Key) (k : ℕ) (l : Looks) → Keeps l (look_record_by b key k l)
+by_record : (b : Base) (key : Key) (k : ℕ) (l : FileLooks) → Keeps l (look_record_by b key k l)
 by_record Same key k l = with_record l key k
 by_record Gone key k l = λ q h. h
 by_record New key k l = λ q h. h
 by_record (Moved old) key k l = with_record l old k
 
-pub extends_by_has : (b : Base) (key : Key) (l m : Looks) → m ≡ look_has_by b key l → Extends l m
+pub extends_by_has : (b : Base) (key : Key) (l m : FileLooks) → m ≡ look_has_by b key l → KeepsAsks l m
 extends_by_has b key l m e = record { kept = subst (Keeps l) (sym e) (by_has b key l) }
 
-pub extends_by_length : (b : Base) (g : Option Grown) (key : Key) (l m : Looks) → m ≡ look_length_by b g key l → Extends l m
+pub extends_by_length : (b : Base) (g : Option Growth) (key : Key) (l m : FileLooks) → m ≡ look_length_by b g key l → KeepsAsks l m
 extends_by_length b g key l m e = record { kept = subst (Keeps l) (sym e) (by_length b g key l) }
 
-pub extends_by_record : (b : Base) (key : Key) (k : ℕ) (l m : Looks) → m ≡ look_record_by b key k l → Extends l m
+pub extends_by_record : (b : Base) (key : Key) (k : ℕ) (l m : FileLooks) → m ≡ look_record_by b key k l → KeepsAsks l m
 extends_by_record b key k l m e = record { kept = subst (Keeps l) (sym e) (by_record b key k l) }
 
-pub nothing_looked : (l : Looks) → ((x : Key) → get l.has x ≡ None) → ((x : Key) → get l.lengths x ≡ None) → ((p : Key × ℕ) → get l.records p ≡ None) → ((d : ℕ) → get l.directories d ≡ None)
+pub nothing_looked : (l : FileLooks) → ((x : Key) → get l.has x ≡ None) → ((x : Key) → get l.lengths x ≡ None) → ((p : Key × ℕ) → get l.records p ≡ None) → ((d : ℕ) → get l.directories d ≡ None)
     → (q : Ask) → is_looked l q ≡ false
 nothing_looked l a b c d (Has k) = ap is_some (a k)
 nothing_looked l a b c d (Length k) = ap is_some (b k)
@@ -82,23 +82,23 @@ no_key m e k = ap (λ x. get x k) (empty_of_len m (number_of e)) ∙ get-empty _
   number_of : (len m == 0) ≡ true → len m ≡ 0
   number_of h = grind arith
 
-pub nothing_asked : (l : Looks) → asks_nothing l ≡ true → (q : Ask) → is_looked l q ≡ false
+pub nothing_asked : (l : FileLooks) → asks_nothing l ≡ true → (q : Ask) → is_looked l q ≡ false
 nothing_asked l e =
     let drives = and_parts (len l.has == 0 && len l.lengths == 0 && len l.records == 0) _ e in
     let records = and_parts (len l.has == 0 && len l.lengths == 0) _ drives.0 in
     let keys = and_parts (len l.has == 0) _ records.0 in
     nothing_looked l (no_key l.has keys.0) (no_key l.lengths keys.1) (no_key l.records records.1) (no_key l.directories drives.1)
 
-pub same_looks : (l m : Looks) → m.has ≡ l.has → m.lengths ≡ l.lengths → m.records ≡ l.records → m.directories ≡ l.directories → m ≡ l
+pub same_looks : (l m : FileLooks) → m.has ≡ l.has → m.lengths ≡ l.lengths → m.records ≡ l.records → m.directories ≡ l.directories → m ≡ l
 same_looks l m a b c d = ap (λ x. record m { has = x }) a ∙ ap (λ x. record m { has = l.has; lengths = x }) b ∙ ap (λ x. record m { has = l.has; lengths = l.lengths; records = x }) c ∙ ap (λ x. record l { directories = x }) d
 
-pub with_directory : (l : Looks) (drive : ℕ) → Keeps l (look_directory drive l)
+pub with_directory : (l : FileLooks) (drive : ℕ) → Keeps l (look_directory drive l)
 with_directory l drive (Has k) h = h
 with_directory l drive (Length k) h = h
 with_directory l drive (Rec k n) h = h
 with_directory l drive (Directory d) h = there_still nat_cmp_total nat_cmp-IsAntisymmetric l.directories drive tt d h
 
-pub extends_by_directory : (drive : ℕ) (l m : Looks) → m ≡ look_directory drive l → Extends l m
+pub extends_by_directory : (drive : ℕ) (l m : FileLooks) → m ≡ look_directory drive l → KeepsAsks l m
 extends_by_directory drive l m e = record { kept = subst (Keeps l) (sym e) (with_directory l drive) }
 
 -- The question was marked, or needed no look.

@@ -2,23 +2,23 @@
 use Rattle.std.specs.Prelude.{◌≡◌, IfOk, OnOk, OnErr}
 use Rattle.std.specs.declared.result.Result.{Result}
 use Rattle.std.specs.declared.alloc.AllocError.{AllocError}
-use Rattle.hostfiles.specs.Files.{Own}
-use Rattle.hostfiles.specs.Looks.{Extends}
+use Rattle.hostfiles.specs.Files.{OwnFiles}
+use Rattle.hostfiles.specs.FileLooks.{KeepsAsks}
 use Rattle.hostfiles.specs.declared.changes.Changes.{Changes}
-use Rattle.hostfiles.specs.declared.looks.Looks.{Looks}
+use Rattle.hostfiles.specs.declared.looks.FileLooks.{FileLooks}
 
 -- The function returns the wanted answer and marks the questions of `look`. If an allocation fails, it has marked at most
 -- these. No question is removed.
-pub record AsksFor {A : Type 0} (result : Result A AllocError) (wanted : A) (look : Looks → Looks) (old new : Looks) : Type 0 where
+pub record AsksFor {A : Type 0} (result : Result A AllocError) (wanted : A) (look : FileLooks → FileLooks) (old new : FileLooks) : Type 0 where
   pub answer : IfOk result (λ a. a ≡ wanted)
   pub looks : OnOk result (new ≡ look old)
-  pub extends : Extends old new
-  pub bound : OnErr result (Extends new (look old))
+  pub extends : KeepsAsks old new
+  pub bound : OnErr result (KeepsAsks new (look old))
 
 -- The same for files to which a run did something, which is unchanged.
-pub record Inquires {A : Type 0} (result : Result A AllocError) (wanted : Own → A) (look : Own → Looks → Looks) (old new : Changes) : Type 0 where
+pub record Inquires {A : Type 0} (result : Result A AllocError) (wanted : OwnFiles → A) (look : OwnFiles → FileLooks → FileLooks) (old new : Changes) : Type 0 where
   pub answer : IfOk result (λ a. a ≡ wanted old.journal.entries)
   pub looks : OnOk result (new.looks ≡ look old.journal.entries old.looks)
-  pub extends : Extends old.looks new.looks
-  pub bound : OnErr result (Extends new.looks (look old.journal.entries old.looks))
+  pub extends : KeepsAsks old.looks new.looks
+  pub bound : OnErr result (KeepsAsks new.looks (look old.journal.entries old.looks))
   pub stays : new.journal ≡ old.journal

@@ -19,8 +19,8 @@ abbrev pub written_filled : ℕ → Record → File → File
 written_filled k r f = slice_set (f ++ replicate (k + 1 - length f) (Some zeros)) k (Some r)
 
 -- The contents of a file: its records, with zeros in its holes.
-abbrev pub told_records : File → List Record
-told_records file = map (λ place. unwrap_or place zeros) file
+abbrev pub contents_of : File → List Record
+contents_of file = map (λ place. unwrap_or place zeros) file
 
 -- The shape of a file: for each record number whether there is a record.
 abbrev pub shape_of : File → Shape

@@ -15,12 +15,12 @@ Record = List ℕ
 abbrev pub Host : Type 0
 Host = FinMap (slice_cmp nat_cmp) (List Record)
 
-abbrev pub filled_up : List ℕ → Record
-filled_up piece = piece ++ replicate (128 - length piece) 26
+abbrev pub padded_record : List ℕ → Record
+padded_record piece = piece ++ replicate (128 - length piece) 26
 
 -- The record with number i of a file with these bytes.
 abbrev pub record_in : List ℕ → ℕ → Record
-record_in bytes i = filled_up (take 128 (drop (128 * i) bytes))
+record_in bytes i = padded_record (take 128 (drop (128 * i) bytes))
 
 -- All records of a file with these bytes.
 abbrev pub records_in : List ℕ → List Record

@@ -2,9 +2,9 @@ pub mod Hosts
 pub mod FilesError
 pub mod Files
 pub mod File
-pub mod Looks
+pub mod FileLooks
 pub mod Above
-pub mod Seen
+pub mod FileView
 pub mod Asking
 pub mod Laid
 pub mod Changed

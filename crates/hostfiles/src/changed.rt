@@ -5,14 +5,14 @@ ghost use Rattle.std.specs.FinMap as finmap;
 ghost use Rattle.std.specs.Str.{bytes_eq};
 ghost use Rattle.std.specs.Cmp.Lexicographic.{pointwise};
 ghost use Rattle.records.specs.Records.{zeros};
-ghost use Rattle.hostfiles.specs.Files.{entry_at, file_of, place_of, length_at};
-ghost use Rattle.hostfiles.specs.File.{told_records};
+ghost use Rattle.hostfiles.specs.Files.{entry_at, file_of, record_of, length_at};
+ghost use Rattle.hostfiles.specs.File.{contents_of};
 ghost use Rattle.hostfiles.specs.Changed.{is_changed, ChangedIsOther};
 
+use crate::contents::record_or_zeros;
 use crate::host::{HostFile, HostFiles};
-use crate::joined;
 use crate::journal::{Base, Entry, Journal};
-use crate::told::told_content;
+use crate::lookup;
 use filenames::Key;
 
 /// Returns whether the run left this file different from its host file: only one of them exists, their lengths differ, or
@@ -24,12 +24,12 @@ pub fn is_changed(host: &HostFiles, journal: &Journal, key: &Key) -> bool
         return false;
     };
     let Some(file) = host.file(key) else {
-        return joined::has(host, journal, key);
+        return lookup::has(host, journal, key);
     };
-    if !joined::has(host, journal, key) {
+    if !lookup::has(host, journal, key) {
         return true;
     }
-    if joined::length(host, journal, key) != file.len() {
+    if lookup::length(host, journal, key) != file.len() {
         return true;
     }
     has_other_record(host, journal, key, entry, file)
@@ -47,7 +47,7 @@ fn has_other_record(
     requires file { finmap.get host.now key.now ≡ Some file.now }
     requires length { length_at host.now journal.now.entries key.now ≡ length file.now }
     ensures { let seen = file_of host.now key.now (entry_at journal.now.entries key.now) in
-        result ≡ not (pointwise bytes_eq (told_records seen) file.now) }
+        result ≡ not (pointwise bytes_eq (contents_of seen) file.now) }
 {
     for place in 0..file.len() {
         if is_other_record(host, journal, key, entry, file, place) {
@@ -70,13 +70,13 @@ fn is_other_record(
     requires entry { entry_at journal.now.entries key.now ≡ entry.now }
     requires file { finmap.get host.now key.now ≡ Some file.now }
     requires within { place < length file.now }
-    ensures { let seen = place_of host.now key.now (entry_at journal.now.entries key.now) place in
+    ensures { let seen = record_of host.now key.now (entry_at journal.now.entries key.now) place in
         result ≡ not (bytes_eq (unwrap_or seen zeros) (get_or file.now place zeros)) }
 {
     if is_unwritten(entry, place) {
         return false;
     }
-    let told = told_content(host, journal, key, place);
+    let told = record_or_zeros(host, journal, key, place);
     match file.get(place) {
         Some(record) => *record != told,
         None => true,

@@ -2,10 +2,10 @@
 
 ghost use Rattle.std.specs.Prelude.{◌≡◌, true, false, IfOk, IfSome, IfNone};
 ghost use Rattle.std.specs.FinMap as finmap;
-ghost use Rattle.hostfiles.specs.Looks.{no_looks, is_looked, asks_nothing, forgot, IsUnasked};
+ghost use Rattle.hostfiles.specs.FileLooks.{no_looks, is_looked, asks_nothing, without_ask, IsUnasked};
 
 use crate::journal::Journal;
-use crate::looks::{Ask, Looks};
+use crate::looks::{Ask, FileLooks};
 use std::alloc::{AllocError, Global};
 
 /// What a run did to files, and its questions to the host files.
@@ -14,7 +14,7 @@ pub struct Changes {
     /// What the run did to files.
     pub journal: Journal,
     /// The questions that the run asked the host files.
-    pub looks: Looks,
+    pub looks: FileLooks,
 }
 
 impl Changes {
@@ -25,7 +25,7 @@ impl Changes {
     {
         Changes {
             journal: Journal::new(alloc),
-            looks: Looks::new(alloc),
+            looks: FileLooks::new(alloc),
         }
     }
 
@@ -65,7 +65,7 @@ impl Changes {
     /// Removes and returns one of the questions, or `None` if there are none. Allocates nothing.
     pub fn take_look(&mut self) -> Option<Ask>
         ensures there { IfSome result (λ q. is_looked self.old.looks q ≡ true) }
-        ensures some { IfSome result (λ q. self.new.looks ≡ forgot q self.old.looks) }
+        ensures some { IfSome result (λ q. self.new.looks ≡ without_ask q self.old.looks) }
         ensures none { IfNone result ((self.new.looks ≡ self.old.looks) × IsUnasked self.old.looks) }
         ensures stays { self.new.journal ≡ self.old.journal }
     {

@@ -6,13 +6,13 @@ ghost use Rattle.std.specs.Option.{option_map, option_and_then};
 ghost use Rattle.std.specs.FinMap as finmap;
 ghost use Rattle.keymaps.specs.Order.{is_above};
 ghost use Rattle.hostfiles.specs.Above.{AllAbove, AllBetween};
-ghost use Rattle.hostfiles.specs.Files.{told, is_listed};
-ghost use Rattle.hostfiles.specs.Hosts.{records_in, record_in, filled_up, refusal_of, has_room, IsHost};
+ghost use Rattle.hostfiles.specs.Files.{file_contents, is_listed};
+ghost use Rattle.hostfiles.specs.Hosts.{records_in, record_in, padded_record, refusal_of, has_room, IsHost};
 
 use crate::changes::Changes;
-use crate::listed::next_name;
+use crate::contents::{contents_count, contents_record};
+use crate::directory_view::next_name;
 use crate::names::key_if_any;
-use crate::told::{told_count, told_record};
 use filenames::{Key, Name};
 use keymaps::KeyMap;
 use records::{RECORD_BYTES, Record};
@@ -55,7 +55,7 @@ impl HostFile {
         let count = (bytes.len() + RECORD_BYTES - 1) / RECORD_BYTES;
         let mut records = Vec::with_capacity(alloc, count)?;
         for i in 0..count {
-            records.push(record_at(bytes, i))?;
+            records.push(record_in(bytes, i))?;
         }
         Ok(HostFile { records })
     }
@@ -76,21 +76,21 @@ impl HostFile {
 }
 
 // Returns the record with this number, padded with 1AH.
-fn record_at(bytes: &[u8], i: usize) -> Record
+fn record_in(bytes: &[u8], i: usize) -> Record
     requires { 128 * i < length bytes.now }
     ensures { result ≡ record_in bytes.now i }
 {
     let start = RECORD_BYTES * i;
     if bytes.len() - start > RECORD_BYTES {
-        return filled_up(&bytes[start..start + RECORD_BYTES]);
+        return padded_record(&bytes[start..start + RECORD_BYTES]);
     }
-    filled_up(&bytes[start..])
+    padded_record(&bytes[start..])
 }
 
 // Returns up to 128 bytes, padded with 1AH.
-fn filled_up(piece: &[u8]) -> Record
+fn padded_record(piece: &[u8]) -> Record
     requires { length piece.now ≤ 128 }
-    ensures { result ≡ filled_up piece.now }
+    ensures { result ≡ padded_record piece.now }
 {
     let mut record = [0x1a; RECORD_BYTES];
     record[..piece.len()].copy_from_slice(piece);
@@ -136,11 +136,11 @@ pub enum FilesError {
 }
 
 impl FilesError {
-    ghost use Rattle.hostfiles.specs.FilesError.{number_of};
+    ghost use Rattle.hostfiles.specs.FilesError.{files_error_number};
 
     /// Returns the number of the refusal: 1, 2 or 3.
     pub fn number(self) -> u8
-        ensures { result ≡ number_of self }
+        ensures { result ≡ files_error_number self }
     {
         match self {
             FilesError::FileTooLong => 1,
@@ -285,18 +285,18 @@ impl HostFiles {
 
     /// Returns the number of records of a file after these changes, or `None` if there is no such file. Marks no look.
     pub fn records_with(&self, changes: &Changes, name: &Name) -> Option<u32>
-        ensures { result ≡ option_map length (told self.now changes.now.journal.entries name.now) }
+        ensures { result ≡ option_map length (file_contents self.now changes.now.journal.entries name.now) }
     {
-        told_count(self, &changes.journal, &name.key())
+        contents_count(self, &changes.journal, &name.key())
     }
 
     /// Returns a record of a file after these changes, with zeros in a hole, or `None` if there is no such file or it is too
     /// short. Marks no look.
     pub fn record_with(&self, changes: &Changes, name: &Name, place: u32) -> Option<Record>
-        ensures { let seen = told self.now changes.now.journal.entries name.now in
+        ensures { let seen = file_contents self.now changes.now.journal.entries name.now in
             result ≡ option_and_then (λ records. slice_get records place) seen }
     {
-        told_record(self, &changes.journal, &name.key(), place)
+        contents_record(self, &changes.journal, &name.key(), place)
     }
 
     /// Returns the least name above `after`, by key, of a file after these changes, or `None` if there is none. Every name is

@@ -2,8 +2,8 @@
 
 ghost use Rattle.std.specs.Prelude.{◌≡◌, ◌≢◌, ◌<◌, ℕ, true, IfOk, OnOk, OnErr};
 ghost use Rattle.std.specs.FinMap as finmap;
-ghost use Rattle.hostfiles.specs.Files.{untouched, nothing, fresh, written_entry, grown_by, moved};
-ghost use Rattle.hostfiles.specs.Files.{stored, made, deleted, renamed};
+ghost use Rattle.hostfiles.specs.Files.{untouched_entry, gone_entry, new_entry, entry_after_write, growth_after, renamed_from};
+ghost use Rattle.hostfiles.specs.Files.{after_write, after_make, after_delete, after_rename};
 
 use filenames::Key;
 use keymaps::KeyMap;
@@ -25,7 +25,7 @@ pub enum Base {
 
 /// The growth of a file that was made or made longer.
 #[derive(Clone, Copy)]
-pub struct Grown {
+pub struct Growth {
     /// The record number from which on no unwritten record is the host file's.
     pub from: u32,
     /// The length of the file, in records.
@@ -38,7 +38,7 @@ pub struct Entry {
     /// Where the unwritten records of the file come from.
     pub base: Base,
     /// The growth of the file, if it was made or made longer.
-    pub grown: Option<Grown>,
+    pub grown: Option<Growth>,
     /// The written records, including zeros that fill a gap.
     pub records: Records,
 }
@@ -66,7 +66,7 @@ impl Clone for Entry {
 impl Entry {
     /// Creates the entry of a file to which nothing was done.
     pub fn untouched(alloc: Global) -> Self
-        ensures { result ≡ untouched }
+        ensures { result ≡ untouched_entry }
     {
         Self {
             base: Base::Same,
@@ -76,8 +76,8 @@ impl Entry {
     }
 
     /// Creates the entry of a file that is gone.
-    pub fn nothing(alloc: Global) -> Self
-        ensures { result ≡ nothing }
+    pub fn gone(alloc: Global) -> Self
+        ensures { result ≡ gone_entry }
     {
         Self {
             base: Base::Gone,
@@ -87,12 +87,12 @@ impl Entry {
     }
 
     /// Creates the entry of a file that was made and is empty.
-    pub fn fresh(alloc: Global) -> Self
-        ensures { result ≡ fresh }
+    pub fn created(alloc: Global) -> Self
+        ensures { result ≡ new_entry }
     {
         Self {
             base: Base::New,
-            grown: Some(Grown { from: 0, to: 0 }),
+            grown: Some(Growth { from: 0, to: 0 }),
             records: Records::new(alloc),
         }
     }
@@ -101,7 +101,7 @@ impl Entry {
     /// holes, or records of zeros if `filled` is set. On `Err`, which means out of memory, nothing changes.
     pub fn write(&mut self, n: u32, k: u32, bytes: &Record, filled: bool) -> Result<(), AllocError>
         requires { k < 65536 }
-        ensures ok { OnOk result (self.new ≡ written_entry filled n k bytes.now self.old) }
+        ensures ok { OnOk result (self.new ≡ entry_after_write filled n k bytes.now self.old) }
         ensures err { OnErr result (self.new ≡ self.old) }
     {
         if filled && k > n {
@@ -118,20 +118,20 @@ impl Entry {
     // Sets the growth after record `k` of a file of length `n` is written.
     fn grow(&mut self, n: u32, k: u32)
         requires { k < 65536 }
-        ensures { self.new ≡ record self.old { grown = grown_by n k self.old.grown } }
+        ensures { self.new ≡ record self.old { grown = growth_after n k self.old.grown } }
     {
         if k >= n {
             let from = match self.grown {
                 None => n,
                 Some(grown) => grown.from,
             };
-            self.grown = Some(Grown { from, to: k + 1 });
+            self.grown = Some(Growth { from, to: k + 1 });
         }
     }
 
     /// Returns the entry of the file under another key, after a rename from `key`.
-    pub fn moved(self, key: &Key) -> Self
-        ensures { result ≡ moved key.now self }
+    pub fn renamed_from(self, key: &Key) -> Self
+        ensures { result ≡ renamed_from key.now self }
     {
         let base = match self.base {
             Base::Same => Base::Moved(*key),
@@ -168,18 +168,18 @@ impl Journal {
 
     /// Makes an empty file. On `Err`, which means out of memory, nothing changes.
     pub fn make(&mut self, key: &Key) -> Result<(), AllocError>
-        ensures ok { OnOk result (self.new.entries ≡ made self.old.entries key.now) }
+        ensures ok { OnOk result (self.new.entries ≡ after_make self.old.entries key.now) }
         ensures err { OnErr result (self.new.entries ≡ self.old.entries) }
     {
-        self.entries.insert(*key, Entry::fresh(self.alloc))
+        self.entries.insert(*key, Entry::created(self.alloc))
     }
 
     /// Deletes a file. On `Err`, which means out of memory, nothing changes.
     pub fn delete(&mut self, key: &Key) -> Result<(), AllocError>
-        ensures ok { OnOk result (self.new.entries ≡ deleted self.old.entries key.now) }
+        ensures ok { OnOk result (self.new.entries ≡ after_delete self.old.entries key.now) }
         ensures err { OnErr result (self.new.entries ≡ self.old.entries) }
     {
-        self.entries.insert(*key, Entry::nothing(self.alloc))
+        self.entries.insert(*key, Entry::gone(self.alloc))
     }
 
     /// Writes record `k` of a file of length `n`. If `k` is past the end, the record numbers from `n` to `k - 1` become
@@ -193,7 +193,8 @@ impl Journal {
         filled: bool,
     ) -> Result<(), AllocError>
         requires { k < 65536 }
-        ensures ok { OnOk result (self.new.entries ≡ stored filled n self.old.entries key.now k bytes.now) }
+        ensures ok { OnOk result
+            (self.new.entries ≡ after_write filled n self.old.entries key.now k bytes.now) }
         ensures err { OnErr result (self.new.entries ≡ self.old.entries) }
     {
         if let Some(written) = self
@@ -210,13 +211,13 @@ impl Journal {
     /// Renames a file. On `Err`, which means out of memory, nothing changes.
     pub fn rename(&mut self, old: &Key, new: &Key) -> Result<(), AllocError>
         requires { old.now ≢ new.now }
-        ensures ok { OnOk result (self.new.entries ≡ renamed self.old.entries old.now new.now) }
+        ensures ok { OnOk result (self.new.entries ≡ after_rename self.old.entries old.now new.now) }
         ensures err { OnErr result (self.new.entries ≡ self.old.entries) }
     {
         if self.entries.contains_key(new) {
             return self.rename_onto(old, new);
         }
-        self.entries.insert(*new, Entry::nothing(self.alloc))?;
+        self.entries.insert(*new, Entry::gone(self.alloc))?;
         if let Err(refused) = self.rename_onto(old, new) {
             self.entries.remove(new);
             return Err(refused);
@@ -228,16 +229,17 @@ impl Journal {
     fn rename_onto(&mut self, old: &Key, new: &Key) -> Result<(), AllocError>
         requires apart { old.now ≢ new.now }
         requires entry { finmap.contains_key self.old.entries new.now ≡ true }
-        ensures ok { OnOk result (self.new.entries ≡ renamed self.old.entries old.now new.now) }
+        ensures ok { OnOk result (self.new.entries ≡ after_rename self.old.entries old.now new.now) }
         ensures err { OnErr result (self.new.entries ≡ self.old.entries) }
     {
         let alloc = self.alloc;
-        let Some(entry) = self.entries.replace(old, Entry::nothing(alloc)) else {
-            self.entries.insert(*old, Entry::nothing(alloc))?;
-            self.entries.put(new, Entry::untouched(alloc).moved(old));
+        let Some(entry) = self.entries.replace(old, Entry::gone(alloc)) else {
+            self.entries.insert(*old, Entry::gone(alloc))?;
+            self.entries
+                .put(new, Entry::untouched(alloc).renamed_from(old));
             return Ok(());
         };
-        self.entries.put(new, entry.moved(old));
+        self.entries.put(new, entry.renamed_from(old));
         Ok(())
     }
 }

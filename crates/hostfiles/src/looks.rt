@@ -1,12 +1,12 @@
 // The questions that a run asks the host files.
 
 ghost use Rattle.std.specs.Prelude.{◌≡◌, true, OnOk, OnErr, IfOk, IfSome, IfNone};
-ghost use Rattle.hostfiles.specs.Looks.{is_looked, asks_nothing, no_looks, forgot, IsUnasked};
-ghost use Rattle.hostfiles.specs.Looks.{look_has_by, look_length_by, look_record_by, look_directory};
+ghost use Rattle.hostfiles.specs.FileLooks.{is_looked, asks_nothing, no_looks, without_ask, IsUnasked};
+ghost use Rattle.hostfiles.specs.FileLooks.{look_has_by, look_length_by, look_record_by, look_directory};
 
-use crate::journal::{Base, Grown};
+use crate::journal::{Base, Growth};
 use filenames::Key;
-use keymaps::{DriveSet, KeySet, PlaceSet};
+use keymaps::{DriveSet, KeySet, RecordSet};
 use std::alloc::{AllocError, Global};
 
 /// A question that a run asks the host files.
@@ -24,18 +24,18 @@ pub enum Ask {
 
 /// The questions that a run asked the host files, each once.
 #[derive(Drop)]
-pub struct Looks {
+pub struct FileLooks {
     /// The keys of the files whose presence was asked.
     pub has: KeySet,
     /// The keys of the files whose lengths were asked.
     pub lengths: KeySet,
     /// The records whose contents were asked.
-    pub records: PlaceSet,
+    pub records: RecordSet,
     /// The drives whose directories were asked.
     pub directories: DriveSet,
 }
 
-impl Looks {
+impl FileLooks {
     /// Creates a set with no questions. Allocates nothing.
     pub fn new(alloc: Global) -> Self
         ensures { result ≡ no_looks }
@@ -43,7 +43,7 @@ impl Looks {
         Self {
             has: KeySet::new(alloc),
             lengths: KeySet::new(alloc),
-            records: PlaceSet::new(alloc),
+            records: RecordSet::new(alloc),
             directories: DriveSet::new(),
         }
     }
@@ -89,7 +89,7 @@ impl Looks {
     pub fn mark_length(
         &mut self,
         base: Base,
-        grown: Option<Grown>,
+        grown: Option<Growth>,
         key: &Key,
     ) -> Result<(), AllocError>
         ensures ok { OnOk result (self.new ≡ look_length_by base grown key.now self.old) }
@@ -128,10 +128,10 @@ impl Looks {
     }
 
     /// Returns a copy of the set. `Err` means out of memory.
-    pub fn snapshot(&self) -> Result<Looks, AllocError>
+    pub fn snapshot(&self) -> Result<FileLooks, AllocError>
         ensures { IfOk result (λ l. l ≡ self.now) }
     {
-        Ok(Looks {
+        Ok(FileLooks {
             has: self.has.snapshot()?,
             lengths: self.lengths.snapshot()?,
             records: self.records.snapshot()?,
@@ -152,7 +152,7 @@ impl Looks {
     /// Removes and returns one of the questions, or `None` if there are none. Allocates nothing.
     pub fn take(&mut self) -> Option<Ask>
         ensures there { IfSome result (λ q. is_looked self.old q ≡ true) }
-        ensures some { IfSome result (λ q. self.new ≡ forgot q self.old) }
+        ensures some { IfSome result (λ q. self.new ≡ without_ask q self.old) }
         ensures none { IfNone result ((self.new ≡ self.old) × IsUnasked self.old) }
     {
         if let Some(key) = self.has.pop() {

@@ -1,18 +1,18 @@
 -- On any machine, what no step looks at has no influence.
 use Rattle.std.proofs.Common.{◌≡◌, ℕ, zero, suc, ◌<◌, List, [], ◌∷◌, ◌++◌, refl, ap, sym, ◌∙◌, arith, Option, Some, None}
-use Rattle.interaction_trees.specs.Tree.{Tree, Return, Query, result_of, asked, AgreeOn, returning}
+use Rattle.interaction_trees.specs.Tree.{Tree, Return, Query, result_of, questions_of, AgreeOn, map_result}
 use Rattle.interaction_trees.specs.Outcome.{Outcome}
-use Rattle.interaction_trees.specs.Dependence.{state_of, laid, passed_on}
+use Rattle.interaction_trees.specs.Dependence.{state_of, laid, session_questions}
 use Rattle.interaction_trees.specs.Dependence as dependence
 
 module _ {S : Type 0} {B : S → Type 0} where
   -- Answers that agree on the questions that a tree asks lead to the same result.
-  pub same_result : {E : Type 0} (f g : (s : S) → B s) (t : Tree S B E) → AgreeOn (asked f t) f g → result_of g t ≡ result_of f t
+  pub same_result : {E : Type 0} (f g : (s : S) → B s) (t : Tree S B E) → AgreeOn (questions_of f t) f g → result_of g t ≡ result_of f t
   same_result f g (Return e) h = refl
   same_result f g (Query q k) h = rw (← h.0) (same_result f g (k (f q)) h.1)
 
   -- They also lead to the same questions.
-  pub same_asked : {E : Type 0} (f g : (s : S) → B s) (t : Tree S B E) → AgreeOn (asked f t) f g → asked g t ≡ asked f t
+  pub same_asked : {E : Type 0} (f g : (s : S) → B s) (t : Tree S B E) → AgreeOn (questions_of f t) f g → questions_of g t ≡ questions_of f t
   same_asked f g (Return e) h = refl
   same_asked f g (Query q k) h = rw (← h.0) (ap (λ qs. q ∷ qs) (same_asked f g (k (f q)) h.1))
 
@@ -21,11 +21,11 @@ module _ {S : Type 0} {B : S → Type 0} where
   same_everywhere f g (Return e) h = refl
   same_everywhere f g (Query q k) h = rw (h q) (same_everywhere f g (k (g q)) h)
 
-  pub result_of-returning : {E F : Type 0} (f : (s : S) → B s) (h : E → F) (t : Tree S B E) → result_of f (returning h t) ≡ h (result_of f t)
+  pub result_of-returning : {E F : Type 0} (f : (s : S) → B s) (h : E → F) (t : Tree S B E) → result_of f (map_result h t) ≡ h (result_of f t)
   result_of-returning f h (Return e) = refl
   result_of-returning f h (Query q k) = result_of-returning f h (k (f q))
 
-  pub asked-returning : {E F : Type 0} (f : (s : S) → B s) (h : E → F) (t : Tree S B E) → asked f (returning h t) ≡ asked f t
+  pub asked-returning : {E F : Type 0} (f : (s : S) → B s) (h : E → F) (t : Tree S B E) → questions_of f (map_result h t) ≡ questions_of f t
   asked-returning f h (Return e) = refl
   asked-returning f h (Query q k) = ap (λ (qs : List S). q ∷ qs) (asked-returning f h (k (f q)))
 
@@ -39,15 +39,15 @@ module _ {S : Type 0} {B : S → Type 0} where
 
 module _ {S : Type 0} {B : S → Type 0} {Q : Type 0} {A : Q → Type 0} {W : Type 0} (part : W → (q : Q) → Tree S B (A q)) where
   -- If two sessions agree on the questions that reach them, the states agree.
-  pub laid_agree : (w : W) (f g : (s : S) → B s) (qs : List Q) → AgreeOn (passed_on part w f qs) f g → AgreeOn qs (laid part w f) (laid part w g)
+  pub laid_agree : (w : W) (f g : (s : S) → B s) (qs : List Q) → AgreeOn (session_questions part w f qs) f g → AgreeOn qs (laid part w f) (laid part w g)
   laid_agree w f g [] h = tt
   laid_agree w f g (q ∷ qs) h =
       (sym (same_result f g (part w q) (agree_left f g _ _ h)), laid_agree w f g qs (agree_right f g _ _ h))
 
-  pub same_passed : (w : W) (f g : (s : S) → B s) (qs : List Q) → AgreeOn (passed_on part w f qs) f g → passed_on part w g qs ≡ passed_on part w f qs
+  pub same_passed : (w : W) (f g : (s : S) → B s) (qs : List Q) → AgreeOn (session_questions part w f qs) f g → session_questions part w g qs ≡ session_questions part w f qs
   same_passed w f g [] h = refl
   same_passed w f g (q ∷ qs) h =
-      rw (same_asked f g (part w q) (agree_left f g _ _ h)) (ap (λ qs. asked f (part w q) ++ qs) (same_passed w f g qs (agree_right f g _ _ h)))
+      rw (same_asked f g (part w q) (agree_left f g _ _ h)) (ap (λ qs. questions_of f (part w q) ++ qs) (same_passed w f g qs (agree_right f g _ _ h)))
 
 module _ {S : Type 0} {B : S → Type 0} {Q : Type 0} {A : Q → Type 0} {W St R X : Type 0}
     (part : W → (q : Q) → Tree S B (A q)) (own : St → W) (next : St → Tree Q A R) (made : St → R → Outcome St X) (start : St) where
@@ -58,13 +58,13 @@ module _ {S : Type 0} {B : S → Type 0} {Q : Type 0} {A : Q → Type 0} {W St R
   looks_at = dependence.looks_at part own next made start
 
   abbrev then_step : ((s : S) → B s) → Option St → Option St
-  then_step = dependence.then_step part own next made start
+  then_step = dependence.next_state part own next made start
 
   abbrev after : ((s : S) → B s) → ℕ → Option St
   after = dependence.after part own next made start
 
   abbrev looks_of : ((s : S) → B s) → Option St → List S
-  looks_of = dependence.looks_of part own next made start
+  looks_of = dependence.looks_if_any part own next made start
 
   abbrev looks : ((s : S) → B s) → ℕ → List S
   looks = dependence.looks part own next made start

@@ -5,7 +5,7 @@
 -- state. R: the result of a step's tree of questions. X: the cause of a stop.
 use Rattle.std.specs.Prelude.{◌≡◌, ℕ, zero, suc, ◌<◌, List, [], ◌∷◌, ◌++◌, Option, Some, None}
 use Rattle.interaction_trees.specs.Outcome.{Outcome, Step, Stop}
-use Rattle.interaction_trees.specs.Tree.{Tree, result_of, asked, AgreeOn}
+use Rattle.interaction_trees.specs.Tree.{Tree, result_of, questions_of, AgreeOn}
 
 -- The state answers each question by a small tree over the session. About what the run wrote itself it asks the session
 -- nothing.
@@ -15,9 +15,9 @@ module _ {S : Type 0} {B : S → Type 0} {Q : Type 0} {A : Q → Type 0} {W : Ty
   laid w f q = result_of f (part w q)
 
   -- The questions that the session is asked in order to answer these questions of the state.
-  abbrev pub passed_on : W → ((s : S) → B s) → List Q → List S
-  passed_on w f [] = []
-  passed_on w f (q ∷ qs) = asked f (part w q) ++ passed_on w f qs
+  abbrev pub session_questions : W → ((s : S) → B s) → List Q → List S
+  session_questions w f [] = []
+  session_questions w f (q ∷ qs) = questions_of f (part w q) ++ session_questions w f qs
 
 abbrev pub state_of : {St X : Type 0} → Outcome St X → Option St
 state_of (Step st) = Some st
@@ -31,24 +31,24 @@ module _ {S : Type 0} {B : S → Type 0} {Q : Type 0} {A : Q → Type 0} {W St R
 
   -- The questions that the session is asked at a state, also if the outcome is a stop.
   unfoldable pub looks_at : ((s : S) → B s) → St → List S
-  looks_at f st = passed_on part (own st) f (asked (laid part (own st) f) (next st))
+  looks_at f st = session_questions part (own st) f (questions_of (laid part (own st) f) (next st))
 
-  abbrev pub then_step : ((s : S) → B s) → Option St → Option St
-  then_step f None = None
-  then_step f (Some st) = state_of (outcome f st)
+  abbrev pub next_state : ((s : S) → B s) → Option St → Option St
+  next_state f None = None
+  next_state f (Some st) = state_of (outcome f st)
 
   -- The state after n steps, or none if the run stops earlier.
   unfoldable pub after : ((s : S) → B s) → ℕ → Option St
   after f zero = Some start
-  after f (suc n) = then_step f (after f n)
+  after f (suc n) = next_state f (after f n)
 
-  abbrev pub looks_of : ((s : S) → B s) → Option St → List S
-  looks_of f None = []
-  looks_of f (Some st) = looks_at f st
+  abbrev pub looks_if_any : ((s : S) → B s) → Option St → List S
+  looks_if_any f None = []
+  looks_if_any f (Some st) = looks_at f st
 
   -- The questions that the session is asked at the state after n steps, if there is one.
   unfoldable pub looks : ((s : S) → B s) → ℕ → List S
-  looks f n = looks_of f (after f n)
+  looks f n = looks_if_any f (after f n)
 
   -- Prefix dependence: what no step below n looks at has no influence on the state after n steps, nor on the looks of these
   -- steps.

@@ -14,14 +14,14 @@ module _ {Q : Type 0} {A : Q → Type 0} where
   result_of f (Query q k) = result_of f (k (f q))
 
   -- The questions that the tree asks with the answers of f, in order.
-  abbrev pub asked : {E : Type 0} → ((q : Q) → A q) → Tree Q A E → List Q
-  asked f (Return e) = []
-  asked f (Query q k) = q ∷ asked f (k (f q))
+  abbrev pub questions_of : {E : Type 0} → ((q : Q) → A q) → Tree Q A E → List Q
+  questions_of f (Return e) = []
+  questions_of f (Query q k) = q ∷ questions_of f (k (f q))
 
   -- The tree with a function applied to its result.
-  abbrev pub returning : {E F : Type 0} → (E → F) → Tree Q A E → Tree Q A F
-  returning h (Return e) = Return (h e)
-  returning h (Query q k) = Query q (λ a. returning h (k a))
+  abbrev pub map_result : {E F : Type 0} → (E → F) → Tree Q A E → Tree Q A F
+  map_result h (Return e) = Return (h e)
+  map_result h (Query q k) = Query q (λ a. map_result h (k a))
 
   -- f and g give the same answer to each of these questions.
   abbrev pub AgreeOn : List Q → ((q : Q) → A q) → ((q : Q) → A q) → Type 0

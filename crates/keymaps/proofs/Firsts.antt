@@ -12,7 +12,7 @@ use Rattle.std.proofs.lemmas.Slice.Eq.{slice_eq-Decides}
 use Rattle.filenames.specs.Names.{Key}
 use Rattle.std.specs.FinMap.{FinMap, IsAntisymmetric, empty, get, contains_key, insert, remove, len, get-empty, get-insert, get-remove, len-empty, len-insert, same_map}
 use Rattle.keymaps.specs.Walks.{IsAbsent}
-use Rattle.keymaps.specs.Firsts.{with_first, IsApart}
+use Rattle.keymaps.specs.Firsts.{with_first, IsFirstApart}
 use Rattle.keymaps.proofs.Views.{key_of, get_here, get_apart, insert_same, remove_back, same_pair}
 
 swap : {A : Type 0} (a b : Bool) (x z : A) → cond a x (cond b x z) ≡ cond b x (cond a x z)
@@ -54,9 +54,9 @@ module _ {K : Type 0} {R : K → K → Ordering} (o : IsTotalOrder R) (same : Is
       alone : rest ≡ set
       alone = sym (ap (λ f. with_first f rest) none) ∙ view
 
-      module _ (apart : IsApart first rest) where
+      module _ (apart : IsFirstApart first rest) where
         nothing : rest ≡ empty
-        nothing = subst (λ f. IsApart f rest) none apart
+        nothing = subst (λ f. IsFirstApart f rest) none apart
 
         pub none_in : (q : K) → get set q ≡ None
         none_in q = ap (λ m. get m q) (sym alone ∙ nothing) ∙ get-empty R q
@@ -86,28 +86,28 @@ module _ {K : Type 0} {R : K → K → Ordering} (o : IsTotalOrder R) (same : Is
       more (Ok x) others q h = ap (with_first first) h ∙ ap (λ f. with_first f (insert rest q tt)) some ∙ insert_swap rest q k ∙ ap (λ m. insert m q tt) inserted
       more (Err x) others q h = tt
 
-      module _ (apart : IsApart first rest) where
+      module _ (apart : IsFirstApart first rest) where
         absent : get rest k ≡ None
-        absent = subst (λ f. IsApart f rest) some apart
+        absent = subst (λ f. IsFirstApart f rest) some apart
 
         pub one_counted : len rest + 1 ≡ len set
         one_counted = sym (ap len (sym inserted) ∙ len-insert o rest k tt ∙ ap (λ b. cond b (len rest) (len rest + 1)) (ap is_some absent))
 
-        pub more_apart : {E : Type 0} (r : Result (Unit {0}) E) (others : FinMap R (Unit {0})) (q : K) → k ≢ q → OnOk r (others ≡ insert rest q tt) → OnErr r (others ≡ rest) → IsApart first others
-        more_apart (Ok x) others q h ok err = subst (λ f. IsApart f others) (sym some) (ap (λ m. get m k) ok ∙ get_apart o same rest q tt k h ∙ absent)
-        more_apart (Err x) others q h ok err = subst (IsApart first) (sym err) apart
+        pub more_apart : {E : Type 0} (r : Result (Unit {0}) E) (others : FinMap R (Unit {0})) (q : K) → k ≢ q → OnOk r (others ≡ insert rest q tt) → OnErr r (others ≡ rest) → IsFirstApart first others
+        more_apart (Ok x) others q h ok err = subst (λ f. IsFirstApart f others) (sym some) (ap (λ m. get m k) ok ∙ get_apart o same rest q tt k h ∙ absent)
+        more_apart (Err x) others q h ok err = subst (IsFirstApart first) (sym err) apart
 
   -- ---- if one of the others is removed
 
-  pub fewer_apart : (rest : FinMap R (Unit {0})) (first : Option K) (key : K) → contains_key rest key ≡ true → IsApart first rest → IsApart first (remove rest key)
+  pub fewer_apart : (rest : FinMap R (Unit {0})) (first : Option K) (key : K) → contains_key rest key ≡ true → IsFirstApart first rest → IsFirstApart first (remove rest key)
   fewer_apart rest None key there apart = let h : true ≡ false = sym there ∙ ap (λ m. contains_key m key) apart ∙ ap is_some (get-empty R key) in cc
   fewer_apart rest (Some k) key there apart = absent_without rest k key apart
 
-  pub without : (rest set : FinMap R (Unit {0})) (first : Option K) (key : K) → with_first first rest ≡ set → contains_key rest key ≡ true → IsApart first rest → with_first first (remove rest key) ≡ remove set key
+  pub without : (rest set : FinMap R (Unit {0})) (first : Option K) (key : K) → with_first first rest ≡ set → contains_key rest key ≡ true → IsFirstApart first rest → with_first first (remove rest key) ≡ remove set key
   without rest set None key view there apart = ap (λ m. remove m key) view
   without rest set (Some k) key view there apart = insert_remove rest k key (absent_apart rest k key apart there) ∙ ap (λ m. remove m key) view
 
-  pub there_with : (rest set : FinMap R (Unit {0})) (first : Option K) (key : K) → with_first first rest ≡ set → contains_key rest key ≡ true → IsApart first rest → contains_key set key ≡ true
+  pub there_with : (rest set : FinMap R (Unit {0})) (first : Option K) (key : K) → with_first first rest ≡ set → contains_key rest key ≡ true → IsFirstApart first rest → contains_key set key ≡ true
   there_with rest set None key view there apart = ap (λ m. contains_key m key) (sym view) ∙ there
   there_with rest set (Some k) key view there apart =
       ap (λ m. contains_key m key) (sym view)
@@ -123,7 +123,7 @@ module _ {K : Type 0} {R : K → K → Ordering} (o : IsTotalOrder R) (same : Is
   there_last rest set None view = tt
   there_last rest set (Some k) view = ap is_some (there_first rest set (Some k) view k refl k refl)
 
-  pub without_last : (rest set : FinMap R (Unit {0})) (first : Option K) → with_first first rest ≡ set → IsApart first rest → IfSome first (λ key. rest ≡ remove set key)
+  pub without_last : (rest set : FinMap R (Unit {0})) (first : Option K) → with_first first rest ≡ set → IsFirstApart first rest → IfSome first (λ key. rest ≡ remove set key)
   without_last rest set None view apart = tt
   without_last rest set (Some k) view apart = sym (remove_back o same rest k tt apart) ∙ ap (λ m. remove m k) view
 

@@ -10,7 +10,7 @@ use Rattle.std.specs.List.{filter}
 use Rattle.std.specs.FinMap.{FinMap, find, get, len, len-entries, entries, entries_sorted, get-entries}
 use Rattle.filenames.specs.Names.{Key}
 use Rattle.keymaps.specs.Order.{is_above}
-use Rattle.keymaps.specs.Walks.{EachBetween, IsAbsent, left}
+use Rattle.keymaps.specs.Walks.{EachBetween, IsAbsent, count_above}
 use Rattle.keymaps.proofs.Rising.{here, begins}
 use Rattle.keymaps.proofs.Views.{same_key}
 
@@ -30,8 +30,8 @@ one k (Some v) h es = omega arith
 
 -- There are fewer keys above the least key above a bound than above the bound.
 pub fewer : {X : Type 0} (m : FinMap (slice_cmp nat_cmp) X) (after : Option Key) (k : Key) → is_above after k ≡ true → is_some (get m k) ≡ true
-    → ((x : Key) → is_above after x ≡ true → slice_cmp nat_cmp x k ≡ Less → get m x ≡ None) → left m (Some k) < left m after
-unfolding left
+    → ((x : Key) → is_above after x ≡ true → slice_cmp nat_cmp x k ≡ Less → get m x ≡ None) → count_above m (Some k) < count_above m after
+unfolding count_above
 fewer m after k pk there none =
     let split = begins nat_list_cmp_total same_key (is_above after) (rises after) k pk (entries m) (entries_sorted m) (λ x px l. sym (get-entries m x) ∙ none x px l) in
     rw split (one k (find (slice_cmp nat_cmp) k (entries m)) (ap is_some (sym (get-entries m k)) ∙ there) (filter (λ e. is_lt (slice_cmp nat_cmp k e.0)) (entries m)))
@@ -46,20 +46,20 @@ filter_fewer p q h (x ∷ xs) =
     ] refl
 
 -- There are no more keys above a key above a bound than above the bound.
-pub no_more : {X : Type 0} (m : FinMap (slice_cmp nat_cmp) X) (after : Option Key) (k : Key) → is_above after k ≡ true → left m (Some k) ≤ left m after
-unfolding left
+pub no_more : {X : Type 0} (m : FinMap (slice_cmp nat_cmp) X) (after : Option Key) (k : Key) → is_above after k ≡ true → count_above m (Some k) ≤ count_above m after
+unfolding count_above
 no_more m after k pk = filter_fewer (λ e. is_above (Some k) e.0) (λ e. is_above after e.0) (λ e h. rises after k e.0 pk (is_less (slice_cmp nat_cmp k e.0) h)) (entries m)
 
 -- ---- two maps
 
 -- If there are fewer keys of the first map past a key above a bound, there are fewer of both together.
 pub fewer_by_first : {X Y : Type 0} (m : FinMap (slice_cmp nat_cmp) X) (n : FinMap (slice_cmp nat_cmp) Y) (after : Option Key) (k : Key) → is_above after k ≡ true
-    → left m (Some k) < left m after → left m (Some k) + left n (Some k) < left m after + left n after
+    → count_above m (Some k) < count_above m after → count_above m (Some k) + count_above n (Some k) < count_above m after + count_above n after
 fewer_by_first m n after k above fewer = let more = no_more n after k above in omega (arith, more, fewer)
 
 -- The same for the second map.
 pub fewer_by_second : {X Y : Type 0} (m : FinMap (slice_cmp nat_cmp) X) (n : FinMap (slice_cmp nat_cmp) Y) (after : Option Key) (k : Key) → is_above after k ≡ true
-    → left n (Some k) < left n after → left m (Some k) + left n (Some k) < left m after + left n after
+    → count_above n (Some k) < count_above n after → count_above m (Some k) + count_above n (Some k) < count_above m after + count_above n after
 fewer_by_second m n after k above fewer = let more = no_more m after k above in omega (arith, more, fewer)
 
 -- If x is above y, y is below x.
@@ -72,7 +72,7 @@ every None = tt
 every (Some e) = refl
 
 pub fewer_past : {X : Type 0} (m : FinMap (slice_cmp nat_cmp) X) (after : Option Key) (r : Option (Bor Key × Bor X)) → IfSome r (λ e. is_above after e.0.now ≡ true) → IfSome r (λ e. get m e.0.now ≡ Some e.1.now)
-    → IfSome r (λ e. EachBetween after e.0.now (IsAbsent m)) → IfSome r (λ e. left m (Some e.0.now) < left m after)
+    → IfSome r (λ e. EachBetween after e.0.now (IsAbsent m)) → IfSome r (λ e. count_above m (Some e.0.now) < count_above m after)
 fewer_past m after None above there none = tt
 fewer_past m after (Some e) above there none = fewer m after e.0.now above (ap is_some there) none
 
@@ -81,6 +81,6 @@ all_pass [] = refl
 all_pass (e ∷ es) = ap (λ fs. e ∷ fs) (all_pass es)
 
 -- Without a bound, all keys are counted.
-pub left_all : {X : Type 0} (m : FinMap (slice_cmp nat_cmp) X) → left m None ≡ len m
-unfolding left
+pub left_all : {X : Type 0} (m : FinMap (slice_cmp nat_cmp) X) → count_above m None ≡ len m
+unfolding count_above
 left_all m = ap length (all_pass (entries m)) ∙ sym (len-entries m)

@@ -2,7 +2,7 @@
 use Rattle.std.proofs.Common.{◌≡◌, ◌≢◌, Bool, true, false, cond, is_some, List, [], ◌∷◌, Some, None, Option, refl, sym, ap, subst, ◌∙◌, ◌+◌, ◌<◌, length, suc, arith}
 use Rattle.std.specs.Option.{IsSome}
 use Rattle.std.specs.declared.cmp.Ordering.{Ordering}
-use Rattle.keymaps.specs.Order.{place_cmp}
+use Rattle.keymaps.specs.Order.{record_cmp}
 use Rattle.std.proofs.lemmas.Cmp.{on_total, then_total}
 use Rattle.std.proofs.lemmas.Map.Lookups.{exact_pairs, exact_unsigned}
 use Rattle.std.specs.Cmp.{nat_cmp_total, IsTotalOrder, eq_by_cmp_equiv, Equal-is}
@@ -102,10 +102,10 @@ module _ {K X : Type 0} {R : K → K → Ordering} (o : IsTotalOrder R) (same : 
 pub same_key : IsAntisymmetric (slice_cmp nat_cmp)
 same_key = slice_cmp-IsAntisymmetric nat_cmp-IsAntisymmetric
 
-pub places_total : IsTotalOrder place_cmp
+pub places_total : IsTotalOrder record_cmp
 places_total = then_total (on_total (λ p. p.0) nat_list_cmp_total) (on_total (λ p. p.1) nat_cmp_total)
 
-pub same_place : IsAntisymmetric place_cmp
+pub same_place : IsAntisymmetric record_cmp
 same_place a b h = exact_pairs (slice_cmp nat_cmp) nat_cmp same_key exact_unsigned a b h
 
 none_of : {X : Type 0} (r : Option X) → (is_some r ≡ true → ⊥) → r ≡ None

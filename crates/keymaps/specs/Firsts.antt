@@ -10,6 +10,6 @@ with_first None rest = rest
 with_first (Some k) rest = insert rest k tt
 
 -- The element apart is not one of the others, and without an element apart there are no others.
-abbrev pub IsApart : {K : Type 0} {R : K → K → Ordering} → Option K → FinMap R (Unit {0}) → Type 0
-IsApart None rest = rest ≡ empty
-IsApart (Some k) rest = IsAbsent rest k
+abbrev pub IsFirstApart : {K : Type 0} {R : K → K → Ordering} → Option K → FinMap R (Unit {0}) → Type 0
+IsFirstApart None rest = rest ≡ empty
+IsFirstApart (Some k) rest = IsAbsent rest k

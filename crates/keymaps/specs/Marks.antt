@@ -4,10 +4,10 @@ use Rattle.std.specs.Ordering.{nat_cmp}
 use Rattle.std.specs.FinMap.{FinMap, from_entries}
 
 -- These numbers in order, if the first mark is at number n.
-abbrev pub marked_from : ℕ → List Bool → List (ℕ × Unit {0})
-marked_from n [] = []
-marked_from n (true ∷ marks) = (n, tt) ∷ marked_from (suc n) marks
-marked_from n (false ∷ marks) = marked_from (suc n) marks
+abbrev pub marked_numbers_from : ℕ → List Bool → List (ℕ × Unit {0})
+marked_numbers_from n [] = []
+marked_numbers_from n (true ∷ marks) = (n, tt) ∷ marked_numbers_from (suc n) marks
+marked_numbers_from n (false ∷ marks) = marked_numbers_from (suc n) marks
 
-unfoldable pub marked : List Bool → FinMap nat_cmp (Unit {0})
-marked marks = from_entries (marked_from 0 marks)
+unfoldable pub marked_numbers : List Bool → FinMap nat_cmp (Unit {0})
+marked_numbers marks = from_entries (marked_numbers_from 0 marks)

@@ -6,8 +6,8 @@ use Rattle.std.specs.Cmp.Lexicographic.{slice_cmp}
 use Rattle.filenames.specs.Names.{Key}
 
 -- The order of records: by key, then by record number.
-abbrev pub place_cmp : Key × ℕ → Key × ℕ → Ordering
-place_cmp a b = ordering_then (slice_cmp nat_cmp a.0 b.0) (nat_cmp a.1 b.1)
+abbrev pub record_cmp : Key × ℕ → Key × ℕ → Ordering
+record_cmp a b = ordering_then (slice_cmp nat_cmp a.0 b.0) (nat_cmp a.1 b.1)
 
 -- Whether a key is above a given one. Every key is above `None`.
 abbrev pub is_above : Option Key → Key → Bool

@@ -26,8 +26,8 @@ abbrev pub EachBetween : Option Key → Key → (Key → Type 0) → Type 0
 EachBetween after k Fact = (x : Key) → is_above after x ≡ true → slice_cmp nat_cmp x k ≡ Less → Fact x
 
 -- The number of keys of a map that are above `after`.
-unfoldable pub left : {X : Type 0} → FinMap (slice_cmp nat_cmp) X → Option Key → ℕ
-left m after = length (filter (λ e. is_above after e.0) (entries m))
+unfoldable pub count_above : {X : Type 0} → FinMap (slice_cmp nat_cmp) X → Option Key → ℕ
+count_above m after = length (filter (λ e. is_above after e.0) (entries m))
 
 -- A number, if it is below a limit.
 abbrev pub if_below : ℕ → Option ℕ → Option ℕ

@@ -19,15 +19,15 @@ impl Model for DriveSet {
     ghost use Rattle.std.specs.FinMap as finmap;
     ghost use Rattle.std.specs.Coded.{coded_ℕ};
     ghost use base.Stored.{coded_unit};
-    ghost use Rattle.keymaps.specs.Marks.{marked};
+    ghost use Rattle.keymaps.specs.Marks.{marked_numbers};
 
     ghost Value = { finmap.FinMap nat_cmp (Unit {0}) };
 
     ghost coded = { finmap.code coded_ℕ coded_unit };
 
-    ghost view = { λ a. marked a.marks };
+    ghost view = { λ a. marked_numbers a.marks };
 
-    ghost invariant = { λ a. a.count ≡ finmap.len (marked a.marks) };
+    ghost invariant = { λ a. a.count ≡ finmap.len (marked_numbers a.marks) };
 }
 
 impl DriveSet {

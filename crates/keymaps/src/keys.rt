@@ -23,7 +23,7 @@ impl Model for KeySet {
     ghost use Rattle.std.specs.FinMap as finmap;
     ghost use Rattle.std.specs.Coded.{coded_ℕ, coded_list};
     ghost use base.Stored.{coded_unit};
-    ghost use Rattle.keymaps.specs.Firsts.{with_first, IsApart};
+    ghost use Rattle.keymaps.specs.Firsts.{with_first, IsFirstApart};
 
     ghost Value = { finmap.FinMap (slice_cmp nat_cmp) (Unit {0}) };
 
@@ -31,7 +31,7 @@ impl Model for KeySet {
 
     ghost view = { λ a. with_first a.first a.rest };
 
-    ghost invariant = { λ a. IsApart a.first a.rest };
+    ghost invariant = { λ a. IsFirstApart a.first a.rest };
 }
 
 impl KeySet {

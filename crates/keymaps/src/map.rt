@@ -4,7 +4,7 @@ ghost use Rattle.std.specs.Prelude.{◌≡◌, ◌<◌, ◌+◌, ℕ, List, true
 ghost use Rattle.std.specs.FinMap as finmap;
 ghost use Rattle.std.specs.Fn.{FnOnceReturnsAtMut};
 ghost use Rattle.keymaps.specs.Order.{is_above};
-ghost use Rattle.keymaps.specs.Walks.{EachAbove, EachBetween, IsAbsent, IsInNeither, left, if_below};
+ghost use Rattle.keymaps.specs.Walks.{EachAbove, EachBetween, IsAbsent, IsInNeither, count_above, if_below};
 
 use crate::ordered::OrderedKey;
 use filenames::Key;
@@ -186,7 +186,8 @@ impl<V: Drop> KeyMap<V> {
         ensures above { IfSome result (λ e. is_above after e.0.now ≡ true) }
         ensures there { IfSome result (λ e. finmap.get self.now e.0.now ≡ Some e.1.now) }
         ensures least { IfSome result (λ e. EachBetween after e.0.now (IsAbsent self.now)) }
-        ensures fewer { IfSome result (λ e. left self.now (Some e.0.now) < left self.now after) }
+        ensures fewer { IfSome result
+            (λ e. count_above self.now (Some e.0.now) < count_above self.now after) }
         ensures none { IfNone result (EachAbove after (IsAbsent self.now)) }
     {
         match after {
@@ -200,7 +201,7 @@ impl<V: Drop> KeyMap<V> {
         ensures above { IfSome result (λ k. is_above after k ≡ true) }
         ensures there { IfSome result (λ k. finmap.contains_key self.now k ≡ true) }
         ensures least { IfSome result (λ k. EachBetween after k (IsAbsent self.now)) }
-        ensures fewer { IfSome result (λ k. left self.now (Some k) < left self.now after) }
+        ensures fewer { IfSome result (λ k. count_above self.now (Some k) < count_above self.now after) }
         ensures none { IfNone result (EachAbove after (IsAbsent self.now)) }
     {
         match self.next_key_value(after) {
@@ -256,8 +257,8 @@ pub fn next_of_both<'a, V: Drop, W: Drop>(
     ensures least { IfSome result (λ e.
         EachBetween after e.key (IsInNeither first.entry.now second.entry.now)) }
     ensures fewer { IfSome result (λ e.
-        left first.entry.now (Some e.key) + left second.entry.now (Some e.key)
-        < left first.entry.now after + left second.entry.now after) }
+        count_above first.entry.now (Some e.key) + count_above second.entry.now (Some e.key)
+        < count_above first.entry.now after + count_above second.entry.now after) }
     ensures none { IfNone result (EachAbove after (IsInNeither first.entry.now second.entry.now)) }
 {
     let Some((x, v)) = first.next_key_value(after) else {

@@ -43,7 +43,7 @@ impl OrderedKey {
 }
 
 // Returns the number that the bytes represent, first byte highest.
-fn spelled(key: &Key) -> u128
+fn as_number(key: &Key) -> u128
     ensures number { result ≡ big_endian 0 key.now }
     ensures bytes { (i : ℕ) → slice_index key.now i < 256 }
 {
@@ -60,7 +60,7 @@ impl PartialEq for OrderedKey {
     ghost laws = { partial_equiv_from_equiv nat_list_eq_equiv };
 
     fn eq(&self, other: &OrderedKey) -> bool {
-        spelled(&self.bytes) == spelled(&other.bytes)
+        as_number(&self.bytes) == as_number(&other.bytes)
     }
 }
 
@@ -88,6 +88,6 @@ impl Ord for OrderedKey {
     ghost matches_eq = { texts_ties };
 
     fn cmp(&self, other: &OrderedKey) -> Ordering {
-        spelled(&self.bytes).cmp(&spelled(&other.bytes))
+        as_number(&self.bytes).cmp(&as_number(&other.bytes))
     }
 }

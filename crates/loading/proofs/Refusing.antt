@@ -3,8 +3,8 @@ use Rattle.std.proofs.Common.{◌≡◌, ◌∙◌, ℕ, List, Some, None, Resul
 use Rattle.command_words.specs.CommandLine.{text_of}
 use Rattle.command_words.specs.declared.words.Words.{Words}
 use Rattle.hostfiles.specs.Hosts.{Host}
-use Rattle.machine.specs.Given.{Session}
-use Rattle.machine.specs.Session.{made_of}
+use Rattle.machine.specs.Inputs.{Session}
+use Rattle.machine.specs.Session.{session_or_refusal}
 use Rattle.folders.specs.FileSystem.{Path, StoredFiles}
 use Rattle.folders.specs.Folders.{AreFromFolders}
 use Rattle.std.specs.Prelude.{Option}
@@ -15,7 +15,7 @@ use Rattle.loading.specs.Loading.{IsProgramOf, IsScriptOf, MadeOrRefused, FailsT
 -- A refusal of the session is a refusal of the words.
 pub refused_of_words : (stored : StoredFiles) (w : Words) (program : List ℕ) (files : Host) (script : List ℕ) (r : Result Session LoadFault)
     → IsProgramOf stored w program → AreFromFolders stored w.files files → IsScriptOf stored w script
-    → MadeOrRefused (made_of program w.tail.now files script w.limit) r → IfErr r (FailsToLoad stored w)
+    → MadeOrRefused (session_or_refusal program w.tail.now files script w.limit) r → IfErr r (FailsToLoad stored w)
 refused_of_words stored w program files script (Ok s) p a b h = tt
 refused_of_words stored w program files script (Err (CannotRead path)) p a b h = absurd h
 refused_of_words stored w program files script (Err (Folders f)) p a b h = absurd h

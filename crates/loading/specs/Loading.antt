@@ -7,8 +7,8 @@ use Rattle.folders.specs.FileSystem.{FileBytes, Reads, StoredFiles}
 use Rattle.folders.specs.Folders.{AreFromFolders, FailsFolders}
 use Rattle.folders.specs.declared.fault.Failure.TheVariants.{AtFault}
 use Rattle.machine.specs.declared.session.TheConstants.{PROGRAM_LIMIT, SCRIPT_LIMIT}
-use Rattle.machine.specs.Given.{Session}
-use Rattle.machine.specs.Session.{made_of}
+use Rattle.machine.specs.Inputs.{Session}
+use Rattle.machine.specs.Session.{session_or_refusal}
 use Rattle.loading.specs.declared.fault.LoadFault.{LoadFault}
 use Rattle.loading.specs.declared.fault.LoadFault.TheVariants.{CannotRead, Folders, Refused, OutOfMemory}
 
@@ -40,7 +40,7 @@ pub record IsSessionRefusal (stored : StoredFiles) (w : Words) (n : ℕ) : Type 
   pub of_program : IsProgramOf stored w program
   pub from_folders : AreFromFolders stored w.files files
   pub of_script : IsScriptOf stored w script
-  pub refused : made_of program w.tail.now files script w.limit ≡ Err n
+  pub refused : session_or_refusal program w.tail.now files script w.limit ≡ Err n
 
 -- The result is this session or this refusal.
 abbrev pub MadeOrRefused : Result Session ℕ → Result Session LoadFault → Type 0

@@ -4,7 +4,7 @@ ghost use Rattle.std.specs.Prelude.{◌≡◌, ◌+◌, ◌<◌, ◌^◌, IfOk, 
 ghost use Rattle.command_words.specs.CommandLine.{text_of};
 ghost use Rattle.folders.specs.Failures.{KeepsFiles, io_failures};
 ghost use Rattle.folders.specs.FileSystem.{Opens, Reads};
-ghost use Rattle.machine.specs.Session.{made_of};
+ghost use Rattle.machine.specs.Session.{session_or_refusal};
 ghost use Rattle.loading.specs.Faults.{load_failures};
 ghost use Rattle.loading.specs.Loading.{IsLoadedFrom, IsScriptAt, MadeOrRefused, FailsToLoad, IsReadFaultOf, IsReadFaultIfAny};
 
@@ -107,7 +107,7 @@ fn session_of<'a>(
     script: Vec<u8>,
     limit: u64,
 ) -> Result<Session, LoadFault<'a>>
-    ensures { MadeOrRefused (made_of program.items tail.items files script.items limit) result }
+    ensures { MadeOrRefused (session_or_refusal program.items tail.items files script.items limit) result }
 {
     match Session::new(program, tail, files, script, limit) {
         Ok(session) => Ok(session),

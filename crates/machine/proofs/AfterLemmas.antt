@@ -6,10 +6,10 @@ use Rattle.interaction_trees.specs.Dependence as dependence
 use Rattle.console_calls.specs.declared.cause.Cause.{Cause}
 use Rattle.machine.specs.StateView.{PartialState}
 use Rattle.machine.specs.Step.{next}
-use Rattle.machine.specs.Machine.{Answers, part, made, start, outcome, after}
+use Rattle.machine.specs.Machine.{Answers, session_tree, outcome_with, start, outcome, after}
 
 abbrev pub then_step : Answers → Option PartialState → Option PartialState
-then_step = dependence.then_step part (λ (st : PartialState). st.own) (λ (st : PartialState). next st.core) made start
+then_step = dependence.next_state session_tree (λ (st : PartialState). st.own) (λ (st : PartialState). next st.core) outcome_with start
 
 -- A state that was reached follows from an earlier state by one step.
 pub step_before : (f : Answers) (o : Option PartialState) (st : PartialState) → then_step f o ≡ Some st → (b : PartialState) × (o ≡ Some b) × (outcome f b ≡ Step st)

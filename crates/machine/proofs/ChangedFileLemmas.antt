@@ -12,27 +12,27 @@ use Rattle.hostfiles.specs.Order.{is_above}
 use Rattle.hostfiles.proofs.Views.{same_key, absent_of}
 use Rattle.hostfiles.specs.Names.{is_sayable}
 use Rattle.hostfiles.specs.Hosts.{Key, Record, Host}
-use Rattle.hostfiles.specs.Files.{Own, told}
-use Rattle.hostfiles.specs.File.{File, told_records}
+use Rattle.hostfiles.specs.Files.{OwnFiles, file_contents}
+use Rattle.hostfiles.specs.File.{File, contents_of}
 use Rattle.hostfiles.specs.Files as files
 use Rattle.hostfiles.specs.Changed.{is_changed, is_changed_name, changed_names, changed_keys}
 use Rattle.hostfiles.specs.File.{is_same}
 use Rattle.hostfiles.proofs.FileLemmas.{get-files}
 use Rattle.hostfiles.proofs.ChangedWalk.{all_changed, keys_above, keys_above_least, keys_above_end}
 use Rattle.file_calls.proofs.Names.{find-mapped}
-use Rattle.machine.specs.WholeFiles.{Files}
-use Rattle.machine.specs.ChangedFiles.{told_in, is_changed_in, is_changed_name_in, keys_of_both, changed_in, changed_keys_in}
+use Rattle.machine.specs.PlainFiles.{Files}
+use Rattle.machine.specs.ChangedFiles.{contents_in, is_changed_in, is_changed_name_in, keys_of_both, changed_in, changed_keys_in}
 use Rattle.machine.proofs.WholeFiles.{sorted-mapped}
 
 -- ---- one file
 
-pub told_laid : (host : Host) (own : Own) (key : Key) → told_in (files.files host own) key ≡ told host own key
-told_laid host own key = ap (option_map told_records) (get-files host own key)
+pub told_laid : (host : Host) (own : OwnFiles) (key : Key) → contents_in (files.files host own) key ≡ file_contents host own key
+told_laid host own key = ap (option_map contents_of) (get-files host own key)
 
-changed_laid : (host : Host) (own : Own) (key : Key) → is_changed_in host (files.files host own) key ≡ is_changed host own key
+changed_laid : (host : Host) (own : OwnFiles) (key : Key) → is_changed_in host (files.files host own) key ≡ is_changed host own key
 changed_laid host own key = ap (λ t. not (is_same t (get host key))) (told_laid host own key)
 
-pub changed_name_laid : (host : Host) (own : Own) (key : Key) → is_changed_name_in host (files.files host own) key ≡ is_changed_name host own key
+pub changed_name_laid : (host : Host) (own : OwnFiles) (key : Key) → is_changed_name_in host (files.files host own) key ≡ is_changed_name host own key
 changed_name_laid host own key = ap (λ b. b && is_sayable key) (changed_laid host own key)
 
 -- ---- the keys of two maps
@@ -72,11 +72,11 @@ pass true k h = h
 pass false k h = refl
 
 member : {X : Type 0} (f : Option File) (h : Option (List Record)) (s : Bool) (k : Option X) → is_some k ≡ (is_some h || is_some f)
-    → is_some (cond (not (is_same (option_map told_records f) h) && s) k None) ≡ (not (is_same (option_map told_records f) h) && s)
+    → is_some (cond (not (is_same (option_map contents_of f) h) && s) k None) ≡ (not (is_same (option_map contents_of f) h) && s)
 member None None s k e = refl
 member (Some f) None s k e = pass s k e
 member None (Some r) s k e = pass s k e
-member (Some f) (Some r) s k e = pass (not (is_same (Some (told_records f)) (Some r)) && s) k e
+member (Some f) (Some r) s k e = pass (not (is_same (Some (contents_of f)) (Some r)) && s) k e
 
 get_changed : (host : Host) (fs : Files) (q : Key) → get (changed_in host fs) q ≡ cond (is_changed_name_in host fs q) (get (keys_of_both host fs) q) None
 get_changed host fs q = get-retain_keys (keys_of_both host fs) (is_changed_name_in host fs) q (λ x h. ap (is_changed_name_in host fs) (sym (same_key q x h)))
@@ -108,7 +108,7 @@ same_keys m n same =
     ∙ sym (find-mapped nothing q (entries n))))
     ∙ map-map (λ e. e.0) (λ e. (e.0, nothing e.1)) (entries n)
 
-pub changed_keys_laid : (host : Host) (own : Own) → changed_keys_in host (files.files host own) ≡ changed_keys host own
+pub changed_keys_laid : (host : Host) (own : OwnFiles) → changed_keys_in host (files.files host own) ≡ changed_keys host own
 changed_keys_laid host own = same_keys (changed_in host (files.files host own)) (changed_names host own)
     (λ q. all_changed_in host (files.files host own) q ∙ changed_name_laid host own q ∙ sym (all_changed host own q))
 

@@ -6,10 +6,10 @@ use Rattle.std.proofs.Math.Seq.{take-append_seam}
 use Rattle.interaction_trees.specs.Tree.{result_of}
 use Rattle.interaction_trees.specs.Outcome.{Step}
 use Rattle.interaction_trees.specs.Dependence as dependence
-use Rattle.file_calls.specs.Deletes.{own_with}
+use Rattle.file_calls.specs.Deletes.{own_after_change}
 use Rattle.machine.specs.StateView.{PartialState}
-use Rattle.machine.specs.Step.{Reached, Went, Stopped, desk_with, next}
-use Rattle.machine.specs.Machine.{Answers, laid, stored_all, made, outcome, after}
+use Rattle.machine.specs.Step.{StepEnd, Went, Stopped, desk_with, next}
+use Rattle.machine.specs.Machine.{Answers, laid, with_cells, outcome_with, outcome, after}
 use Rattle.machine.proofs.AfterLemmas.{step_before}
 
 abbrev Longer : List ℕ → List ℕ → Type 0
@@ -23,9 +23,9 @@ longer_further xs ys zs h k = (h.0 ++ k.0, k.1 ∙ ap (λ (l : List ℕ). l ++ k
 
 -- ---- a step
 
-made_grows : (st st' : PartialState) (e : Reached) → made st e ≡ Step st' → Longer st.core.desk.text st'.core.desk.text
+made_grows : (st st' : PartialState) (e : StepEnd) → outcome_with st e ≡ Step st' → Longer st.core.desk.text st'.core.desk.text
 made_grows st st' (Went r spot bytes wrote change) e =
-    let same : record { core = record { regs = r; desk = desk_with st.core.desk spot bytes }; own = record { cells = stored_all st.own.cells wrote.cells; files = own_with change st.own.files } } ≡ st' = cc in
+    let same : record { core = record { regs = r; desk = desk_with st.core.desk spot bytes }; own = record { cells = with_cells st.own.cells wrote.cells; files = own_after_change change st.own.files } } ≡ st' = cc in
     subst (λ (x : PartialState). Longer st.core.desk.text x.core.desk.text) same (bytes, refl)
 made_grows st st' (Stopped cause) e = absurd (cc)
 

@@ -12,31 +12,31 @@ use Rattle.std.specs.FinMap.{get, insert, empty, entries, entries_sorted, get-en
 use Rattle.std.specs.FinMap.Entries.{below_all, is_sorted, find-where_key, is_sorted-where_key, same_entries}
 use Rattle.hostfiles.proofs.Views.{same_key}
 use Rattle.hostfiles.specs.Hosts.{Key, Record, Host}
-use Rattle.hostfiles.specs.Files.{Own, has, entry_at, length_at, place_at, place_by, place_of, file_of, file_at, shapes, files, deleted, wrote, wrote_filled}
+use Rattle.hostfiles.specs.Files.{OwnFiles, has, entry_at, length_at, record_within, record_by, record_of, file_of, file_at, shapes, files, after_delete, after_write_with_holes, after_write_with_zeros}
 use Rattle.hostfiles.specs.File.{File, shape_of}
 use Rattle.hostfiles.specs.File.{written, written_filled}
 use Rattle.hostfiles.proofs.FileLemmas.{get-files, get-shapes, files-made, files-deleted}
 use Rattle.hostfiles.proofs.LaidLemmas.{below, not_below, entry_file, files-wrote, files-renamed, files-read}
 use Rattle.hostfiles.proofs.FilledLemmas.{files-filled}
-use Rattle.file_calls.specs.Questions.{FileQuestion, IsThere, ShapeOf, Content, FilesOn, is_on, files_on}
-use Rattle.file_calls.specs.Answers.{file_answers, shape_here}
+use Rattle.file_calls.specs.FileQuestions.{FileQuestion, IsThere, ShapeOf, Content, FilesOn, is_on, files_on}
+use Rattle.file_calls.specs.TableView.{file_answers, shape_of_key}
 use Rattle.file_calls.specs.Changes.{FileChange, Unchanged, Made, Deleted, Renamed, Stored}
-use Rattle.file_calls.specs.Deletes.{own_with}
-use Rattle.file_calls.specs.Deletes.{without}
+use Rattle.file_calls.specs.Deletes.{own_after_change}
+use Rattle.file_calls.specs.Deletes.{own_without}
 use Rattle.file_calls.proofs.Names.{find-mapped, alike}
-use Rattle.machine.specs.WholeFiles.{without_holes, loaded_files, file_in, answers_of, removed, changed}
+use Rattle.machine.specs.PlainFiles.{file_of_records, loaded_files, file_in, answers_of, without_keys, files_after}
 use Rattle.machine.proofs.FitLemmas.{IsFit}
 use Rattle.machine.proofs.TidyFiles.{IsTidy}
 
 -- ---- the host files
 
-all_stand : (u : List Record) → without_holes u ≡ map (λ k. place_by u k (get {R = nat_cmp} empty k) true) (range_with_len 0 (length u))
-all_stand u = fill_by_all (λ k. place_by u k (get {R = nat_cmp} empty k) true) (without_holes u) (length u) None (length-map u (λ r. Some r))
-    (λ k h. get_or-map (λ r. Some r) u k [] None h ∙ sym (ap (λ o. place_by u k o true) (get-empty nat_cmp k) ∙ slice_get-get_or u k [] h))
+all_stand : (u : List Record) → file_of_records u ≡ map (λ k. record_by u k (get {R = nat_cmp} empty k) true) (range_with_len 0 (length u))
+all_stand u = fill_by_all (λ k. record_by u k (get {R = nat_cmp} empty k) true) (file_of_records u) (length u) None (length-map u (λ r. Some r))
+    (λ k h. get_or-map (λ r. Some r) u k [] None h ∙ sym (ap (λ o. record_by u k o true) (get-empty nat_cmp k) ∙ slice_get-get_or u k [] h))
 
-host_file : (host : Host) (q : Key) → option_map without_holes (get host q) ≡ entry_file host q None
+host_file : (host : Host) (q : Key) → option_map file_of_records (get host q) ≡ entry_file host q None
 host_file host q = by (get host q) where
-  by : (o : Option (List Record)) → option_map without_holes o ≡ cond (is_some o) (Some (map (λ k. place_by (unwrap_or o []) k (get {R = nat_cmp} empty k) true) (range_with_len 0 (length (unwrap_or o []))))) None
+  by : (o : Option (List Record)) → option_map file_of_records o ≡ cond (is_some o) (Some (map (λ k. record_by (unwrap_or o []) k (get {R = nat_cmp} empty k) true) (range_with_len 0 (length (unwrap_or o []))))) None
   by None = refl
   by (Some u) = ap (λ (f : File). Some f) (all_stand u)
 
@@ -44,9 +44,9 @@ host_file host q = by (get host q) where
 pub loaded_is : (host : Host) → loaded_files host ≡ files host empty
 unfolding loaded_files
 loaded_is host = same_map nat_list_cmp_total same_key _ _ (λ q.
-    get-from_entries nat_list_cmp_total (map (λ e. (e.0, without_holes e.1)) (entries host)) q
-    ∙ find-mapped without_holes q (entries host)
-    ∙ ap (option_map without_holes) (sym (get-entries host q))
+    get-from_entries nat_list_cmp_total (map (λ e. (e.0, file_of_records e.1)) (entries host)) q
+    ∙ find-mapped file_of_records q (entries host)
+    ∙ ap (option_map file_of_records) (sym (get-entries host q))
     ∙ host_file host q
     ∙ ap (entry_file host q) (sym (get-empty (slice_cmp nat_cmp) q))
     ∙ sym (get-files host empty q))
@@ -62,7 +62,7 @@ module _ {A B : Type 0} (g : A → B) where
   sorted-mapped [] = refl
   sorted-mapped (e ∷ es) = λ i. below-mapped e.0 es i && sorted-mapped es i
 
-module _ (host : Host) (own : Own) where
+module _ (host : Host) (own : OwnFiles) where
   -- The files of a drive, with their shapes.
   files_of_drive : (drive : ℕ) → map (λ e. (e.0, shape_of e.1)) (filter (λ e. is_on drive e.0) (entries (files host own))) ≡ files_on drive (shapes host own)
   unfolding files_on
@@ -86,17 +86,17 @@ module _ (host : Host) (own : Own) where
     file_is key = ap (λ o. unwrap_or o []) (get-files host own key) ∙ by (has host own key) refl where
       by : (b : Bool) → has host own key ≡ b → unwrap_or (cond b (Some (file_of host key (entry_at own key))) None) [] ≡ file_of host key (entry_at own key)
       by true h = refl
-      by false h = ap (λ n. map (place_of host key (entry_at own key)) (range_with_len 0 n)) (sym (tidy.absent key h))
+      by false h = ap (λ n. map (record_of host key (entry_at own key)) (range_with_len 0 n)) (sym (tidy.absent key h))
 
-    place_is : (key : Key) (k : ℕ) (b : Bool) → has host own key ≡ b → cond b (place_at host own key k) None ≡ place_of host key (entry_at own key) k
+    place_is : (key : Key) (k : ℕ) (b : Bool) → has host own key ≡ b → cond b (record_within host own key k) None ≡ record_of host key (entry_at own key) k
     place_is key k true h = elim (cases_lt k (length_at host own key)) [
-      | inl l ↦ ap (λ b. cond b (place_of host key (entry_at own key) k) None) (below k (length_at host own key) l)
-      | inr l ↦ ap (λ b. cond b (place_of host key (entry_at own key) k) None) (not_below k (length_at host own key) l) ∙ sym (tidy.ends key k l)
+      | inl l ↦ ap (λ b. cond b (record_of host key (entry_at own key) k) None) (below k (length_at host own key) l)
+      | inr l ↦ ap (λ b. cond b (record_of host key (entry_at own key) k) None) (not_below k (length_at host own key) l) ∙ sym (tidy.ends key k l)
     ]
     place_is key k false h = sym (tidy.ends key k (rw (tidy.absent key h) (omega arith)))
 
     pub answer_is : (q : FileQuestion) → answers_of (files host own) q ≡ file_answers host own q
-    unfolding shape_here
+    unfolding shape_of_key
     answer_is (IsThere key) = ap is_some (get-files host own key) ∙ by (has host own key) where
       by : (b : Bool) → is_some (cond b (Some (file_of host key (entry_at own key))) None) ≡ b
       by true = refl
@@ -108,26 +108,26 @@ module _ (host : Host) (own : Own) where
 -- ---- a change
 
 module _ (host : Host) where
-  there : (own : Own) (key : Key) → has host own key ≡ true → get (files host own) key ≡ Some (file_in (files host own) key)
+  there : (own : OwnFiles) (key : Key) → has host own key ≡ true → get (files host own) key ≡ Some (file_in (files host own) key)
   there own key h =
       let is : get (files host own) key ≡ Some (file_of host key (entry_at own key)) = get-files host own key ∙ ap (λ b. cond b (Some (file_of host key (entry_at own key))) None) h in
       is ∙ sym (ap (λ o. Some (unwrap_or o [])) is)
 
-  removed_is : (own : Own) (keys : List Key) → removed (files host own) keys ≡ files host (without own keys)
+  removed_is : (own : OwnFiles) (keys : List Key) → without_keys (files host own) keys ≡ files host (own_without own keys)
   removed_is own [] = refl
-  removed_is own (key ∷ keys) = ap (λ m. removed m keys) (sym (files-deleted host own key)) ∙ removed_is (deleted own key) keys
+  removed_is own (key ∷ keys) = ap (λ m. without_keys m keys) (sym (files-deleted host own key)) ∙ removed_is (after_delete own key) keys
 
-  stored_is : (own : Own) (filled : Bool) (key : Key) (k : ℕ) (r : Record) → IsTidy host own → has host own key ≡ true
+  stored_is : (own : OwnFiles) (filled : Bool) (key : Key) (k : ℕ) (r : Record) → IsTidy host own → has host own key ≡ true
       → insert (files host own) key (cond filled (written_filled k r (file_in (files host own) key)) (written k r (file_in (files host own) key)))
-      ≡ files host (cond filled (wrote_filled (length_at host own key) own key k r) (wrote (length_at host own key) own key k r))
+      ≡ files host (cond filled (after_write_with_zeros (length_at host own key) own key k r) (after_write_with_holes (length_at host own key) own key k r))
   stored_is own true key k r tidy h = sym (files-filled host own key k r (file_in (files host own) key) (there own key h))
   stored_is own false key k r tidy h = sym (files-wrote host own key k r (file_in (files host own) key) (tidy.ends key) (there own key h))
 
-  pub changed_is : (own : Own) (change : FileChange) → IsTidy host own → IsFit host own change → changed change (files host own) ≡ files host (own_with change own)
+  pub changed_is : (own : OwnFiles) (change : FileChange) → IsTidy host own → IsFit host own change → files_after change (files host own) ≡ files host (own_after_change change own)
   changed_is own Unchanged tidy fits = refl
   changed_is own (Made key) tidy fits = sym (files-made host own key)
   changed_is own (Deleted keys) tidy fits = removed_is own keys
   changed_is own (Renamed old new) tidy fits = sym (files-renamed host own old new (file_in (files host own) old) (there own old fits.1))
   changed_is own (Stored w r) tidy fits =
       stored_is own w.filled w.key w.place r tidy fits.1
-      ∙ ap (λ n. files host (cond w.filled (wrote_filled n own w.key w.place r) (wrote n own w.key w.place r))) (sym fits.0)
+      ∙ ap (λ n. files host (cond w.filled (after_write_with_zeros n own w.key w.place r) (after_write_with_holes n own w.key w.place r))) (sym fits.0)

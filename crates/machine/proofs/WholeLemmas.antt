@@ -13,21 +13,21 @@ use Rattle.interaction_trees.specs.Dependence.{state_of}
 use Rattle.interaction_trees.specs.Dependence as dependence
 use Rattle.interaction_trees.proofs.DependenceLemmas.{same_everywhere}
 use Rattle.console_calls.specs.declared.cause.Cause.{Cause}
-use Rattle.console_calls.specs.Questions.{Byte, Input}
+use Rattle.console_calls.specs.StateQuestions.{Byte, Input}
 use Rattle.hostfiles.specs.Files as files
-use Rattle.file_calls.specs.Passing.{IsSound}
-use Rattle.file_calls.specs.Passing as passing
+use Rattle.file_calls.specs.HostTrees.{AreSoundOwnFiles}
+use Rattle.file_calls.specs.HostTrees as passing
 use Rattle.file_calls.proofs.Answering.{answers_are}
-use Rattle.file_calls.specs.Deletes.{own_with}
-use Rattle.bdos.specs.Questions.{SystemQuestion, OfState, OfFiles}
-use Rattle.machine.specs.Given.{Session}
-use Rattle.machine.specs.StateView.{Cells, PartialState}
+use Rattle.file_calls.specs.Deletes.{own_after_change}
+use Rattle.bdos.specs.SystemQuestions.{SystemQuestion, OfState, OfFiles}
+use Rattle.machine.specs.Inputs.{Session}
+use Rattle.machine.specs.StateView.{OwnCells, PartialState}
 use Rattle.machine.specs.Session.{image_of, IsSession}
-use Rattle.machine.specs.Step.{Reached, Went, Stopped, desk_with, next}
-use Rattle.machine.specs.Machine.{Answers, ask, part, laid, cell_at, stored, stored_all, made, start, outcome, after}
+use Rattle.machine.specs.Step.{StepEnd, Went, Stopped, desk_with, next}
+use Rattle.machine.specs.Machine.{Answers, session_answers, session_tree, laid, cell_at, with_cell, with_cells, outcome_with, start, outcome, after}
 use Rattle.machine.specs.CellCount.{cell_count, cell_count-is}
-use Rattle.machine.specs.Whole.{Whole, memory_of, tells, written, whole_made, whole_outcome}
-use Rattle.machine.specs.LaidOver.{whole_then, whole_after, laid_over, whole_of, WholeIsLaid}
+use Rattle.machine.specs.PlainState.{PlainState, memory_of, plain_answers, with_writes, plain_outcome_with, plain_outcome}
+use Rattle.machine.specs.PlainLaid.{next_plain, plain_after, laid_state, laid_outcome, PlainMachineIsLaid}
 use Rattle.machine.proofs.WrittenCellLemmas.{get_stored, stored_past}
 use Rattle.machine.proofs.AfterLemmas.{step_before}
 use Rattle.machine.proofs.StepLemmas.{answered}
@@ -57,11 +57,11 @@ memory_is byte m e same = sym (fill_by_all byte m cell_count 0 e same)
 -- ---- reads and writes
 
 -- A state's cell: the written byte, or else the session's.
-abbrev cell_of : Session → Cells → ℕ → ℕ
+abbrev cell_of : Session → OwnCells → ℕ → ℕ
 cell_of s m a = unwrap_or (finmap.get m a) (image_of s a)
 
 -- Nothing is stored past the last cell.
-abbrev pub Inside : Cells → Type 0
+abbrev pub Inside : OwnCells → Type 0
 Inside m = (q : ℕ) → 65536 ≤ q → finmap.get m q ≡ None
 
 image_past : (s : Session) (q : ℕ) → IsSession s → 65536 ≤ q → image_of s q ≡ 0
@@ -72,18 +72,18 @@ image_past s q limits h = let short = limits.program in rw (low, high) refl wher
   high : nat_lt q (256 + length s.program) ≡ false
   high = let short = limits.program in search (rules)
 
-same_tell : (s : Session) (m : Cells) (own : files.Own) → IsSession s → Inside m → IsSound s.files own → IsTidy s.files own
-    → (q : SystemQuestion) → tells (memory_of (cell_of s m)) s.script (files.files s.files own) q ≡ laid (record { cells = m; files = own }) (ask s) q
+same_tell : (s : Session) (m : OwnCells) (own : files.OwnFiles) → IsSession s → Inside m → AreSoundOwnFiles s.files own → IsTidy s.files own
+    → (q : SystemQuestion) → plain_answers (memory_of (cell_of s m)) s.script (files.files s.files own) q ≡ laid (record { cells = m; files = own }) (session_answers s) q
 same_tell s m own limits inside sound tidy (OfState (Byte a)) = elim (leb_tells 65536 a) [
-  | inl over ↦ get_past (cell_of s m) a over.1 ∙ sym (answered (ask s) (finmap.get m a) a ∙ ap (λ (o : Option ℕ). unwrap_or o (image_of s a)) (inside a over.1) ∙ image_past s a limits over.1)
-  | inr under ↦ get_memory (cell_of s m) a under.1 ∙ sym (answered (ask s) (finmap.get m a) a)
+  | inl over ↦ get_past (cell_of s m) a over.1 ∙ sym (answered (session_answers s) (finmap.get m a) a ∙ ap (λ (o : Option ℕ). unwrap_or o (image_of s a)) (inside a over.1) ∙ image_past s a limits over.1)
+  | inr under ↦ get_memory (cell_of s m) a under.1 ∙ sym (answered (session_answers s) (finmap.get m a) a)
 ]
 same_tell s m own limits inside sound tidy (OfState (Input k)) = refl
-same_tell s m own limits inside sound tidy (OfFiles q) = answer_is s.files own tidy q ∙ sym (result_of-asking_host (ask s) (passing.part own q) ∙ answers_are s.files own sound q)
+same_tell s m own limits inside sound tidy (OfFiles q) = answer_is s.files own tidy q ∙ sym (result_of-asking_host (session_answers s) (passing.host_tree own q) ∙ answers_are s.files own sound q)
 
 -- The byte of a cell in a state is its byte in the plain memory.
-pub cell_is : (s : Session) (st : PartialState) (a : ℕ) → a < 65536 → slice_index (laid_over s st).memory a ≡ cell_at s st a
-cell_is s st a below = get_memory (cell_of s st.own.cells) a below ∙ sym (answered (ask s) (finmap.get st.own.cells a) a)
+pub cell_is : (s : Session) (st : PartialState) (a : ℕ) → a < 65536 → slice_index (laid_state s st).memory a ≡ cell_at s st a
+cell_is s st a below = get_memory (cell_of s st.own.cells) a below ∙ sym (answered (session_answers s) (finmap.get st.own.cells a) a)
 
 get_set : (m : List ℕ) (a v q : ℕ) → q < length m → get_or (slice_set m a v) q 0 ≡ cond (eqb q a) v (get_or m q 0)
 get_set m a v q h = elim (eqb_tells q a) [
@@ -95,24 +95,24 @@ pick : (b : Bool) (v n : ℕ) (o : Option ℕ) → unwrap_or (cond b (Some v) o)
 pick true v n o = refl
 pick false v n o = refl
 
-write_one : (s : Session) (m : Cells) (a v : ℕ) → slice_set (memory_of (cell_of s m)) a v ≡ memory_of (cell_of s (stored m a v))
-write_one s m a v = sym (memory_is (cell_of s (stored m a v)) (slice_set (memory_of (cell_of s m)) a v) (length-set (memory_of (cell_of s m)) a v ∙ length_memory (cell_of s m)) (λ q h.
+write_one : (s : Session) (m : OwnCells) (a v : ℕ) → slice_set (memory_of (cell_of s m)) a v ≡ memory_of (cell_of s (with_cell m a v))
+write_one s m a v = sym (memory_is (cell_of s (with_cell m a v)) (slice_set (memory_of (cell_of s m)) a v) (length-set (memory_of (cell_of s m)) a v ∙ length_memory (cell_of s m)) (λ q h.
     let below : q < 65536 = rw cell_count-is at h in
     get_set (memory_of (cell_of s m)) a v q (rw (length_memory (cell_of s m)) h)
     ∙ ap (cond (eqb q a) v) (get_memory (cell_of s m) q below)
     ∙ sym (ap (λ (o : Option ℕ). unwrap_or o (image_of s q)) (get_stored m a v q below) ∙ pick (eqb q a) v _ (finmap.get m q))))
 
-write_all : (s : Session) (ws : List (ℕ × ℕ)) (m : Cells) → written (memory_of (cell_of s m)) ws ≡ memory_of (cell_of s (stored_all m ws))
+write_all : (s : Session) (ws : List (ℕ × ℕ)) (m : OwnCells) → with_writes (memory_of (cell_of s m)) ws ≡ memory_of (cell_of s (with_cells m ws))
 write_all s [] m = refl
-write_all s (w ∷ ws) m = ap (λ (l : List ℕ). written l ws) (write_one s m w.0 w.1) ∙ write_all s ws (stored m w.0 w.1)
+write_all s (w ∷ ws) m = ap (λ (l : List ℕ). with_writes l ws) (write_one s m w.0 w.1) ∙ write_all s ws (with_cell m w.0 w.1)
 
-inside_all : (ws : List (ℕ × ℕ)) (m : Cells) → Inside m → Inside (stored_all m ws)
+inside_all : (ws : List (ℕ × ℕ)) (m : OwnCells) → Inside m → Inside (with_cells m ws)
 inside_all [] m h = h
-inside_all (w ∷ ws) m h = inside_all ws (stored m w.0 w.1) (λ q over. stored_past m w.0 w.1 q over (h q over))
+inside_all (w ∷ ws) m h = inside_all ws (with_cell m w.0 w.1) (λ q over. stored_past m w.0 w.1 q over (h q over))
 
 -- ---- a step, and a run
 
-made_whole : (s : Session) (st : PartialState) (e : Reached) → IsTidy s.files st.own.files → FitsReached s.files st.own.files e → whole_made (laid_over s st) e ≡ whole_of s (made st e)
+made_whole : (s : Session) (st : PartialState) (e : StepEnd) → IsTidy s.files st.own.files → FitsReached s.files st.own.files e → plain_outcome_with (laid_state s st) e ≡ laid_outcome s (outcome_with st e)
 made_whole s st (Went r spot bytes wrote change) tidy fits =
     λ i. Step (record {
       core = record { regs = r; desk = desk_with st.core.desk spot bytes };
@@ -121,15 +121,15 @@ made_whole s st (Went r spot bytes wrote change) tidy fits =
     })
 made_whole s st (Stopped cause) tidy fits = refl
 
-same_outcome : (s : Session) (st : PartialState) → IsSession s → Inside st.own.cells → IsSound s.files st.own.files → IsTidy s.files st.own.files → whole_outcome s (laid_over s st) ≡ whole_of s (outcome (ask s) st)
-unfolding whole_outcome dependence.outcome
+same_outcome : (s : Session) (st : PartialState) → IsSession s → Inside st.own.cells → AreSoundOwnFiles s.files st.own.files → IsTidy s.files st.own.files → plain_outcome s (laid_state s st) ≡ laid_outcome s (outcome (session_answers s) st)
+unfolding plain_outcome dependence.outcome
 same_outcome s st limits inside sound tidy =
-    ap (whole_made (laid_over s st)) (same_everywhere (tells (memory_of (cell_of s st.own.cells)) s.script (files.files s.files st.own.files)) (laid st.own (ask s)) (next st.core) (same_tell s st.own.cells st.own.files limits inside sound tidy))
-    ∙ made_whole s st (result_of (laid st.own (ask s)) (next st.core)) tidy (reached_fits s st sound)
+    ap (plain_outcome_with (laid_state s st)) (same_everywhere (plain_answers (memory_of (cell_of s st.own.cells)) s.script (files.files s.files st.own.files)) (laid st.own (session_answers s)) (next st.core) (same_tell s st.own.cells st.own.files limits inside sound tidy))
+    ∙ made_whole s st (result_of (laid st.own (session_answers s)) (next st.core)) tidy (reached_fits s st sound)
 
-step_inside : (st next : PartialState) (e : Reached) → Inside st.own.cells → made st e ≡ Step next → Inside next.own.cells
+step_inside : (st next : PartialState) (e : StepEnd) → Inside st.own.cells → outcome_with st e ≡ Step next → Inside next.own.cells
 step_inside st next (Went r spot bytes wrote change) h e =
-    let same : record { core = record { regs = r; desk = desk_with st.core.desk spot bytes }; own = record { cells = stored_all st.own.cells wrote.cells; files = own_with change st.own.files } } ≡ next = cc in
+    let same : record { core = record { regs = r; desk = desk_with st.core.desk spot bytes }; own = record { cells = with_cells st.own.cells wrote.cells; files = own_after_change change st.own.files } } ≡ next = cc in
     subst (λ (x : PartialState). Inside x.own.cells) same (inside_all wrote.cells st.own.cells h)
 step_inside st next (Stopped cause) h e = absurd (cc)
 
@@ -141,29 +141,29 @@ after_inside f (suc n) st e =
     let (b, before, went) = step_before f (after f n) st e in
     step_inside b st (result_of (laid b.own f) (next b.core)) (after_inside f n b before) went
 
-went_on : (s : Session) (w : Outcome Whole Cause) (o : Outcome PartialState Cause) → w ≡ whole_of s o
-    → elim w as (λ _. Option Whole) [ Step next ↦ Some next | Stop cause ↦ None ] ≡ option_map (laid_over s) (state_of o)
+went_on : (s : Session) (w : Outcome PlainState Cause) (o : Outcome PartialState Cause) → w ≡ laid_outcome s o
+    → elim w as (λ _. Option PlainState) [ Step next ↦ Some next | Stop cause ↦ None ] ≡ option_map (laid_state s) (state_of o)
 went_on s w (Step st) e = rw e refl
 went_on s w (Stop cause) e = rw e refl
 
-one_more : (s : Session) → IsSession s → (o : Option PartialState) → ((st : PartialState) → o ≡ Some st → Inside st.own.cells) → ((st : PartialState) → o ≡ Some st → IsSound s.files st.own.files)
+one_more : (s : Session) → IsSession s → (o : Option PartialState) → ((st : PartialState) → o ≡ Some st → Inside st.own.cells) → ((st : PartialState) → o ≡ Some st → AreSoundOwnFiles s.files st.own.files)
     → ((st : PartialState) → o ≡ Some st → IsTidy s.files st.own.files)
-    → whole_then s (option_map (laid_over s) o) ≡ option_map (laid_over s) (dependence.then_step part (λ (st : PartialState). st.own) (λ (st : PartialState). next st.core) made start (ask s) o)
+    → next_plain s (option_map (laid_state s) o) ≡ option_map (laid_state s) (dependence.next_state session_tree (λ (st : PartialState). st.own) (λ (st : PartialState). next st.core) outcome_with start (session_answers s) o)
 one_more s limits None inside sound tidy = refl
-one_more s limits (Some st) inside sound tidy = went_on s _ (outcome (ask s) st) (same_outcome s st limits (inside st refl) (sound st refl) (tidy st refl))
+one_more s limits (Some st) inside sound tidy = went_on s _ (outcome (session_answers s) st) (same_outcome s st limits (inside st refl) (sound st refl) (tidy st refl))
 
-same_after : (s : Session) → IsSession s → (n : ℕ) → whole_after s n ≡ option_map (laid_over s) (after (ask s) n)
-unfolding whole_after dependence.after
+same_after : (s : Session) → IsSession s → (n : ℕ) → plain_after s n ≡ option_map (laid_state s) (after (session_answers s) n)
+unfolding plain_after dependence.after
 same_after s limits zero = λ i. Some (record {
   core = start.core;
   memory = memory_of (λ a. unwrap_or (sym (finmap.get-empty nat_cmp a) i) (image_of s a));
   files = loaded_is s.files i;
 })
-same_after s limits (suc n) = ap (whole_then s) (same_after s limits n) ∙ one_more s limits (after (ask s) n) (after_inside (ask s) n) (sound_after s n) (tidy_after s n)
+same_after s limits (suc n) = ap (next_plain s) (same_after s limits n) ∙ one_more s limits (after (session_answers s) n) (after_inside (session_answers s) n) (sound_after s n) (tidy_after s n)
 
 -- The law of the plain machine.
-pub whole_goes_as_laid : WholeIsLaid
+pub whole_goes_as_laid : PlainMachineIsLaid
 whole_goes_as_laid = record {
   states = same_after;
-  outcomes = λ s limits n st e. same_outcome s st limits (after_inside (ask s) n st e) (sound_after s n st e) (tidy_after s n st e);
+  outcomes = λ s limits n st e. same_outcome s st limits (after_inside (session_answers s) n st e) (sound_after s n st e) (tidy_after s n st e);
 }

@@ -7,17 +7,17 @@ use Rattle.std.specs.Cmp.Lexicographic.{slice_cmp}
 use Rattle.std.specs.FinMap.{FinMap, get, keys, from_entries, retain_keys}
 use Rattle.hostfiles.specs.Names.{is_sayable}
 use Rattle.hostfiles.specs.Hosts.{Key, Record, Host}
-use Rattle.hostfiles.specs.File.{told_records}
+use Rattle.hostfiles.specs.File.{contents_of}
 use Rattle.hostfiles.specs.File.{is_same}
-use Rattle.machine.specs.WholeFiles.{Files}
+use Rattle.machine.specs.PlainFiles.{Files}
 
 -- The records of the file of a key, if there is one, with zeros for a hole.
-abbrev pub told_in : Files → Key → Option (List Record)
-told_in files key = option_map told_records (get files key)
+abbrev pub contents_in : Files → Key → Option (List Record)
+contents_in files key = option_map contents_of (get files key)
 
 -- Whether the records of the file of a key differ from those of the host file.
 abbrev pub is_changed_in : Host → Files → Key → Bool
-is_changed_in host files key = not (is_same (told_in files key) (get host key))
+is_changed_in host files key = not (is_same (contents_in files key) (get host key))
 
 -- Whether a key is valid and its file is changed.
 abbrev pub is_changed_name_in : Host → Files → Key → Bool

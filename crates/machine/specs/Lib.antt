@@ -1,22 +1,22 @@
-pub mod Given
+pub mod Inputs
 pub mod CellCount
 pub mod StateView
 pub mod Session
 pub mod SessionError
 pub mod Step
 pub mod Machine
-pub mod Kept
-pub mod Steps
+pub mod SavedState
+pub mod TakesStep
 pub mod Stretch
-pub mod WholeFiles
+pub mod PlainFiles
 pub mod ChangedFiles
-pub mod Whole
-pub mod LaidOver
+pub mod PlainState
+pub mod PlainLaid
 pub mod Stops
 pub mod WrittenCells
-pub use Rattle.console_calls.specs.Places
+pub use Rattle.console_calls.specs.ScriptLooks
 pub use Rattle.console_calls.specs.declared.cause.Cause
-pub use Rattle.console_calls.specs.declared.places.Places as PlacesType
+pub use Rattle.console_calls.specs.declared.script_looks.ScriptLooks as ScriptLooksType
 pub use Rattle.pagemem.specs.Image
 pub use Rattle.i8080.specs.Memory
 pub use Rattle.interaction_trees.specs.Outcome

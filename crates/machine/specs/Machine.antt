@@ -8,19 +8,19 @@ use Rattle.interaction_trees.specs.Dependence as dependence
 use Rattle.i8080.specs.Memory.{is_among}
 use Rattle.i8080.specs.Memory as memory
 use Rattle.console_calls.specs.declared.cause.Cause.{Cause}
-use Rattle.console_calls.specs.Places.{is_within}
-use Rattle.console_calls.specs.Questions.{Byte, Input}
-use Rattle.hostfiles.specs.Looks.{is_looked, is_same_ask}
-use Rattle.hostfiles.specs.Looks as file_looks
+use Rattle.console_calls.specs.ScriptLooks.{is_within}
+use Rattle.console_calls.specs.StateQuestions.{Byte, Input}
+use Rattle.hostfiles.specs.FileLooks.{is_looked, is_same_ask}
+use Rattle.hostfiles.specs.FileLooks as file_looks
 use Rattle.hostfiles.specs.declared.looks.Ask.{Ask}
-use Rattle.file_calls.specs.Deletes.{own_with}
-use Rattle.bdos.specs.Questions.{SystemQuestion, OfState, OfFiles, SystemAnswer, SystemAnswers}
-use Rattle.file_calls.specs.Passing.{HostAnswer, HostTree, host_answers}
-use Rattle.file_calls.specs.Passing as passing
-use Rattle.machine.specs.Given.{Session}
-use Rattle.machine.specs.StateView.{Cells, Own, PartialState, Looked}
+use Rattle.file_calls.specs.Deletes.{own_after_change}
+use Rattle.bdos.specs.SystemQuestions.{SystemQuestion, OfState, OfFiles, SystemAnswer, SystemAnswers}
+use Rattle.file_calls.specs.HostTrees.{HostAnswer, HostTree, host_answers}
+use Rattle.file_calls.specs.HostTrees as passing
+use Rattle.machine.specs.Inputs.{Session}
+use Rattle.machine.specs.StateView.{OwnCells, Own, PartialState, AllLooks}
 use Rattle.machine.specs.Session.{image_of}
-use Rattle.machine.specs.Step.{Reached, Went, Stopped, first_core, desk_with, next}
+use Rattle.machine.specs.Step.{StepEnd, Went, Stopped, first_core, desk_with, next}
 
 -- ---- questions to the session
 
@@ -39,10 +39,10 @@ abbrev pub Answers : Type 0
 Answers = (q : Question) → Answer q
 
 -- The answers of a session.
-abbrev pub ask : Session → Answers
-ask s (Cell a) = image_of s a
-ask s (Script k) = slice_get s.script k
-ask s (OfHost a) = host_answers s.files a
+abbrev pub session_answers : Session → Answers
+session_answers s (Cell a) = image_of s a
+session_answers s (Script k) = slice_get s.script k
+session_answers s (OfHost a) = host_answers s.files a
 
 abbrev pub same_question : Question → Question → Bool
 same_question (Cell a) (Cell b) = a == b
@@ -61,39 +61,39 @@ own_or_ask None a = Query (Cell a) Return
 own_or_ask (Some v) a = Return v
 
 -- A tree of questions to the host files, as a tree over the session.
-abbrev pub asking_host : {E : Type 0} → HostTree E → Tree Question Answer E
-asking_host (Return e) = Return e
-asking_host (Query a t) = Query (OfHost a) (λ x. asking_host (t x))
+abbrev pub host_tree_of : {E : Type 0} → HostTree E → Tree Question Answer E
+host_tree_of (Return e) = Return e
+host_tree_of (Query a t) = Query (OfHost a) (λ x. host_tree_of (t x))
 
 -- The answer of a state that owns o, as a tree over the session.
-abbrev pub part : Own → (q : SystemQuestion) → Tree Question Answer (SystemAnswer q)
-part o (OfState (Byte a)) = own_or_ask (map.get o.cells a) a
-part o (OfState (Input k)) = Query (Script k) Return
-part o (OfFiles q) = asking_host (passing.part o.files q)
+abbrev pub session_tree : Own → (q : SystemQuestion) → Tree Question Answer (SystemAnswer q)
+session_tree o (OfState (Byte a)) = own_or_ask (map.get o.cells a) a
+session_tree o (OfState (Input k)) = Query (Script k) Return
+session_tree o (OfFiles q) = host_tree_of (passing.host_tree o.files q)
 
 -- The answers of the state that owns o, over a session that answers f.
 abbrev pub laid : Own → Answers → SystemAnswers
-laid = dependence.laid part
+laid = dependence.laid session_tree
 
 -- The byte of a cell in a state of a session: the written byte, or else the session's.
 abbrev pub cell_at : Session → PartialState → ℕ → ℕ
-cell_at s st a = laid st.own (ask s) (OfState (Byte a))
+cell_at s st a = laid st.own (session_answers s) (OfState (Byte a))
 
 -- A byte written to a cell; there are 65,536 cells. [8080 manual 1975, chapter 4, memory]
-abbrev pub stored : Cells → ℕ → ℕ → Cells
-stored m a v = if nat_lt a 65536 then map.insert m a v else m
+abbrev pub with_cell : OwnCells → ℕ → ℕ → OwnCells
+with_cell m a v = if nat_lt a 65536 then map.insert m a v else m
 
-abbrev pub stored_all : Cells → List (ℕ × ℕ) → Cells
-stored_all m [] = m
-stored_all m (w ∷ rest) = stored_all (stored m w.0 w.1) rest
+abbrev pub with_cells : OwnCells → List (ℕ × ℕ) → OwnCells
+with_cells m [] = m
+with_cells m (w ∷ rest) = with_cells (with_cell m w.0 w.1) rest
 
-abbrev pub made : PartialState → Reached → Outcome PartialState Cause
-made st (Went r spot bytes written change) =
+abbrev pub outcome_with : PartialState → StepEnd → Outcome PartialState Cause
+outcome_with st (Went r spot bytes written change) =
     Step (record {
       core = record { regs = r; desk = desk_with st.core.desk spot bytes };
-      own = record { cells = stored_all st.own.cells written.cells; files = own_with change st.own.files };
+      own = record { cells = with_cells st.own.cells written.cells; files = own_after_change change st.own.files };
     })
-made st (Stopped cause) = Stop cause
+outcome_with st (Stopped cause) = Stop cause
 
 -- ---- a run
 
@@ -103,19 +103,19 @@ start = record { core = first_core; own = record { cells = map.empty; files = ma
 
 -- The outcome that follows a state, without regard to the limit.
 abbrev pub outcome : Answers → PartialState → Outcome PartialState Cause
-outcome = dependence.outcome part (λ (st : PartialState). st.own) (λ (st : PartialState). next st.core) made start
+outcome = dependence.outcome session_tree (λ (st : PartialState). st.own) (λ (st : PartialState). next st.core) outcome_with start
 
 -- The questions that reach the session there, also if a stop follows.
 abbrev pub looks_at : Answers → PartialState → List Question
-looks_at = dependence.looks_at part (λ (st : PartialState). st.own) (λ (st : PartialState). next st.core) made start
+looks_at = dependence.looks_at session_tree (λ (st : PartialState). st.own) (λ (st : PartialState). next st.core) outcome_with start
 
 -- The state after n steps; `None` if a stop comes before.
 abbrev pub after : Answers → ℕ → Option PartialState
-after = dependence.after part (λ (st : PartialState). st.own) (λ (st : PartialState). next st.core) made start
+after = dependence.after session_tree (λ (st : PartialState). st.own) (λ (st : PartialState). next st.core) outcome_with start
 
 -- The questions that reach the session at the state after n steps.
 abbrev pub looks : Answers → ℕ → List Question
-looks = dependence.looks part (λ (st : PartialState). st.own) (λ (st : PartialState). next st.core) made start
+looks = dependence.looks session_tree (λ (st : PartialState). st.own) (λ (st : PartialState). next st.core) outcome_with start
 
 -- Some number of steps leads to the state.
 abbrev pub IsReached : Answers → PartialState → Type 0
@@ -124,27 +124,27 @@ IsReached f st = (n : ℕ) × (after f n ≡ Some st)
 -- ---- looks
 
 -- Whether a question was looked at.
-abbrev pub looked_at : Looked → Question → Bool
-looked_at looked (Cell a) = is_among a looked.cells
-looked_at looked (Script k) = is_within looked.places k
-looked_at looked (OfHost a) = is_looked looked.files a
+abbrev pub is_looked_at : AllLooks → Question → Bool
+is_looked_at looked (Cell a) = is_among a looked.cells
+is_looked_at looked (Script k) = is_within looked.places k
+is_looked_at looked (OfHost a) = is_looked looked.files a
 
 -- Nothing was looked at.
-pub record NothingLooked (looked : Looked) : Type 0 where
+pub record HasNoLooks (looked : AllLooks) : Type 0 where
   pub cells : looked.cells ≡ []
   pub places : (k : ℕ) → is_within looked.places k ≡ false
   pub files : (a : Ask) → is_looked looked.files a ≡ false
 
 -- Exactly these questions were looked at, as well as the earlier ones.
-abbrev pub LooksAlso : Looked → List Question → Looked → Type 0
-LooksAlso old qs new = (q : Question) → looked_at new q ≡ (looked_at old q || is_in q qs)
+abbrev pub AddsLooks : AllLooks → List Question → AllLooks → Type 0
+AddsLooks old qs new = (q : Question) → is_looked_at new q ≡ (is_looked_at old q || is_in q qs)
 
 -- Nothing was looked at except the earlier looks and some of these questions.
-abbrev pub IsBounded : Looked → List Question → Looked → Type 0
-IsBounded old qs new = (q : Question) → looked_at new q ≡ true → (looked_at old q || is_in q qs) ≡ true
+abbrev pub AddsNoOtherLooks : AllLooks → List Question → AllLooks → Type 0
+AddsNoOtherLooks old qs new = (q : Question) → is_looked_at new q ≡ true → (is_looked_at old q || is_in q qs) ≡ true
 
 -- More was looked at: more cells after the earlier ones, and all earlier offsets and questions.
-pub record Extends (old new : Looked) : Type 0 where
+pub record KeepsLooks (old new : AllLooks) : Type 0 where
   pub cells : memory.Extends old.cells new.cells
   pub places : (k : ℕ) → is_within old.places k ≡ true → is_within new.places k ≡ true
-  pub files : file_looks.Extends old.files new.files
+  pub files : file_looks.KeepsAsks old.files new.files

@@ -7,7 +7,7 @@ use Rattle.command_tail.specs.declared.page.TheConstants.{TAIL_LIMIT}
 use Rattle.command_tail.specs.PageZero.{page_zero}
 use Rattle.hostfiles.specs.Hosts.{Host, IsHost}
 use Rattle.machine.specs.declared.session.TheConstants.{PROGRAM_LIMIT, SCRIPT_LIMIT, STEP_LIMIT}
-use Rattle.machine.specs.Given.{Session}
+use Rattle.machine.specs.Inputs.{Session}
 
 -- Whether a command tail may contain a byte. (This project's profile.)
 abbrev pub is_tail_byte : ℕ → Bool
@@ -23,8 +23,8 @@ pub record IsSession (s : Session) : Type 0 where
   pub limit : s.limit ≤ STEP_LIMIT
 
 -- The session with these parts, or the number of the refusal.
-abbrev pub made_of : List ℕ → List ℕ → Host → List ℕ → ℕ → Result Session ℕ
-made_of program tail files script limit =
+abbrev pub session_or_refusal : List ℕ → List ℕ → Host → List ℕ → ℕ → Result Session ℕ
+session_or_refusal program tail files script limit =
     if nat_lt PROGRAM_LIMIT (length program) then Err 1
     else if nat_lt TAIL_LIMIT (length tail) then Err 2
     else if not (list_all is_tail_byte tail) then Err 3
@@ -37,8 +37,8 @@ abbrev pub image_of : Session → ℕ → ℕ
 image_of s = image_at (page_zero s.tail) s.program
 
 -- A list with `removed` bytes from an index on replaced by others.
-abbrev pub spliced : List ℕ → ℕ → ℕ → List ℕ → List ℕ
-spliced list at removed bytes = take at list ++ bytes ++ drop (at + removed) list
+abbrev pub splice : List ℕ → ℕ → ℕ → List ℕ → List ℕ
+splice list at removed bytes = take at list ++ bytes ++ drop (at + removed) list
 
 -- A list with other bytes written over it from an index on.
 abbrev pub written_over : List ℕ → ℕ → List ℕ → List ℕ

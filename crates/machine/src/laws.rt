@@ -1,6 +1,6 @@
-ghost use Rattle.machine.specs.LaidOver.{WholeIsLaid};
+ghost use Rattle.machine.specs.PlainLaid.{PlainMachineIsLaid};
 
 /// The plain machine, whose memory is one list and whose files are one map, makes the same steps as this machine.
-pub fn whole_is_laid()
-    ensures { WholeIsLaid }
+pub fn plain_machine_is_laid()
+    ensures { PlainMachineIsLaid }
 {}

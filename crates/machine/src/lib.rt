@@ -5,13 +5,13 @@
 //! - `system_area`: a step in the system area: the calls, and the stops there
 //! - `stretch`, `laws`: `run_from` executes a stretch of steps, and `step` one step; the law that the plain machine
 //!   makes the same steps
-//! - `kept`, `meter`: a saved state, and the state that is restored from it; the count of executed steps
+//! - `saved_state`, `meter`: a saved state, and the state that is restored from it; the count of executed steps
 #![tactic(auto)]
 
 mod bytes;
-mod kept;
 mod laws;
 mod meter;
+mod saved_state;
 mod session;
 mod state;
 mod stretch;
@@ -22,10 +22,10 @@ pub use command_tail::TAIL_LIMIT;
 pub use console_calls::{Cause, Desk, Spot};
 pub use hostfiles::{Ask, Changes, HostFile, HostFiles, Journal, Name};
 pub use i8080::Regs;
-pub use kept::Kept;
-pub use laws::whole_is_laid;
+pub use laws::plain_machine_is_laid;
 pub use meter::Meter;
 pub use pagemem::BlankMarks;
+pub use saved_state::SavedState;
 pub use session::{PROGRAM_LIMIT, SCRIPT_LIMIT, STEP_LIMIT, Session, SessionError, limits};
 pub use state::State;
 pub use stretch::{run_from, step};

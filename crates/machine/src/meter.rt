@@ -32,7 +32,7 @@ impl Meter {
     }
 
     /// Counts `steps` more steps.
-    pub(crate) fn count_on(&mut self, steps: u64)
+    pub(crate) fn tick_by(&mut self, steps: u64)
         requires { self.old + steps < 2 ^ 64 }
         ensures { self.new ≡ self.old + steps }
     {
@@ -45,6 +45,6 @@ impl Meter {
         requires { self.old + 1 < 2 ^ 64 }
         ensures { self.new ≡ self.old + 1 }
     {
-        self.count_on(1);
+        self.tick_by(1);
     }
 }

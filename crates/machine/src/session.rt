@@ -3,7 +3,7 @@ ghost use Rattle.std.specs.List.{list_all};
 ghost use Rattle.std.specs.FinMap as finmap;
 ghost use Rattle.pagemem.specs.ImageView.{cells_of};
 ghost use Rattle.hostfiles.specs.Hosts.{has_room};
-ghost use Rattle.machine.specs.Session.{is_tail_byte, image_of, made_of, spliced, written_over};
+ghost use Rattle.machine.specs.Session.{is_tail_byte, image_of, session_or_refusal, splice, written_over};
 
 use command_tail::{TAIL_LIMIT, page_zero};
 use hostfiles::{HostFile, HostFiles, Name};
@@ -37,7 +37,7 @@ impl Model for Session {
     ghost use Rattle.std.specs.Prelude.{◌≡◌};
     ghost use Rattle.std.specs.Coded.{codes};
     ghost use Rattle.command_tail.specs.PageZero.{page_zero};
-    ghost use Rattle.machine.specs.Given.{Session as SessionView};
+    ghost use Rattle.machine.specs.Inputs.{Session as SessionView};
     ghost use Rattle.machine.specs.StateView.{files_code};
     ghost use Rattle.machine.specs.Session.{IsSession};
 
@@ -83,11 +83,11 @@ pub enum SessionError {
 }
 
 impl SessionError {
-    ghost use Rattle.machine.specs.SessionError.{number_of};
+    ghost use Rattle.machine.specs.SessionError.{session_error_number};
 
     /// Returns the number of the refusal: 1 to 5.
     pub fn number(self) -> u8
-        ensures { result ≡ number_of self }
+        ensures { result ≡ session_error_number self }
     {
         match self {
             SessionError::ProgramTooLong => 1,
@@ -101,7 +101,7 @@ impl SessionError {
 
 impl Session {
     ghost use Rattle.machine.specs.Session.{IsSession};
-    ghost use Rattle.machine.specs.SessionError.{MadeAs};
+    ghost use Rattle.machine.specs.SessionError.{IsMadeAs};
 
     /// Creates a session.
     ///
@@ -125,7 +125,7 @@ impl Session {
         script: Vec<u8>,
         limit: u64,
     ) -> Result<Session, SessionError>
-        ensures { MadeAs (made_of program.items tail.items files script.items limit) result }
+        ensures { IsMadeAs (session_or_refusal program.items tail.items files script.items limit) result }
     {
         if program.len() > PROGRAM_LIMIT {
             return Err(SessionError::ProgramTooLong);
@@ -223,7 +223,7 @@ impl Session {
         requires inside { at + removed ≤ length self.old.script }
         requires room { length self.old.script + length bytes.now ≤ SCRIPT_LIMIT + removed }
         ensures ok { OnOk result (self.new
-            ≡ record self.old { script = spliced self.old.script at removed bytes.now }) }
+            ≡ record self.old { script = splice self.old.script at removed bytes.now }) }
         ensures err { OnErr result (self.new ≡ self.old) }
         ensures memory { OnErr result (removed < length bytes.now) }
     {
@@ -260,7 +260,7 @@ impl Session {
 #[tactic(auto, using(crate::proofs::SpliceLemmas::shrunk))]
 fn splice(list: &mut Vec<u8>, at: usize, removed: usize, bytes: &[u8]) -> Result<(), AllocError>
     requires { at + removed ≤ vec_len list.old }
-    ensures ok { OnOk result (list.new.items ≡ spliced list.old.items at removed bytes.now) }
+    ensures ok { OnOk result (list.new.items ≡ splice list.old.items at removed bytes.now) }
     ensures err { OnErr result (list.new.items ≡ list.old.items) }
     ensures memory { OnErr result (removed < length bytes.now) }
 {
@@ -277,7 +277,7 @@ fn splice(list: &mut Vec<u8>, at: usize, removed: usize, bytes: &[u8]) -> Result
 // Inserts bytes before index `at`.
 fn insert(list: &mut Vec<u8>, at: usize, bytes: &[u8]) -> Result<(), AllocError>
     requires { at ≤ vec_len list.old }
-    ensures ok { OnOk result (list.new.items ≡ spliced list.old.items at 0 bytes.now) }
+    ensures ok { OnOk result (list.new.items ≡ splice list.old.items at 0 bytes.now) }
     ensures err { OnErr result (list.new.items ≡ list.old.items) }
 {
     list.extend_from_slice(bytes)?;
@@ -288,7 +288,7 @@ fn insert(list: &mut Vec<u8>, at: usize, bytes: &[u8]) -> Result<(), AllocError>
 // Removes `count` bytes from index `at` on.
 fn remove(list: &mut Vec<u8>, at: usize, count: usize)
     requires { at + count ≤ vec_len list.old }
-    ensures { list.new.items ≡ spliced list.old.items at count [] }
+    ensures { list.new.items ≡ splice list.old.items at count [] }
 {
     list[at..].rotate_left(count);
     list.truncate(list.len() - count);

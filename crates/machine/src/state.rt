@@ -1,10 +1,10 @@
 ghost use Rattle.std.specs.Prelude.{◌≡◌, ◌<◌, ◌&&◌, ◌==◌, ℕ, true, false, not, IfOk, IfSome, IfNone, length, slice_index};
-ghost use Rattle.console_calls.specs.Places.{is_within};
-ghost use Rattle.hostfiles.specs.Looks.{is_looked, asks_nothing, forgot};
-ghost use Rattle.machine.specs.Machine.{start, NothingLooked};
+ghost use Rattle.console_calls.specs.ScriptLooks.{is_within};
+ghost use Rattle.hostfiles.specs.FileLooks.{is_looked, asks_nothing, without_ask};
+ghost use Rattle.machine.specs.Machine.{start, HasNoLooks};
 
 use crate::session::Session;
-use console_calls::{Desk, Places};
+use console_calls::{Desk, ScriptLooks};
 use hostfiles::{Ask, Changes};
 use i8080::{Flags, Regs};
 use pagemem::{BlankMarks, Cells, Overlay};
@@ -27,7 +27,7 @@ impl Model for State {
     ghost use Rattle.pagemem.specs.Overlay.{own_of};
     ghost use Rattle.machine.specs.StateView.{StateView, cells_code, changes_code, looks_code};
     ghost use Rattle.machine.specs.WrittenCells.{devices_of, state_with};
-    ghost use Rattle.machine.specs.Steps.{looked_in};
+    ghost use Rattle.machine.specs.TakesStep.{looks_in};
 
     ghost Value = { StateView };
 
@@ -35,7 +35,7 @@ impl Model for State {
 
     ghost view = { λ r. record {
       state = state_with r.regs (devices_of r.desk r.changes) (own_of r.overlay);
-      looked = looked_in r.overlay (devices_of r.desk r.changes);
+      looked = looks_in r.overlay (devices_of r.desk r.changes);
     } };
 }
 
@@ -47,7 +47,7 @@ impl State {
     /// `Err` means out of memory.
     pub fn load(alloc: Global, _session: &Session) -> Result<State, AllocError>
         ensures state { IfOk result (λ r. r.state ≡ start) }
-        ensures looked { IfOk result (λ r. NothingLooked r.looked) }
+        ensures looked { IfOk result (λ r. HasNoLooks r.looked) }
     {
         State::load_over(alloc, BlankMarks::new(alloc)?)
     }
@@ -59,7 +59,7 @@ impl State {
     /// `Err` means out of memory.
     pub fn load_over(alloc: Global, marks: BlankMarks) -> Result<State, AllocError>
         ensures state { IfOk result (λ r. r.state ≡ start) }
-        ensures looked { IfOk result (λ r. NothingLooked r.looked) }
+        ensures looked { IfOk result (λ r. HasNoLooks r.looked) }
     {
         let cells = Cells::new(alloc)?;
         Ok(State {
@@ -81,7 +81,7 @@ impl State {
                     cy: false,
                 },
             },
-            overlay: Overlay::over(marks, cells),
+            overlay: Overlay::from_parts(marks, cells),
             desk: Desk::new(alloc),
             changes: Changes::new(alloc),
         })
@@ -105,24 +105,24 @@ impl State {
 
     /// Returns the script offsets that were looked at.
     #[inline(always)]
-    pub(crate) fn places(&self) -> Places
+    pub(crate) fn script_looks(&self) -> ScriptLooks
         ensures { result ≡ self.now.looked.places }
     {
-        self.desk.places()
+        self.desk.script_looks()
     }
 
     /// Returns whether `cells` cells and these script offsets were looked at, and no question was asked of the host files.
     #[inline(always)]
-    pub(crate) fn looks_at_no_more(&self, cells: usize, places: Places) -> bool
+    pub(crate) fn looks_at_no_more(&self, cells: usize, places: ScriptLooks) -> bool
         ensures cells { result ≡ true → length self.now.looked.cells ≡ cells }
         ensures places { result ≡ true → self.now.looked.places ≡ places }
         ensures files { result ≡ true → (ask : Ask) → is_looked self.now.looked.files ask ≡ false }
     {
         // The start of the offsets is compared last and by itself: one load of both numbers would wait until both are stored.
         self.look_count() == cells
-            && self.places().end_as(places)
+            && self.script_looks().has_end_of(places)
             && self.asks_nothing()
-            && self.places().begin_as(places)
+            && self.script_looks().has_start_of(places)
     }
 
     /// Removes and returns one script offset that was looked at; `None` if there is none. The state and its other looks
@@ -174,7 +174,7 @@ impl State {
         ensures cells { self.new.looked.cells ≡ self.old.looked.cells }
         ensures places { self.new.looked.places ≡ self.old.looked.places }
         ensures one { IfSome result (λ ask. is_looked self.old.looked.files ask ≡ true) }
-        ensures taken { IfSome result (λ ask. self.new.looked.files ≡ forgot ask self.old.looked.files) }
+        ensures taken { IfSome result (λ ask. self.new.looked.files ≡ without_ask ask self.old.looked.files) }
         ensures none { IfNone result ((ask : Ask) → is_looked self.old.looked.files ask ≡ false) }
         ensures same { IfNone result (self.new ≡ self.old) }
     {

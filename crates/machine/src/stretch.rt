@@ -2,9 +2,9 @@
 
 ghost use Rattle.std.specs.Prelude.{◌≡◌, ◌+◌, ◌-◌, ◌^◌, ◌<◌, ◌≤◌, Some, IfOk, IfNone, IfSome, OnErr};
 ghost use Rattle.pagemem.specs.ViewParts.{loan_of};
-ghost use Rattle.machine.specs.Machine.{ask, after, IsReached};
-ghost use Rattle.machine.specs.Steps.{TakesStep};
-ghost use Rattle.machine.specs.Stretch.{GoesOn, InstructionsGoOn, OverlayGoesOn, RunsTo};
+ghost use Rattle.machine.specs.Machine.{session_answers, after, IsReached};
+ghost use Rattle.machine.specs.TakesStep.{TakesStep};
+ghost use Rattle.machine.specs.Stretch.{RunsSteps, RunsInstructions, RunsOverOverlay, RunsTo};
 
 use crate::meter::Meter;
 use crate::session::Session;
@@ -18,12 +18,12 @@ use std::alloc::AllocError;
 // Executes at most `steps` instructions, up to the system area, to an instruction that looks at something new, or to
 // a stop. Returns the number of executed instructions, and how it ended.
 #[inline(always)]
-fn instructions_over(
+fn run_instructions_over(
     regs: &mut Regs,
     view: &mut View<'_>,
     steps: u64,
 ) -> (u64, Result<Option<Cause>, AllocError>)
-    ensures goes { InstructionsGoOn steps regs.old view.old result regs.new view.new }
+    ensures goes { RunsInstructions steps regs.old view.old result regs.new view.new }
     ensures progress { regs.old.pc < 0xfe00 → 0 < steps
         → IfOk result.1 (λ stop. IfNone stop (0 < result.0)) }
     ensures loan { loan_of view.new ≡ loan_of view.old }
@@ -48,36 +48,36 @@ fn instructions_over(
 // Executes instructions over a session's image. The registers and the overlay are borrowed separately, so that the
 // loop need not store the registers.
 #[inline(always)]
-fn instructions(
+fn run_instructions(
     regs: &mut Regs,
     overlay: &mut Overlay,
     session: &Session,
     steps: u64,
 ) -> (u64, Result<Option<Cause>, AllocError>)
-    ensures goes { OverlayGoesOn session.now steps regs.old overlay.old result regs.new overlay.new }
+    ensures goes { RunsOverOverlay session.now steps regs.old overlay.old result regs.new overlay.new }
     ensures progress { regs.old.pc < 0xfe00 → 0 < steps
         → IfOk result.1 (λ stop. IfNone stop (0 < result.0)) }
 {
     let mut view = View::new(session.image(), overlay);
-    instructions_over(regs, &mut view, steps)
+    run_instructions_over(regs, &mut view, steps)
 }
 
 // Executes at most `steps` steps: one in the system area, or instructions. Returns the number of executed steps, and how it
 // ended.
 #[inline(always)]
-fn go_on(
+fn run_some(
     running: &mut State,
     session: &Session,
     steps: u64,
 ) -> (u64, Result<Option<Cause>, AllocError>)
     requires some { 0 < steps }
-    requires at { IsReached (ask session.now) running.old.state }
-    ensures goes { GoesOn session.now steps running.old result running.new }
+    requires at { IsReached (session_answers session.now) running.old.state }
+    ensures goes { RunsSteps session.now steps running.old result running.new }
     ensures progress { IfOk result.1 (λ stop. IfNone stop (0 < result.0)) }
     ensures within { result.0 ≤ steps }
 {
     if running.regs.pc < SYSTEM_AREA {
-        return instructions(&mut running.regs, &mut running.overlay, session, steps);
+        return run_instructions(&mut running.regs, &mut running.overlay, session, steps);
     }
     match enter_system(running, session) {
         Ok(None) => (1, Ok(None)),
@@ -107,17 +107,17 @@ pub fn run_from(
     end: u64,
 ) -> Result<(u64, Option<Cause>), AllocError>
     requires order { from < end }
-    requires at { after (ask session.now) from ≡ Some running.old.state }
+    requires at { after (session_answers session.now) from ≡ Some running.old.state }
     requires room { meter.old + (end - from) < 2 ^ 64 }
     ensures runs { RunsTo session.now from end (running.old, meter.old) result (running.new, meter.new) }
     ensures progress { IfOk result (λ r. IfNone r.1 (from < r.0)) }
 {
     let cells = running.look_count();
-    let places = running.places();
+    let places = running.script_looks();
     let mut n = from;
     while n < end {
-        let (steps, stop) = go_on(running, session, end - n);
-        meter.count_on(steps);
+        let (steps, stop) = run_some(running, session, end - n);
+        meter.tick_by(steps);
         n += steps;
         if let Some(cause) = stop? {
             return Ok((n, Some(cause)));
@@ -140,14 +140,14 @@ pub fn step(
     session: &Session,
     meter: &mut Meter,
 ) -> Result<Option<Cause>, AllocError>
-    requires at { IsReached (ask session.now) running.old.state }
+    requires at { IsReached (session_answers session.now) running.old.state }
     requires room { meter.old + 1 < 2 ^ 64 }
     ensures step { TakesStep session.now running.old result running.new }
     ensures ticked { IfOk result (λ r. IfNone r (meter.new ≡ meter.old + 1)) }
     ensures stopped { IfOk result (λ r. IfSome r (λ _. meter.new ≡ meter.old)) }
     ensures failed { OnErr result (meter.new ≡ meter.old) }
 {
-    let (count, stop) = go_on(running, session, 1);
-    meter.count_on(count);
+    let (count, stop) = run_some(running, session, 1);
+    meter.tick_by(count);
     stop
 }

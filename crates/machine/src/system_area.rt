@@ -2,11 +2,11 @@
 
 ghost use Rattle.std.specs.Prelude.{◌≡◌, ◌≤◌};
 ghost use Rattle.std.specs.Borrow.{GName};
-ghost use Rattle.file_calls.specs.Passing.{IsSound};
-ghost use Rattle.bdos.specs.Fulfils.{Serves};
-ghost use Rattle.bdos.specs.Fulfils.{scene};
+ghost use Rattle.file_calls.specs.HostTrees.{AreSoundOwnFiles};
+ghost use Rattle.bdos.specs.PerformsSystemCall.{Serves};
+ghost use Rattle.bdos.specs.PerformsSystemCall.{scene};
 ghost use Rattle.machine.specs.Step.{script_limit};
-ghost use Rattle.machine.specs.Steps.{seen, drives_in, TakesStep};
+ghost use Rattle.machine.specs.TakesStep.{memory_over_image, drives_in, TakesStep};
 ghost use Rattle.machine.specs.Stops.{stop_of_call};
 
 use crate::session::Session;
@@ -37,8 +37,10 @@ fn serve(
     session: &Session,
 ) -> Result<Served, AllocError>
     ensures { (g : GName) → Serves script_limit session.now.script
-        (scene regs.old (seen session.now overlay.old) desk.old (drives_in session.now changes.old g)) result
-        (scene regs.new (seen session.now overlay.new) desk.new (drives_in session.now changes.new g)) }
+        (scene regs.old (memory_over_image session.now overlay.old) desk.old
+        (drives_in session.now changes.old g)) result
+        (scene regs.new (memory_over_image session.now overlay.new) desk.new
+        (drives_in session.now changes.new g)) }
 {
     let mut view = View::new(session.image(), overlay);
     let mut table = Table::new(session.files(), changes);
@@ -62,7 +64,7 @@ pub(crate) fn enter_system(
     session: &Session,
 ) -> Result<Option<Cause>, AllocError>
     requires area { 0xfe00 ≤ running.old.state.core.regs.pc }
-    requires sound { IsSound session.now.files running.old.state.own.files }
+    requires sound { AreSoundOwnFiles session.now.files running.old.state.own.files }
     ensures { TakesStep session.now running.old result running.new }
 {
     let State {

@@ -6,7 +6,7 @@ use Rattle.hostfiles.proofs.ChangedWalk.{keys_above, keys_above_none}
 use Rattle.hostfiles.specs.Names.{Key}
 use Rattle.hostfiles.specs.Hosts.{Host}
 use Rattle.machine.specs.ChangedFiles.{changed_in}
-use Rattle.machine.specs.WholeFiles.{Files}
+use Rattle.machine.specs.PlainFiles.{Files}
 use Rattle.folders.specs.FileSystem.{FileBytes}
 use Rattle.folders.specs.Folders.{FailsToWrite, LeavesIn, WritesInto}
 use Rattle.folders.specs.declared.fault.Failure.{Failure}

@@ -12,10 +12,10 @@ use Rattle.folders.specs.Folders.{FailsToWrite, LeavesIn, WritesInto, folder_of}
 use Rattle.folders.specs.declared.fault.Failure.{Failure}
 use Rattle.folders.specs.declared.fault.Failure.TheVariants as failure
 use Rattle.one_run.specs.World.{World}
-use Rattle.machine.specs.ChangedFiles.{changed_keys_in, told_in}
-use Rattle.machine.specs.Given.{Session}
-use Rattle.machine.specs.WholeFiles.{Files}
-use Rattle.replay.specs.Plain.{plain_run}
+use Rattle.machine.specs.ChangedFiles.{changed_keys_in, contents_in}
+use Rattle.machine.specs.Inputs.{Session}
+use Rattle.machine.specs.PlainFiles.{Files}
+use Rattle.replay.specs.PlainRun.{plain_run}
 use Rattle.report_lines.specs.ChangedLines.{gone_lines}
 use Rattle.report_lines.specs.FirstLines.{cause_text, line}
 use Rattle.report_lines.specs.Streams.{WritesOrFails, WritesPart, WritesWhole}
@@ -56,7 +56,7 @@ written_keys host files = filter (contains_key files) (changed_keys_in host file
 
 -- The records of a file in order, with zeros for its holes; nothing if there is no file.
 abbrev pub bytes_in : Files → Key → List ℕ
-bytes_in files key = concat (unwrap_or (told_in files key) [])
+bytes_in files key = concat (unwrap_or (contents_in files key) [])
 
 -- Files are written whole into the folders of their drives, one after the other.
 abbrev pub WritesEach : List (Option (Bor (List ℕ))) → Files → Option FileBytes → List Key → Option FileBytes → Type 0

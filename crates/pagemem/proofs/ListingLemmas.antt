@@ -6,7 +6,7 @@ use Rattle.std.proofs.lemmas.List.{take_more_set, take_more, take-set-le}
 use Rattle.std.proofs.lemmas.List.Sums.{sum_by-set, count_by-le-length}
 use Rattle.i8080.specs.Memory.{is_among}
 use Rattle.i8080.proofs.LookLemmas.{is_among-append}
-use Rattle.pagemem.specs.Listing.{Lists}
+use Rattle.pagemem.specs.CellMarks.{ListsMarks}
 use Rattle.pagemem.proofs.Laws.{set_read, none_set}
 
 abbrev one : Bool → ℕ
@@ -45,7 +45,7 @@ none_counted n marks e = ap (count_by (λ b. b)) e ∙ count_none n
 pub none_marked : (n : ℕ) (marks : List Bool) → marks ≡ replicate n false → (q : ℕ) → get_or marks q false ≡ false
 none_marked n marks e q = rw e (none_set n q)
 
-pub lists_none : (marks : List Bool) (order : List ℕ) → length marks ≡ 65536 → length order ≡ 65536 → ((q : ℕ) → get_or marks q false ≡ false) → count_by (λ b. b) marks ≡ 0 → Lists marks order 0
+pub lists_none : (marks : List Bool) (order : List ℕ) → length marks ≡ 65536 → length order ≡ 65536 → ((q : ℕ) → get_or marks q false ≡ false) → count_by (λ b. b) marks ≡ 0 → ListsMarks marks order 0
 lists_none marks order hm ho none zeros = record {
   all_marks = hm;
   all_order = ho;
@@ -54,7 +54,7 @@ lists_none marks order hm ho none zeros = record {
   apart = λ i h. absurd (omega arith);
 }
 
-module _ (marks : List Bool) (order : List ℕ) (count : ℕ) (l : Lists marks order count) where
+module _ (marks : List Bool) (order : List ℕ) (count : ℕ) (l : ListsMarks marks order count) where
   -- Adding a cell that is not marked.
   module _ (a : ℕ) (h : a < 65536) (e : get_or marks a false ≡ false) where
     pub fits : count < length order
@@ -63,7 +63,7 @@ module _ (marks : List Bool) (order : List ℕ) (count : ℕ) (l : Lists marks o
     pub added : take (count + 1) (set order count a) ≡ take count order ++ a ∷ []
     added = take_more_set order count a fits
 
-    pub lists_added : Lists (set marks a true) (set order count a) (count + 1)
+    pub lists_added : ListsMarks (set marks a true) (set order count a) (count + 1)
     lists_added = record {
       all_marks = length-set marks a true ∙ l.all_marks;
       all_order = length-set order count a ∙ l.all_order;
@@ -104,7 +104,7 @@ module _ (marks : List Bool) (order : List ℕ) (count : ℕ) (l : Lists marks o
       at_end true x = refl
       at_end false x = elim (eqb_tells x x) [ inl same ↦ rw same.0 refl | inr other ↦ absurd (other.1 refl) ]
 
-    pub lists_taken : slice_index order n < 65536 → Lists (set marks (slice_index order n) false) order n
+    pub lists_taken : slice_index order n < 65536 → ListsMarks (set marks (slice_index order n) false) order n
     lists_taken h = record {
       all_marks = length-set marks (slice_index order n) false ∙ l.all_marks;
       all_order = l.all_order;

@@ -5,6 +5,6 @@ pub mod Image
 pub mod ImageView
 pub mod Pages
 pub mod Cells
-pub mod Listing
+pub mod CellMarks
 pub mod Overlay
 pub mod ViewParts

@@ -8,6 +8,6 @@ abbrev pub is_settled : Settled → ℕ → Bool
 is_settled s q = get_or s.marks.items q false
 
 -- A read of this cell returns the byte beneath and changes nothing.
-pub record Rests (own : Own) (looks : Looks) (q : ℕ) : Type 0 where
+pub record IsSettledCell (own : Own) (looks : Looks) (q : ℕ) : Type 0 where
   pub unwritten : own q ≡ None
   pub looked : IsTrue (is_among q looks)

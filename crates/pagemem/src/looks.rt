@@ -16,13 +16,13 @@ pub struct Looks {
 
 impl Model for Looks {
     ghost use Rattle.std.specs.Prelude.{List, ℕ, take};
-    ghost use Rattle.pagemem.specs.Listing.{Lists};
+    ghost use Rattle.pagemem.specs.CellMarks.{ListsMarks};
 
     ghost Value = { List ℕ };
 
     ghost view = { λ l. take l.count l.order.items };
 
-    ghost invariant = { λ l. Lists l.marks.items l.order.items l.count };
+    ghost invariant = { λ l. ListsMarks l.marks.items l.order.items l.count };
 }
 
 impl Looks {

@@ -4,7 +4,7 @@ ghost use Rattle.i8080.specs.End.{cells_from};
 ghost use Rattle.i8080.specs.Memory.{bytes, look, write, write_all, is_among, over};
 ghost use Rattle.i8080.specs.Registers.{onward, word};
 ghost use Rattle.pagemem.specs.Cells.{own_in, is_ready_in};
-ghost use Rattle.pagemem.specs.Settled.{is_settled, Rests};
+ghost use Rattle.pagemem.specs.Settled.{is_settled, IsSettledCell};
 
 use crate::cells::Cells;
 use crate::image::Image;
@@ -18,7 +18,7 @@ pub struct Overlay {
     cells: Cells,
     looks: Looks,
     settled: Settled,
-    ghost rests: { (q : ℕ) → IsTrue (is_settled settled q) → Rests (own_in cells) looks q },
+    ghost rests: { (q : ℕ) → IsTrue (is_settled settled q) → IsSettledCell (own_in cells) looks q },
 }
 
 /// The memory for the marks of an overlay, with no looks. A discarded overlay passes it to the next one, so that it is
@@ -50,11 +50,11 @@ impl Overlay {
         ensures looks { IfOk result (λ o. looks_of o ≡ []) }
     {
         let cells = Cells::new(alloc)?;
-        Ok(Overlay::over(BlankMarks::new(alloc)?, cells))
+        Ok(Overlay::from_parts(BlankMarks::new(alloc)?, cells))
     }
 
     /// Creates an overlay of these cells, with no looks. Allocates nothing.
-    pub fn over(marks: BlankMarks, cells: Cells) -> Overlay
+    pub fn from_parts(marks: BlankMarks, cells: Cells) -> Overlay
         ensures own { own_of result ≡ own_in cells }
         ensures looks { looks_of result ≡ [] }
         ensures ready { is_ready_at result ≡ is_ready_in cells }

@@ -9,14 +9,14 @@ abbrev pub Record : Type 0
 Record = List ℕ
 
 -- Records by number.
-abbrev pub Kept : Type 0
-Kept = finmap.FinMap nat_cmp Record
+abbrev pub RecordMap : Type 0
+RecordMap = finmap.FinMap nat_cmp Record
 
 -- A record of zeros.
 abbrev pub zeros : Record
 zeros = replicate 128 0
 
 -- These records with records of zeros at n numbers, starting at `from`.
-unfoldable pub zeros_at : Kept → ℕ → ℕ → Kept
+unfoldable pub zeros_at : RecordMap → ℕ → ℕ → RecordMap
 zeros_at m from zero = m
 zeros_at m from (suc n) = finmap.insert (zeros_at m from n) (from + n) zeros

@@ -1,9 +1,9 @@
 // Up to 128 records of a file.
 
 ghost use Rattle.std.specs.Prelude.{◌≡◌, ◌<◌, ◌≤◌, ◌==◌, ℕ, OnOk, OnErr, IfOk, None, Some, cond, get_or, slice_get, vec_len, option_copied};
-ghost use Rattle.records.specs.Extents.{PutsRecord, SameRecords, marked};
+ghost use Rattle.records.specs.Extents.{PutsRecord, SameExtent, records_by_marks};
 
-use crate::written::{EXTENT_RECORDS, RECORD_BYTES, Record};
+use crate::records::{EXTENT_RECORDS, RECORD_BYTES, Record};
 use std::alloc::{AllocError, Global};
 use std::marker::Model;
 use std::rc::Rc;
@@ -12,7 +12,7 @@ use std::rc::Rc;
 /// them.
 #[derive(Drop)]
 pub struct Extent {
-    places: Rc<Places>,
+    places: Rc<ExtentRecords>,
 }
 
 // Marks for the indexes of an extent that have a record.
@@ -21,19 +21,19 @@ type Marks = [bool; EXTENT_RECORDS as usize];
 // Records up to the last one that was written, and marks for the indexes that have one. The marks are separate, so that a
 // lookup of a missing record reads no record.
 #[derive(Drop)]
-struct Places {
+struct ExtentRecords {
     marks: Marks,
     records: Vec<Record>,
 }
 
-impl Model for Places {
+impl Model for ExtentRecords {
     ghost use Rattle.std.specs.Prelude.{List, ℕ};
     ghost use Rattle.std.specs.declared.option.Option.{Option};
-    ghost use Rattle.records.specs.Extents.{marked};
+    ghost use Rattle.records.specs.Extents.{records_by_marks};
 
     ghost Value = { List (Option (List ℕ)) };
 
-    ghost view = { λ a. marked a.marks a.records.items };
+    ghost view = { λ a. records_by_marks a.marks a.records.items };
 }
 
 impl Model for Extent {
@@ -62,7 +62,7 @@ impl Extent {
         ensures { IfOk result
             (λ x. (q : ℕ) → get_or x q None ≡ cond (q == at) (Some content.now) None) }
     {
-        let mut places = Places::new(alloc);
+        let mut places = ExtentRecords::new(alloc);
         places.put(at, content)?;
         Ok(Extent {
             places: Rc::new(alloc, places)?,
@@ -81,7 +81,7 @@ impl Extent {
     pub fn put(&mut self, alloc: Global, at: usize, content: &Record) -> Result<(), AllocError>
         requires { at < 128 }
         ensures ok { OnOk result (PutsRecord self.old at content.now self.new) }
-        ensures err { OnErr result (SameRecords self.old self.new) }
+        ensures err { OnErr result (SameExtent self.old self.new) }
     {
         if let Some(places) = Rc::get_mut(&mut self.places) {
             return places.put(at, content);
@@ -100,7 +100,7 @@ impl Extent {
     ) -> Result<(), AllocError>
         requires { at < 128 }
         ensures ok { OnOk result (PutsRecord self.old at content.now self.new) }
-        ensures err { OnErr result (SameRecords self.old self.new) }
+        ensures err { OnErr result (SameExtent self.old self.new) }
     {
         let mut places = self.places.copy(alloc)?;
         places.put(at, content)?;
@@ -109,22 +109,22 @@ impl Extent {
     }
 }
 
-impl Places {
+impl ExtentRecords {
     // Creates an empty list of records.
-    fn new(alloc: Global) -> Places
+    fn new(alloc: Global) -> ExtentRecords
         ensures { (q : ℕ) → get_or result q None ≡ None }
     {
-        Places {
+        ExtentRecords {
             marks: [false; EXTENT_RECORDS as usize],
             records: Vec::new(alloc),
         }
     }
 
     // Returns a copy of the records.
-    fn copy(&self, alloc: Global) -> Result<Places, AllocError>
+    fn copy(&self, alloc: Global) -> Result<ExtentRecords, AllocError>
         ensures { IfOk result (λ p. p ≡ self.now) }
     {
-        Ok(Places {
+        Ok(ExtentRecords {
             marks: self.marks,
             records: Vec::from_slice(alloc, &self.records)?,
         })
@@ -145,7 +145,7 @@ impl Places {
     fn put(&mut self, at: usize, content: &Record) -> Result<(), AllocError>
         requires { at < 128 }
         ensures ok { OnOk result (PutsRecord self.old at content.now self.new) }
-        ensures err { OnErr result (SameRecords self.old self.new) }
+        ensures err { OnErr result (SameExtent self.old self.new) }
     {
         if at < self.records.len() {
             self.records[at] = *content;
@@ -165,10 +165,10 @@ fn append(
 ) -> Result<(), AllocError>
     requires place { at < 128 }
     requires past { vec_len records.old ≤ at }
-    ensures ok { OnOk result (PutsRecord (marked marks.old records.old.items) at content.now
-        (marked marks.new records.new.items)) }
-    ensures err { OnErr result (SameRecords (marked marks.old records.old.items)
-        (marked marks.new records.new.items)) }
+    ensures ok { OnOk result (PutsRecord (records_by_marks marks.old records.old.items) at content.now
+        (records_by_marks marks.new records.new.items)) }
+    ensures err { OnErr result (SameExtent (records_by_marks marks.old records.old.items)
+        (records_by_marks marks.new records.new.items)) }
 {
     while records.len() < at {
         records.push([0; RECORD_BYTES])?;

@@ -1,9 +1,9 @@
 //! The records that a run wrote to one file, in extents that snapshots share.
 //!
-//! - `extent`, `written`: 128 records that snapshots share; the written records of a file
+//! - `extent`, `records`: 128 records that snapshots share; the written records of a file
 #![tactic(auto)]
 
 mod extent;
-pub mod written;
+pub mod records;
 
-pub use written::{EXTENT_RECORDS, PLACES, RECORD_BYTES, Record, Records};
+pub use records::{EXTENT_RECORDS, PLACES, RECORD_BYTES, Record, Records};

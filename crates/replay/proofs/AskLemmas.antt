@@ -7,16 +7,16 @@ use Rattle.std.specs.Cmp.{IsTotalOrder, eq_by_cmp_equiv, nat_cmp_total, unsigned
 use Rattle.std.specs.declared.cmp.Ordering.{Ordering}
 use Rattle.std.specs.FinMap.{FinMap, IsAntisymmetric, get, len, insert, remove, contains_key, get-insert, get-remove, len-insert, same_map, nat_cmp-IsAntisymmetric}
 use Rattle.hostfiles.proofs.Views.{places_total, same_key, same_place, insert_same, key_of}
-use Rattle.hostfiles.specs.Looks.{is_looked, is_same_ask, forgot}
-use Rattle.hostfiles.specs.declared.looks.Looks.{Looks}
+use Rattle.hostfiles.specs.FileLooks.{is_looked, is_same_ask, without_ask}
+use Rattle.hostfiles.specs.declared.looks.FileLooks.{FileLooks}
 use Rattle.hostfiles.specs.declared.looks.Ask.{Ask}
 use Rattle.hostfiles.specs.declared.looks.Ask.TheVariants.{Has, Length, Rec, Directory}
 use Rattle.machine.specs.StateView.{StateView}
 use Rattle.machine.specs.Machine.{Question, Cell, Script, OfHost, same_question}
 use Rattle.machine.proofs.HostLemmas.{same_place_tie}
-use Rattle.replay.specs.FirstLooks.{or_else, mark, erased, is_left_ask, is_ask_of, NoAsks}
+use Rattle.replay.specs.FirstLooks.{or_else, step_if, step_below, is_left_ask, is_ask_of, HasNoAsks}
 
-pub marks_join : (o : Option ℕ) (a b : Bool) (n : ℕ) → or_else (or_else o (mark a n)) (mark b n) ≡ or_else o (mark (a || b) n)
+pub marks_join : (o : Option ℕ) (a b : Bool) (n : ℕ) → or_else (or_else o (step_if a n)) (step_if b n) ≡ or_else o (step_if (a || b) n)
 marks_join (Some m) a b n = refl
 marks_join None true b n = refl
 marks_join None false b n = refl
@@ -53,21 +53,21 @@ module _ {K X : Type 0} {R : K → K → Ordering} (o : IsTotalOrder R) (same : 
 
 -- ---- the questions that are left
 
-abbrev pub look_count : Looks → ℕ
+abbrev pub look_count : FileLooks → ℕ
 look_count l = len l.has + len l.lengths + len l.records + len l.directories
 
-fewer : (ask : Ask) (l : Looks) → is_looked l ask ≡ true → look_count (forgot ask l) < look_count l
+fewer : (ask : Ask) (l : FileLooks) → is_looked l ask ≡ true → look_count (without_ask ask l) < look_count l
 fewer (Has key) l h = let less = fewer_keys nat_list_cmp_total same_key l.has key _ refl h in omega (arith, less)
 fewer (Length key) l h = let less = fewer_keys nat_list_cmp_total same_key l.lengths key _ refl h in omega (arith, less)
 fewer (Rec key k) l h = let less = fewer_keys places_total same_place l.records (key, k) _ refl h in omega (arith, less)
 fewer (Directory d) l h = let less = fewer_keys nat_cmp_total nat_cmp-IsAntisymmetric l.directories d _ refl h in omega (arith, less)
 
 -- The number of questions still to be noted.
-abbrev pub left_asks : Option Ask → Looks → ℕ
+abbrev pub left_asks : Option Ask → FileLooks → ℕ
 left_asks None asked = look_count asked
 left_asks (Some ask) asked = suc (look_count asked)
 
-split : (ask : Ask) (l : Looks) → is_looked l ask ≡ true → (a : Ask) → is_looked l a ≡ (is_same_ask a ask || is_looked (forgot ask l) a)
+split : (ask : Ask) (l : FileLooks) → is_looked l ask ≡ true → (a : Ask) → is_looked l a ≡ (is_same_ask a ask || is_looked (without_ask ask l) a)
 split (Has key) l h (Has x) = key_split nat_list_cmp_total same_key l.has key x h
 split (Has key) l h (Length x) = refl
 split (Has key) l h (Rec x j) = refl
@@ -78,20 +78,20 @@ split (Length key) l h (Rec x j) = refl
 split (Length key) l h (Directory d) = refl
 split (Rec key k) l h (Has x) = refl
 split (Rec key k) l h (Length x) = refl
-split (Rec key k) l h (Rec x j) = key_split places_total same_place l.records (key, k) (x, j) h ∙ ap (λ b. b || is_looked (forgot (Rec key k) l) (Rec x j)) (same_place_tie x key j k)
+split (Rec key k) l h (Rec x j) = key_split places_total same_place l.records (key, k) (x, j) h ∙ ap (λ b. b || is_looked (without_ask (Rec key k) l) (Rec x j)) (same_place_tie x key j k)
 split (Rec key k) l h (Directory d) = refl
 split (Directory drive) l h (Has x) = refl
 split (Directory drive) l h (Length x) = refl
 split (Directory drive) l h (Rec x j) = refl
-split (Directory drive) l h (Directory d) = key_split nat_cmp_total nat_cmp-IsAntisymmetric l.directories drive d h ∙ ap (λ b. b || is_looked (forgot (Directory drive) l) (Directory d)) (unsigned_tied d drive)
+split (Directory drive) l h (Directory d) = key_split nat_cmp_total nat_cmp-IsAntisymmetric l.directories drive d h ∙ ap (λ b. b || is_looked (without_ask (Directory drive) l) (Directory d)) (unsigned_tied d drive)
 
 -- The result of a call that takes out a question.
-pub record TakesAsk (next : Option Ask) (old new : Looks) : Type 0 where
+pub record TakesAsk (next : Option Ask) (old new : FileLooks) : Type 0 where
   pub left : (a : Ask) → is_looked old a ≡ is_left_ask next new a
   pub less : left_asks next new < suc (look_count old)
-  pub none : next ≡ None → NoAsks new
+  pub none : next ≡ None → HasNoAsks new
 
-pub takes_ask : (next : Option Ask) (old new : Looks) → IfSome next (λ ask. is_looked old ask ≡ true) → IfSome next (λ ask. new ≡ forgot ask old) → IfNone next ((a : Ask) → is_looked old a ≡ false) → IfNone next (new ≡ old) → TakesAsk next old new
+pub takes_ask : (next : Option Ask) (old new : FileLooks) → IfSome next (λ ask. is_looked old ask ≡ true) → IfSome next (λ ask. new ≡ without_ask ask old) → IfNone next ((a : Ask) → is_looked old a ≡ false) → IfNone next (new ≡ old) → TakesAsk next old new
 takes_ask None old new one taken none same = record {
   left = λ a. ap (λ l. is_looked l a) (sym same);
   less = let count : look_count new ≡ look_count old = ap look_count same in omega (arith, count);
@@ -99,38 +99,38 @@ takes_ask None old new one taken none same = record {
 }
 takes_ask (Some ask) old new one taken none same = record {
   left = λ a. split ask old one a ∙ ap (λ l. is_same_ask a ask || is_looked l a) (sym taken);
-  less = let fall : look_count (forgot ask old) < look_count old = fewer ask old one in let count : look_count new ≡ look_count (forgot ask old) = ap look_count taken in omega (arith, fall, count);
+  less = let fall : look_count (without_ask ask old) < look_count old = fewer ask old one in let count : look_count new ≡ look_count (without_ask ask old) = ap look_count taken in omega (arith, fall, count);
   none = λ e. absurd (cc);
 }
 
-pub left_falls : (ask : Ask) (next : Option Ask) (old new : Looks) → TakesAsk next old new → left_asks next new < left_asks (Some ask) old
+pub left_falls : (ask : Ask) (next : Option Ask) (old new : FileLooks) → TakesAsk next old new → left_asks next new < left_asks (Some ask) old
 left_falls ask next old new t = t.less
 
 -- A question is noted, and one more is taken out.
-pub one_noted : (ask : Ask) (next : Option Ask) (old new : Looks) (a : Ask) (o p : Option ℕ) (n : ℕ) → TakesAsk next old new → p ≡ or_else o (mark (is_same_ask a ask) n)
-    → or_else p (mark (is_left_ask next new a) n) ≡ or_else o (mark (is_left_ask (Some ask) old a) n)
+pub one_noted : (ask : Ask) (next : Option Ask) (old new : FileLooks) (a : Ask) (o p : Option ℕ) (n : ℕ) → TakesAsk next old new → p ≡ or_else o (step_if (is_same_ask a ask) n)
+    → or_else p (step_if (is_left_ask next new a) n) ≡ or_else o (step_if (is_left_ask (Some ask) old a) n)
 one_noted ask next old new a o p n t e =
-    ap (λ x. or_else x (mark (is_left_ask next new a) n)) e ∙ marks_join o (is_same_ask a ask) (is_left_ask next new a) n
-    ∙ ap (λ b. or_else o (mark (is_same_ask a ask || b) n)) (sym (t.left a))
+    ap (λ x. or_else x (step_if (is_left_ask next new a) n)) e ∙ marks_join o (is_same_ask a ask) (is_left_ask next new a) n
+    ∙ ap (λ b. or_else o (step_if (is_same_ask a ask || b) n)) (sym (t.left a))
 
 if_none : {P Q : Type 0} (o : Option Ask) → (P → Q) → IfNone o P → IfNone o Q
 if_none None f h = f h
 if_none (Some ask) f h = tt
 
 -- The same for every question.
-pub one_noted_question : (ask : Ask) (next : Option Ask) (old new : Looks) (q : Question) (o p : Option ℕ) (n : ℕ) → TakesAsk next old new → p ≡ or_else o (mark (same_question q (OfHost ask)) n)
-    → or_else p (mark (is_ask_of next new q) n) ≡ or_else o (mark (is_ask_of (Some ask) old q) n)
-one_noted_question ask next old new (Cell a) o p n t e = ap (λ x. or_else x (mark false n)) e ∙ marks_join o false false n
-one_noted_question ask next old new (Script k) o p n t e = ap (λ x. or_else x (mark false n)) e ∙ marks_join o false false n
+pub one_noted_question : (ask : Ask) (next : Option Ask) (old new : FileLooks) (q : Question) (o p : Option ℕ) (n : ℕ) → TakesAsk next old new → p ≡ or_else o (step_if (same_question q (OfHost ask)) n)
+    → or_else p (step_if (is_ask_of next new q) n) ≡ or_else o (step_if (is_ask_of (Some ask) old q) n)
+one_noted_question ask next old new (Cell a) o p n t e = ap (λ x. or_else x (step_if false n)) e ∙ marks_join o false false n
+one_noted_question ask next old new (Script k) o p n t e = ap (λ x. or_else x (step_if false n)) e ∙ marks_join o false false n
 one_noted_question ask next old new (OfHost a) o p n t e = one_noted ask next old new a o p n t e
 
 -- An entry noted now is erased again.
-pub erased_mark : (o : Option ℕ) (b : Bool) (n : ℕ) → erased n (or_else o (mark b n)) ≡ erased n o
+pub erased_mark : (o : Option ℕ) (b : Bool) (n : ℕ) → step_below n (or_else o (step_if b n)) ≡ step_below n o
 erased_mark (Some m) b n = refl
 erased_mark None false n = refl
 erased_mark None true n = ap (λ c. cond c (Some n) None) (le-ltb n n (omega arith))
 
 module _ (old new : StateView) (next : Option Ask) where
-  pub taken_from : IfSome next (λ ask. is_looked old.looked.files ask ≡ true) → IfSome next (λ ask. new.looked.files ≡ forgot ask old.looked.files) → IfNone next ((a : Ask) → is_looked old.looked.files a ≡ false)
+  pub taken_from : IfSome next (λ ask. is_looked old.looked.files ask ≡ true) → IfSome next (λ ask. new.looked.files ≡ without_ask ask old.looked.files) → IfNone next ((a : Ask) → is_looked old.looked.files a ≡ false)
       → IfNone next (new ≡ old) → TakesAsk next old.looked.files new.looked.files
   taken_from one taken none same = takes_ask next old.looked.files new.looked.files one taken none (if_none next (λ e. ap (λ (r : StateView). r.looked.files) e) same)

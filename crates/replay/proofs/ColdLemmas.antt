@@ -4,9 +4,9 @@ use Rattle.machine.specs.Outcome.{Outcome, Step, Stop}
 use Rattle.machine.specs.Dependence as dependence
 use Rattle.machine.specs.Cause.{Cause}
 use Rattle.machine.specs.Cause.TheVariants.{Limit}
-use Rattle.machine.specs.Given.{Session}
+use Rattle.machine.specs.Inputs.{Session}
 use Rattle.machine.specs.StateView.{PartialState}
-use Rattle.machine.specs.Machine.{Answers, ask, start, after, outcome}
+use Rattle.machine.specs.Machine.{Answers, session_answers, start, after, outcome}
 use Rattle.machine.proofs.AfterLemmas.{step_before}
 use Rattle.replay.specs.Cold.{cold, cold_from}
 
@@ -19,17 +19,17 @@ reached f limit k (suc n) st e a =
     sym (ap (λ (o : Outcome PartialState Cause). elim o [ Step next ↦ cold_from f k (suc n) next | Stop c ↦ record { state = b; steps = n; cause = c } ]) went) ∙ before
 
 -- A stop below the limit ends the cold run.
-pub cold_stop : (s : Session) (n : ℕ) (st : PartialState) (c : Cause) → after (ask s) n ≡ Some st → n < s.limit → outcome (ask s) st ≡ Stop c → cold s ≡ record { state = st; steps = n; cause = c }
+pub cold_stop : (s : Session) (n : ℕ) (st : PartialState) (c : Cause) → after (session_answers s) n ≡ Some st → n < s.limit → outcome (session_answers s) st ≡ Stop c → cold s ≡ record { state = st; steps = n; cause = c }
 unfolding cold
 cold_stop s n st c at below stop =
     let k = s.limit - n - 1 in
     let count : suc k + n ≡ s.limit = omega arith in
-    sym (reached (ask s) s.limit (suc k) n st count at) ∙ ap (λ (o : Outcome PartialState Cause). elim o [ Step next ↦ cold_from (ask s) k (suc n) next | Stop x ↦ record { state = st; steps = n; cause = x } ]) stop
+    sym (reached (session_answers s) s.limit (suc k) n st count at) ∙ ap (λ (o : Outcome PartialState Cause). elim o [ Step next ↦ cold_from (session_answers s) k (suc n) next | Stop x ↦ record { state = st; steps = n; cause = x } ]) stop
 
 -- The limit ends the cold run.
-pub cold_limit : (s : Session) (n : ℕ) (st : PartialState) → after (ask s) n ≡ Some st → n ≡ s.limit → cold s ≡ record { state = st; steps = n; cause = Limit }
+pub cold_limit : (s : Session) (n : ℕ) (st : PartialState) → after (session_answers s) n ≡ Some st → n ≡ s.limit → cold s ≡ record { state = st; steps = n; cause = Limit }
 unfolding cold
-cold_limit s n st at e = sym (reached (ask s) s.limit 0 n st (omega arith) at)
+cold_limit s n st at e = sym (reached (session_answers s) s.limit 0 n st (omega arith) at)
 
 -- After 0 steps the state is the start.
 pub after_none : (f : Answers) (st : PartialState) → st ≡ start → after f 0 ≡ Some st

@@ -3,7 +3,7 @@ use Rattle.std.proofs.Common.{◌≡◌, ℕ, ◌+◌, ◌*◌, ◌/◌, ◌%◌
 use Rattle.std.proofs.lemmas.Bool.{cases_lt}
 use Rattle.circular_buffer.specs.Buffer.{Buffer}
 use Rattle.replay.specs.declared.ring.Checkpoint.{Checkpoint}
-use Rattle.replay.specs.Ring.{Each, IsDue, AddsAll, Keeps, SomeStep, SomeBy, pushed}
+use Rattle.replay.specs.Ring.{Each, IsDue, AddsAll, PushesIfAbove, SomeStep, SomeBy, ring_with}
 use Rattle.replay.proofs.RingLemmas.{Adding, relast_adding, push_made, left_out, kept_same}
 
 -- No multiple of the spacing is between n and the next multiple.
@@ -80,7 +80,7 @@ module _ (old : List Checkpoint) (from last spacing newest n : ℕ) (ring next :
     | inr l ↦ omega (arith, l, h.reached.1)
   ]
 
-  all_pushed : newest < c.step → next ≡ pushed ring c → AddingAll old next.items slots from c.step last spacing (max newest c.step)
+  all_pushed : newest < c.step → next ≡ ring_with ring c → AddingAll old next.items slots from c.step last spacing (max newest c.step)
   unfolding push_made
   all_pushed above e = rw (e, room) (record {
     adding = push_made old from last spacing newest n ring c slots g.adding low above mark;
@@ -102,7 +102,7 @@ module _ (old : List Checkpoint) (from last spacing newest n : ℕ) (ring next :
   })
 
   pub all_on : (greatest r r' seen : ℕ) → (greatest ≡ 0) ⊎ SomeStep old greatest → newest ≡ max greatest n → r' ≡ r → c.step ≤ seen
-      → Keeps newest ring next c → (newest < c.step → c.step ≤ seen → r' ≡ r → next ≡ pushed ring c)
+      → PushesIfAbove newest ring next c → (newest < c.step → c.step ≤ seen → r' ≡ r → next ≡ ring_with ring c)
       → AddingAll old next.items slots from c.step last spacing (max newest c.step)
   all_on greatest r r' seen there is same noted keeps made = elim (cases_lt newest c.step) [
     | inl l ↦ all_pushed l (made l noted same)

@@ -9,14 +9,14 @@ use Rattle.machine.specs.Dependence as dependence
 use Rattle.machine.proofs.DependenceLemmas as lemmas
 use Rattle.machine.specs.StateView.{PartialState}
 use Rattle.machine.specs.Step.{next}
-use Rattle.machine.specs.Machine.{Answers, is_in, part, made, start, looks_at, looks, after}
-use Rattle.replay.specs.FirstLooks.{Noted, or_else, mark, first, erased, step_of, IsFirstLooks}
+use Rattle.machine.specs.Machine.{Answers, is_in, session_tree, outcome_with, start, looks_at, looks, after}
+use Rattle.replay.specs.FirstLooks.{FirstLooksView, or_else, step_if, first, step_below, step_of, IsFirstLooks}
 
 -- A step in an entry is below n.
 abbrev pub IsBelow : ℕ → Option ℕ → Type 0
 IsBelow n o = (m : ℕ) → o ≡ Some m → m < n
 
-below_mark : (n : ℕ) (b : Bool) → IsBelow (suc n) (mark b n)
+below_mark : (n : ℕ) (b : Bool) → IsBelow (suc n) (step_if b n)
 below_mark n true = λ m e. let k : n ≡ m = cc in omega arith
 below_mark n false = λ m e. cc
 
@@ -27,24 +27,24 @@ below_or n (Some x) b h k = λ m e. let l : m < n = h m e in omega arith
 pub first_below : (f : Answers) (q : Question) (n : ℕ) → IsBelow n (first f q n)
 unfolding first
 first_below f q zero = λ m e. cc
-first_below f q (suc n) = below_or n (first f q n) (mark (is_in q (looks f n)) n) (first_below f q n) (below_mark n (is_in q (looks f n)))
+first_below f q (suc n) = below_or n (first f q n) (step_if (is_in q (looks f n)) n) (first_below f q n) (below_mark n (is_in q (looks f n)))
 
-erased_below : (t : ℕ) (o : Option ℕ) → IsBelow t o → erased t o ≡ o
+erased_below : (t : ℕ) (o : Option ℕ) → IsBelow t o → step_below t o ≡ o
 erased_below t None h = refl
 erased_below t (Some m) h = rw (lt-ltb m t (h m refl)) refl
 
-erased_mark : (t n : ℕ) (b : Bool) → t ≤ n → erased t (mark b n) ≡ None
+erased_mark : (t n : ℕ) (b : Bool) → t ≤ n → step_below t (step_if b n) ≡ None
 erased_mark t n true h = grind (arith, nat_tests)
 erased_mark t n false h = refl
 
-erased_or : (t n : ℕ) (a : Option ℕ) (b : Bool) → t ≤ n → erased t (or_else a (mark b n)) ≡ erased t a
+erased_or : (t n : ℕ) (a : Option ℕ) (b : Bool) → t ≤ n → step_below t (or_else a (step_if b n)) ≡ step_below t a
 erased_or t n None b h = erased_mark t n b h
 erased_or t n (Some m) b h = refl
 
-pub erased_same : (f : Answers) (q : Question) (n : ℕ) → erased n (first f q n) ≡ first f q n
+pub erased_same : (f : Answers) (q : Question) (n : ℕ) → step_below n (first f q n) ≡ first f q n
 erased_same f q n = erased_below n (first f q n) (first_below f q n)
 
-pub erased_first : (f : Answers) (q : Question) (t n : ℕ) → t ≤ n → erased t (first f q n) ≡ first f q t
+pub erased_first : (f : Answers) (q : Question) (t n : ℕ) → t ≤ n → step_below t (first f q n) ≡ first f q t
 unfolding first
 erased_first f q t zero h = let e : t ≡ zero = omega arith in rw e refl
 erased_first f q t (suc n) h =
@@ -53,15 +53,15 @@ erased_first f q t (suc n) h =
       | inr l ↦ let k : t ≤ n = omega arith in erased_or t n (first f q n) (is_in q (looks f n)) k ∙ erased_first f q t n k
     ]
 
-pub first-suc : (f : Answers) (q : Question) (n : ℕ) → first f q (suc n) ≡ or_else (first f q n) (mark (is_in q (looks f n)) n)
+pub first-suc : (f : Answers) (q : Question) (n : ℕ) → first f q (suc n) ≡ or_else (first f q n) (step_if (is_in q (looks f n)) n)
 unfolding first
 first-suc f q n = refl
 
 pub same_after : (f g : Answers) (n : ℕ) → ((i : ℕ) → i < n → AgreeOn (looks f i) f g) → after g n ≡ after f n
-same_after = lemmas.same_after part (λ (st : PartialState). st.own) (λ (st : PartialState). next st.core) made start
+same_after = lemmas.same_after session_tree (λ (st : PartialState). st.own) (λ (st : PartialState). next st.core) outcome_with start
 
 pub same_looks : (f g : Answers) (n : ℕ) → ((i : ℕ) → i < n → AgreeOn (looks f i) f g) → AgreeOn (looks f n) f g → looks g n ≡ looks f n
-same_looks = lemmas.same_looks part (λ (st : PartialState). st.own) (λ (st : PartialState). next st.core) made start
+same_looks = lemmas.same_looks session_tree (λ (st : PartialState). st.own) (λ (st : PartialState). next st.core) outcome_with start
 
 -- If two sessions agree on the looks of the steps below n, they have the same first looks below n.
 pub same_first : (f g : Answers) (q : Question) (n : ℕ) → ((i : ℕ) → i < n → AgreeOn (looks f i) f g) → first g q n ≡ first f q n
@@ -72,12 +72,12 @@ same_first f g q (suc n) h =
 
 pub looks_here : (f : Answers) (n : ℕ) (st : PartialState) → after f n ≡ Some st → looks f n ≡ looks_at f st
 unfolding dependence.looks
-looks_here f n st a = ap (λ (o : Option PartialState). dependence.looks_of part (λ (st : PartialState). st.own) (λ (st : PartialState). next st.core) made start f o) a
+looks_here f n st a = ap (λ (o : Option PartialState). dependence.looks_if_any session_tree (λ (st : PartialState). st.own) (λ (st : PartialState). next st.core) outcome_with start f o) a
 
 -- A failed note leaves a table of first looks.
-pub erased_known : (f : Answers) (old new : Noted) → IsFirstLooks f old → ((q : Question) → step_of new q ≡ erased old.seen (step_of old q)) → new.seen ≡ old.seen → IsFirstLooks f new
+pub erased_known : (f : Answers) (old new : FirstLooksView) → IsFirstLooks f old → ((q : Question) → step_of new q ≡ step_below old.seen (step_of old q)) → new.seen ≡ old.seen → IsFirstLooks f new
 erased_known f old new known steps seen = record { entry = λ q. rw (seen, steps q, known.entry q) (erased_same f q old.seen) }
 
 -- The noted step of a question is below `seen`.
-pub noted_below : (f : Answers) (k : Noted) → IsFirstLooks f k → (q : Question) (m : ℕ) → step_of k q ≡ Some m → m < k.seen
+pub noted_below : (f : Answers) (k : FirstLooksView) → IsFirstLooks f k → (q : Question) (m : ℕ) → step_of k q ≡ Some m → m < k.seen
 noted_below f k known q m e = first_below f q k.seen m (sym (known.entry q) ∙ e)

@@ -5,42 +5,42 @@ use Rattle.circular_buffer.specs.Buffer.{Buffer}
 use Rattle.std.proofs.lemmas.List.{take_all, length-take-le, take-take}
 use Rattle.machine.specs.StateView.{PartialState}
 use Rattle.machine.specs.Machine.{Answers, after}
-use Rattle.machine.specs.Kept.{whole, kept_of}
+use Rattle.machine.specs.SavedState.{state_with_text, saved_state_of}
 use Rattle.machine.proofs.TextLemmas.{text_begins, text_length}
 use Rattle.replay.specs.declared.ring.Checkpoint.{Checkpoint}
-use Rattle.replay.specs.Ring.{Each, IsValid, Stands, SomeStep, start_step}
+use Rattle.replay.specs.Ring.{Each, IsValid, IsValidFor, SomeStep, start_step}
 
-pub new_valid : (f : Answers) (n : ℕ) (st : PartialState) → 1 ≤ n → after f n ≡ Some st → IsValid f (record { step = n; state = kept_of st })
+pub new_valid : (f : Answers) (n : ℕ) (st : PartialState) → 1 ≤ n → after f n ≡ Some st → IsValid f (record { step = n; state = saved_state_of st })
 new_valid f n st later at = record { later = later; text = st.core.desk.text; fits = refl; state = at }
 
-pub stands_valid : (f : Answers) (text : List ℕ) (xs : List Checkpoint) → Each (Stands f text) xs → Each (IsValid f) xs
+pub stands_valid : (f : Answers) (text : List ℕ) (xs : List Checkpoint) → Each (IsValidFor f text) xs → Each (IsValid f) xs
 stands_valid f text [] h = tt
 stands_valid f text (x ∷ xs) h =
     (record { later = h.0.later; text = take x.state.length text; fits = length-take-le x.state.length text h.0.fits; state = h.0.state }, stands_valid f text xs h.1)
 
 -- A valid checkpoint is the state after its step also with the text of every later state.
-pub later_stands : (f : Answers) (n : ℕ) (st : PartialState) (c : Checkpoint) → after f n ≡ Some st → c.step ≤ n → IsValid f c → Stands f st.core.desk.text c
+pub later_stands : (f : Answers) (n : ℕ) (st : PartialState) (c : Checkpoint) → after f n ≡ Some st → c.step ≤ n → IsValid f c → IsValidFor f st.core.desk.text c
 later_stands f n st c at low v =
-    let begins : take (length v.text) st.core.desk.text ≡ v.text = text_begins f c.step n (whole c.state v.text) st low v.state at in
-    let long : length v.text ≤ length st.core.desk.text = text_length f c.step n (whole c.state v.text) st low v.state at in
+    let begins : take (length v.text) st.core.desk.text ≡ v.text = text_begins f c.step n (state_with_text c.state v.text) st low v.state at in
+    let long : length v.text ≤ length st.core.desk.text = text_length f c.step n (state_with_text c.state v.text) st low v.state at in
     let same : take c.state.length st.core.desk.text ≡ v.text = ap (λ k. take k st.core.desk.text) (sym v.fits) ∙ begins in
     record {
       later = v.later;
       fits = let e = v.fits in omega arith;
-      state = v.state ∙ ap (λ (text : List ℕ). Some (whole c.state text)) (sym same);
+      state = v.state ∙ ap (λ (text : List ℕ). Some (state_with_text c.state text)) (sym same);
     }
 
-pub all_later_stand : (f : Answers) (n : ℕ) (st : PartialState) (xs : List Checkpoint) → after f n ≡ Some st → Each (λ c. c.step ≤ n) xs → Each (IsValid f) xs → Each (Stands f st.core.desk.text) xs
+pub all_later_stand : (f : Answers) (n : ℕ) (st : PartialState) (xs : List Checkpoint) → after f n ≡ Some st → Each (λ c. c.step ≤ n) xs → Each (IsValid f) xs → Each (IsValidFor f st.core.desk.text) xs
 all_later_stand f n st [] at low v = tt
 all_later_stand f n st (x ∷ xs) at low v = (later_stands f n st x at low.0 v.0, all_later_stand f n st xs at low.1 v.1)
 
 -- The text of a state before a checkpoint is a prefix of the checkpoint's text.
-pub earlier_text : (f : Answers) (n : ℕ) (st : PartialState) (text : List ℕ) (c : Checkpoint) → after f n ≡ Some st → n ≤ c.step → Stands f text c
+pub earlier_text : (f : Answers) (n : ℕ) (st : PartialState) (text : List ℕ) (c : Checkpoint) → after f n ≡ Some st → n ≤ c.step → IsValidFor f text c
     → (take (length st.core.desk.text) text ≡ st.core.desk.text) × (length st.core.desk.text ≤ length text)
 earlier_text f n st text c at low s =
     let whole_text : List ℕ = take c.state.length text in
-    let begins : take (length st.core.desk.text) whole_text ≡ st.core.desk.text = text_begins f n c.step st (whole c.state whole_text) low at s.state in
-    let long : length st.core.desk.text ≤ length whole_text = text_length f n c.step st (whole c.state whole_text) low at s.state in
+    let begins : take (length st.core.desk.text) whole_text ≡ st.core.desk.text = text_begins f n c.step st (state_with_text c.state whole_text) low at s.state in
+    let long : length st.core.desk.text ≤ length whole_text = text_length f n c.step st (state_with_text c.state whole_text) low at s.state in
     let short : length whole_text ≡ c.state.length = length-take-le c.state.length text s.fits in
     let fits = s.fits in
     (sym (take-take (length st.core.desk.text) c.state.length text (omega arith)) ∙ begins, omega arith)
@@ -59,16 +59,16 @@ some_within limit (x ∷ xs) n (inr h) low = let r = some_within limit xs n h lo
 
 -- The checkpoints agree with the text, and the text of the last state is a prefix of it.
 pub record Left (f : Answers) (st : PartialState) (text : List ℕ) (ring : List Checkpoint) : Type 0 where
-  pub stands : Each (Stands f text) ring
+  pub stands : Each (IsValidFor f text) ring
   pub begins : take (length st.core.desk.text) text ≡ st.core.desk.text
   pub fits : length st.core.desk.text ≤ length text
 
 module _ (f : Answers) (limit newest from l : ℕ) (st : PartialState) (old new : Buffer Checkpoint) (first begun last : List ℕ) where
   -- If a kept step is past the limit, its text stays.
-  left_before : Each (Stands f first) old.items → (newest ≡ 0) ⊎ SomeStep old.items newest → (n : ℕ) → after f n ≡ Some st → n ≤ limit → limit < newest → Left f st first old.items
+  left_before : Each (IsValidFor f first) old.items → (newest ≡ 0) ⊎ SomeStep old.items newest → (n : ℕ) → after f n ≡ Some st → n ≤ limit → limit < newest → Left f st first old.items
   left_before stands (inl e) n at low past = absurd (omega arith)
   left_before stands (inr h) n at low past =
-      let (c, step, stand) = some_there (Stands f first) old.items newest h stands in
+      let (c, step, stand) = some_there (IsValidFor f first) old.items newest h stands in
       let (begins, fits) = earlier_text f n st first c at (omega arith) stand in
       record { stands = stands; begins = begins; fits = fits }
 
@@ -76,7 +76,7 @@ module _ (f : Answers) (limit newest from l : ℕ) (st : PartialState) (old new 
   newest_within (inl e) low = omega arith
   newest_within (inr h) low = some_within limit old.items newest h low
 
-  pub left : Each (Stands f first) old.items → (newest ≡ 0) ⊎ SomeStep old.items newest → l ≡ limit → from ≡ start_step limit old.items
+  pub left : Each (IsValidFor f first) old.items → (newest ≡ 0) ⊎ SomeStep old.items newest → l ≡ limit → from ≡ start_step limit old.items
       → ((n : ℕ) × (after f n ≡ Some st) × (n ≤ limit) × (newest ≤ from → Each (λ c. c.step ≤ n) new.items))
       → (limit < newest → new ≡ old) → Each (IsValid f) new.items
       → (nat_lt l newest ≡ true → begun ≡ first) → (nat_lt l newest ≡ false → last ≡ st.core.desk.text) → (nat_lt l newest ≡ true → last ≡ begun)

@@ -2,28 +2,28 @@
 use Rattle.std.proofs.Common.{◌≡◌, ℕ, ◌<◌, ◌≤◌, Bool, true, false, cond, Option, Some, None, ◌⊎◌, inl, inr, refl, sym, ◌∙◌, subst, arith}
 use Rattle.std.proofs.lemmas.Bool.{lt-ltb, le-ltb, cases_lt}
 use Rattle.machine.specs.Machine.{Question, Answers}
-use Rattle.replay.specs.FirstLooks.{Noted, step_of}
-use Rattle.file_steps.specs.Steps.{lesser}
+use Rattle.replay.specs.FirstLooks.{FirstLooksView, step_of}
+use Rattle.file_steps.specs.FileSteps.{lesser_step}
 use Rattle.replay.specs.Touch.{IsNotedTouch}
 
 -- The noted touch, for the questions done so far.
-pub record IsLeast (IsDone : Question → Type 0) (f g : Answers) (k : Noted) (t : ℕ) : Type 0 where
+pub record IsLeast (IsDone : Question → Type 0) (f g : Answers) (k : FirstLooksView) (t : ℕ) : Type 0 where
   pub within : t ≤ k.seen
   pub below : (q : Question) (m : ℕ) → IsDone q → step_of k q ≡ Some m → m < t → f q ≡ g q
   pub here : (t ≡ k.seen) ⊎ ((q : Question) × (step_of k q ≡ Some t) × (f q ≡ g q → ⊥))
 
-pub least_of_none : (IsDone : Question → Type 0) (f g : Answers) (k : Noted) → ((q : Question) → IsDone q → ⊥) → IsLeast IsDone f g k k.seen
+pub least_of_none : (IsDone : Question → Type 0) (f g : Answers) (k : FirstLooksView) → ((q : Question) → IsDone q → ⊥) → IsLeast IsDone f g k k.seen
 least_of_none IsDone f g k none = record { within = omega arith; below = λ q m done there low. absurd (none q done); here = inl refl }
 
 -- If all questions with another answer are done, it is the noted touch.
-pub least_of_all : (IsDone : Question → Type 0) (f g : Answers) (k : Noted) (t : ℕ) → IsLeast IsDone f g k t → ((q : Question) → IsDone q ⊎ (f q ≡ g q)) → IsNotedTouch f g k t
+pub least_of_all : (IsDone : Question → Type 0) (f g : Answers) (k : FirstLooksView) (t : ℕ) → IsLeast IsDone f g k t → ((q : Question) → IsDone q ⊎ (f q ≡ g q)) → IsNotedTouch f g k t
 least_of_all IsDone f g k t least all = record {
   within = least.within;
   below = λ q m there low. elim (all q) [ inl done ↦ least.below q m done there low | inr same ↦ same ];
   here = least.here;
 }
 
-module _ (IsDone IsDoneThen : Question → Type 0) (f g : Answers) (k : Noted) (c : Question) (split : (q : Question) → IsDoneThen q → IsDone q ⊎ (q ≡ c)) (t : ℕ) (least : IsLeast IsDone f g k t) where
+module _ (IsDone IsDoneThen : Question → Type 0) (f g : Answers) (k : FirstLooksView) (c : Question) (split : (q : Question) → IsDoneThen q → IsDone q ⊎ (q ≡ c)) (t : ℕ) (least : IsLeast IsDone f g k t) where
   -- One more question is done, with the same answer.
   pub more_same : f c ≡ g c → IsLeast IsDoneThen f g k t
   more_same same = record {
@@ -36,7 +36,7 @@ module _ (IsDone IsDoneThen : Question → Type 0) (f g : Answers) (k : Noted) (
   }
 
   -- One more question is done, with another answer.
-  pub more_changed : (f c ≡ g c → ⊥) → (o : Option ℕ) → step_of k c ≡ o → ((m : ℕ) → o ≡ Some m → m < k.seen) → IsLeast IsDoneThen f g k (lesser o t)
+  pub more_changed : (f c ≡ g c → ⊥) → (o : Option ℕ) → step_of k c ≡ o → ((m : ℕ) → o ≡ Some m → m < k.seen) → IsLeast IsDoneThen f g k (lesser_step o t)
   more_changed differs None at short = record {
     within = least.within;
     below = λ q m done there low. elim (split q done) [
@@ -64,6 +64,6 @@ module _ (IsDone IsDoneThen : Question → Type 0) (f g : Answers) (k : Noted) (
     })
   ]
 
-  pub least_more : ((m : ℕ) → step_of k c ≡ Some m → m < k.seen) → (b : Bool) → (b ≡ true → f c ≡ g c) → (b ≡ false → f c ≡ g c → ⊥) → IsLeast IsDoneThen f g k (cond b t (lesser (step_of k c) t))
+  pub least_more : ((m : ℕ) → step_of k c ≡ Some m → m < k.seen) → (b : Bool) → (b ≡ true → f c ≡ g c) → (b ≡ false → f c ≡ g c → ⊥) → IsLeast IsDoneThen f g k (cond b t (lesser_step (step_of k c) t))
   least_more short true same differs = more_same (same refl)
   least_more short false same differs = more_changed (differs refl) (step_of k c) refl short

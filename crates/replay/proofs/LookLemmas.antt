@@ -4,35 +4,35 @@ use Rattle.std.proofs.lemmas.Bool.{cases_lt, or_cases}
 use Rattle.std.proofs.Math.Nat.{eq-or-lt_of_le}
 use Rattle.machine.proofs.LookLemmas.{is_among-append}
 use Rattle.machine.specs.Memory.{is_among}
-use Rattle.machine.specs.Places.{is_within}
-use Rattle.hostfiles.specs.Looks.{is_looked}
-use Rattle.machine.specs.StateView.{PartialState, Looked}
-use Rattle.machine.specs.Machine.{Question, Cell, Script, OfHost, Answers, is_in, looked_at, NothingLooked, Extends, after, looks_at}
-use Rattle.replay.specs.FirstLooks.{Noted, step_of, or_else, mark, first, IsFirstLooks, since, AllNoted, NoPlaces, NoAsks, IsNoted, IsLeftBehind}
+use Rattle.machine.specs.ScriptLooks.{is_within}
+use Rattle.hostfiles.specs.FileLooks.{is_looked}
+use Rattle.machine.specs.StateView.{PartialState, AllLooks}
+use Rattle.machine.specs.Machine.{Question, Cell, Script, OfHost, Answers, is_in, is_looked_at, HasNoLooks, KeepsLooks, after, looks_at}
+use Rattle.replay.specs.FirstLooks.{FirstLooksView, step_of, or_else, step_if, first, IsFirstLooks, looks_from, AllNoted, HasNoScriptLooks, HasNoAsks, NotesSeenStep, ForgetsSeenStep}
 use Rattle.replay.proofs.FirstLemmas.{first-suc, looks_here, erased_known}
 use Rattle.replay.proofs.TouchLemmas.{noted_by}
 
 -- Noting the new looks alone has the same result as noting all.
-same_mark : (o : Option ℕ) (before more all asked : Bool) (n : ℕ) → (before ≡ true → o ≡ None → ⊥) → all ≡ (before || more) → all ≡ (before || asked) → or_else o (mark more n) ≡ or_else o (mark asked n)
+same_mark : (o : Option ℕ) (before more all asked : Bool) (n : ℕ) → (before ≡ true → o ≡ None → ⊥) → all ≡ (before || more) → all ≡ (before || asked) → or_else o (step_if more n) ≡ or_else o (step_if asked n)
 same_mark (Some m) before more all asked n known e f = refl
 same_mark None true more all asked n known e f = absurd (known refl refl)
-same_mark None false more all asked n known e f = ap (λ b. mark b n) (sym e ∙ f)
+same_mark None false more all asked n known e f = ap (λ b. step_if b n) (sym e ∙ f)
 
 -- A question that was looked at has an entry afterwards.
-has_entry : (o : Option ℕ) (before more all : Bool) (n : ℕ) → (before ≡ true → o ≡ None → ⊥) → all ≡ (before || more) → all ≡ true → or_else o (mark more n) ≡ None → ⊥
+has_entry : (o : Option ℕ) (before more all : Bool) (n : ℕ) → (before ≡ true → o ≡ None → ⊥) → all ≡ (before || more) → all ≡ true → or_else o (step_if more n) ≡ None → ⊥
 has_entry (Some m) before more all n known e h none = cc
 has_entry None true more all n known e h none = known refl refl
 has_entry None false true all n known e h none = cc
 has_entry None false false all n known e h none = cc
 
 -- If nothing was looked at, there is nothing to note.
-pub none_looked : (noted : Noted) (looked : Looked) → NothingLooked looked → AllNoted noted looked
+pub none_looked : (noted : FirstLooksView) (looked : AllLooks) → HasNoLooks looked → AllNoted noted looked
 none_looked noted looked none (Cell a) asked o = let no : is_among a looked.cells ≡ false = rw none.cells refl in absurd (let both : false ≡ true = sym no ∙ asked in cc)
 none_looked noted looked none (Script k) asked o = let no : is_within looked.places k ≡ false = none.places k in absurd (let both : false ≡ true = sym no ∙ asked in cc)
 none_looked noted looked none (OfHost a) asked o = let no : is_looked looked.files a ≡ false = none.files a in absurd (let both : false ≡ true = sym no ∙ asked in cc)
 
 -- The first looks after a step.
-pub record Notes (f : Answers) (old new : Noted) (n : ℕ) (looked : Looked) (refused refuses : ℕ) : Type 0 where
+pub record Notes (f : Answers) (old new : FirstLooksView) (n : ℕ) (looked : AllLooks) (refused refuses : ℕ) : Type 0 where
   pub noted : IsFirstLooks f new
   pub looks : n + 1 ≤ new.seen → AllNoted new looked
   pub grows : old.seen ≤ new.seen
@@ -40,14 +40,14 @@ pub record Notes (f : Answers) (old new : Noted) (n : ℕ) (looked : Looked) (re
   pub counted : (refused ≤ refuses) × (refuses ≤ refused + 1)
   pub all : refuses ≡ refused → n ≤ old.seen → n + 1 ≤ new.seen
 
-module _ (f : Answers) (old new : Noted) (n refused refuses : ℕ) (st : PartialState) (looked after_step left : Looked) (known : IsFirstLooks f old) (all : n ≤ old.seen → AllNoted old looked) (at : after f n ≡ Some st)
-    (extends : Extends looked after_step) (asks : (q : Question) → looked_at after_step q ≡ (looked_at looked q || is_in q (looks_at f st))) (same_cells : left.cells ≡ after_step.cells) where
+module _ (f : Answers) (old new : FirstLooksView) (n refused refuses : ℕ) (st : PartialState) (looked after_step left : AllLooks) (known : IsFirstLooks f old) (all : n ≤ old.seen → AllNoted old looked) (at : after f n ≡ Some st)
+    (extends : KeepsLooks looked after_step) (asks : (q : Question) → is_looked_at after_step q ≡ (is_looked_at looked q || is_in q (looks_at f st))) (same_cells : left.cells ≡ after_step.cells) where
   or_both : (a b : Bool) → (a ≡ true → b ≡ true) → b ≡ (a || b)
   or_both true b h = h refl
   or_both false b h = refl
 
   -- The looks are the earlier ones and the new ones.
-  more_looked : (q : Question) → looked_at after_step q ≡ (looked_at looked q || looked_at (since (length looked.cells) after_step) q)
+  more_looked : (q : Question) → is_looked_at after_step q ≡ (is_looked_at looked q || is_looked_at (looks_from (length looked.cells) after_step) q)
   more_looked (Cell a) =
       ap (is_among a) (sym (take-append-drop (length looked.cells) after_step.cells))
       ∙ is_among-append a (take (length looked.cells) after_step.cells) (drop (length looked.cells) after_step.cells)
@@ -56,25 +56,25 @@ module _ (f : Answers) (old new : Noted) (n refused refuses : ℕ) (st : Partial
   more_looked (OfHost a) = or_both (is_looked looked.files a) (is_looked after_step.files a) (extends.files.kept a)
 
   -- If no offset and no question is left, the looks that are left are among the looks of the step.
-  left_looked : NoPlaces left.places → NoAsks left.files → (q : Question) → looked_at left q ≡ true → looked_at after_step q ≡ true
+  left_looked : HasNoScriptLooks left.places → HasNoAsks left.files → (q : Question) → is_looked_at left q ≡ true → is_looked_at after_step q ≡ true
   left_looked none drained (Cell a) e = ap (is_among a) (sym same_cells) ∙ e
   left_looked none drained (Script k) e = let no : is_within left.places k ≡ false = none k in absurd (let both : false ≡ true = sym no ∙ e in cc)
   left_looked none drained (OfHost a) e = let no : is_looked left.files a ≡ false = drained a in absurd (let both : false ≡ true = sym no ∙ e in cc)
 
   -- The first looks stay the same.
-  stays : new ≡ old → refuses ≡ refused → NoPlaces left.places → NoAsks left.files → (n ≡ old.seen → ⊥) → (n + 1 ≤ old.seen → AllNoted old after_step) → Notes f old new n left refused refuses
+  stays : new ≡ old → refuses ≡ refused → HasNoScriptLooks left.places → HasNoAsks left.files → (n ≡ old.seen → ⊥) → (n + 1 ≤ old.seen → AllNoted old after_step) → Notes f old new n left refused refuses
   stays same none drained answered apart noted_all = record {
-    noted = subst (λ (t : Noted). IsFirstLooks f t) (sym same) known;
-    looks = subst (λ (t : Noted). n + 1 ≤ t.seen → AllNoted t left) (sym same) (λ past q asked. noted_all past q (left_looked drained answered q asked));
-    grows = let e : new.seen ≡ old.seen = ap (λ (t : Noted). t.seen) same in omega arith;
-    within = inl (ap (λ (t : Noted). t.seen) same);
+    noted = subst (λ (t : FirstLooksView). IsFirstLooks f t) (sym same) known;
+    looks = subst (λ (t : FirstLooksView). n + 1 ≤ t.seen → AllNoted t left) (sym same) (λ past q asked. noted_all past q (left_looked drained answered q asked));
+    grows = let e : new.seen ≡ old.seen = ap (λ (t : FirstLooksView). t.seen) same in omega arith;
+    within = inl (ap (λ (t : FirstLooksView). t.seen) same);
     counted = omega (arith, none);
-    all = λ _ low. let e : new.seen ≡ old.seen = ap (λ (t : Noted). t.seen) same in elim (eq-or-lt_of_le {n = n} {m = old.seen} low) [ inl same_step ↦ absurd (apart same_step) | inr l ↦ omega (arith, l, e) ];
+    all = λ _ low. let e : new.seen ≡ old.seen = ap (λ (t : FirstLooksView). t.seen) same in elim (eq-or-lt_of_le {n = n} {m = old.seen} low) [ inl same_step ↦ absurd (apart same_step) | inr l ↦ omega (arith, l, e) ];
   }
 
   -- The step was seen before.
   seen_before : n < old.seen → AllNoted old after_step
-  seen_before below q asked none = elim (or_cases (looked_at looked q) (is_in q (looks_at f st)) (sym (asks q) ∙ asked)) [
+  seen_before below q asked none = elim (or_cases (is_looked_at looked q) (is_in q (looks_at f st)) (sym (asks q) ∙ asked)) [
     | inl h ↦ all (omega arith) q h none
     | inr h ↦ asked_here q h none
   ]
@@ -85,10 +85,10 @@ module _ (f : Answers) (old new : Noted) (n refused refuses : ℕ) (st : Partial
           let e : Some m ≡ None = sym there ∙ sym (known.entry q) ∙ none in cc
 
   -- The step is noted now.
-  seen_now : n ≡ old.seen → IsNoted old new (since (length looked.cells) after_step) → refuses ≡ refused → NoPlaces left.places → NoAsks left.files → Notes f old new n left refused refuses
+  seen_now : n ≡ old.seen → NotesSeenStep old new (looks_from (length looked.cells) after_step) → refuses ≡ refused → HasNoScriptLooks left.places → HasNoAsks left.files → Notes f old new n left refused refuses
   seen_now here now none drained answered = record {
     noted = record { entry = λ q. entry q ∙ sym (ap (first f q) now.seen ∙ ap (first f q) (add-one old.seen)) };
-    looks = λ _ q asked none. has_entry (step_of old q) (looked_at looked q) (looked_at (since (length looked.cells) after_step) q) (looked_at after_step q) old.seen (λ e o. before q e o) (more_looked q) (left_looked drained answered q asked) (sym (entered q) ∙ none);
+    looks = λ _ q asked none. has_entry (step_of old q) (is_looked_at looked q) (is_looked_at (looks_from (length looked.cells) after_step) q) (is_looked_at after_step q) old.seen (λ e o. before q e o) (more_looked q) (left_looked drained answered q asked) (sym (entered q) ∙ none);
     grows = omega (arith, now.seen);
     within = inr (let next = now.seen in let e : new.seen ≡ n + 1 = omega (arith, next, here) in e);
     counted = omega (arith, none);
@@ -97,19 +97,19 @@ module _ (f : Answers) (old new : Noted) (n refused refuses : ℕ) (st : Partial
     before : AllNoted old looked
     before = all (omega arith)
 
-    entered : (q : Question) → step_of new q ≡ or_else (step_of old q) (mark (looked_at (since (length looked.cells) after_step) q) old.seen)
+    entered : (q : Question) → step_of new q ≡ or_else (step_of old q) (step_if (is_looked_at (looks_from (length looked.cells) after_step) q) old.seen)
     entered q = now.entries q
 
     entry : (q : Question) → step_of new q ≡ first f q (suc old.seen)
     entry q =
         entered q
-        ∙ same_mark (step_of old q) (looked_at looked q) (looked_at (since (length looked.cells) after_step) q) (looked_at after_step q) (is_in q (looks_at f st)) old.seen (λ e o. before q e o) (more_looked q) (asks q)
-        ∙ ap (λ o. or_else o (mark (is_in q (looks_at f st)) old.seen)) (known.entry q)
-        ∙ ap (λ qs. or_else (first f q old.seen) (mark (is_in q qs) old.seen)) (sym (looks_here f old.seen st (ap (after f) (sym here) ∙ at)))
+        ∙ same_mark (step_of old q) (is_looked_at looked q) (is_looked_at (looks_from (length looked.cells) after_step) q) (is_looked_at after_step q) (is_in q (looks_at f st)) old.seen (λ e o. before q e o) (more_looked q) (asks q)
+        ∙ ap (λ o. or_else o (step_if (is_in q (looks_at f st)) old.seen)) (known.entry q)
+        ∙ ap (λ qs. or_else (first f q old.seen) (step_if (is_in q qs) old.seen)) (sym (looks_here f old.seen st (ap (after f) (sym here) ∙ at)))
         ∙ sym (first-suc f q old.seen)
 
   -- An allocation for noting the step failed.
-  left_behind : n ≡ old.seen → IsLeftBehind old new → refuses ≡ refused + 1 → Notes f old new n left refused refuses
+  left_behind : n ≡ old.seen → ForgetsSeenStep old new → refuses ≡ refused + 1 → Notes f old new n left refused refuses
   left_behind here behind one = record {
     noted = erased_known f old new known behind.entries behind.seen;
     looks = λ past. absurd (omega (arith, past, here, behind.seen));
@@ -119,12 +119,12 @@ module _ (f : Answers) (old new : Noted) (n refused refuses : ℕ) (st : Partial
     all = λ none _. absurd (omega (arith, none, one));
   }
 
-  pub looks_kept : ((n ≡ old.seen → ⊥) → (new ≡ old) × (refuses ≡ refused) × NoPlaces left.places × NoAsks left.files)
-      → (n ≡ old.seen → (IsNoted old new (since (length looked.cells) after_step) × (refuses ≡ refused) × NoPlaces left.places × NoAsks left.files) ⊎ (IsLeftBehind old new × (refuses ≡ refused + 1)))
+  pub looks_kept : ((n ≡ old.seen → ⊥) → (new ≡ old) × (refuses ≡ refused) × HasNoScriptLooks left.places × HasNoAsks left.files)
+      → (n ≡ old.seen → (NotesSeenStep old new (looks_from (length looked.cells) after_step) × (refuses ≡ refused) × HasNoScriptLooks left.places × HasNoAsks left.files) ⊎ (ForgetsSeenStep old new × (refuses ≡ refused + 1)))
       → Notes f old new n left refused refuses
   looks_kept other here = by_order (cases_lt n old.seen)
     where
-      at_seen : n ≡ old.seen → (IsNoted old new (since (length looked.cells) after_step) × (refuses ≡ refused) × NoPlaces left.places × NoAsks left.files) ⊎ (IsLeftBehind old new × (refuses ≡ refused + 1)) → Notes f old new n left refused refuses
+      at_seen : n ≡ old.seen → (NotesSeenStep old new (looks_from (length looked.cells) after_step) × (refuses ≡ refused) × HasNoScriptLooks left.places × HasNoAsks left.files) ⊎ (ForgetsSeenStep old new × (refuses ≡ refused + 1)) → Notes f old new n left refused refuses
       at_seen e (inl now) = seen_now e now.0 now.1 now.2 now.3
       at_seen e (inr behind) = left_behind e behind.0 behind.1
 

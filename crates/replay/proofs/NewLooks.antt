@@ -2,19 +2,19 @@
 use Rattle.std.proofs.Common.{◌≡◌, ℕ, Bool, true, false, ◌||◌, ◌&&◌, ◌==◌, not, drop, List, Option, Some, None, Result, Ok, Err, OnOk, IfSome, IfNone, refl, sym, ap, ◌∙◌, inl, inr}
 use Rattle.std.proofs.lemmas.Bool.Decides.{eqb_tells}
 use Rattle.machine.specs.Memory.{is_among}
-use Rattle.machine.specs.PlacesType.{Places}
-use Rattle.machine.specs.Places.{is_within}
-use Rattle.hostfiles.specs.Looks.{is_looked}
-use Rattle.hostfiles.specs.declared.looks.Looks.{Looks}
+use Rattle.machine.specs.ScriptLooksType.{ScriptLooks}
+use Rattle.machine.specs.ScriptLooks.{is_within}
+use Rattle.hostfiles.specs.FileLooks.{is_looked}
+use Rattle.hostfiles.specs.declared.looks.FileLooks.{FileLooks}
 use Rattle.hostfiles.specs.declared.looks.Ask.{Ask}
-use Rattle.machine.specs.StateView.{Looked, StateView}
-use Rattle.machine.specs.Machine.{Question, Cell, Script, OfHost, looked_at}
-use Rattle.replay.specs.FirstLooks.{since, is_left, is_left_ask, is_new}
+use Rattle.machine.specs.StateView.{AllLooks, StateView}
+use Rattle.machine.specs.Machine.{Question, Cell, Script, OfHost, is_looked_at}
+use Rattle.replay.specs.FirstLooks.{looks_from, is_remaining, is_left_ask, is_new_look}
 use Rattle.replay.proofs.AskLemmas.{TakesAsk}
 
 -- An offset that was taken out is among the earlier ones.
-left_places : (taken : Option ℕ) (old new : Places) → IfSome taken (λ k. is_within old k ≡ true) → IfSome taken (λ k. (j : ℕ) → is_within new j ≡ (is_within old j && not (j == k))) → IfNone taken (new ≡ old)
-    → (j : ℕ) → is_within old j ≡ is_left taken new j
+left_places : (taken : Option ℕ) (old new : ScriptLooks) → IfSome taken (λ k. is_within old k ≡ true) → IfSome taken (λ k. (j : ℕ) → is_within new j ≡ (is_within old j && not (j == k))) → IfNone taken (new ≡ old)
+    → (j : ℕ) → is_within old j ≡ is_remaining taken new j
 left_places None old new one gone same j = ap (λ p. is_within p j) (sym same)
 left_places (Some k) old new one gone same j = elim (eqb_tells j k) [
   | inl here ↦ rw here.0 (ap (is_within old) here.1 ∙ one)
@@ -24,13 +24,13 @@ left_places (Some k) old new one gone same j = elim (eqb_tells j k) [
   all true = refl
   all false = refl
 
-new_is : (n : ℕ) (old : Looked) (taken : Option ℕ) (places : Places) (asked : Option Ask) (files : Looks) → ((j : ℕ) → is_within old.places j ≡ is_left taken places j) → ((a : Ask) → is_looked old.files a ≡ is_left_ask asked files a)
-    → (q : Question) → looked_at (since n old) q ≡ is_new (drop n old.cells) taken places asked files q
+new_is : (n : ℕ) (old : AllLooks) (taken : Option ℕ) (places : ScriptLooks) (asked : Option Ask) (files : FileLooks) → ((j : ℕ) → is_within old.places j ≡ is_remaining taken places j) → ((a : Ask) → is_looked old.files a ≡ is_left_ask asked files a)
+    → (q : Question) → is_looked_at (looks_from n old) q ≡ is_new_look (drop n old.cells) taken places asked files q
 new_is n old taken places asked files left answered (Cell a) = cell (is_among a (drop n old.cells)) where
   cell : (b : Bool) → b ≡ ((b || false) || false)
   cell true = refl
   cell false = refl
-new_is n old taken places asked files left answered (Script j) = left j ∙ place (is_left taken places j) where
+new_is n old taken places asked files left answered (Script j) = left j ∙ place (is_remaining taken places j) where
   place : (b : Bool) → b ≡ ((false || b) || false)
   place true = refl
   place false = refl
@@ -49,10 +49,10 @@ pub noted_new : (n : ℕ) (old taken_one taken_both : StateView) (taken : Option
     → IfSome taken (λ k. (j : ℕ) → is_within taken_one.looked.places j ≡ (is_within old.looked.places j && not (j == k))) → IfNone taken (taken_one ≡ old)
     → taken_one.looked.cells ≡ old.looked.cells → taken_one.looked.files ≡ old.looked.files
     → TakesAsk asked taken_one.looked.files taken_both.looked.files → taken_both.looked.cells ≡ taken_one.looked.cells → taken_both.looked.places ≡ taken_one.looked.places
-    → (q : Question) → is_new (drop n taken_both.looked.cells) taken taken_both.looked.places asked taken_both.looked.files q ≡ looked_at (since n old.looked) q
+    → (q : Question) → is_new_look (drop n taken_both.looked.cells) taken taken_both.looked.places asked taken_both.looked.files q ≡ is_looked_at (looks_from n old.looked) q
 noted_new n old taken_one taken_both taken asked one gone same cells files t cells' places q =
-    ap (λ (c : List ℕ). is_new (drop n c) taken taken_both.looked.places asked taken_both.looked.files q) (cells' ∙ cells)
-    ∙ ap (λ p. is_new (drop n old.looked.cells) taken p asked taken_both.looked.files q) places
+    ap (λ (c : List ℕ). is_new_look (drop n c) taken taken_both.looked.places asked taken_both.looked.files q) (cells' ∙ cells)
+    ∙ ap (λ p. is_new_look (drop n old.looked.cells) taken p asked taken_both.looked.files q) places
     ∙ sym (new_is n old.looked taken taken_one.looked.places asked taken_both.looked.files
     (left_places taken old.looked.places taken_one.looked.places one gone (if_nothing taken (λ e. ap (λ (r : StateView). r.looked.places) e) same))
     (λ a. ap (λ l. is_looked l a) (sym files) ∙ t.left a) q)

@@ -5,11 +5,11 @@ use Rattle.std.proofs.Math.ListN.{get_or-append}
 use Rattle.std.proofs.lemmas.List.{get_or-append-add, get_or-append_right, get_or-take, get_or-drop, length-take-le}
 use Rattle.std.proofs.lemmas.Bool.{lt-ltb, le-ltb, cases_lt}
 use Rattle.machine.specs.Image.{image_at}
-use Rattle.machine.specs.Given.{Session}
+use Rattle.machine.specs.Inputs.{Session}
 use Rattle.machine.specs.PageZero.{page_zero}
 use Rattle.machine.specs.Session.{written_over}
-use Rattle.machine.specs.Machine.{Question, Cell, Script, OfHost, ask}
-use Rattle.replay.specs.FirstLooks.{Noted}
+use Rattle.machine.specs.Machine.{Question, Cell, Script, OfHost, session_answers}
+use Rattle.replay.specs.FirstLooks.{FirstLooksView}
 use Rattle.replay.specs.Edits.{with_poke}
 use Rattle.replay.specs.Touch.{IsNotedTouch}
 use Rattle.replay.proofs.LeastLemmas.{IsLeast, least_of_all}
@@ -58,23 +58,23 @@ abbrev pub IsPoked : ℕ → ℕ → Question → Type 0
 IsPoked at n q = (j : ℕ) × (j < n) × (q ≡ Cell (256 + (at + j)))
 
 module _ (s : Session) (at : ℕ) (bytes : List ℕ) (h : at + length bytes ≤ length s.program) where
-  pub old_byte : (i : ℕ) → i < length bytes → ask s (Cell (256 + (at + i))) ≡ slice_index s.program (at + i)
+  pub old_byte : (i : ℕ) → i < length bytes → session_answers s (Cell (256 + (at + i))) ≡ slice_index s.program (at + i)
   old_byte i k = byte_there (page_zero s.tail) s.program (at + i) (omega arith)
 
-  pub new_byte : (i : ℕ) → i < length bytes → ask (with_poke s at bytes) (Cell (256 + (at + i))) ≡ slice_index bytes i
+  pub new_byte : (i : ℕ) → i < length bytes → session_answers (with_poke s at bytes) (Cell (256 + (at + i))) ≡ slice_index bytes i
   new_byte i k =
       byte_there (page_zero s.tail) (written_over s.program at bytes) (at + i) (omega (arith, long_over s.program bytes at h))
       ∙ over_there s.program bytes at h i k
 
   -- A cell whose byte of the program stays has the same answer.
-  same_place : (a : ℕ) → (256 ≤ a → slice_index (written_over s.program at bytes) (a - 256) ≡ slice_index s.program (a - 256)) → ask s (Cell a) ≡ ask (with_poke s at bytes) (Cell a)
+  same_place : (a : ℕ) → (256 ≤ a → slice_index (written_over s.program at bytes) (a - 256) ≡ slice_index s.program (a - 256)) → session_answers s (Cell a) ≡ session_answers (with_poke s at bytes) (Cell a)
   same_place a same = elim (cases_lt a 256) [
     | inl low ↦ rw (lt-ltb a 256 low) refl
     | inr high ↦ rw (le-ltb a 256 high, long_over s.program bytes at h, same high) refl
   ]
 
   -- Every other question has the same answer as before.
-  pub others_same : (q : Question) → IsPoked at (length bytes) q ⊎ (ask s q ≡ ask (with_poke s at bytes) q)
+  pub others_same : (q : Question) → IsPoked at (length bytes) q ⊎ (session_answers s q ≡ session_answers (with_poke s at bytes) q)
   others_same (Script k) = inr refl
   others_same (OfHost a) = inr refl
   others_same (Cell a) = elim (cases_lt a (256 + at)) [
@@ -85,13 +85,13 @@ module _ (s : Session) (at : ℕ) (bytes : List ℕ) (h : at + length bytes ≤ 
     ]
   ]
 
-  pub poke_touched : (k : Noted) (t : ℕ) → IsLeast (IsPoked at (length bytes)) (ask s) (ask (with_poke s at bytes)) k t → IsNotedTouch (ask s) (ask (with_poke s at bytes)) k t
-  poke_touched k t least = least_of_all (IsPoked at (length bytes)) (ask s) (ask (with_poke s at bytes)) k t least others_same
+  pub poke_touched : (k : FirstLooksView) (t : ℕ) → IsLeast (IsPoked at (length bytes)) (session_answers s) (session_answers (with_poke s at bytes)) k t → IsNotedTouch (session_answers s) (session_answers (with_poke s at bytes)) k t
+  poke_touched k t least = least_of_all (IsPoked at (length bytes)) (session_answers s) (session_answers (with_poke s at bytes)) k t least others_same
 
   -- A byte changes exactly if its answer changes.
   pub changes : (i : ℕ) → i < length bytes
-      → ((slice_index s.program (at + i) == slice_index bytes i) ≡ true → ask s (Cell (256 + (at + i))) ≡ ask (with_poke s at bytes) (Cell (256 + (at + i))))
-      × ((slice_index s.program (at + i) == slice_index bytes i) ≡ false → ask s (Cell (256 + (at + i))) ≡ ask (with_poke s at bytes) (Cell (256 + (at + i))) → ⊥)
+      → ((slice_index s.program (at + i) == slice_index bytes i) ≡ true → session_answers s (Cell (256 + (at + i))) ≡ session_answers (with_poke s at bytes) (Cell (256 + (at + i))))
+      × ((slice_index s.program (at + i) == slice_index bytes i) ≡ false → session_answers s (Cell (256 + (at + i))) ≡ session_answers (with_poke s at bytes) (Cell (256 + (at + i))) → ⊥)
   changes i k = (
     λ e. old_byte i k ∙ eqb-true _ _ e ∙ sym (new_byte i k),
     λ e same. let yes = eq-eqb (slice_index s.program (at + i)) (slice_index bytes i) (sym (old_byte i k) ∙ same ∙ new_byte i k) in let no : false ≡ true = sym e ∙ yes in cc,

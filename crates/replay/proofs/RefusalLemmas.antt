@@ -3,24 +3,24 @@ use Rattle.std.proofs.Common.{◌≡◌, ℕ, ◌+◌, ◌-◌, ◌*◌, ◌/◌
 use Rattle.std.proofs.lemmas.Nat.{le-div}
 use Rattle.std.proofs.lemmas.Bool.{cases_lt}
 use Rattle.std.proofs.lemmas.Bool.Decides.{eqb_tells}
-use Rattle.machine.specs.StateView.{Looked}
-use Rattle.replay.specs.FirstLooks.{Noted, seen_to, IsNoted, IsLeftBehind}
-use Rattle.replay.specs.RefusalCount.{CountsThisRun, RefusesLooksOnce}
+use Rattle.machine.specs.StateView.{AllLooks}
+use Rattle.replay.specs.FirstLooks.{FirstLooksView, with_seen, NotesSeenStep, ForgetsSeenStep}
+use Rattle.replay.specs.AllocFailures.{CountsThisRun, FailsLooksOnce}
 
 -- None is counted yet.
-pub none_counted : (seen from count : ℕ) → RefusesLooksOnce seen from count seen from count
+pub none_counted : (seen from count : ℕ) → FailsLooksOnce seen from count seen from count
 none_counted seen from count = record { once = omega arith; caught_up = λ h. omega arith; behind = λ h. (omega arith, omega arith) }
 
-module _ (seen from count n m : ℕ) (old : Noted) (refused : ℕ) (before : RefusesLooksOnce seen from count old.seen n refused) (low : from ≤ n) where
+module _ (seen from count n m : ℕ) (old : FirstLooksView) (refused : ℕ) (before : FailsLooksOnce seen from count old.seen n refused) (low : from ≤ n) where
   -- After a stretch from step n to step m, whose last looks were noted or not.
-  pub once_on : (new : Noted) (refuses : ℕ) (looked : Looked) (P Q : Type 0) → n < m
+  pub once_on : (new : FirstLooksView) (refuses : ℕ) (looked : AllLooks) (P Q : Type 0) → n < m
       → ((n ≡ old.seen → ⊥) → (new ≡ old) × (refuses ≡ refused))
-      → (n ≡ old.seen → (IsNoted (seen_to old (m - 1)) new looked × (refuses ≡ refused) × P × Q) ⊎ (IsLeftBehind (seen_to old (m - 1)) new × (refuses ≡ refused + 1)))
-      → RefusesLooksOnce seen from count new.seen m refuses
+      → (n ≡ old.seen → (NotesSeenStep (with_seen old (m - 1)) new looked × (refuses ≡ refused) × P × Q) ⊎ (ForgetsSeenStep (with_seen old (m - 1)) new × (refuses ≡ refused + 1)))
+      → FailsLooksOnce seen from count new.seen m refuses
   once_on new refuses looked P Q more other here = elim (eqb_tells n old.seen) [ inl e ↦ noted e.1 (here e.1) | inr ne ↦ apart (other ne.1) ]
     where
-      noted : n ≡ old.seen → (IsNoted (seen_to old (m - 1)) new looked × (refuses ≡ refused) × P × Q) ⊎ (IsLeftBehind (seen_to old (m - 1)) new × (refuses ≡ refused + 1))
-          → RefusesLooksOnce seen from count new.seen m refuses
+      noted : n ≡ old.seen → (NotesSeenStep (with_seen old (m - 1)) new looked × (refuses ≡ refused) × P × Q) ⊎ (ForgetsSeenStep (with_seen old (m - 1)) new × (refuses ≡ refused + 1))
+          → FailsLooksOnce seen from count new.seen m refuses
       noted e (inl h) =
           let same : refused ≡ count = before.caught_up (omega (arith, e)) in record {
             once = omega (arith, h.1, same);
@@ -35,7 +35,7 @@ module _ (seen from count n m : ℕ) (old : Noted) (refused : ℕ) (before : Ref
             behind = λ late. let stays : old.seen ≡ seen = (before.behind late).1 in absurd (omega (arith, late, stays, e, low));
           }
 
-      apart : (new ≡ old) × (refuses ≡ refused) → RefusesLooksOnce seen from count new.seen m refuses
+      apart : (new ≡ old) × (refuses ≡ refused) → FailsLooksOnce seen from count new.seen m refuses
       apart h = rw (h.0, h.1) (record {
         once = before.once;
         caught_up = λ reached. before.caught_up (omega (arith, reached, more));
@@ -43,18 +43,18 @@ module _ (seen from count n m : ℕ) (old : Noted) (refused : ℕ) (before : Ref
       })
 
   -- After steps before a stop, none of which looked at anything new.
-  pub once_at_stop : (new : Noted) → n ≤ m → (n ≡ old.seen → new ≡ seen_to old m) → ((n ≡ old.seen → ⊥) → new ≡ old)
-      → RefusesLooksOnce seen from count new.seen m refused
+  pub once_at_stop : (new : FirstLooksView) → n ≤ m → (n ≡ old.seen → new ≡ with_seen old m) → ((n ≡ old.seen → ⊥) → new ≡ old)
+      → FailsLooksOnce seen from count new.seen m refused
   once_at_stop new more here other = elim (eqb_tells n old.seen) [ inl e ↦ passed e.1 (here e.1) | inr ne ↦ apart (other ne.1) ]
     where
-      passed : n ≡ old.seen → new ≡ seen_to old m → RefusesLooksOnce seen from count new.seen m refused
+      passed : n ≡ old.seen → new ≡ with_seen old m → FailsLooksOnce seen from count new.seen m refused
       passed e same = rw same (record {
         once = before.once;
         caught_up = λ _. before.caught_up (omega (arith, e));
         behind = λ late. let stays : old.seen ≡ seen = (before.behind late).1 in absurd (omega (arith, late, stays, e, low));
       })
 
-      apart : new ≡ old → RefusesLooksOnce seen from count new.seen m refused
+      apart : new ≡ old → FailsLooksOnce seen from count new.seen m refused
       apart same = rw same (record {
         once = before.once;
         caught_up = λ reached. before.caught_up (omega (arith, reached, more));
@@ -87,7 +87,7 @@ pub counts_at_start : (from seen spacing refused : ℕ) → refused ≡ 0 → Co
 counts_at_start from seen spacing refused e = record { caught_up = λ _. omega (arith, e); behind = omega (arith, e) }
 
 module _ (from n m seen new_seen spacing refused noted refuses : ℕ) (some : 0 < spacing) (more : n ≤ m) (before : CountsSoFar from n seen spacing refused)
-    (looks : RefusesLooksOnce seen n refused new_seen m noted) (kept : (refuses ≡ noted) ⊎ ((m ≤ new_seen) × (refuses ≡ noted + 1))) where
+    (looks : FailsLooksOnce seen n refused new_seen m noted) (kept : (refuses ≡ noted) ⊎ ((m ≤ new_seen) × (refuses ≡ noted + 1))) where
   -- Up to step m at most one more is counted than for the multiples up to n; if the first looks do not reach n, it is theirs.
   one_counted : (refuses + from / spacing ≤ n / spacing + 1) × (m ≤ new_seen → n ≤ seen)
   one_counted = by_seen (cases_lt seen n) kept

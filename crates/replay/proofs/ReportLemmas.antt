@@ -6,22 +6,22 @@ use Rattle.std.specs.Cmp.Lexicographic.{slice_cmp}
 use Rattle.std.specs.FinMap.{contains_key}
 use Rattle.hostfiles.specs.Order.{is_above}
 use Rattle.hostfiles.specs.Hosts.{Key, Host}
-use Rattle.hostfiles.specs.Files.{Own, entry_at, file_of, files, has, told}
+use Rattle.hostfiles.specs.Files.{OwnFiles, entry_at, file_of, files, has, file_contents}
 use Rattle.hostfiles.specs.Changed.{is_changed_name}
 use Rattle.hostfiles.proofs.FileLemmas.{get-files}
-use Rattle.machine.specs.ChangedFiles.{told_in, is_changed_name_in}
-use Rattle.machine.specs.WholeFiles.{Files}
+use Rattle.machine.specs.ChangedFiles.{contents_in, is_changed_name_in}
+use Rattle.machine.specs.PlainFiles.{Files}
 use Rattle.machine.proofs.ChangedFileLemmas.{told_laid, changed_name_laid}
 
-module _ (host : Host) (own : Own) (all : Files) (is : files host own ≡ all) where
+module _ (host : Host) (own : OwnFiles) (all : Files) (is : files host own ≡ all) where
   pub there_is : (key : Key) → has host own key ≡ contains_key all key
   there_is key = sym (ap (λ (m : Files). contains_key m key) (sym is) ∙ ap is_some (get-files host own key) ∙ by (has host own key)) where
     by : (b : Bool) → is_some (cond b (Some (file_of host key (entry_at own key))) None) ≡ b
     by true = refl
     by false = refl
 
-  pub told_is : (key : Key) → told host own key ≡ told_in all key
-  told_is key = sym (told_laid host own key) ∙ ap (λ (m : Files). told_in m key) is
+  pub told_is : (key : Key) → file_contents host own key ≡ contents_in all key
+  told_is key = sym (told_laid host own key) ∙ ap (λ (m : Files). contents_in m key) is
 
   pub changed_is : is_changed_name host own ≡ is_changed_name_in host all
   changed_is = λ i key. (sym (changed_name_laid host own key) ∙ ap (λ (m : Files). is_changed_name_in host m key) is) i

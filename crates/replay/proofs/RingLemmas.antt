@@ -6,7 +6,7 @@ use Rattle.std.proofs.lemmas.List.{drop-append-le, drop-drop, append-nil}
 use Rattle.circular_buffer.specs.Buffer.{Buffer, keep_last, last_item}
 use Rattle.file_steps.proofs.OrderLemmas.{taken_last}
 use Rattle.replay.specs.declared.ring.Checkpoint.{Checkpoint}
-use Rattle.replay.specs.Ring.{Each, Rising, IsDue, Adds, Keeps, SomeStep, KeptUpTo}
+use Rattle.replay.specs.Ring.{Each, Rising, IsDue, Adds, PushesIfAbove, SomeStep, DropsPast}
 
 pub on_err : {T E : Type 0} (r : Result T E) (P : Type 0) → P → OnErr r P
 on_err (Ok x) P p = tt
@@ -170,21 +170,21 @@ module _ (old : List Checkpoint) (from last spacing newest upto : ℕ) (ring : B
   }
 
   pub kept_adds : (next : Buffer Checkpoint) (slots : ℕ) → ring.capacity ≡ slots → Adding old ring.items slots from upto last spacing newest → upto ≤ c.step → (c.step % spacing ≡ 0) ⊎ (c.step ≡ last)
-      → Keeps newest ring next c → Adding old next.items slots from c.step last spacing (max newest c.step)
+      → PushesIfAbove newest ring next c → Adding old next.items slots from c.step last spacing (max newest c.step)
   kept_adds next slots room g up mark (inl e) = rw e (left_out slots g up)
   kept_adds next slots room g up mark (inr k) = rw (k.1, room) (push_made slots g up k.0 mark)
 
 module _ (newest : ℕ) (ring : Buffer Checkpoint) (c : Checkpoint) where
-  pub kept_capacity : (next : Buffer Checkpoint) → Keeps newest ring next c → next.capacity ≡ ring.capacity
+  pub kept_capacity : (next : Buffer Checkpoint) → PushesIfAbove newest ring next c → next.capacity ≡ ring.capacity
   kept_capacity next (inl e) = rw e refl
   kept_capacity next (inr k) = rw k.1 refl
 
-  pub kept_each : (P : Checkpoint → Type 0) (next : Buffer Checkpoint) → Keeps newest ring next c → Each P ring.items → (newest < c.step → P c) → Each P next.items
+  pub kept_each : (P : Checkpoint → Type 0) (next : Buffer Checkpoint) → PushesIfAbove newest ring next c → Each P ring.items → (newest < c.step → P c) → Each P next.items
   kept_each P next (inl e) h here = rw e h
   kept_each P next (inr k) h here = rw k.1 (Each-keep_last P ring.capacity (ring.items ++ c ∷ []) (Each-append P ring.items (c ∷ []) h (here k.0, tt)))
 
   -- No checkpoint is past the step `seen`.
-  pub kept_known : (seen : ℕ) (next : Buffer Checkpoint) → Keeps newest ring next c → (seen < c.step → next ≡ ring) → Each (λ d. d.step ≤ seen) ring.items → Each (λ d. d.step ≤ seen) next.items
+  pub kept_known : (seen : ℕ) (next : Buffer Checkpoint) → PushesIfAbove newest ring next c → (seen < c.step → next ≡ ring) → Each (λ d. d.step ≤ seen) ring.items → Each (λ d. d.step ≤ seen) next.items
   kept_known seen next keeps past low = by_order (cases_lt seen c.step)
     where
       by_order : (seen < c.step) ⊎ (c.step ≤ seen) → Each (λ d. d.step ≤ seen) next.items
@@ -192,7 +192,7 @@ module _ (newest : ℕ) (ring : Buffer Checkpoint) (c : Checkpoint) where
       by_order (inr h) = kept_each (λ d. d.step ≤ seen) next keeps low (λ _. h)
 
 -- No checkpoint is made below the newest.
-pub kept_same : (newest : ℕ) (ring next : Buffer Checkpoint) (c : Checkpoint) → Keeps newest ring next c → c.step ≤ newest → next ≡ ring
+pub kept_same : (newest : ℕ) (ring next : Buffer Checkpoint) (c : Checkpoint) → PushesIfAbove newest ring next c → c.step ≤ newest → next ≡ ring
 kept_same newest ring next c (inl e) low = e
 kept_same newest ring next c (inr k) low = absurd (let h : newest < c.step = k.0 in omega arith)
 
@@ -226,7 +226,7 @@ popped old new gone c touch last e past h rising =
     let split : old ≡ new ++ c ∷ [] = rw e (taken_last old c last) in
     (ap (λ (zs : List Checkpoint). zs ++ gone) split ∙ append_assoc new (c ∷ []) gone, Rising-left new (c ∷ []) (rw split at rising))
 
-pub kept_up_to : (old now gone : List Checkpoint) (c : Checkpoint) (touch : ℕ) → old ≡ now ++ gone → Rising now → last_item now ≡ Some c → c.step ≤ touch → Each (λ d. touch < d.step) gone → KeptUpTo touch old now
+pub kept_up_to : (old now gone : List Checkpoint) (c : Checkpoint) (touch : ℕ) → old ≡ now ++ gone → Rising now → last_item now ≡ Some c → c.step ≤ touch → Each (λ d. touch < d.step) gone → DropsPast touch old now
 kept_up_to old now gone c touch parts rising last low past =
     record { gone = gone; parts = parts; left = Each-weaken _ _ now (λ d h. omega (arith, h)) (last_greatest now c rising last); past = past }
 

@@ -5,13 +5,13 @@ use Rattle.std.proofs.lemmas.Bool.{cases_lt, cases_Bool, lt-ltb, le-ltb}
 use Rattle.std.proofs.lemmas.Grind.{common_steps}
 use Rattle.std.proofs.lemmas.List.{get_or_past}
 use Rattle.std.proofs.lemmas.Option.{gets}
-use Rattle.file_steps.specs.Steps.{lesser}
-use Rattle.machine.specs.Given.{Session}
-use Rattle.machine.specs.Machine.{Question, Cell, Script, OfHost, ask}
-use Rattle.machine.specs.Session.{spliced}
-use Rattle.replay.specs.FirstLooks.{IsFirstLooks, Noted, step_of}
+use Rattle.file_steps.specs.FileSteps.{lesser_step}
+use Rattle.machine.specs.Inputs.{Session}
+use Rattle.machine.specs.Machine.{Question, Cell, Script, OfHost, session_answers}
+use Rattle.machine.specs.Session.{splice}
+use Rattle.replay.specs.FirstLooks.{IsFirstLooks, FirstLooksView, step_of}
 use Rattle.file_steps.specs.FirstSteps.{step_in}
-use Rattle.file_steps.specs.PlaceSteps.{IsEarliestFrom}
+use Rattle.file_steps.specs.SequentialSteps.{IsEarliestFrom}
 use Rattle.replay.specs.Edits.{with_splice}
 use Rattle.replay.specs.Touch.{IsNotedTouch}
 use Rattle.replay.proofs.FirstLemmas.{noted_below}
@@ -20,10 +20,10 @@ use Rattle.replay.proofs.LeastLemmas.{IsLeast, more_same, more_changed}
 -- ---- a byte that stays
 
 module _ (list bytes : List ℕ) (at removed : ℕ) (inside : at + removed ≤ length list) where
-  pub stays_before : (k : ℕ) → k < at → slice_get list k ≡ slice_get (spliced list at removed bytes) k
+  pub stays_before : (k : ℕ) → k < at → slice_get list k ≡ slice_get (splice list at removed bytes) k
   stays_before k h = grind (arith, common_steps, gets)
 
-  pub stays_behind : removed ≡ length bytes → (k : ℕ) → at + removed ≤ k → slice_get list k ≡ slice_get (spliced list at removed bytes) k
+  pub stays_behind : removed ≡ length bytes → (k : ℕ) → at + removed ≤ k → slice_get list k ≡ slice_get (splice list at removed bytes) k
   stays_behind same k h = grind (arith, common_steps, gets)
 
 -- ---- the offsets that are visited
@@ -42,10 +42,10 @@ no_entry : (entries : List (Option ℕ)) (k m : ℕ) → length entries ≤ k �
 no_entry entries k m past there = let none : slice_index_or entries k None ≡ None = get_or_past entries k None past in let both : None ≡ Some m = sym none ∙ there in cc
 
 -- From n on, an offset with a step before t keeps its byte.
-abbrev pub IsRestLater : Session → ℕ → ℕ → List ℕ → Noted → ℕ → ℕ → Type 0
-IsRestLater s at removed bytes k n t = (j m : ℕ) → n ≤ j → step_in k.places j ≡ Some m → m < t → slice_get s.script j ≡ slice_get (spliced s.script at removed bytes) j
+abbrev pub IsRestLater : Session → ℕ → ℕ → List ℕ → FirstLooksView → ℕ → ℕ → Type 0
+IsRestLater s at removed bytes k n t = (j m : ℕ) → n ≤ j → step_in k.places j ≡ Some m → m < t → slice_get s.script j ≡ slice_get (splice s.script at removed bytes) j
 
-module _ (s : Session) (at removed : ℕ) (bytes : List ℕ) (inside : at + removed ≤ length s.script) (k : Noted) (n t : ℕ) where
+module _ (s : Session) (at removed : ℕ) (bytes : List ℕ) (inside : at + removed ≤ length s.script) (k : FirstLooksView) (n t : ℕ) where
   -- From the end of the changes on, an offset keeps its byte or was looked at by no step.
   pub rest_unchanged : cond (removed == length bytes) (min (length k.places) (at + removed)) (length k.places) ≤ n → IsRestLater s at removed bytes k n t
   rest_unchanged all j m past there low = elim (cases_Bool (removed == length bytes)) [
@@ -62,13 +62,13 @@ module _ (s : Session) (at removed : ℕ) (bytes : List ℕ) (inside : at + remo
 
   -- An offset before the splice keeps its byte, and no other question has another answer.
   pub splice_touched : IsRestLater s at removed bytes k n t
-      → IsLeast (IsPlace at n) (ask s) (ask (with_splice s at removed bytes)) k t → IsNotedTouch (ask s) (ask (with_splice s at removed bytes)) k t
+      → IsLeast (IsPlace at n) (session_answers s) (session_answers (with_splice s at removed bytes)) k t → IsNotedTouch (session_answers s) (session_answers (with_splice s at removed bytes)) k t
   splice_touched rest least = record {
     within = least.within;
     below = below;
     here = least.here;
   } where
-    below : (q : Question) (m : ℕ) → step_of k q ≡ Some m → m < t → ask s q ≡ ask (with_splice s at removed bytes) q
+    below : (q : Question) (m : ℕ) → step_of k q ≡ Some m → m < t → session_answers s q ≡ session_answers (with_splice s at removed bytes) q
     below (Cell a) m there low = refl
     below (OfHost a) m there low = refl
     below (Script j) m there low = elim (cases_lt j at) [
@@ -79,21 +79,21 @@ module _ (s : Session) (at removed : ℕ) (bytes : List ℕ) (inside : at + remo
       ]
     ]
 
-module _ (s : Session) (at removed : ℕ) (bytes : List ℕ) (k : Noted) (i t : ℕ) (least : IsLeast (IsPlace at i) (ask s) (ask (with_splice s at removed bytes)) k t) where
+module _ (s : Session) (at removed : ℕ) (bytes : List ℕ) (k : FirstLooksView) (i t : ℕ) (least : IsLeast (IsPlace at i) (session_answers s) (session_answers (with_splice s at removed bytes)) k t) where
   -- One more offset, with the same byte.
-  pub same_place : ask s (Script i) ≡ ask (with_splice s at removed bytes) (Script i) → IsLeast (IsPlace at (i + 1)) (ask s) (ask (with_splice s at removed bytes)) k t
-  same_place = more_same (IsPlace at i) (IsPlace at (i + 1)) (ask s) (ask (with_splice s at removed bytes)) k (Script i) (one_more_place at i) t least
+  pub same_place : session_answers s (Script i) ≡ session_answers (with_splice s at removed bytes) (Script i) → IsLeast (IsPlace at (i + 1)) (session_answers s) (session_answers (with_splice s at removed bytes)) k t
+  same_place = more_same (IsPlace at i) (IsPlace at (i + 1)) (session_answers s) (session_answers (with_splice s at removed bytes)) k (Script i) (one_more_place at i) t least
 
   -- One more offset, with another byte.
-  pub changed_place : IsFirstLooks (ask s) k → (ask s (Script i) ≡ ask (with_splice s at removed bytes) (Script i) → ⊥)
-      → IsLeast (IsPlace at (i + 1)) (ask s) (ask (with_splice s at removed bytes)) k (lesser (step_in k.places i) t)
+  pub changed_place : IsFirstLooks (session_answers s) k → (session_answers s (Script i) ≡ session_answers (with_splice s at removed bytes) (Script i) → ⊥)
+      → IsLeast (IsPlace at (i + 1)) (session_answers s) (session_answers (with_splice s at removed bytes)) k (lesser_step (step_in k.places i) t)
   changed_place noted differs =
-      more_changed (IsPlace at i) (IsPlace at (i + 1)) (ask s) (ask (with_splice s at removed bytes)) k (Script i) (one_more_place at i) t least differs (step_in k.places i) refl (noted_below (ask s) k noted (Script i))
+      more_changed (IsPlace at i) (IsPlace at (i + 1)) (session_answers s) (session_answers (with_splice s at removed bytes)) k (Script i) (one_more_place at i) t least differs (step_in k.places i) refl (noted_below (session_answers s) k noted (Script i))
 
-lesser_low : (o : Option ℕ) (m t : ℕ) → o ≡ Some m → lesser o t ≤ m
+lesser_low : (o : Option ℕ) (m t : ℕ) → o ≡ Some m → lesser_step o t ≤ m
 lesser_low o m t e = rw e (elim (cases_lt m t) [ inl low ↦ rw (lt-ltb m t low) (omega arith) | inr high ↦ rw (le-ltb m t high) high ])
 
 -- No offset past one whose byte changes has an earlier step, if the looks were in order.
-pub rest_later : (s : Session) (at removed : ℕ) (bytes : List ℕ) (k : Noted) (place t : ℕ) → IsEarliestFrom k.places place → IsRestLater s at removed bytes k (place + 1) (lesser (step_in k.places place) t)
+pub rest_later : (s : Session) (at removed : ℕ) (bytes : List ℕ) (k : FirstLooksView) (place t : ℕ) → IsEarliestFrom k.places place → IsRestLater s at removed bytes k (place + 1) (lesser_step (step_in k.places place) t)
 rest_later s at removed bytes k place t (m, here, later) j n behind there low =
     absurd (omega (arith, lesser_low (step_in k.places place) m t here, later j n (omega arith) there, low))

@@ -5,9 +5,9 @@ use Rattle.std.proofs.lemmas.Bool.{cases_lt}
 use Rattle.std.proofs.lemmas.Bool.Decides.{nat_tests}
 use Rattle.machine.specs.StateView.{PartialState}
 use Rattle.machine.specs.Machine.{Answers, start, after}
-use Rattle.machine.specs.Kept.{whole}
+use Rattle.machine.specs.SavedState.{state_with_text}
 use Rattle.replay.specs.declared.ring.Checkpoint.{Checkpoint}
-use Rattle.replay.specs.Ring.{Each, Rising, Stands, SomeStep, start_step, HasCheckpoint}
+use Rattle.replay.specs.Ring.{Each, Rising, IsValidFor, SomeStep, start_step, HasCheckpoint}
 use Rattle.replay.proofs.ColdLemmas.{after_none}
 
 pub each_get : (P : Checkpoint → Type 0) (xs : List Checkpoint) (i : ℕ) (c : Checkpoint) → slice_get xs i ≡ Some c → Each P xs → P c
@@ -62,7 +62,7 @@ none_get (x ∷ xs) zero e = cc
 none_get (x ∷ xs) (suc i) e = let r = none_get xs i e in omega arith
 
 -- A rerun begins at a step that the run reaches.
-pub start_reached : (f : Answers) (limit : ℕ) (text : List ℕ) (xs : List Checkpoint) → Each (Stands f text) xs → (st : PartialState) × (after f (start_step limit xs) ≡ Some st)
+pub start_reached : (f : Answers) (limit : ℕ) (text : List ℕ) (xs : List Checkpoint) → Each (IsValidFor f text) xs → (st : PartialState) × (after f (start_step limit xs) ≡ Some st)
 start_reached f limit text [] h = (start, after_none f start refl)
 start_reached f limit text (x ∷ xs) h = elim (cases_lt limit x.step) [
   | inl past ↦
@@ -76,6 +76,6 @@ start_reached f limit text (x ∷ xs) h = elim (cases_lt limit x.step) [
         (st, ap (after f) same ∙ at)
     | inr top ↦
         let same : start_step limit (x ∷ xs) ≡ x.step = grind (arith, nat_tests) in
-        (whole x.state (take x.state.length text), ap (after f) same ∙ h.0.state)
+        (state_with_text x.state (take x.state.length text), ap (after f) same ∙ h.0.state)
   ]
 ]

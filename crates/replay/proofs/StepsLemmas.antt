@@ -4,7 +4,7 @@ use Rattle.std.proofs.lemmas.List.{map-append, length-map, drop-map}
 use Rattle.circular_buffer.specs.Buffer.{keep_last}
 use Rattle.replay.specs.declared.ring.Checkpoint.{Checkpoint as KeptCheckpoint}
 use Rattle.replay.specs.Ring.{Rising, RisingBy, IsDue, IsDueBy, Each, Adds, AddsBy, AddsAll, AddsAllBy, SomeBy, steps, start_by, start_step}
-use Rattle.replay.specs.RunnerView.{Checkpoint, seen_with}
+use Rattle.replay.specs.RunnerView.{Checkpoint, checkpoint_with_text}
 use Rattle.replay.proofs.RingLemmas.{Each-weaken}
 use Rattle.replay.proofs.TouchLemmas.{each_map}
 use Rattle.replay.proofs.RunnerLemmas.{seen_steps}
@@ -36,13 +36,13 @@ adds_steps old new slots from upto spacing a = record {
     due_step : (c : KeptCheckpoint) → IsDue old from upto upto spacing c.step → IsDueBy (λ k. k) (steps old) from upto upto spacing c.step
     due_step c h = record { reached = h.reached; above = each_map (λ d. d.step) (λ k. k < c.step) old h.above; marked = h.marked }
 
-pub rerun_begins : (text : List ℕ) (xs : List KeptCheckpoint) (limit : ℕ) → start_by (λ (c : Checkpoint). c.step) limit (map (seen_with text) xs) ≡ start_step limit xs
+pub rerun_begins : (text : List ℕ) (xs : List KeptCheckpoint) (limit : ℕ) → start_by (λ (c : Checkpoint). c.step) limit (map (checkpoint_with_text text) xs) ≡ start_step limit xs
 rerun_begins text [] limit = refl
 rerun_begins text (x ∷ xs) limit = ap (λ n. max (if nat_le x.step limit then x.step else 0) n) (rerun_begins text xs limit)
 
 pub reran : (text text' : List ℕ) (old new : List KeptCheckpoint) (slots from upto spacing : ℕ) → Rising new → Adds old new slots from upto upto spacing
-    → AddsBy (λ k. k) (map (λ c. c.step) (map (seen_with text) old)) (map (λ c. c.step) (map (seen_with text') new)) slots from upto upto spacing
-    × RisingBy (λ k. k) (map (λ c. c.step) (map (seen_with text') new))
+    → AddsBy (λ k. k) (map (λ c. c.step) (map (checkpoint_with_text text) old)) (map (λ c. c.step) (map (checkpoint_with_text text') new)) slots from upto upto spacing
+    × RisingBy (λ k. k) (map (λ c. c.step) (map (checkpoint_with_text text') new))
 reran text text' old new slots from upto spacing r a =
     rw (seen_steps text old, seen_steps text' new) (adds_steps old new slots from upto spacing a, rising_steps new r)
 
@@ -54,5 +54,5 @@ adds_all_steps old new slots from upto spacing a = record {
 }
 
 pub none_left : (text text' : List ℕ) (old new : List KeptCheckpoint) (slots from upto spacing : ℕ) → AddsAll old new slots from upto upto spacing
-    → AddsAllBy (λ k. k) (map (λ c. c.step) (map (seen_with text) old)) (map (λ c. c.step) (map (seen_with text') new)) slots from upto upto spacing
+    → AddsAllBy (λ k. k) (map (λ c. c.step) (map (checkpoint_with_text text) old)) (map (λ c. c.step) (map (checkpoint_with_text text') new)) slots from upto upto spacing
 none_left text text' old new slots from upto spacing a = rw (seen_steps text old, seen_steps text' new) (adds_all_steps old new slots from upto spacing a)

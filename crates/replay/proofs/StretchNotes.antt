@@ -3,22 +3,22 @@ use Rattle.std.proofs.Common.{◌≡◌, ℕ, zero, suc, ◌+◌, ◌-◌, ◌<�
 use Rattle.std.proofs.lemmas.Bool.{cases_lt}
 use Rattle.std.proofs.Math.Nat.{eq-or-lt_of_le}
 use Rattle.machine.specs.Dependence as dependence
-use Rattle.machine.specs.Given.{Session}
-use Rattle.machine.specs.StateView.{PartialState, Looked}
-use Rattle.machine.specs.Machine.{Question, Answers, ask, after, is_in, looked_at, looks, looks_at}
-use Rattle.machine.specs.Stretch.{LooksAtNothingNew, Stretches}
+use Rattle.machine.specs.Inputs.{Session}
+use Rattle.machine.specs.StateView.{PartialState, AllLooks}
+use Rattle.machine.specs.Machine.{Question, Answers, session_answers, after, is_in, is_looked_at, looks, looks_at}
+use Rattle.machine.specs.Stretch.{LooksAtNothingNew, RunsStretch}
 use Rattle.machine.proofs.AfterLemmas.{step_before}
-use Rattle.replay.specs.FirstLooks.{Noted, or_else, mark, first, IsFirstLooks, since, seen_to, AllNoted, NoPlaces, NoAsks, IsNoted, IsLeftBehind}
+use Rattle.replay.specs.FirstLooks.{FirstLooksView, or_else, step_if, first, IsFirstLooks, looks_from, with_seen, AllNoted, HasNoScriptLooks, HasNoAsks, NotesSeenStep, ForgetsSeenStep}
 use Rattle.replay.proofs.FirstLemmas.{first-suc, looks_here}
 use Rattle.replay.proofs.LookLemmas.{Notes, looks_kept}
 
-kept_by : (o : Option ℕ) (b : Bool) (n : ℕ) → (b ≡ true → o ≡ None → ⊥) → or_else o (mark b n) ≡ o
+kept_by : (o : Option ℕ) (b : Bool) (n : ℕ) → (b ≡ true → o ≡ None → ⊥) → or_else o (step_if b n) ≡ o
 kept_by (Some m) b n h = refl
 kept_by None true n h = absurd (h refl refl)
 kept_by None false n h = refl
 
 -- Steps that look at nothing new have no first look.
-same_first_looks : (f : Answers) (t : Noted) (looked : Looked) (q : Question) → IsFirstLooks f t → AllNoted t looked → (k : ℕ) → LooksAtNothingNew f looked t.seen (t.seen + k) → first f q (t.seen + k) ≡ first f q t.seen
+same_first_looks : (f : Answers) (t : FirstLooksView) (looked : AllLooks) (q : Question) → IsFirstLooks f t → AllNoted t looked → (k : ℕ) → LooksAtNothingNew f looked t.seen (t.seen + k) → first f q (t.seen + k) ≡ first f q t.seen
 same_first_looks f t looked q known all zero quiet = ap (first f q) (omega arith)
 same_first_looks f t looked q known all (suc k) quiet =
     let rest : first f q (t.seen + k) ≡ first f q t.seen = same_first_looks f t looked q known all k (λ i low high. quiet i low (omega arith)) in
@@ -27,15 +27,15 @@ same_first_looks f t looked q known all (suc k) quiet =
     ∙ kept_by (first f q (t.seen + k)) (is_in q (looks f (t.seen + k))) (t.seen + k) (λ asked none. all q (quiet (t.seen + k) (omega arith) (omega arith) q asked) (known.entry q ∙ sym rest ∙ none))
     ∙ rest
 
-module _ (f : Answers) (t : Noted) (looked : Looked) (known : IsFirstLooks f t) (all : AllNoted t looked) (upto : ℕ) (high : t.seen ≤ upto) (quiet : LooksAtNothingNew f looked t.seen upto) where
-  pub passed : IsFirstLooks f (seen_to t upto)
+module _ (f : Answers) (t : FirstLooksView) (looked : AllLooks) (known : IsFirstLooks f t) (all : AllNoted t looked) (upto : ℕ) (high : t.seen ≤ upto) (quiet : LooksAtNothingNew f looked t.seen upto) where
+  pub passed : IsFirstLooks f (with_seen t upto)
   passed = record {
     entry = λ q.
         let e : t.seen + (upto - t.seen) ≡ upto = omega arith in
         known.entry q ∙ sym (same_first_looks f t looked q known all (upto - t.seen) (subst (λ (k : ℕ). LooksAtNothingNew f looked t.seen k) (sym e) quiet)) ∙ ap (first f q) e;
   }
 
-  pub all_passed : AllNoted (seen_to t upto) looked
+  pub all_passed : AllNoted (with_seen t upto) looked
   all_passed = all
 
 before_step : (f : Answers) (k : ℕ) (st : PartialState) → after f (suc k) ≡ Some st → (b : PartialState) × (after f k ≡ Some b)
@@ -43,7 +43,7 @@ unfolding dependence.after
 before_step f k st at = let (b, there, went) = step_before f (after f k) st at in (b, there)
 
 -- The first looks after a stretch from step n to step m.
-pub record NotesStretch (f : Answers) (old new : Noted) (n m : ℕ) (looked : Looked) (refused refuses : ℕ) : Type 0 where
+pub record NotesStretch (f : Answers) (old new : FirstLooksView) (n m : ℕ) (looked : AllLooks) (refused refuses : ℕ) : Type 0 where
   pub noted : IsFirstLooks f new
   pub looks : m ≤ new.seen → AllNoted new looked
   pub grows : old.seen ≤ new.seen
@@ -51,31 +51,31 @@ pub record NotesStretch (f : Answers) (old new : Noted) (n m : ℕ) (looked : Lo
   pub counted : (refused ≤ refuses) × (refuses ≤ refused + 1)
   pub all : refuses ≡ refused → n ≤ old.seen → m ≤ new.seen
 
-module _ (s : Session) (end n m : ℕ) (old new : Noted) (refused refuses : ℕ) (st : PartialState) (looked after_step left : Looked) (stretch : Stretches s n end looked m (Ok None) (record { state = st; looked = after_step })) (more : n < m)
-    (known : IsFirstLooks (ask s) old) (all : n ≤ old.seen → AllNoted old looked) (seen : n < old.seen → m ≤ old.seen) (same_cells : left.cells ≡ after_step.cells) where
+module _ (s : Session) (end n m : ℕ) (old new : FirstLooksView) (refused refuses : ℕ) (st : PartialState) (looked after_step left : AllLooks) (stretch : RunsStretch s n end looked m (Ok None) (record { state = st; looked = after_step })) (more : n < m)
+    (known : IsFirstLooks (session_answers s) old) (all : n ≤ old.seen → AllNoted old looked) (seen : n < old.seen → m ≤ old.seen) (same_cells : left.cells ≡ after_step.cells) where
   -- The state before the last step.
-  before_last_step : (b : PartialState) × (after (ask s) (m - 1) ≡ Some b)
-  before_last_step = before_step (ask s) (m - 1) st (ap (after (ask s)) (let e : suc (m - 1) ≡ m = omega arith in e) ∙ stretch.at)
+  before_last_step : (b : PartialState) × (after (session_answers s) (m - 1) ≡ Some b)
+  before_last_step = before_step (session_answers s) (m - 1) st (ap (after (session_answers s)) (let e : suc (m - 1) ≡ m = omega arith in e) ∙ stretch.at)
 
-  asks : (q : Question) → looked_at after_step q ≡ (looked_at looked q || is_in q (looks_at (ask s) before_last_step.0))
-  asks q = stretch.last more q ∙ ap (λ (qs : List Question). looked_at looked q || is_in q qs) (looks_here (ask s) (m - 1) before_last_step.0 before_last_step.1)
+  asks : (q : Question) → is_looked_at after_step q ≡ (is_looked_at looked q || is_in q (looks_at (session_answers s) before_last_step.0))
+  asks q = stretch.last more q ∙ ap (λ (qs : List Question). is_looked_at looked q || is_in q qs) (looks_here (session_answers s) (m - 1) before_last_step.0 before_last_step.1)
 
-  by_last_step : (t : Noted) → IsFirstLooks (ask s) t → (m - 1 ≤ t.seen → AllNoted t looked)
-      → ((m - 1 ≡ t.seen → ⊥) → (new ≡ t) × (refuses ≡ refused) × NoPlaces left.places × NoAsks left.files)
-      → (m - 1 ≡ t.seen → (IsNoted t new (since (length looked.cells) after_step) × (refuses ≡ refused) × NoPlaces left.places × NoAsks left.files) ⊎ (IsLeftBehind t new × (refuses ≡ refused + 1)))
-      → Notes (ask s) t new (m - 1) left refused refuses
+  by_last_step : (t : FirstLooksView) → IsFirstLooks (session_answers s) t → (m - 1 ≤ t.seen → AllNoted t looked)
+      → ((m - 1 ≡ t.seen → ⊥) → (new ≡ t) × (refuses ≡ refused) × HasNoScriptLooks left.places × HasNoAsks left.files)
+      → (m - 1 ≡ t.seen → (NotesSeenStep t new (looks_from (length looked.cells) after_step) × (refuses ≡ refused) × HasNoScriptLooks left.places × HasNoAsks left.files) ⊎ (ForgetsSeenStep t new × (refuses ≡ refused + 1)))
+      → Notes (session_answers s) t new (m - 1) left refused refuses
   by_last_step t is_known is_all other here =
-      looks_kept (ask s) t new (m - 1) refused refuses before_last_step.0 looked after_step left is_known is_all before_last_step.1 stretch.extends asks same_cells other here
+      looks_kept (session_answers s) t new (m - 1) refused refuses before_last_step.0 looked after_step left is_known is_all before_last_step.1 stretch.extends asks same_cells other here
 
-  pub stretch_kept : ((n ≡ old.seen → ⊥) → (new ≡ old) × (refuses ≡ refused) × NoPlaces left.places × NoAsks left.files)
-      → (n ≡ old.seen → (IsNoted (seen_to old (m - 1)) new (since (length looked.cells) after_step) × (refuses ≡ refused) × NoPlaces left.places × NoAsks left.files) ⊎ (IsLeftBehind (seen_to old (m - 1)) new × (refuses ≡ refused + 1)))
-      → NotesStretch (ask s) old new n m left refused refuses
+  pub stretch_kept : ((n ≡ old.seen → ⊥) → (new ≡ old) × (refuses ≡ refused) × HasNoScriptLooks left.places × HasNoAsks left.files)
+      → (n ≡ old.seen → (NotesSeenStep (with_seen old (m - 1)) new (looks_from (length looked.cells) after_step) × (refuses ≡ refused) × HasNoScriptLooks left.places × HasNoAsks left.files) ⊎ (ForgetsSeenStep (with_seen old (m - 1)) new × (refuses ≡ refused + 1)))
+      → NotesStretch (session_answers s) old new n m left refused refuses
   stretch_kept other here = by_order (cases_lt n old.seen)
     where
-      at_seen : n ≡ old.seen → NotesStretch (ask s) old new n m left refused refuses
+      at_seen : n ≡ old.seen → NotesStretch (session_answers s) old new n m left refused refuses
       at_seen e =
-          let quiet : LooksAtNothingNew (ask s) looked old.seen (m - 1) = subst (λ (k : ℕ). LooksAtNothingNew (ask s) looked k (m - 1)) e stretch.before_last in
-          let notes = by_last_step (seen_to old (m - 1)) (passed (ask s) old looked known (all (omega arith)) (m - 1) (omega arith) quiet) (λ _. all (omega arith)) (λ ne. absurd (ne refl)) (λ _. here e) in
+          let quiet : LooksAtNothingNew (session_answers s) looked old.seen (m - 1) = subst (λ (k : ℕ). LooksAtNothingNew (session_answers s) looked k (m - 1)) e stretch.before_last in
+          let notes = by_last_step (with_seen old (m - 1)) (passed (session_answers s) old looked known (all (omega arith)) (m - 1) (omega arith) quiet) (λ _. all (omega arith)) (λ ne. absurd (ne refl)) (λ _. here e) in
           record {
             noted = notes.noted;
             looks = λ high. notes.looks (omega arith);
@@ -85,7 +85,7 @@ module _ (s : Session) (end n m : ℕ) (old new : Noted) (refused refuses : ℕ)
             all = λ none _. omega (arith, notes.all none (omega arith));
           }
 
-      apart : (n ≡ old.seen → ⊥) → (m - 1 ≡ old.seen → ⊥) → NotesStretch (ask s) old new n m left refused refuses
+      apart : (n ≡ old.seen → ⊥) → (m - 1 ≡ old.seen → ⊥) → NotesStretch (session_answers s) old new n m left refused refuses
       apart ne last =
           let notes = by_last_step old known (λ low. all (omega arith)) (λ _. other ne) (λ e. absurd (last e)) in
           record {
@@ -97,10 +97,10 @@ module _ (s : Session) (end n m : ℕ) (old new : Noted) (refused refuses : ℕ)
             all = λ none low. elim (eq-or-lt_of_le {n = n} {m = old.seen} low) [ inl same ↦ absurd (ne same) | inr l ↦ let top : m ≤ old.seen = seen l in omega (arith, top, notes.grows) ];
           }
 
-      from_seen : (old.seen ≡ n) ⊎ (old.seen < n) → NotesStretch (ask s) old new n m left refused refuses
+      from_seen : (old.seen ≡ n) ⊎ (old.seen < n) → NotesStretch (session_answers s) old new n m left refused refuses
       from_seen (inl e) = at_seen (sym e)
       from_seen (inr l) = apart (λ e. omega (arith, e, l)) (λ e. omega (arith, e, l, more))
 
-      by_order : (n < old.seen) ⊎ (old.seen ≤ n) → NotesStretch (ask s) old new n m left refused refuses
+      by_order : (n < old.seen) ⊎ (old.seen ≤ n) → NotesStretch (session_answers s) old new n m left refused refuses
       by_order (inl l) = let top : m ≤ old.seen = seen l in apart (λ e. omega (arith, e, l)) (λ e. omega (arith, e, top, more))
       by_order (inr h) = from_seen (eq-or-lt_of_le {n = old.seen} {m = n} h)

@@ -11,15 +11,15 @@ use Rattle.std.specs.Cmp.{eq_by_cmp_equiv}
 use Rattle.std.specs.Cmp.Lexicographic.{slice_cmp, nat_list_cmp_total}
 use Rattle.hostfiles.proofs.Views.{same_key, key_of}
 use Rattle.hostfiles.specs.Hosts.{Key}
-use Rattle.hostfiles.specs.Looks.{is_same_ask}
+use Rattle.hostfiles.specs.FileLooks.{is_same_ask}
 use Rattle.hostfiles.specs.declared.looks.Ask.{Ask}
 use Rattle.hostfiles.specs.declared.looks.Ask.TheVariants.{Has, Length, Rec, Directory}
 use Rattle.replay.specs.declared.ring.Checkpoint.{Checkpoint}
 use Rattle.machine.specs.Tree.{AgreeOn}
 use Rattle.machine.specs.Machine.{Answers, looks, is_in, same_question}
-use Rattle.replay.specs.FirstLooks.{Noted, step_of, erased, first, or_else, mark, IsFirstLooks}
-use Rattle.replay.specs.Ring.{Each, Stands}
-use Rattle.replay.specs.RunnerView.{KeepsUntouched, seen_with}
+use Rattle.replay.specs.FirstLooks.{FirstLooksView, step_of, step_below, first, or_else, step_if, IsFirstLooks}
+use Rattle.replay.specs.Ring.{Each, IsValidFor}
+use Rattle.replay.specs.RunnerView.{KeepsUntouched, checkpoint_with_text}
 use Rattle.replay.specs.Touch.{Untouched, IsNotedTouch}
 use Rattle.replay.proofs.RingLemmas.{Each-weaken, Each-right}
 use Rattle.replay.proofs.FirstLemmas.{erased_first, same_first, same_after, first-suc, IsBelow, first_below}
@@ -84,7 +84,7 @@ agree_at f g (x ∷ xs) q i h = elim (or_cases (same_question q x) (is_in q xs) 
   | inr e ↦ agree_at f g xs q e h.1
 ]
 
-noted_here : (n : ℕ) (a : Option ℕ) (b : Bool) → b ≡ true → IsBelow n a → (m : ℕ) × (or_else a (mark b n) ≡ Some m) × (m ≤ n)
+noted_here : (n : ℕ) (a : Option ℕ) (b : Bool) → b ≡ true → IsBelow n a → (m : ℕ) × (or_else a (step_if b n) ≡ Some m) × (m ≤ n)
 noted_here n None b e h = (n, rw e refl, omega arith)
 noted_here n (Some m) b e h = (m, refl, omega (arith, h m refl))
 
@@ -98,7 +98,7 @@ noted_by f q (suc n) i b h = elim (eq-or-lt_of_le {n = i} {m = n} (omega arith))
   | inr l ↦ let (m, at, low) = noted_by f q n i l h in (m, first-suc f q n ∙ rw at refl, low)
 ]
 
-marked_there : (n : ℕ) (a : Option ℕ) (b : Bool) (m : ℕ) → or_else a (mark b n) ≡ Some m → (a ≡ Some m) ⊎ ((b ≡ true) × (n ≡ m))
+marked_there : (n : ℕ) (a : Option ℕ) (b : Bool) (m : ℕ) → or_else a (step_if b n) ≡ Some m → (a ≡ Some m) ⊎ ((b ≡ true) × (n ≡ m))
 marked_there n None true m e = inr (refl, (cc))
 marked_there n None false m e = absurd (cc)
 marked_there n (Some x) b m e = inl e
@@ -112,27 +112,27 @@ asked_there f q (suc n) m e = elim (marked_there n (first f q n) (is_in q (looks
   | inr h ↦ rw h.1 at h.0
 ]
 
-pub untouched : (f g : Answers) (k : Noted) (t : ℕ) → IsFirstLooks f k → IsNotedTouch f g k t → Untouched f g t
+pub untouched : (f g : Answers) (k : FirstLooksView) (t : ℕ) → IsFirstLooks f k → IsNotedTouch f g k t → Untouched f g t
 untouched f g k t known touch i below =
     agree_each f g (looks f i) (λ q asked.
     let (m, at, low) = noted_by f q k.seen i (omega (arith, touch.within)) asked in
     touch.below q m (known.entry q ∙ at) (omega arith))
 
 -- What is left of the table is the table of the edited session.
-pub edited_known : (f g : Answers) (old new : Noted) (t : ℕ) → IsFirstLooks f old → IsNotedTouch f g old t
-    → ((q : Question) → step_of new q ≡ erased t (step_of old q)) → new.seen ≡ t → IsFirstLooks g new
+pub edited_known : (f g : Answers) (old new : FirstLooksView) (t : ℕ) → IsFirstLooks f old → IsNotedTouch f g old t
+    → ((q : Question) → step_of new q ≡ step_below t (step_of old q)) → new.seen ≡ t → IsFirstLooks g new
 edited_known f g old new t known touch steps seen =
     record { entry = λ q. steps q ∙ rw (known.entry q, seen) (erased_first f q t old.seen touch.within ∙ sym (same_first f g q t (untouched f g old t known touch))) }
 
 -- If the noted touch is below `seen`, it is the touch.
-pub touch_here : (f g : Answers) (k : Noted) (t : ℕ) → IsFirstLooks f k → IsNotedTouch f g k t → t < k.seen → AgreeOn (looks f t) f g → ⊥
+pub touch_here : (f g : Answers) (k : FirstLooksView) (t : ℕ) → IsFirstLooks f k → IsNotedTouch f g k t → t < k.seen → AgreeOn (looks f t) f g → ⊥
 touch_here f g k t known touch below agree = differs touch.here
   where
     differs : (t ≡ k.seen) ⊎ ((q : Question) × (step_of k q ≡ Some t) × (f q ≡ g q → ⊥)) → ⊥
     differs (inl e) = omega arith
     differs (inr w) = w.2 (agree_at f g (looks f t) w.0 (asked_there f w.0 k.seen t (sym (known.entry w.0) ∙ w.1)) agree)
 
-gone_touched : (f g : Answers) (k : Noted) (t : ℕ) (gone : List Checkpoint) → IsFirstLooks f k → IsNotedTouch f g k t
+gone_touched : (f g : Answers) (k : FirstLooksView) (t : ℕ) (gone : List Checkpoint) → IsFirstLooks f k → IsNotedTouch f g k t
     → Each (λ c. c.step ≤ k.seen) gone → Each (λ c. t < c.step) gone → Each (λ c. Untouched f g c.step → ⊥) gone
 gone_touched f g k t [] known touch low past = tt
 gone_touched f g k t (x ∷ xs) known touch low past =
@@ -143,18 +143,18 @@ each_map h P [] e = tt
 each_map h P (x ∷ xs) e = (e.0, each_map h P xs e.1)
 
 -- The checkpoints up to the noted touch are exactly the checkpoints up to the touch.
-pub keeps_untouched : (f g : Answers) (text : List ℕ) (k : Noted) (t : ℕ) (old new gone : List Checkpoint) → IsFirstLooks f k → IsNotedTouch f g k t
+pub keeps_untouched : (f g : Answers) (text : List ℕ) (k : FirstLooksView) (t : ℕ) (old new gone : List Checkpoint) → IsFirstLooks f k → IsNotedTouch f g k t
     → Each (λ c. c.step ≤ k.seen) old → old ≡ new ++ gone → Each (λ c. c.step ≤ t) new → Each (λ c. t < c.step) gone
-    → KeepsUntouched f g (map (seen_with text) old) (map (seen_with text) new)
+    → KeepsUntouched f g (map (checkpoint_with_text text) old) (map (checkpoint_with_text text) new)
 keeps_untouched f g text k t old new gone known touch low parts here past = record {
-  gone = map (seen_with text) gone;
-  parts = ap (map (seen_with text)) parts ∙ map-append (seen_with text) new gone;
-  untouched = each_map (seen_with text) (λ c. Untouched f g c.step) new (Each-weaken _ _ new (λ c h. λ i b. untouched f g k t known touch i (omega (arith, h))) here);
-  touched = each_map (seen_with text) (λ c. Untouched f g c.step → ⊥) gone (gone_touched f g k t gone known touch (Each-right _ new gone (rw parts at low)) past);
+  gone = map (checkpoint_with_text text) gone;
+  parts = ap (map (checkpoint_with_text text)) parts ∙ map-append (checkpoint_with_text text) new gone;
+  untouched = each_map (checkpoint_with_text text) (λ c. Untouched f g c.step) new (Each-weaken _ _ new (λ c h. λ i b. untouched f g k t known touch i (omega (arith, h))) here);
+  touched = each_map (checkpoint_with_text text) (λ c. Untouched f g c.step → ⊥) gone (gone_touched f g k t gone known touch (Each-right _ new gone (rw parts at low)) past);
 }
 
 -- The checkpoints that are left are valid for the edited session.
-pub still_stand : (f g : Answers) (text : List ℕ) (t : ℕ) (xs : List Checkpoint) → Untouched f g t → Each (λ c. c.step ≤ t) xs → Each (Stands f text) xs → Each (Stands g text) xs
+pub still_stand : (f g : Answers) (text : List ℕ) (t : ℕ) (xs : List Checkpoint) → Untouched f g t → Each (λ c. c.step ≤ t) xs → Each (IsValidFor f text) xs → Each (IsValidFor g text) xs
 still_stand f g text t [] same low valid = tt
 still_stand f g text t (x ∷ xs) same low valid =
     (record { later = valid.0.later; fits = valid.0.fits; state = same_after f g x.step (λ i b. same i (omega (arith, low.0))) ∙ valid.0.state }, still_stand f g text t xs same low.1 valid.1)

@@ -5,7 +5,7 @@ use Rattle.std.specs.Cmp.Lexicographic.{slice_cmp}
 use Rattle.std.specs.FinMap.{FinMap, code}
 use Rattle.std.specs.Coded.{Coded, code_by, coded_ℕ, coded_list, coded_option, coded×}
 use Rattle.file_steps.specs.RecordSteps.{RecordNotes, record_notes_code}
-use Rattle.file_steps.specs.declared.steps.FileSteps.{FileSteps}
+use Rattle.file_steps.specs.declared.file_steps.FileSteps.{FileSteps}
 
 abbrev pub file_steps_code : Coded FileSteps
 file_steps_code = code_by (FinMap (slice_cmp nat_cmp) ℕ × (FinMap (slice_cmp nat_cmp) ℕ × (RecordNotes × List (Option ℕ))))

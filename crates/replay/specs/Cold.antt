@@ -3,9 +3,9 @@ use Rattle.std.specs.Prelude.{ℕ, zero, suc}
 use Rattle.machine.specs.Outcome.{Step, Stop}
 use Rattle.machine.specs.Cause.{Cause}
 use Rattle.machine.specs.Cause.TheVariants.{Limit}
-use Rattle.machine.specs.Given.{Session}
+use Rattle.machine.specs.Inputs.{Session}
 use Rattle.machine.specs.StateView.{PartialState}
-use Rattle.machine.specs.Machine.{Answers, ask, start, outcome}
+use Rattle.machine.specs.Machine.{Answers, session_answers, start, outcome}
 
 -- The last state of a run, its number of steps and why it ended.
 pub record Cold : Type 0 where
@@ -20,4 +20,4 @@ cold_from f (suc k) n st = elim (outcome f st) [ Step next ↦ cold_from f k (su
 
 -- The run of a session from its start.
 unfoldable pub cold : Session → Cold
-cold s = cold_from (ask s) s.limit 0 start
+cold s = cold_from (session_answers s) s.limit 0 start

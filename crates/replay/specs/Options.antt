@@ -4,10 +4,10 @@ use Rattle.replay.specs.declared.options.Options.{Options}
 use Rattle.replay.specs.declared.options.OptionsError.{OptionsError}
 use Rattle.replay.specs.declared.options.OptionsError.TheVariants.{Spacing, Slots, OutOfMemory}
 
-abbrev pub number_of : OptionsError → ℕ
-number_of Spacing = 1
-number_of Slots = 2
-number_of OutOfMemory = 3
+abbrev pub options_error_number : OptionsError → ℕ
+options_error_number Spacing = 1
+options_error_number Slots = 2
+options_error_number OutOfMemory = 3
 
 -- The refusal of options outside 1 to 1,000,000,000 steps and 1 to 4,096 slots, or none.
 abbrev pub refusal_of : Options → Option ℕ

@@ -2,9 +2,9 @@
 use Rattle.std.specs.Prelude.{Bool}
 use Rattle.hostfiles.specs.Hosts.{Key}
 use Rattle.machine.specs.ChangedFiles.{is_changed_name_in}
-use Rattle.machine.specs.Given.{Session}
+use Rattle.machine.specs.Inputs.{Session}
 use Rattle.replay.specs.declared.report.Report.{Report}
-use Rattle.replay.specs.Plain.{PlainRun, plain_run}
+use Rattle.replay.specs.PlainRun.{PlainRun, plain_run}
 
 -- The session that was run.
 abbrev pub session_of : Report → Session

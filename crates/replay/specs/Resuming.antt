@@ -2,13 +2,13 @@
 use Rattle.std.specs.Prelude.{◌≡◌, ℕ, ◌+◌, ◌<◌, ◌≤◌, ◌⊎◌, Result, Some, MatchResult, Option, length}
 use Rattle.machine.specs.declared.session.TheConstants.{STEP_LIMIT}
 use Rattle.machine.specs.Cause.{Cause}
-use Rattle.machine.specs.Given.{Session}
+use Rattle.machine.specs.Inputs.{Session}
 use Rattle.machine.specs.StateView.{StateView}
-use Rattle.machine.specs.Machine.{Answers, ask, after}
-use Rattle.replay.specs.declared.keeping.RunNotes.{RunNotes}
+use Rattle.machine.specs.Machine.{Answers, session_answers, after}
+use Rattle.replay.specs.declared.run_notes.RunNotes.{RunNotes}
 use Rattle.replay.specs.declared.ring.Checkpoints.{Checkpoints}
 use Rattle.replay.specs.FirstLooks.{AllNoted, IsFirstLooks}
-use Rattle.replay.specs.RefusalCount.{CountsThisRun, RefusesLooksOnce}
+use Rattle.replay.specs.AllocFailures.{CountsThisRun, FailsLooksOnce}
 use Rattle.replay.specs.Ring.{Each, Rising, IsValid, SomeStep, Adds, AddsAll, start_step}
 
 -- The count does not fall, and grows by no more than the steps. If it stays, the first looks reach the step.
@@ -22,17 +22,17 @@ pub record LooksReach (old : RunNotes) (from : ℕ) (new : RunNotes) (step : ℕ
 abbrev pub CountsLooks : {E : Type 0} → RunNotes → ℕ → RunNotes → Result (ℕ × Option Cause) E → Type 0
 CountsLooks old from new result =
     MatchResult result
-    (λ r. RefusesLooksOnce old.looks.seen from old.refusals new.looks.seen r.0 new.refusals × LooksReach old from new r.0)
+    (λ r. FailsLooksOnce old.looks.seen from old.refusals new.looks.seen r.0 new.refusals × LooksReach old from new r.0)
     (λ _. (old.refusals ≤ new.refusals) × (new.refusals ≤ old.refusals + 1))
 
 -- The step from which a rerun of a session begins.
-abbrev pub begun_at : Session → Checkpoints → ℕ
-begun_at s checkpoints = start_step s.limit checkpoints.ring.items
+abbrev pub resume_step : Session → Checkpoints → ℕ
+resume_step s checkpoints = start_step s.limit checkpoints.ring.items
 
 -- A run of a session resumes here from a kept step or from the start; what was looked at is noted, and the checkpoints fit their
 -- slots.
-pub record GoesOn (s : Session) (checkpoints : Checkpoints) (from : ℕ) (running : StateView) : Type 0 where
-  pub at : after (ask s) from ≡ Some running.state
+pub record IsResumePoint (s : Session) (checkpoints : Checkpoints) (from : ℕ) (running : StateView) : Type 0 where
+  pub at : after (session_answers s) from ≡ Some running.state
   pub looks : AllNoted checkpoints.notes.looks running.looked
   pub seen : from ≤ checkpoints.notes.looks.seen
   pub low : from ≤ s.limit
@@ -40,7 +40,7 @@ pub record GoesOn (s : Session) (checkpoints : Checkpoints) (from : ℕ) (runnin
   pub room : length checkpoints.ring.items ≤ checkpoints.ring.capacity
 
 -- The checkpoints and the first looks belong to a session.
-pub record AreOf (f : Answers) (checkpoints : Checkpoints) : Type 0 where
+pub record AreCheckpointsOf (f : Answers) (checkpoints : Checkpoints) : Type 0 where
   pub valid : Each (IsValid f) checkpoints.ring.items
   pub rising : Rising checkpoints.ring.items
   pub below : Each (λ c. c.step ≤ checkpoints.notes.looks.seen) checkpoints.ring.items
@@ -62,6 +62,6 @@ AddsEach old new from upto =
 
 -- What a run added, by its result: checkpoints at due steps up to the step that it reached, all of them if no allocation failed;
 -- at `Err`, at due steps up to the limit.
-abbrev pub Resumed : {E : Type 0} → Checkpoints → Checkpoints → ℕ → ℕ → Result (ℕ × Cause) E → Type 0
-Resumed old new from limit result =
+abbrev pub AddsWhileResumed : {E : Type 0} → Checkpoints → Checkpoints → ℕ → ℕ → Result (ℕ × Cause) E → Type 0
+AddsWhileResumed old new from limit result =
     MatchResult result (λ r. AddsDue old new from r.0 × AddsEach old new from r.0) (λ _. AddsDue old new from limit)

@@ -3,7 +3,7 @@ use Rattle.std.specs.Prelude.{◌≡◌, ℕ, ◌<◌, ◌≤◌, ◌%◌, List,
 use Rattle.circular_buffer.specs.Buffer.{Buffer, buffer, keep_last}
 use Rattle.machine.specs.Machine.{Answers, after}
 use Rattle.machine.specs.StateView.{PartialState}
-use Rattle.machine.specs.Kept.{whole, kept_of}
+use Rattle.machine.specs.SavedState.{state_with_text, saved_state_of}
 use Rattle.replay.specs.declared.ring.Checkpoint.{Checkpoint}
 
 -- P holds for each item.
@@ -20,13 +20,13 @@ pub record IsValid (f : Answers) (c : Checkpoint) : Type 0 where
   pub later : 1 ≤ c.step
   pub text : List ℕ
   pub fits : length text ≡ c.state.length
-  pub state : after f c.step ≡ Some (whole c.state text)
+  pub state : after f c.step ≡ Some (state_with_text c.state text)
 
 -- The checkpoint is the state after its step, which is not 0, with a prefix of this text.
-pub record Stands (f : Answers) (text : List ℕ) (c : Checkpoint) : Type 0 where
+pub record IsValidFor (f : Answers) (text : List ℕ) (c : Checkpoint) : Type 0 where
   pub later : 1 ≤ c.step
   pub fits : c.state.length ≤ length text
-  pub state : after f c.step ≡ Some (whole c.state (take c.state.length text))
+  pub state : after f c.step ≡ Some (state_with_text c.state (take c.state.length text))
 
 -- For anything that has a step, given by `at`.
 module _ {X : Type 0} (at : X → ℕ) where
@@ -90,23 +90,23 @@ pub record IsNewest (newest : ℕ) (ring : List Checkpoint) : Type 0 where
   pub there : (newest ≡ 0) ⊎ SomeStep ring newest
 
 -- The checkpoint of a state after a step.
-abbrev pub made_at : ℕ → PartialState → Checkpoint
-made_at step st = record { step = step; state = kept_of st }
+abbrev pub checkpoint_at : ℕ → PartialState → Checkpoint
+checkpoint_at step st = record { step = step; state = saved_state_of st }
 
 -- The ring with one more checkpoint, and without its oldest if it was full.
-abbrev pub pushed : Buffer Checkpoint → Checkpoint → Buffer Checkpoint
-pushed old c = buffer (keep_last old.capacity (old.items ++ c ∷ [])) old.capacity
+abbrev pub ring_with : Buffer Checkpoint → Checkpoint → Buffer Checkpoint
+ring_with old c = buffer (keep_last old.capacity (old.items ++ c ∷ [])) old.capacity
 
 -- The ring is unchanged, or has one more checkpoint, above the newest, and not its oldest if it was full.
-abbrev pub Keeps : ℕ → Buffer Checkpoint → Buffer Checkpoint → Checkpoint → Type 0
-Keeps newest old new c = (new ≡ old) ⊎ ((newest < c.step) × (new ≡ pushed old c))
+abbrev pub PushesIfAbove : ℕ → Buffer Checkpoint → Buffer Checkpoint → Checkpoint → Type 0
+PushesIfAbove newest old new c = (new ≡ old) ⊎ ((newest < c.step) × (new ≡ ring_with old c))
 
 abbrev pub HasCheckpoint : List Checkpoint → Checkpoint → Type 0
 HasCheckpoint [] c = ⊥
 HasCheckpoint (x ∷ xs) c = (x ≡ c) ⊎ HasCheckpoint xs c
 
 -- The checkpoints up to a step are left, in order.
-pub record KeptUpTo (touch : ℕ) (old new : List Checkpoint) : Type 0 where
+pub record DropsPast (touch : ℕ) (old new : List Checkpoint) : Type 0 where
   pub gone : List Checkpoint
   pub parts : old ≡ new ++ gone
   pub left : Each (λ c. c.step ≤ touch) new

@@ -1,16 +1,16 @@
 -- A runner as contracts see it. (This project's own.)
 use Rattle.std.specs.Prelude.{◌≡◌, ℕ, ◌+◌, ◌<◌, ◌≤◌, List, [], ◌++◌, Some, drop, map, take}
 use Rattle.machine.specs.declared.session.TheConstants.{STEP_LIMIT}
-use Rattle.machine.specs.Given.{Session}
+use Rattle.machine.specs.Inputs.{Session}
 use Rattle.machine.specs.StateView.{PartialState}
-use Rattle.machine.specs.Machine.{Answers, ask, after}
-use Rattle.machine.specs.Kept.{whole}
+use Rattle.machine.specs.Machine.{Answers, session_answers, after}
+use Rattle.machine.specs.SavedState.{state_with_text}
 use Rattle.replay.specs.declared.ring.Checkpoint.{Checkpoint as KeptCheckpoint}
 use Rattle.replay.specs.declared.ring.Checkpoints.{Checkpoints}
 use Rattle.replay.specs.declared.options.Options.{Options}
 use Rattle.replay.specs.FirstLooks.{IsFirstLooks}
-use Rattle.replay.specs.RefusalCount.{CountsThisRun}
-use Rattle.replay.specs.Ring.{Each, Rising, RisingBy, Stands, AddsBy, AddsAllBy, start_by}
+use Rattle.replay.specs.AllocFailures.{CountsThisRun}
+use Rattle.replay.specs.Ring.{Each, Rising, RisingBy, IsValidFor, AddsBy, AddsAllBy, start_by}
 use Rattle.replay.specs.Touch.{Untouched}
 
 -- A step that a run reached, and the state there.
@@ -37,20 +37,20 @@ pub record SameOptions (old new : RunnerView) : Type 0 where
   pub slots : new.slots ≡ old.slots
 
 -- A checkpoint with its text, which is a prefix of the given one.
-abbrev pub seen_with : List ℕ → KeptCheckpoint → Checkpoint
-seen_with text c = record { step = c.step; state = whole c.state (take c.state.length text) }
+abbrev pub checkpoint_with_text : List ℕ → KeptCheckpoint → Checkpoint
+checkpoint_with_text text c = record { step = c.step; state = state_with_text c.state (take c.state.length text) }
 
 -- The steps of the checkpoints.
 abbrev pub kept_steps : RunnerView → List ℕ
 kept_steps r = map (λ c. c.step) r.checkpoints
 
 -- The checkpoint is the state of the session after its step, which is not 0.
-pub record IsAt (f : Answers) (c : Checkpoint) : Type 0 where
+pub record IsStateAfterStep (f : Answers) (c : Checkpoint) : Type 0 where
   pub later : 1 ≤ c.step
   pub state : after f c.step ≡ Some c.state
 
 abbrev pub AllStand : RunnerView → Type 0
-AllStand r = Each (IsAt (ask r.session)) r.checkpoints
+AllStand r = Each (IsStateAfterStep (session_answers r.session)) r.checkpoints
 
 -- Exactly the checkpoints up to the touch are left, in order, or all if there is no touch.
 pub record KeepsUntouched (f g : Answers) (old new : List Checkpoint) : Type 0 where
@@ -69,33 +69,33 @@ rerun_start r = start_by (λ c. c.step) r.session.limit r.checkpoints
 
 -- The checkpoints after a rerun that reached this step, or was to reach it: the new steps are the last of the old ones followed
 -- by some due steps, and they rise.
-abbrev pub Reran : RunnerView → RunnerView → ℕ → Type 0
-Reran old new upto =
+abbrev pub AddsDueTo : RunnerView → RunnerView → ℕ → Type 0
+AddsDueTo old new upto =
     AddsBy (λ k. k) (kept_steps old) (kept_steps new) old.slots (rerun_start old) upto upto old.spacing
     × RisingBy (λ k. k) (kept_steps new)
 
 -- If no allocation failed, no due step was left out.
-abbrev pub LeavesNoneOut : RunnerView → RunnerView → ℕ → Type 0
-LeavesNoneOut old new upto =
+abbrev pub AddsAllDueTo : RunnerView → RunnerView → ℕ → Type 0
+AddsAllDueTo old new upto =
     new.refused ≡ 0 → AddsAllBy (λ k. k) (kept_steps old) (kept_steps new) old.slots (rerun_start old) upto upto old.spacing
 
 -- The count of refusals is for a rerun, alone, that reached this step, or was to reach it.
-abbrev pub CountsAnew : RunnerView → RunnerView → ℕ → Type 0
-CountsAnew old new upto = CountsThisRun (rerun_start old) upto old.spacing new.refused
+abbrev pub RestartsCount : RunnerView → RunnerView → ℕ → Type 0
+RestartsCount old new upto = CountsThisRun (rerun_start old) upto old.spacing new.refused
 
 -- What a rerun that reached this step leaves.
-abbrev pub RanTo : RunnerView → RunnerView → ℕ → Type 0
-RanTo old new steps = Reran old new steps × LeavesNoneOut old new steps × CountsAnew old new steps
+abbrev pub RerunsTo : RunnerView → RunnerView → ℕ → Type 0
+RerunsTo old new steps = AddsDueTo old new steps × AddsAllDueTo old new steps × RestartsCount old new steps
 
 -- The meter counts the steps of a run from this step on, up to some step that it reaches within the limit, and no others.
 abbrev pub TicksTo : Answers → ℕ → ℕ → ℕ → ℕ → Type 0
 TicksTo f limit from ticks ticked = (n : ℕ) × (st : PartialState) × (after f n ≡ Some st) × (n ≤ limit) × (ticked + from ≡ ticks + n)
 
 -- What always holds for the parts of a runner.
-pub record IsSound (s : Session) (text : List ℕ) (checkpoints : Checkpoints) : Type 0 where
-  pub stands : Each (Stands (ask s) text) checkpoints.ring.items
+pub record IsSoundRunner (s : Session) (text : List ℕ) (checkpoints : Checkpoints) : Type 0 where
+  pub stands : Each (IsValidFor (session_answers s) text) checkpoints.ring.items
   pub rising : Rising checkpoints.ring.items
   pub below : Each (λ c. c.step ≤ checkpoints.notes.looks.seen) checkpoints.ring.items
-  pub noted : IsFirstLooks (ask s) checkpoints.notes.looks
+  pub noted : IsFirstLooks (session_answers s) checkpoints.notes.looks
   pub spacing_in : (0 < checkpoints.spacing) × (checkpoints.spacing ≤ 1000000000)
   pub seen_in : checkpoints.notes.looks.seen ≤ STEP_LIMIT

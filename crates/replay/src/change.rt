@@ -1,12 +1,12 @@
 // Edits that fit the session.
 
 ghost use Rattle.std.specs.Prelude.{◌≡◌, ◌+◌, nat_lt, Err, IfOk, IfErr, OnOk, OnErr};
-ghost use Rattle.machine.specs.Machine.{ask};
+ghost use Rattle.machine.specs.Machine.{session_answers};
 ghost use Rattle.replay.specs.FirstLooks.{IsFirstLooks};
 ghost use Rattle.replay.specs.declared.edit.Edit.TheVariants as of_edit;
 ghost use Rattle.replay.specs.Edits.{edited};
-ghost use Rattle.replay.specs.EditAnswers.{TakesMemory, Refuses, number_of};
-ghost use Rattle.replay.specs.Changes.{IsAllowed, Makes, MayTakeMemory, changed};
+ghost use Rattle.replay.specs.EditAnswers.{EditAllocates, Refuses, edit_error_number};
+ghost use Rattle.replay.specs.Change.{IsAllowed, MakesChange, ChangeAllocates, session_after_change};
 ghost use Rattle.replay.specs.Touch.{IsNotedTouch};
 
 use crate::edit::{Edit, EditError};
@@ -47,11 +47,11 @@ fn is_past(at: u64, count: u64, length: u64) -> bool
 ///
 /// Returns the first refusal that applies. Only insertions and files that are set can run out of memory.
 pub fn accept(alloc: Global, session: &Session, edit: Edit) -> Result<Change, EditError>
-    ensures makes { IfOk result (Makes session.now edit) }
+    ensures makes { IfOk result (MakesChange session.now edit) }
     ensures allowed { IfOk result (IsAllowed session.now) }
-    ensures memory { IfOk result (λ change. MayTakeMemory change → TakesMemory edit) }
+    ensures memory { IfOk result (λ change. ChangeAllocates change → EditAllocates edit) }
     ensures refused { IfErr result (Refuses (edited session.now edit)) }
-    ensures want { result ≡ Err EditError.OutOfMemory → TakesMemory edit }
+    ensures want { result ≡ Err EditError.OutOfMemory → EditAllocates edit }
 {
     let script = session.script().len() as u64;
     match edit {
@@ -96,10 +96,11 @@ pub fn accept(alloc: Global, session: &Session, edit: Edit) -> Result<Change, Ed
 
 // Checks a poke from the address `at` on. Takes no memory.
 fn accept_poke(session: &Session, at: u16, bytes: Bytes) -> Result<Change, EditError>
-    ensures makes { IfOk result (Makes session.now (of_edit.Poke at bytes)) }
+    ensures makes { IfOk result (MakesChange session.now (of_edit.Poke at bytes)) }
     ensures allowed { IfOk result (IsAllowed session.now) }
-    ensures memory { IfOk result (λ change. MayTakeMemory change → ⊥) }
-    ensures refused { IfErr result (λ e. edited session.now (of_edit.Poke at bytes) ≡ Err (number_of e)) }
+    ensures memory { IfOk result (λ change. ChangeAllocates change → ⊥) }
+    ensures refused { IfErr result
+        (λ e. edited session.now (of_edit.Poke at bytes) ≡ Err (edit_error_number e)) }
     ensures want { result ≡ Err EditError.OutOfMemory → ⊥ }
 {
     let at = usize::from(at);
@@ -117,7 +118,7 @@ fn accept_file(
     name: Name,
     bytes: &Bytes,
 ) -> Result<Change, EditError>
-    ensures makes { IfOk result (Makes session.now (of_edit.SetFile name bytes.now)) }
+    ensures makes { IfOk result (MakesChange session.now (of_edit.SetFile name bytes.now)) }
     ensures allowed { IfOk result (IsAllowed session.now) }
     ensures refused { IfErr result (Refuses (edited session.now (of_edit.SetFile name bytes.now))) }
 {
@@ -133,9 +134,10 @@ fn accept_file(
 
 /// Returns the first noted step with a look that the change answers differently, or step `seen` if there is none.
 pub fn touch_of(looks: &FirstLooks, session: &Session, change: &Change) -> u64
-    requires noted { IsFirstLooks (ask session.now) looks.now }
+    requires noted { IsFirstLooks (session_answers session.now) looks.now }
     requires allowed { IsAllowed session.now change.now }
-    ensures { IsNotedTouch (ask session.now) (ask (changed session.now change.now)) looks.now result }
+    ensures { IsNotedTouch (session_answers session.now)
+        (session_answers (session_after_change session.now change.now)) looks.now result }
 {
     match change {
         Change::Splice(at, removed, bytes) => {
@@ -153,11 +155,11 @@ pub fn touch_of(looks: &FirstLooks, session: &Session, change: &Change) -> u64
 /// # Errors
 ///
 /// Returns `Err` if an allocation fails; the session is then unchanged.
-pub fn carry_out(session: &mut Session, change: Change) -> Result<(), AllocError>
+pub fn apply(session: &mut Session, change: Change) -> Result<(), AllocError>
     requires { IsAllowed session.old change }
-    ensures ok { OnOk result (session.new ≡ changed session.old change) }
+    ensures ok { OnOk result (session.new ≡ session_after_change session.old change) }
     ensures err { OnErr result (session.new ≡ session.old) }
-    ensures memory { OnErr result (MayTakeMemory change) }
+    ensures memory { OnErr result (ChangeAllocates change) }
 {
     match change {
         Change::Splice(at, removed, bytes) => {

@@ -63,11 +63,11 @@ impl From<AllocError> for EditError {
 }
 
 impl EditError {
-    ghost use Rattle.replay.specs.EditAnswers.{number_of};
+    ghost use Rattle.replay.specs.EditAnswers.{edit_error_number};
 
     /// Returns the number of the refusal, 1 to 8.
     pub fn number(self) -> u8
-        ensures { result ≡ number_of self }
+        ensures { result ≡ edit_error_number self }
     {
         match self {
             EditError::PastEnd => 1,

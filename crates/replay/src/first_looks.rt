@@ -1,12 +1,12 @@
 ghost use Rattle.std.specs.Prelude.{◌≡◌, ◌+◌, ◌^◌, ◌<◌, ◌≤◌, ◌||◌, [], None, OnOk, OnErr, drop, length, true};
 ghost use Rattle.hostfiles.specs.declared.looks.Ask.{Ask as HostAsk};
-ghost use Rattle.file_steps.specs.Steps.{step_of_ask};
+ghost use Rattle.file_steps.specs.FileSteps.{step_of_ask};
 ghost use Rattle.machine.specs.Machine.{Question, Cell, Script, OfHost, same_question};
-ghost use Rattle.replay.specs.FirstLooks.{step_of, erased, is_cell_of, is_place_of, is_ask_of, is_new_in};
-ghost use Rattle.file_steps.specs.PlaceSteps.{IsEarliestFrom};
-ghost use Rattle.replay.specs.FirstLooks.{Notes, ErasesLast, SameBelow, NoPlaces, NoAsks};
+ghost use Rattle.replay.specs.FirstLooks.{step_of, step_below, is_cell_of, is_place_of, is_ask_of, is_new_in};
+ghost use Rattle.file_steps.specs.SequentialSteps.{IsEarliestFrom};
+ghost use Rattle.replay.specs.FirstLooks.{NotesLooks, ErasesLast, SameBelow, HasNoScriptLooks, HasNoAsks};
 
-use file_steps::{FileSteps, FirstSteps, PlaceSteps};
+use file_steps::{FileSteps, FirstSteps, SequentialSteps};
 use machine::{Ask, STEP_LIMIT, State};
 use std::alloc::{AllocError, Global};
 use std::marker::Model;
@@ -15,7 +15,7 @@ use std::marker::Model;
 #[derive(Drop)]
 pub struct FirstLooks {
     cells: FirstSteps,
-    places: PlaceSteps,
+    places: SequentialSteps,
     files: FileSteps,
     seen: u64,
     is_shut: bool,
@@ -24,10 +24,10 @@ pub struct FirstLooks {
 impl Model for FirstLooks {
     ghost use Rattle.std.specs.Prelude.{◌≤◌};
     ghost use Rattle.std.specs.Coded.{codes};
-    ghost use Rattle.replay.specs.FirstLooks.{Noted};
+    ghost use Rattle.replay.specs.FirstLooks.{FirstLooksView};
     ghost use Rattle.replay.specs.Codes.{file_steps_code};
 
-    ghost Value = { Noted };
+    ghost Value = { FirstLooksView };
 
     ghost coded = { Prim.hlevel (codes, file_steps_code) };
 
@@ -52,7 +52,7 @@ impl FirstLooks {
     {
         FirstLooks {
             cells: FirstSteps::new(alloc),
-            places: PlaceSteps::new(alloc),
+            places: SequentialSteps::new(alloc),
             files: FileSteps::new(alloc),
             seen: 0,
             is_shut: false,
@@ -60,7 +60,7 @@ impl FirstLooks {
     }
 
     /// Stops noting: from now on each attempt to note looks fails as if out of memory. What is noted already is kept.
-    pub fn shut(&mut self)
+    pub fn stop_noting(&mut self)
         ensures { self.new ≡ self.old }
     {
         self.is_shut = true;
@@ -78,14 +78,14 @@ impl FirstLooks {
     pub fn cell(&self, at: u16) -> Option<u64>
         ensures { result ≡ step_of self.now (Cell at) }
     {
-        self.cells.of(usize::from(at))
+        self.cells.get(usize::from(at))
     }
 
     /// Returns the first step that looked at an offset of the script, if that is noted.
     pub fn place(&self, at: usize) -> Option<u64>
         ensures { result ≡ step_of self.now (Script at) }
     {
-        self.places.of(at)
+        self.places.get(at)
     }
 
     /// Returns the end of the noted offsets: no noted look is at this offset of the script or past it.
@@ -128,15 +128,16 @@ impl FirstLooks {
         asked: Option<Ask>,
     ) -> Result<(), AllocError>
         requires seen { self.old.seen ≤ STEP_LIMIT }
-        requires taken { taken ≡ None → NoPlaces running.old.looked.places }
-        requires asked { asked ≡ None → NoAsks running.old.looked.files }
-        ensures ok { OnOk result (Notes self.old self.new (is_new_in from taken asked running.old.looked)) }
+        requires taken { taken ≡ None → HasNoScriptLooks running.old.looked.places }
+        requires asked { asked ≡ None → HasNoAsks running.old.looked.files }
+        ensures ok { OnOk result
+            (NotesLooks self.old self.new (is_new_in from taken asked running.old.looked)) }
         ensures err { OnErr result (ErasesLast self.old self.new) }
         ensures seen { self.new.seen ≡ self.old.seen }
         ensures state { running.new.state ≡ running.old.state }
         ensures cells { running.new.looked.cells ≡ running.old.looked.cells }
-        ensures places { OnOk result (NoPlaces running.new.looked.places) }
-        ensures asks { OnOk result (NoAsks running.new.looked.files) }
+        ensures places { OnOk result (HasNoScriptLooks running.new.looked.places) }
+        ensures asks { OnOk result (HasNoAsks running.new.looked.files) }
     {
         let noted = self.note_all(running, from, taken, asked);
         if noted.is_err() {
@@ -153,55 +154,58 @@ impl FirstLooks {
         asked: Option<Ask>,
     ) -> Result<(), AllocError>
         requires seen { self.old.seen ≤ STEP_LIMIT }
-        requires taken { taken ≡ None → NoPlaces running.old.looked.places }
-        requires asked { asked ≡ None → NoAsks running.old.looked.files }
-        ensures ok { OnOk result (Notes self.old self.new (is_new_in from taken asked running.old.looked)) }
+        requires taken { taken ≡ None → HasNoScriptLooks running.old.looked.places }
+        requires asked { asked ≡ None → HasNoAsks running.old.looked.files }
+        ensures ok { OnOk result
+            (NotesLooks self.old self.new (is_new_in from taken asked running.old.looked)) }
         ensures err { OnErr result (SameBelow self.old self.new) }
         ensures seen { self.new.seen ≡ self.old.seen }
         ensures state { running.new.state ≡ running.old.state }
         ensures cells { running.new.looked.cells ≡ running.old.looked.cells }
-        ensures places { OnOk result (NoPlaces running.new.looked.places) }
-        ensures asks { OnOk result (NoAsks running.new.looked.files) }
+        ensures places { OnOk result (HasNoScriptLooks running.new.looked.places) }
+        ensures asks { OnOk result (HasNoAsks running.new.looked.files) }
     {
         if self.is_shut {
             return Err(AllocError);
         }
         self.note_cells(running, from)?;
-        self.note_places(running, taken)?;
+        self.note_offsets(running, taken)?;
         self.note_asks(running, asked)
     }
 
     // Notes the cells that were looked at, from index `from` on.
     fn note_cells(&mut self, running: &State, from: usize) -> Result<(), AllocError>
         requires { self.old.seen ≤ STEP_LIMIT }
-        ensures ok { OnOk result (Notes self.old self.new (is_cell_of (drop from running.now.looked.cells))) }
+        ensures ok { OnOk result
+            (NotesLooks self.old self.new (is_cell_of (drop from running.now.looked.cells))) }
         ensures err { OnErr result (SameBelow self.old self.new) }
         ensures seen { self.new.seen ≡ self.old.seen }
     {
         let count = running.look_count();
         let mut index = from;
         while index < count {
-            self.enter_cell(running.nth_look(index))?;
+            self.insert_cell(running.nth_look(index))?;
             index += 1;
         }
         Ok(())
     }
 
     // Notes the offset `taken`, then takes out and notes each offset that is left.
-    fn note_places(&mut self, running: &mut State, taken: Option<usize>) -> Result<(), AllocError>
+    fn note_offsets(&mut self, running: &mut State, taken: Option<usize>) -> Result<(), AllocError>
         requires seen { self.old.seen ≤ STEP_LIMIT }
-        requires taken { taken ≡ None → NoPlaces running.old.looked.places }
-        ensures ok { OnOk result (Notes self.old self.new (is_place_of taken running.old.looked.places)) }
+        requires taken { taken ≡ None → HasNoScriptLooks running.old.looked.places }
+        ensures ok { OnOk result
+            (NotesLooks self.old self.new (is_place_of taken running.old.looked.places)) }
         ensures err { OnErr result (SameBelow self.old self.new) }
         ensures seen { self.new.seen ≡ self.old.seen }
         ensures state { running.new.state ≡ running.old.state }
         ensures cells { running.new.looked.cells ≡ running.old.looked.cells }
-        ensures places { OnOk result (NoPlaces running.new.looked.places) }
+        ensures places { OnOk result (HasNoScriptLooks running.new.looked.places) }
         ensures files { running.new.looked.files ≡ running.old.looked.files }
     {
         let mut next = taken;
         while let Some(place) = next {
-            self.enter_place(place)?;
+            self.insert_offset(place)?;
             next = running.take_place();
         }
         Ok(())
@@ -211,18 +215,18 @@ impl FirstLooks {
     #[tactic(auto)]
     fn note_asks(&mut self, running: &mut State, asked: Option<Ask>) -> Result<(), AllocError>
         requires seen { self.old.seen ≤ STEP_LIMIT }
-        requires asked { asked ≡ None → NoAsks running.old.looked.files }
-        ensures ok { OnOk result (Notes self.old self.new (is_ask_of asked running.old.looked.files)) }
+        requires asked { asked ≡ None → HasNoAsks running.old.looked.files }
+        ensures ok { OnOk result (NotesLooks self.old self.new (is_ask_of asked running.old.looked.files)) }
         ensures err { OnErr result (SameBelow self.old self.new) }
         ensures seen { self.new.seen ≡ self.old.seen }
         ensures state { running.new.state ≡ running.old.state }
         ensures cells { running.new.looked.cells ≡ running.old.looked.cells }
         ensures places { running.new.looked.places ≡ running.old.looked.places }
-        ensures asks { OnOk result (NoAsks running.new.looked.files) }
+        ensures asks { OnOk result (HasNoAsks running.new.looked.files) }
     {
         let mut next = asked;
         while let Some(ask) = next {
-            self.enter_ask(&ask)?;
+            self.insert_ask(&ask)?;
             next = running.take_ask();
         }
         Ok(())
@@ -230,7 +234,7 @@ impl FirstLooks {
 
     /// Advances `seen` by one step.
     #[inline(always)]
-    pub fn go_on(&mut self)
+    pub fn next_step(&mut self)
         requires { self.old.seen + 1 < 2 ^ 64 }
         ensures { self.new ≡ record self.old { seen = self.old.seen + 1 } }
     {
@@ -238,8 +242,8 @@ impl FirstLooks {
     }
 
     /// Forgets the looks of step `from` and of later steps. Allocates nothing and visits no other look.
-    pub fn cut(&mut self, from: u64)
-        ensures entries { (q : Question) → step_of self.new q ≡ erased from (step_of self.old q) }
+    pub fn erase_from(&mut self, from: u64)
+        ensures entries { (q : Question) → step_of self.new q ≡ step_below from (step_of self.old q) }
         ensures seen { self.new.seen ≡ from }
     {
         self.cells.erase_from(from);
@@ -249,7 +253,7 @@ impl FirstLooks {
     }
 
     /// Moves `seen` up to a step, after steps that looked at nothing new.
-    pub fn pass_to(&mut self, step: u64)
+    pub fn advance_to(&mut self, step: u64)
         requires { self.old.seen ≤ step }
         ensures { self.new ≡ record self.old { seen = step } }
     {
@@ -257,9 +261,9 @@ impl FirstLooks {
     }
 
     // Notes a cell at step `seen`, unless it has a step already.
-    fn enter_cell(&mut self, at: u16) -> Result<(), AllocError>
+    fn insert_cell(&mut self, at: u16) -> Result<(), AllocError>
         requires { self.old.seen ≤ STEP_LIMIT }
-        ensures ok { OnOk result (Notes self.old self.new (λ q. same_question q (Cell at))) }
+        ensures ok { OnOk result (NotesLooks self.old self.new (λ q. same_question q (Cell at))) }
         ensures err { OnErr result ((q : Question) → step_of self.new q ≡ step_of self.old q) }
         ensures seen { self.new.seen ≡ self.old.seen }
     {
@@ -268,9 +272,9 @@ impl FirstLooks {
     }
 
     // Notes an offset of the script at step `seen`, unless it has a step already.
-    fn enter_place(&mut self, place: usize) -> Result<(), AllocError>
+    fn insert_offset(&mut self, place: usize) -> Result<(), AllocError>
         requires { self.old.seen ≤ STEP_LIMIT }
-        ensures ok { OnOk result (Notes self.old self.new (λ q. same_question q (Script place))) }
+        ensures ok { OnOk result (NotesLooks self.old self.new (λ q. same_question q (Script place))) }
         ensures err { OnErr result ((q : Question) → step_of self.new q ≡ step_of self.old q) }
         ensures seen { self.new.seen ≡ self.old.seen }
     {
@@ -279,9 +283,9 @@ impl FirstLooks {
     }
 
     // Notes a question about the host files at step `seen`, unless it has a step already.
-    fn enter_ask(&mut self, ask: &Ask) -> Result<(), AllocError>
+    fn insert_ask(&mut self, ask: &Ask) -> Result<(), AllocError>
         requires { self.old.seen ≤ STEP_LIMIT }
-        ensures ok { OnOk result (Notes self.old self.new (λ q. same_question q (OfHost ask.now))) }
+        ensures ok { OnOk result (NotesLooks self.old self.new (λ q. same_question q (OfHost ask.now))) }
         ensures err { OnErr result ((q : Question) → step_of self.new q ≡ step_of self.old q) }
         ensures seen { self.new.seen ≡ self.old.seen }
     {

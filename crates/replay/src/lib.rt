@@ -4,7 +4,7 @@
 //!   touches
 //! - `first_looks`: the first step that looked at each cell, at each script offset and at each question about the host files, and
 //!   the step `seen`
-//! - `ring`, `keeping`: checkpoints and the steps at which they are due; what may run out of memory, with a count of refusals
+//! - `ring`, `run_notes`: checkpoints and the steps at which they are due; what may run out of memory, with a count of refusals
 //! - `run`, `rerun`: the loop from one due step to the next; where a rerun begins, and what it leaves
 //! - `runner`, `options`, `report`: `Runner`; how often and how many checkpoints are made; the result of a rerun
 #![tactic(auto)]
@@ -12,12 +12,12 @@
 mod change;
 mod edit;
 mod first_looks;
-mod keeping;
 mod options;
 mod report;
 mod rerun;
 mod ring;
 mod run;
+mod run_notes;
 mod runner;
 mod touch;
 

@@ -37,11 +37,11 @@ impl From<AllocError> for OptionsError {
 }
 
 impl OptionsError {
-    ghost use Rattle.replay.specs.Options.{number_of};
+    ghost use Rattle.replay.specs.Options.{options_error_number};
 
     /// Returns the number of the refusal, 1 to 3.
     pub fn number(self) -> u8
-        ensures { result ≡ number_of self }
+        ensures { result ≡ options_error_number self }
     {
         match self {
             OptionsError::Spacing => 1,

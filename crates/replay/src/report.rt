@@ -6,14 +6,14 @@ ghost use Rattle.std.specs.Cmp.Lexicographic.{slice_cmp};
 ghost use Rattle.std.specs.FinMap.{contains_key};
 ghost use Rattle.hostfiles.specs.Order.{is_above};
 ghost use Rattle.hostfiles.specs.Files.{files};
-ghost use Rattle.machine.specs.ChangedFiles.{told_in};
+ghost use Rattle.machine.specs.ChangedFiles.{contents_in};
 ghost use Rattle.replay.specs.Fits.{kept_length};
-ghost use Rattle.replay.specs.LastState.{left_by};
-ghost use Rattle.replay.specs.Plain.{plain_run};
-ghost use Rattle.replay.specs.PlainIsCold.{equal_runs-prop, plainly};
+ghost use Rattle.replay.specs.LastState.{state_left_by};
+ghost use Rattle.replay.specs.PlainRun.{plain_run};
+ghost use Rattle.replay.specs.ColdIsPlain.{equal_runs-prop, plain_run_of};
 
-use hostfiles::{Record, joined, next_changed, told_count, told_record};
-use machine::{BlankMarks, Cause, HostFiles, Journal, Kept, Name, Regs, Session};
+use hostfiles::{Record, contents_count, contents_record, lookup, next_changed};
+use machine::{BlankMarks, Cause, HostFiles, Journal, Name, Regs, SavedState, Session};
 
 /// A session and its last run: the console text of its runs; what is kept of the state in which the last run ended, `None` before
 /// the first run and once the next run begins; and memory for the marks of the next run, `None` before the first run.
@@ -21,7 +21,7 @@ use machine::{BlankMarks, Cause, HostFiles, Journal, Kept, Name, Regs, Session};
 pub struct LastRun {
     pub session: Session,
     pub text: Vec<u8>,
-    pub end: Option<Kept>,
+    pub end: Option<SavedState>,
     pub marks: Option<BlankMarks>,
 }
 
@@ -33,8 +33,8 @@ pub struct Report<'a> {
     pub(crate) cause: Cause,
     ghost ended: { IsSome last_run.now.end },
     ghost fits: { kept_length last_run.now.end ≤ length last_run.now.text.items },
-    ghost of_run: { plainly last_run.now.session
-        (record { state = left_by last_run.now; steps = steps; cause = cause })
+    ghost of_run: { plain_run_of last_run.now.session
+        (record { state = state_left_by last_run.now; steps = steps; cause = cause })
         ≡ plain_run last_run.now.session } by { equal_runs-prop _ _ },
 }
 
@@ -89,23 +89,23 @@ impl Report<'_> {
     pub fn has(&self, name: &Name) -> bool
         ensures { result ≡ contains_key (run_of self.now).machine.files name.now }
     {
-        joined::has(self.files(), self.journal(), &name.key())
+        lookup::has(self.files(), self.journal(), &name.key())
     }
 
     /// Returns the number of records of a file at the end, or `None` if there is no such file.
     pub fn records(&self, name: &Name) -> Option<u32>
-        ensures { result ≡ option_map length (told_in (run_of self.now).machine.files name.now) }
+        ensures { result ≡ option_map length (contents_in (run_of self.now).machine.files name.now) }
     {
-        told_count(self.files(), self.journal(), &name.key())
+        contents_count(self.files(), self.journal(), &name.key())
     }
 
     /// Returns a record of a file at the end, zeros for a hole, or `None` if there is no such file or it has fewer records.
     pub fn record(&self, name: &Name, place: u32) -> Option<Record>
         ensures { result
             ≡ option_and_then (λ records. slice_get records place)
-            (told_in (run_of self.now).machine.files name.now) }
+            (contents_in (run_of self.now).machine.files name.now) }
     {
-        told_record(self.files(), self.journal(), &name.key(), place)
+        contents_record(self.files(), self.journal(), &name.key(), place)
     }
 
     /// Returns the name of the next file, in the order of keys, that the run left different from its host file: the first one after

@@ -1,26 +1,26 @@
 ghost use Rattle.std.specs.Prelude.{◌≡◌, ◌+◌, ◌^◌, ◌<◌, ◌≤◌, ◌⊎◌, Some, IfOk, IsSome, OnErr, OnOk, length, take, vec_len, true, false};
-ghost use Rattle.machine.specs.Machine.{NothingLooked, ask, after};
-ghost use Rattle.machine.specs.Kept.{kept_of};
+ghost use Rattle.machine.specs.Machine.{HasNoLooks, session_answers, after};
+ghost use Rattle.machine.specs.SavedState.{saved_state_of};
 ghost use Rattle.machine.specs.Session.{IsSession};
 ghost use Rattle.replay.specs.Cold.{cold};
-ghost use Rattle.replay.specs.Resuming.{Resumed, begun_at};
-ghost use Rattle.replay.specs.Ring.{Each, Rising, Stands, SomeStep, start_step};
+ghost use Rattle.replay.specs.Resuming.{AddsWhileResumed, resume_step};
+ghost use Rattle.replay.specs.Ring.{Each, Rising, IsValidFor, SomeStep, start_step};
 ghost use Rattle.replay.specs.Fits.{kept_length};
-ghost use Rattle.replay.specs.LastState.{left_by};
-ghost use Rattle.replay.specs.RunnerView.{IsSound, TicksTo};
+ghost use Rattle.replay.specs.LastState.{state_left_by};
+ghost use Rattle.replay.specs.RunnerView.{IsSoundRunner, TicksTo};
 
-use crate::keeping::Refusals;
 use crate::report::LastRun;
 use crate::ring::{Checkpoint, Checkpoints, latest_within, newest_step};
 use crate::run::resume;
+use crate::run_notes::AllocFailures;
 use circular_buffer::HeapCircularBuffer;
-use machine::{BlankMarks, Cause, Kept, Meter, STEP_LIMIT, Session, State};
+use machine::{BlankMarks, Cause, Meter, STEP_LIMIT, SavedState, Session, State};
 use std::alloc::{AllocError, Global};
 use std::mem;
 
 // Returns the first `length` bytes of a text: a copy if `is_needed`, else the text itself, moved out and cut. At `Err` the text
 // is unchanged.
-fn beginning_of(
+fn text_prefix(
     alloc: Global,
     text: &mut Vec<u8>,
     length: usize,
@@ -40,7 +40,7 @@ fn beginning_of(
 }
 
 // Returns memory for the marks of a run: the memory that the last run left, if there is any.
-fn marks_for(alloc: Global, spare: &mut Option<BlankMarks>) -> Result<BlankMarks, AllocError> {
+fn take_marks(alloc: Global, spare: &mut Option<BlankMarks>) -> Result<BlankMarks, AllocError> {
     match spare.take() {
         Some(marks) => Ok(marks),
         None => BlankMarks::new(alloc),
@@ -57,10 +57,10 @@ fn begin(
     ring: &HeapCircularBuffer<Checkpoint>,
     is_needed: bool,
 ) -> Result<(u64, State), AllocError>
-    requires stands { Each (Stands (ask session.now) text.old.items) ring.now.items }
+    requires stands { Each (IsValidFor (session_answers session.now) text.old.items) ring.now.items }
     requires rising { Rising ring.now.items }
-    ensures at { IfOk result (λ r. after (ask session.now) r.0 ≡ Some r.1.state) }
-    ensures looked { IfOk result (λ r. NothingLooked r.1.looked) }
+    ensures at { IfOk result (λ r. after (session_answers session.now) r.0 ≡ Some r.1.state) }
+    ensures looked { IfOk result (λ r. HasNoLooks r.1.looked) }
     ensures step { IfOk result (λ r. r.0 ≡ start_step session.now.limit ring.now.items) }
     ensures started { IfOk result (λ r. (r.0 ≡ 0) ⊎ SomeStep ring.now.items r.0) }
     ensures room { length ring.now.items ≤ ring.now.capacity }
@@ -68,14 +68,14 @@ fn begin(
     ensures err { OnErr result (text.new.items ≡ text.old.items) }
 {
     let Some(checkpoint) = latest_within(ring, session.limit()) else {
-        let marks = marks_for(alloc, spare)?;
+        let marks = take_marks(alloc, spare)?;
         let running = State::load_over(alloc, marks)?;
         return Ok((0, running));
     };
-    let marks = marks_for(alloc, spare)?;
+    let marks = take_marks(alloc, spare)?;
     let overlay = checkpoint.state.overlay(marks)?;
     let changes = checkpoint.state.changes(alloc)?;
-    let own = beginning_of(alloc, text, checkpoint.state.text_length(), is_needed)?;
+    let own = text_prefix(alloc, text, checkpoint.state.text_length(), is_needed)?;
     Ok((
         checkpoint.step,
         checkpoint.state.resume(overlay, changes, own),
@@ -84,17 +84,17 @@ fn begin(
 
 // Returns what is kept of the state that a run left. Its text replaces `text` unless `is_needed`; the memory for its marks goes
 // to the next run.
-fn put_by(
+fn save_end(
     text: &mut Vec<u8>,
     spare: &mut Option<BlankMarks>,
     running: State,
     is_needed: bool,
-) -> Kept
-    ensures kept { result ≡ kept_of running.state }
+) -> SavedState
+    ensures kept { result ≡ saved_state_of running.state }
     ensures text { is_needed ≡ false → text.new.items ≡ running.state.core.desk.text }
     ensures needed { is_needed ≡ true → text.new.items ≡ text.old.items }
 {
-    let (kept, own, marks) = running.into_kept();
+    let (kept, own, marks) = running.into_saved();
     *spare = Some(marks);
     if is_needed {
         return kept;
@@ -115,24 +115,26 @@ pub fn rerun(
     checkpoints: &mut Checkpoints,
     meter: &mut Meter,
 ) -> Result<(u64, Cause), AllocError>
-    requires sound { IsSound last_run.old.session last_run.old.text.items checkpoints.old }
+    requires sound { IsSoundRunner last_run.old.session last_run.old.text.items checkpoints.old }
     requires room { meter.old ≤ 2 ^ 63 }
     ensures session { (last_run.new.session ≡ last_run.old.session) × IsSession last_run.old.session }
     ensures cold { IfOk result (λ r. cold last_run.old.session
-        ≡ record { state = left_by last_run.new; steps = r.0; cause = r.1 }) }
+        ≡ record { state = state_left_by last_run.new; steps = r.0; cause = r.1 }) }
     ensures ended { OnOk result (IsSome last_run.new.end
         × (kept_length last_run.new.end ≤ length last_run.new.text.items)) }
-    ensures sound { IsSound last_run.new.session last_run.new.text.items checkpoints.new }
-    ensures ticked { IfOk result (λ r. meter.new + begun_at last_run.old.session checkpoints.old
+    ensures sound { IsSoundRunner last_run.new.session last_run.new.text.items checkpoints.new }
+    ensures ticked { IfOk result (λ r. meter.new + resume_step last_run.old.session checkpoints.old
         ≡ meter.old + r.0) }
     ensures metered { (meter.old ≤ meter.new) × (meter.new ≤ meter.old + STEP_LIMIT) }
-    ensures broken_off { OnErr result (TicksTo (ask last_run.old.session) last_run.old.session.limit
-        (begun_at last_run.old.session checkpoints.old) meter.old meter.new) }
-    ensures adds { Resumed checkpoints.old checkpoints.new (begun_at last_run.old.session checkpoints.old)
+    ensures broken_off { OnErr result
+        (TicksTo (session_answers last_run.old.session) last_run.old.session.limit
+        (resume_step last_run.old.session checkpoints.old) meter.old meter.new) }
+    ensures adds { AddsWhileResumed checkpoints.old checkpoints.new
+        (resume_step last_run.old.session checkpoints.old)
         last_run.old.session.limit result }
 {
     last_run.end = None;
-    checkpoints.notes.refusals = Refusals::new();
+    checkpoints.notes.refusals = AllocFailures::new();
     let newest = newest_step(&checkpoints.ring);
     let is_needed = last_run.session.limit() < newest;
     let (from, mut running) = begin(
@@ -145,7 +147,7 @@ pub fn rerun(
     )?;
     let session = &last_run.session;
     let ran = resume(session, checkpoints, meter, newest, from, &mut running);
-    let kept = put_by(&mut last_run.text, &mut last_run.marks, running, is_needed);
+    let kept = save_end(&mut last_run.text, &mut last_run.marks, running, is_needed);
     let (steps, cause) = ran?;
     last_run.end = Some(kept);
     Ok((steps, cause))

@@ -1,15 +1,15 @@
 ghost use Rattle.std.specs.Prelude.{◌≡◌, ℕ, ◌^◌, ◌+◌, ◌*◌, ◌/◌, ◌%◌, ◌<◌, ◌≤◌, ◌⊎◌, IfNone, IfSome, length, max};
-ghost use Rattle.replay.specs.Ring.{Rising, IsNewest, Keeps, KeptUpTo, HasCheckpoint, made_at, pushed, start_step};
+ghost use Rattle.replay.specs.Ring.{Rising, IsNewest, PushesIfAbove, DropsPast, HasCheckpoint, checkpoint_at, ring_with, start_step};
 
-use crate::keeping::{Refusals, RunNotes, keep};
+use crate::run_notes::{AllocFailures, RunNotes, save_or_count};
 use circular_buffer::HeapCircularBuffer;
-use machine::{Kept, STEP_LIMIT, State};
+use machine::{STEP_LIMIT, SavedState, State};
 
 /// A step that a run reached, and what is kept of the state there.
 #[derive(Drop)]
 pub struct Checkpoint {
     pub step: u64,
-    pub state: Kept,
+    pub state: SavedState,
 }
 
 /// The checkpoints of runs, the oldest first; the number of steps from one due checkpoint to the next; and the notes of the runs.
@@ -65,20 +65,20 @@ pub fn latest_within(ring: &HeapCircularBuffer<Checkpoint>, limit: u64) -> Optio
 
 /// Makes a checkpoint at `step` if that is above `newest` and not past `seen`, and returns the greater of `newest` and `step`. If
 /// an allocation fails, that is counted and the ring is unchanged.
-pub fn keep_above(
+pub fn push_checkpoint(
     ring: &mut HeapCircularBuffer<Checkpoint>,
     newest: u64,
     step: u64,
     seen: u64,
     running: &mut State,
-    refusals: &mut Refusals,
+    refusals: &mut AllocFailures,
 ) -> u64
     requires room { refusals.old < 2 ^ 63 }
     ensures newest { result ≡ max newest step }
     ensures seen { seen < step → ring.new ≡ ring.old }
-    ensures ring { Keeps newest ring.old ring.new (made_at step running.old.state) }
+    ensures ring { PushesIfAbove newest ring.old ring.new (checkpoint_at step running.old.state) }
     ensures made { newest < step → step ≤ seen → refusals.new ≡ refusals.old
-        → ring.new ≡ pushed ring.old (made_at step running.old.state) }
+        → ring.new ≡ ring_with ring.old (checkpoint_at step running.old.state) }
     ensures refused { (refusals.new ≡ refusals.old)
         ⊎ ((newest < step) × (step ≤ seen) × (refusals.new ≡ refusals.old + 1) × (ring.new ≡ ring.old)) }
     ensures running { running.new ≡ running.old }
@@ -89,16 +89,16 @@ pub fn keep_above(
     if seen < step {
         return step;
     }
-    if let Some(kept) = keep(running, refusals) {
+    if let Some(kept) = save_or_count(running, refusals) {
         let _ = ring.push_back(Checkpoint { step, state: kept });
     }
     step
 }
 
 /// Drops the checkpoints past step `touch`.
-pub fn keep_up_to(ring: &mut HeapCircularBuffer<Checkpoint>, touch: u64)
+pub fn drop_past(ring: &mut HeapCircularBuffer<Checkpoint>, touch: u64)
     requires { Rising ring.old.items }
-    ensures parts { KeptUpTo touch ring.old.items ring.new.items }
+    ensures parts { DropsPast touch ring.old.items ring.new.items }
     ensures capacity { ring.new.capacity ≡ ring.old.capacity }
 {
     while let Some(checkpoint) = ring.back() {

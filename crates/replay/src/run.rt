@@ -1,57 +1,59 @@
 ghost use Rattle.std.specs.Prelude.{◌≡◌, ℕ, ◌+◌, ◌-◌, ◌^◌, ◌<◌, ◌≤◌, ◌⊎◌, Some, IfOk, OnOk, OnErr, MatchOption, length};
 ghost use Rattle.machine.specs.Outcome.{Stop};
-ghost use Rattle.machine.specs.Machine.{ask, after, outcome, looked_at};
+ghost use Rattle.machine.specs.Machine.{session_answers, after, outcome, is_looked_at};
 ghost use Rattle.replay.specs.Cold.{cold};
-ghost use Rattle.replay.specs.FirstLooks.{Notes, ErasesLast, AllNoted, NoPlaces, NoAsks, IsFirstLooks, AreNoted};
-ghost use Rattle.replay.specs.FirstLooks.{since, seen_to, IsNoted, IsLeftBehind};
-ghost use Rattle.replay.specs.RefusalCount.{CountsRefusal};
-ghost use Rattle.replay.specs.Resuming.{CountsLooks, GoesOn, AreOf, Resumed};
+ghost use Rattle.replay.specs.FirstLooks.{NotesLooks, ErasesLast, AllNoted, HasNoScriptLooks, HasNoAsks, IsFirstLooks, AreFirstLooksAt};
+ghost use Rattle.replay.specs.FirstLooks.{looks_from, with_seen, NotesSeenStep, ForgetsSeenStep};
+ghost use Rattle.replay.specs.AllocFailures.{CountsFailure};
+ghost use Rattle.replay.specs.Resuming.{CountsLooks, IsResumePoint, AreCheckpointsOf, AddsWhileResumed};
 ghost use Rattle.replay.specs.Ring.{Each, IsNewest};
 
 use crate::first_looks::FirstLooks;
-use crate::keeping::{RunNotes, note};
-use crate::ring::{Checkpoints, due_after, keep_above};
+use crate::ring::{Checkpoints, due_after, push_checkpoint};
+use crate::run_notes::{RunNotes, note_or_count};
 use machine::{Cause, Meter, STEP_LIMIT, Session, State, run_from};
 use std::alloc::AllocError;
 
 // Notes the new looks: the cells from index `noted` on, and the script offsets and the questions about the host files, which are
 // taken out of `running`.
 #[inline(always)]
-fn note_new(notes: &mut RunNotes, running: &mut State, noted: usize) -> Result<(), AllocError>
+fn note_new_looks(notes: &mut RunNotes, running: &mut State, noted: usize) -> Result<(), AllocError>
     requires few { noted ≤ length running.old.looked.cells }
     requires low { (notes.old.refusals < 2 ^ 63) × (notes.old.looks.seen ≤ STEP_LIMIT) }
-    ensures ok { OnOk result (Notes notes.old.looks notes.new.looks
-        (looked_at (since noted running.old.looked))) }
+    ensures ok { OnOk result (NotesLooks notes.old.looks notes.new.looks
+        (is_looked_at (looks_from noted running.old.looked))) }
     ensures err { OnErr result (ErasesLast notes.old.looks notes.new.looks) }
     ensures seen { notes.new.looks.seen ≡ notes.old.looks.seen }
     ensures state { running.new.state ≡ running.old.state }
     ensures cells { running.new.looked.cells ≡ running.old.looked.cells }
-    ensures rest { OnOk result (NoPlaces running.new.looked.places × NoAsks running.new.looked.files) }
-    ensures counted { CountsRefusal result notes.old.refusals notes.new.refusals }
+    ensures rest { OnOk result
+        (HasNoScriptLooks running.new.looked.places × HasNoAsks running.new.looked.files) }
+    ensures counted { CountsFailure result notes.old.refusals notes.new.refusals }
 {
     let taken = running.take_place();
     if taken.is_none() && running.asks_nothing() && running.look_count() == noted {
         return Ok(());
     }
     let asked = running.take_ask();
-    note(notes, running, noted, taken, asked)
+    note_or_count(notes, running, noted, taken, asked)
 }
 
 // Notes the looks of the steps from `n` to `reached - 1`, of which only the last looked at anything new. If `n` is not the step
 // `seen`, nothing is noted, and the looks at the script and at the host files are forgotten. If an allocation fails, `seen` stays
 // below `reached`, and no later step of the run is noted.
-fn keep_looks(notes: &mut RunNotes, running: &mut State, noted: usize, n: u64, reached: u64)
+fn note_last_step(notes: &mut RunNotes, running: &mut State, noted: usize, n: u64, reached: u64)
     requires few { noted ≤ length running.old.looked.cells }
     requires room { notes.old.refusals < 2 ^ 63 }
     requires order { (n < reached) × (reached ≤ STEP_LIMIT) }
     ensures other { (n ≡ notes.old.looks.seen → ⊥)
         → (notes.new ≡ notes.old)
-        × NoPlaces running.new.looked.places × NoAsks running.new.looked.files }
+        × HasNoScriptLooks running.new.looked.places × HasNoAsks running.new.looked.files }
     ensures here { n ≡ notes.old.looks.seen
-        → (IsNoted (seen_to notes.old.looks (reached - 1)) notes.new.looks (since noted running.old.looked)
+        → (NotesSeenStep (with_seen notes.old.looks (reached - 1)) notes.new.looks
+        (looks_from noted running.old.looked)
         × (notes.new.refusals ≡ notes.old.refusals)
-        × NoPlaces running.new.looked.places × NoAsks running.new.looked.files)
-        ⊎ (IsLeftBehind (seen_to notes.old.looks (reached - 1)) notes.new.looks
+        × HasNoScriptLooks running.new.looked.places × HasNoAsks running.new.looked.files)
+        ⊎ (ForgetsSeenStep (with_seen notes.old.looks (reached - 1)) notes.new.looks
         × (notes.new.refusals ≡ notes.old.refusals + 1)) }
     ensures state { running.new.state ≡ running.old.state }
     ensures cells { running.new.looked.cells ≡ running.old.looked.cells }
@@ -60,20 +62,20 @@ fn keep_looks(notes: &mut RunNotes, running: &mut State, noted: usize, n: u64, r
         running.forget_questions();
         return;
     }
-    notes.looks.pass_to(reached - 1);
-    if note_new(notes, running, noted).is_ok() {
-        notes.looks.go_on();
+    notes.looks.advance_to(reached - 1);
+    if note_new_looks(notes, running, noted).is_ok() {
+        notes.looks.next_step();
     }
 }
 
 // Moves `seen` from `n` up to `reached`, if it is at `n`: the steps between looked at nothing new, and a stop follows.
-fn keep_seen(looks: &mut FirstLooks, n: u64, reached: u64)
+fn pass_seen(looks: &mut FirstLooks, n: u64, reached: u64)
     requires { n ≤ reached }
-    ensures here { n ≡ looks.old.seen → looks.new ≡ seen_to looks.old reached }
+    ensures here { n ≡ looks.old.seen → looks.new ≡ with_seen looks.old reached }
     ensures other { (n ≡ looks.old.seen → ⊥) → looks.new ≡ looks.old }
 {
     if n == looks.seen() {
-        looks.pass_to(reached);
+        looks.advance_to(reached);
     }
 }
 
@@ -95,16 +97,16 @@ fn advance(
     from: u64,
     end: u64,
 ) -> Result<(u64, Option<Cause>), AllocError>
-    requires at { after (ask session.now) from ≡ Some running.old.state }
-    requires noted { AreNoted (ask session.now) notes.old.looks from running.old.looked }
+    requires at { after (session_answers session.now) from ≡ Some running.old.state }
+    requires noted { AreFirstLooksAt (session_answers session.now) notes.old.looks from running.old.looked }
     requires order { (from ≤ end) × (end ≤ STEP_LIMIT) }
     requires room { (meter.old + (end - from) < 2 ^ 64) × (notes.old.refusals ≤ STEP_LIMIT + from) }
-    ensures at { (n : ℕ) × (after (ask session.now) n ≡ Some running.new.state)
+    ensures at { (n : ℕ) × (after (session_answers session.now) n ≡ Some running.new.state)
         × (from ≤ n) × (n ≤ end)
         × IfOk result (λ r. r.0 ≡ n) × (meter.new + from ≡ meter.old + n) }
     ensures stopped { IfOk result (λ r. MatchOption r.1 (r.0 ≡ end)
-        (λ cause. (r.0 < end) × (outcome (ask session.now) running.new.state ≡ Stop cause))) }
-    ensures noted { IsFirstLooks (ask session.now) notes.new.looks }
+        (λ cause. (r.0 < end) × (outcome (session_answers session.now) running.new.state ≡ Stop cause))) }
+    ensures noted { IsFirstLooks (session_answers session.now) notes.new.looks }
     ensures looks { IfOk result (λ r. MatchOption r.1
         (r.0 ≤ notes.new.looks.seen → AllNoted notes.new.looks running.new.looked) (λ _. Unit {0})) }
     ensures seen { (notes.old.looks.seen ≤ notes.new.looks.seen) × (notes.new.looks.seen ≤ STEP_LIMIT) }
@@ -116,10 +118,10 @@ fn advance(
         let bound = bound_of(n, notes.looks.seen(), end);
         let (reached, stop) = run_from(running, session, meter, n, bound)?;
         if let Some(cause) = stop {
-            keep_seen(&mut notes.looks, n, reached);
+            pass_seen(&mut notes.looks, n, reached);
             return Ok((reached, Some(cause)));
         }
-        keep_looks(notes, running, noted, n, reached);
+        note_last_step(notes, running, noted, n, reached);
         n = reached;
     }
     Ok((n, None))
@@ -140,19 +142,19 @@ pub fn resume(
     from: u64,
     running: &mut State,
 ) -> Result<(u64, Cause), AllocError>
-    requires begins { GoesOn session.now checkpoints.old from running.old }
-    requires sound { AreOf (ask session.now) checkpoints.old }
+    requires begins { IsResumePoint session.now checkpoints.old from running.old }
+    requires sound { AreCheckpointsOf (session_answers session.now) checkpoints.old }
     requires newest { IsNewest newest checkpoints.old.ring.items }
     requires counts { (meter.old ≤ 2 ^ 63) × (checkpoints.old.notes.refusals ≡ 0) }
     ensures cold { IfOk result (λ r. cold session.now
         ≡ record { state = running.new.state; steps = r.0; cause = r.1 }) }
-    ensures at { (n : ℕ) × (after (ask session.now) n ≡ Some running.new.state)
+    ensures at { (n : ℕ) × (after (session_answers session.now) n ≡ Some running.new.state)
         × (n ≤ session.now.limit)
         × (newest ≤ from → Each (λ c. c.step ≤ n) checkpoints.new.ring.items) × (from ≤ n)
         × (meter.new + from ≡ meter.old + n) × IfOk result (λ r. r.0 ≡ n) }
     ensures same { session.now.limit < newest → checkpoints.new.ring ≡ checkpoints.old.ring }
-    ensures adds { Resumed checkpoints.old checkpoints.new from session.now.limit result }
-    ensures sound { AreOf (ask session.now) checkpoints.new }
+    ensures adds { AddsWhileResumed checkpoints.old checkpoints.new from session.now.limit result }
+    ensures sound { AreCheckpointsOf (session_answers session.now) checkpoints.new }
 {
     let limit = session.limit();
     let spacing = checkpoints.spacing;
@@ -164,7 +166,7 @@ pub fn resume(
         n = reached;
         let seen = checkpoints.notes.looks.seen();
         let refusals = &mut checkpoints.notes.refusals;
-        last_kept = keep_above(&mut checkpoints.ring, last_kept, n, seen, running, refusals);
+        last_kept = push_checkpoint(&mut checkpoints.ring, last_kept, n, seen, running, refusals);
         if let Some(cause) = stop {
             return Ok((n, cause));
         }

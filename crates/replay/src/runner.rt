@@ -1,22 +1,22 @@
 ghost use Rattle.std.specs.Prelude.{◌≡◌, ◌+◌, ◌^◌, ◌<◌, ◌≤◌, [], IfOk, IfErr, OnOk, OnErr, MatchResult, slice_get};
 ghost use Rattle.std.specs.Borrow.{sem};
-ghost use Rattle.machine.specs.Machine.{ask};
+ghost use Rattle.machine.specs.Machine.{session_answers};
 ghost use Rattle.replay.specs.PrefixDependence.{PrefixDependence};
-ghost use Rattle.replay.specs.Plain.{plain_run};
-ghost use Rattle.replay.specs.PlainIsCold.{PlainRunIsCold};
+ghost use Rattle.replay.specs.PlainRun.{plain_run};
+ghost use Rattle.replay.specs.ColdIsPlain.{PlainRunIsCold};
 ghost use Rattle.replay.specs.Edits.{edited};
-ghost use Rattle.replay.specs.EditAnswers.{AnswersEdit, TakesMemory};
-ghost use Rattle.replay.specs.RunnerView.{DropsOldest, SameOptions, KeepsUntouched, AllStand, Reran, RanTo, CountsAnew, TicksTo};
+ghost use Rattle.replay.specs.EditAnswers.{AnswersEdit, EditAllocates};
+ghost use Rattle.replay.specs.RunnerView.{DropsOldest, SameOptions, KeepsUntouched, AllStand, AddsDueTo, RerunsTo, RestartsCount, TicksTo};
 ghost use Rattle.replay.specs.RunnerView.{kept_steps, rerun_start, with_no_checkpoint};
 
-use crate::change::{accept, carry_out, touch_of};
+use crate::change::{accept, apply, touch_of};
 use crate::edit::{Edit, EditError};
 use crate::first_looks::FirstLooks;
-use crate::keeping::{Refusals, RunNotes};
 use crate::options::{Options, OptionsError};
 use crate::report::{LastRun, Report};
 use crate::rerun::rerun;
-use crate::ring::{Checkpoints, keep_up_to};
+use crate::ring::{Checkpoints, drop_past};
+use crate::run_notes::{AllocFailures, RunNotes};
 use circular_buffer::HeapCircularBuffer;
 use machine::{Meter, STEP_LIMIT, Session};
 use std::alloc::{AllocError, Global};
@@ -47,7 +47,7 @@ impl Model for Runner {
     ghost use Rattle.std.specs.Prelude.{map};
     ghost use Rattle.std.specs.Coded.{codes};
     ghost use Rattle.machine.specs.StateView.{cells_code, changes_code, files_code};
-    ghost use Rattle.replay.specs.RunnerView.{RunnerView, IsSound, seen_with};
+    ghost use Rattle.replay.specs.RunnerView.{RunnerView, IsSoundRunner, checkpoint_with_text};
 
     ghost Value = { RunnerView };
 
@@ -57,11 +57,11 @@ impl Model for Runner {
       session = r.last_run.session;
       spacing = r.checkpoints.spacing;
       slots = r.checkpoints.ring.capacity;
-      checkpoints = map (seen_with r.last_run.text.items) r.checkpoints.ring.items;
+      checkpoints = map (checkpoint_with_text r.last_run.text.items) r.checkpoints.ring.items;
       refused = r.checkpoints.notes.refusals;
     } };
 
-    ghost invariant = { λ r. IsSound r.last_run.session r.last_run.text.items r.checkpoints };
+    ghost invariant = { λ r. IsSoundRunner r.last_run.session r.last_run.text.items r.checkpoints };
 }
 
 impl Runner {
@@ -85,11 +85,15 @@ impl Runner {
         if options.slots == 0 || options.slots > 4096 {
             return Err(OptionsError::Slots);
         }
-        Ok(Runner::within(alloc, session, options)?)
+        Ok(Runner::with_valid_options(alloc, session, options)?)
     }
 
     /// Returns a runner for options that are known to be within their ranges. `Err` means out of memory.
-    pub fn within(alloc: Global, session: Session, options: Options) -> Result<Runner, AllocError>
+    pub fn with_valid_options(
+        alloc: Global,
+        session: Session,
+        options: Options,
+    ) -> Result<Runner, AllocError>
         requires { refusal_of options ≡ None }
         ensures { IfOk result (λ r. r ≡ with_no_checkpoint session options) }
     {
@@ -118,7 +122,7 @@ impl Runner {
                 ring,
                 notes: RunNotes {
                     looks: FirstLooks::new(alloc),
-                    refusals: Refusals::new(),
+                    refusals: AllocFailures::new(),
                 },
             },
         })
@@ -134,7 +138,7 @@ impl Runner {
             slots: 0,
         };
         let mut runner = Runner::with_spacing_in_range(alloc, session, options)?;
-        runner.checkpoints.notes.looks.shut();
+        runner.checkpoints.notes.looks.stop_noting();
         Ok(runner)
     }
 
@@ -184,10 +188,11 @@ impl Runner {
     /// Returns the first refusal that applies; the runner is then unchanged.
     pub fn edit(&mut self, edit: Edit) -> Result<(), EditError>
         ensures answer { AnswersEdit (edited self.old.session edit) result self.new.session }
-        ensures memory { result ≡ Err EditError.OutOfMemory → TakesMemory edit }
+        ensures memory { result ≡ Err EditError.OutOfMemory → EditAllocates edit }
         ensures options { SameOptions self.old self.new }
         ensures refusals { self.new.refused ≡ self.old.refused }
-        ensures kept { OnOk result (KeepsUntouched (ask self.old.session) (ask self.new.session)
+        ensures kept { OnOk result
+            (KeepsUntouched (session_answers self.old.session) (session_answers self.new.session)
             self.old.checkpoints self.new.checkpoints) }
         ensures stand { AllStand self.new }
         ensures err { OnErr result (self.new ≡ self.old) }
@@ -199,9 +204,9 @@ impl Runner {
             &self.last_run.session,
             &change,
         );
-        carry_out(&mut self.last_run.session, change)?;
-        keep_up_to(&mut self.checkpoints.ring, touch);
-        self.checkpoints.notes.looks.cut(touch);
+        apply(&mut self.last_run.session, change)?;
+        drop_past(&mut self.checkpoints.ring, touch);
+        self.checkpoints.notes.looks.erase_from(touch);
         Ok(())
     }
 
@@ -217,13 +222,14 @@ impl Runner {
         requires { meter.old ≤ 2 ^ 63 }
         ensures* ends { sem 𝓛 (EndsAs self.entry (λ n.
             (n.session ≡ self.old.session) × SameOptions self.old n × AllStand n
-            × MatchResult result (λ r. RanTo self.old n (run_of r).steps)
-            (λ _. Reran self.old n self.old.session.limit × CountsAnew self.old n self.old.session.limit))) }
+            × MatchResult result (λ r. RerunsTo self.old n (run_of r).steps)
+            (λ _. AddsDueTo self.old n self.old.session.limit
+            × RestartsCount self.old n self.old.session.limit))) }
         ensures run { IfOk result (λ r. run_of r ≡ plain_run self.old.session) }
         ensures session { IfOk result (λ r. session_of r ≡ self.old.session) }
         ensures ticked { IfOk result (λ r. meter.new + rerun_start self.old
             ≡ meter.old + (run_of r).steps) }
-        ensures broken_off { OnErr result (TicksTo (ask self.old.session) self.old.session.limit
+        ensures broken_off { OnErr result (TicksTo (session_answers self.old.session) self.old.session.limit
             (rerun_start self.old) meter.old meter.new) }
         ensures metered { meter.new ≤ meter.old + STEP_LIMIT }
         ensures rises { meter.old ≤ meter.new }

@@ -1,7 +1,7 @@
 ghost use Rattle.std.specs.Prelude.{◌≡◌, ◌==◌, ◌+◌, ◌^◌, ◌<◌, ◌≤◌, IsTrue, ◌↔◌, option_copied, length, min, slice_get, if◌then◌else◌};
-ghost use Rattle.file_steps.specs.Steps.{lesser};
-ghost use Rattle.machine.specs.Machine.{ask, Cell, Script};
-ghost use Rattle.machine.specs.Session.{spliced};
+ghost use Rattle.file_steps.specs.FileSteps.{lesser_step};
+ghost use Rattle.machine.specs.Machine.{session_answers, Cell, Script};
+ghost use Rattle.machine.specs.Session.{splice};
 ghost use Rattle.replay.specs.FirstLooks.{IsFirstLooks, step_of};
 ghost use Rattle.replay.specs.Edits.{with_host_file, with_poke, with_splice};
 ghost use Rattle.replay.specs.Touch.{IsNotedTouch};
@@ -13,9 +13,10 @@ use machine::{HostFile, PROGRAM_LIMIT, Session};
 /// Returns the first noted step that looked at a byte which a poke changes, or step `seen` if there is none. `at` counts from the
 /// program's first byte.
 pub fn poke_touch(looks: &FirstLooks, session: &Session, at: usize, bytes: &[u8]) -> u64
-    requires noted { IsFirstLooks (ask session.now) looks.now }
+    requires noted { IsFirstLooks (session_answers session.now) looks.now }
     requires inside { at + length bytes.now ≤ length session.now.program }
-    ensures { IsNotedTouch (ask session.now) (ask (with_poke session.now at bytes.now)) looks.now result }
+    ensures { IsNotedTouch (session_answers session.now)
+        (session_answers (with_poke session.now at bytes.now)) looks.now result }
 {
     let program = session.program();
     let mut touch = looks.seen();
@@ -29,7 +30,8 @@ pub fn poke_touch(looks: &FirstLooks, session: &Session, at: usize, bytes: &[u8]
 // change.
 fn lesser_if_changed(looks: &FirstLooks, old: u8, new: u8, at: usize, least: u64) -> u64
     requires { at < PROGRAM_LIMIT }
-    ensures { result ≡ (if old == new then least else lesser (step_of looks.now (Cell (256 + at))) least) }
+    ensures { result
+        ≡ (if old == new then least else lesser_step (step_of looks.now (Cell (256 + at))) least) }
 {
     if old == new {
         return least;
@@ -46,9 +48,10 @@ pub fn splice_touch(
     removed: usize,
     bytes: &[u8],
 ) -> u64
-    requires noted { IsFirstLooks (ask session.now) looks.now }
+    requires noted { IsFirstLooks (session_answers session.now) looks.now }
     requires inside { at + removed ≤ length session.now.script }
-    ensures { IsNotedTouch (ask session.now) (ask (with_splice session.now at removed bytes.now))
+    ensures { IsNotedTouch (session_answers session.now)
+        (session_answers (with_splice session.now at removed bytes.now))
         looks.now result }
 {
     let script = session.script();
@@ -82,8 +85,8 @@ fn changes_end(looks: &FirstLooks, at: usize, removed: usize, added: usize) -> u
 /// Returns the first noted step that asked the host files a question with another answer once the file of a key is set to `new`,
 /// or removed if that is `None`. Returns step `seen` if there is none.
 pub fn file_touch(looks: &FirstLooks, session: &Session, key: &Key, new: Option<&HostFile>) -> u64
-    ensures { IsNotedTouch (ask session.now)
-        (ask (with_host_file session.now key.now (option_copied new.entry))) looks.now result }
+    ensures { IsNotedTouch (session_answers session.now)
+        (session_answers (with_host_file session.now key.now (option_copied new.entry))) looks.now result }
 {
     looks
         .files()
@@ -95,7 +98,7 @@ fn is_same_byte(script: &[u8], at: usize, removed: usize, bytes: &[u8], place: u
     requires inside { at + removed ≤ length script.now }
     requires later { at ≤ place }
     ensures { IsTrue result
-        ↔ (slice_get script.now place ≡ slice_get (spliced script.now at removed bytes.now) place) }
+        ↔ (slice_get script.now place ≡ slice_get (splice script.now at removed bytes.now) place) }
 {
     script.get(place).copied() == byte_after(script, at, removed, bytes, place)
 }
@@ -104,7 +107,7 @@ fn is_same_byte(script: &[u8], at: usize, removed: usize, bytes: &[u8], place: u
 fn byte_after(script: &[u8], at: usize, removed: usize, bytes: &[u8], place: usize) -> Option<u8>
     requires inside { at + removed ≤ length script.now }
     requires later { at ≤ place }
-    ensures { result ≡ slice_get (spliced script.now at removed bytes.now) place }
+    ensures { result ≡ slice_get (splice script.now at removed bytes.now) place }
 {
     if place - at < bytes.len() {
         return bytes.get(place - at).copied();
@@ -115,7 +118,7 @@ fn byte_after(script: &[u8], at: usize, removed: usize, bytes: &[u8], place: usi
 
 // Returns the lesser of two steps, or the second if there is no first.
 fn lesser_step(step: Option<u64>, least: u64) -> u64
-    ensures { result ≡ lesser step least }
+    ensures { result ≡ lesser_step step least }
 {
     match step {
         Some(step) if step < least => step,

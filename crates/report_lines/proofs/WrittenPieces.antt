@@ -8,12 +8,12 @@ use Rattle.std.proofs.KnownBytes.{Appends-nil, Appends-trans}
 use Rattle.std.specs.List.{concat, slice_get}
 use Rattle.std.specs.Option.{option_map, option_and_then}
 use Rattle.std.proofs.lemmas.Option.{get_or_from_slice_get, slice_get_past, slice_get-get_or}
-use Rattle.hostfiles.specs.Files.{Own, told}
+use Rattle.hostfiles.specs.Files.{OwnFiles, file_contents}
 use Rattle.hostfiles.specs.Changed.{changed_names, changed_keys}
 use Rattle.hostfiles.proofs.ChangedWalk.{keys_above, keys_above_none}
 use Rattle.report_lines.specs.FirstLines.{line, text_line}
 use Rattle.hex.specs.Hex.{encode_with, encode_lower, lower_digits}
-use Rattle.filenames.specs.Names.{Key, printed}
+use Rattle.filenames.specs.Names.{Key, display_text}
 use Rattle.hostfiles.specs.Hosts.{Record, Host}
 use Rattle.report_lines.specs.ChangedLines.{records_text, file_text, changed_line, line_of_file, lines_of_files}
 use Rattle.report_lines.specs.declared.changed_lines.FileFilter.{FileFilter}
@@ -160,45 +160,45 @@ pub there : (t : Option (List Record)) (n : ℕ) → Some n ≡ option_map lengt
 there None n h = cc
 there (Some f) n h = refl
 
-pub gone_line : (key : Key) (t told : Option (List Record)) → t ≡ told → t ≡ None → (codes "gone " ++ printed key) ++ 10 ∷ [] ≡ changed_line key told
-gone_line key t told same none = sym (ap (λ t. line (file_text key t)) (sym same ∙ none))
+pub gone_line : (key : Key) (t file_contents : Option (List Record)) → t ≡ file_contents → t ≡ None → (codes "gone " ++ display_text key) ++ 10 ∷ [] ≡ changed_line key file_contents
+gone_line key t file_contents same none = sym (ap (λ t. line (file_text key t)) (sym same ∙ none))
 
-pub file_line : (key : Key) (t told : Option (List Record)) → t ≡ told → t ≡ Some (unwrap_or t [])
-    → (((codes "file " ++ printed key) ++ codes " ") ++ records_text (unwrap_or t [])) ++ 10 ∷ [] ≡ changed_line key told
-file_line key t told same some = sym (ap (λ t. line (file_text key t)) (sym same ∙ some))
+pub file_line : (key : Key) (t file_contents : Option (List Record)) → t ≡ file_contents → t ≡ Some (unwrap_or t [])
+    → (((codes "file " ++ display_text key) ++ codes " ") ++ records_text (unwrap_or t [])) ++ 10 ∷ [] ≡ changed_line key file_contents
+file_line key t file_contents same some = sym (ap (λ t. line (file_text key t)) (sym same ∙ some))
 
 -- Equal files have equal contents.
-pub same_told : {host host' : Host} {own own' : Own} {key key' : Key} → host ≡ host' → own ≡ own' → key ≡ key' → told host own key ≡ told host' own' key'
+pub same_told : {host host' : Host} {own own' : OwnFiles} {key key' : Key} → host ≡ host' → own ≡ own' → key ≡ key' → file_contents host own key ≡ file_contents host' own' key'
 same_told h o k = cc
 
 -- ---- a text of all changed files, of which each has a part
 
-abbrev pub parts_above : (Key → List ℕ) → Host → Own → Option Key → List ℕ
+abbrev pub parts_above : (Key → List ℕ) → Host → OwnFiles → Option Key → List ℕ
 parts_above part host own after = concat (map part (keys_above (changed_names host own) after))
 
-abbrev pub all_parts : (Key → List ℕ) → Host → Own → List ℕ
+abbrev pub all_parts : (Key → List ℕ) → Host → OwnFiles → List ℕ
 all_parts part host own = concat (map part (changed_keys host own))
 
 -- The line of a file, by what the run did to the host files.
-abbrev pub own_line : FileFilter → Host → Own → Key → List ℕ
-own_line filter host own key = line_of_file filter key (told host own key)
+abbrev pub own_line : FileFilter → Host → OwnFiles → Key → List ℕ
+own_line filter host own key = line_of_file filter key (file_contents host own key)
 
-pub lines_laid : (filter : FileFilter) (host : Host) (own : Own) → all_parts (own_line filter host own) host own ≡ lines_of_files filter host (files host own)
+pub lines_laid : (filter : FileFilter) (host : Host) (own : OwnFiles) → all_parts (own_line filter host own) host own ≡ lines_of_files filter host (files host own)
 lines_laid filter host own = sym (λ i. concat (map (λ key. line_of_file filter key (told_laid host own key i)) (changed_keys_laid host own i)))
 
-pub parts_begin : (part : Key → List ℕ) (host : Host) (own : Own) → [] ++ parts_above part host own None ≡ all_parts part host own
+pub parts_begin : (part : Key → List ℕ) (host : Host) (own : OwnFiles) → [] ++ parts_above part host own None ≡ all_parts part host own
 parts_begin part host own = ap (λ ks. concat (map part ks)) (keys_above_none (changed_names host own))
 
-pub parts_next : (part : Key → List ℕ) (host : Host) (own : Own) (after : Option Key) (k : Key) (text : List ℕ)
+pub parts_next : (part : Key → List ℕ) (host : Host) (own : OwnFiles) (after : Option Key) (k : Key) (text : List ℕ)
     → keys_above (changed_names host own) after ≡ k ∷ keys_above (changed_names host own) (Some k)
     → text ++ parts_above part host own after ≡ all_parts part host own → (text ++ part k) ++ parts_above part host own (Some k) ≡ all_parts part host own
 parts_next part host own after k text split left =
     append_assoc text (part k) (parts_above part host own (Some k)) ∙ ap (λ ks. text ++ concat (map part ks)) (sym split) ∙ left
 
-pub parts_end : (part : Key → List ℕ) (host : Host) (own : Own) (after : Option Key) (text : List ℕ) → keys_above (changed_names host own) after ≡ []
+pub parts_end : (part : Key → List ℕ) (host : Host) (own : OwnFiles) (after : Option Key) (text : List ℕ) → keys_above (changed_names host own) after ≡ []
     → text ++ parts_above part host own after ≡ all_parts part host own → text ≡ all_parts part host own
 parts_end part host own after text none left = sym (append-nil text) ∙ ap (λ ks. text ++ concat (map part ks)) (sym none) ∙ left
 
-pub fewer_keys : (host : Host) (own : Own) (after : Option Key) (k : Key) → keys_above (changed_names host own) after ≡ k ∷ keys_above (changed_names host own) (Some k)
+pub fewer_keys : (host : Host) (own : OwnFiles) (after : Option Key) (k : Key) → keys_above (changed_names host own) after ≡ k ∷ keys_above (changed_names host own) (Some k)
     → length (keys_above (changed_names host own) (Some k)) < length (keys_above (changed_names host own) after)
 fewer_keys host own after k split = let n = ap length split in omega (arith, n)

@@ -2,10 +2,10 @@
 use Rattle.std.specs.Prelude.{ℕ, List, [], ◌∷◌, ◌++◌, map, Option, Some, None, codes}
 use Rattle.std.specs.List.{concat}
 use Rattle.hex.specs.Hex.{encode_lower}
-use Rattle.filenames.specs.Names.{Key, printed}
+use Rattle.filenames.specs.Names.{Key, display_text}
 use Rattle.hostfiles.specs.Hosts.{Record, Host}
-use Rattle.machine.specs.ChangedFiles.{changed_keys_in, told_in}
-use Rattle.machine.specs.WholeFiles.{Files}
+use Rattle.machine.specs.ChangedFiles.{changed_keys_in, contents_in}
+use Rattle.machine.specs.PlainFiles.{Files}
 use Rattle.report_lines.specs.FirstLines.{line}
 use Rattle.report_lines.specs.declared.changed_lines.FileFilter.{FileFilter}
 use Rattle.report_lines.specs.declared.changed_lines.FileFilter.TheVariants.{All, GoneOnly}
@@ -17,8 +17,8 @@ records_text (r ∷ rs) = encode_lower (concat (r ∷ rs))
 
 -- The text of a changed file: all of its records, or that it is gone.
 abbrev pub file_text : Key → Option (List Record) → List ℕ
-file_text key None = codes "gone " ++ printed key
-file_text key (Some records) = codes "file " ++ printed key ++ codes " " ++ records_text records
+file_text key None = codes "gone " ++ display_text key
+file_text key (Some records) = codes "file " ++ display_text key ++ codes " " ++ records_text records
 
 -- The line of a changed file.
 abbrev pub changed_line : Key → Option (List Record) → List ℕ
@@ -26,7 +26,7 @@ changed_line key told = line (file_text key told)
 
 -- The line of a changed file that is gone; nothing for a file that is there.
 abbrev pub gone_line : Key → Option (List Record) → List ℕ
-gone_line key None = line (codes "gone " ++ printed key)
+gone_line key None = line (codes "gone " ++ display_text key)
 gone_line key (Some records) = []
 
 -- The line of a changed file if it passes the filter.
@@ -36,7 +36,7 @@ line_of_file GoneOnly = gone_line
 
 -- The lines of the changed files that pass the filter, in the order of their names.
 abbrev pub lines_of_files : FileFilter → Host → Files → List ℕ
-lines_of_files filter host files = concat (map (λ key. line_of_file filter key (told_in files key)) (changed_keys_in host files))
+lines_of_files filter host files = concat (map (λ key. line_of_file filter key (contents_in files key)) (changed_keys_in host files))
 
 abbrev pub changed_lines : Host → Files → List ℕ
 changed_lines = lines_of_files All

@@ -1,9 +1,9 @@
 // The lines of the changed files, written in pieces.
 
 ghost use Rattle.std.specs.Prelude.{◌≡◌, ◌^◌, ◌<◌, ◌++◌, [], length, unwrap_or};
-ghost use Rattle.filenames.specs.Names.{printed};
-ghost use Rattle.hostfiles.specs.Files.{files, told};
-ghost use Rattle.hostfiles.specs.Seen.{own_of};
+ghost use Rattle.filenames.specs.Names.{display_text};
+ghost use Rattle.hostfiles.specs.Files.{files, file_contents};
+ghost use Rattle.hostfiles.specs.FileView.{view_own};
 ghost use Rattle.report_lines.specs.ChangedLines.{records_text, changed_line, gone_line, line_of_file, lines_of_files};
 ghost use Rattle.report_lines.specs.Streams.{WritesText};
 
@@ -11,7 +11,7 @@ use crate::hex_writer::write_hex;
 use crate::streams::{Failed, Writer, write_all};
 use arrayvec::ArrayVec;
 use filenames::Pieces;
-use hostfiles::{HostFiles, Journal, Name, SeenFile, next_changed, told_count};
+use hostfiles::{FileView, HostFiles, Journal, Name, contents_count, next_changed};
 
 /// Which changed files are reported.
 #[derive(Clone, Copy, Debug, PartialEq, Eq)]
@@ -52,7 +52,7 @@ fn write_filtered<W: Writer>(
 ) -> Result<(), Failed>
     requires { (W.output writer.old).failures < 2 ^ 63 }
     ensures { WritesText (W.output writer.old) (W.output writer.new)
-        (line_of_file filter name.now (told host.now journal.now.entries name.now)) result }
+        (line_of_file filter name.now (file_contents host.now journal.now.entries name.now)) result }
 {
     match filter {
         FileFilter::All => write_changed(writer, host, journal, name),
@@ -69,9 +69,9 @@ fn write_gone<W: Writer>(
 ) -> Result<(), Failed>
     requires { (W.output writer.old).failures < 2 ^ 63 }
     ensures { WritesText (W.output writer.old) (W.output writer.new)
-        (gone_line name.now (told host.now journal.now.entries name.now)) result }
+        (gone_line name.now (file_contents host.now journal.now.entries name.now)) result }
 {
-    if told_count(host, journal, &name.key()).is_some() {
+    if contents_count(host, journal, &name.key()).is_some() {
         return Ok(());
     }
     write_changed(writer, host, journal, name)
@@ -86,10 +86,10 @@ fn write_changed<W: Writer>(
 ) -> Result<(), Failed>
     requires { (W.output writer.old).failures < 2 ^ 63 }
     ensures { WritesText (W.output writer.old) (W.output writer.new)
-        (changed_line name.now (told host.now journal.now.entries name.now)) result }
+        (changed_line name.now (file_contents host.now journal.now.entries name.now)) result }
 {
-    let file = SeenFile::find(host, journal, &name.key());
-    let Some(count) = file.told_count() else {
+    let file = FileView::find(host, journal, &name.key());
+    let Some(count) = file.contents_count() else {
         write_head(writer, b"gone ", name)?;
         return write_all(writer, b"\n");
     };
@@ -102,7 +102,8 @@ fn write_changed<W: Writer>(
 // Writes a word with its blank, and then a name.
 fn write_head<W: Writer>(writer: &mut W, word: &[u8], name: &Name) -> Result<(), Failed>
     requires { (W.output writer.old).failures < 2 ^ 63 }
-    ensures { WritesText (W.output writer.old) (W.output writer.new) (word.now ++ printed name.now) result }
+    ensures { WritesText (W.output writer.old) (W.output writer.new)
+        (word.now ++ display_text name.now) result }
 {
     write_all(writer, word)?;
     write_name(writer, name)
@@ -111,7 +112,7 @@ fn write_head<W: Writer>(writer: &mut W, word: &[u8], name: &Name) -> Result<(),
 // Writes a name in its printed form.
 fn write_name<W: Writer>(writer: &mut W, name: &Name) -> Result<(), Failed>
     requires { (W.output writer.old).failures < 2 ^ 63 }
-    ensures { WritesText (W.output writer.old) (W.output writer.new) (printed name.now) result }
+    ensures { WritesText (W.output writer.old) (W.output writer.new) (display_text name.now) result }
 {
     let Pieces {
         drive,
@@ -126,19 +127,20 @@ fn write_name<W: Writer>(writer: &mut W, name: &Name) -> Result<(), Failed>
 }
 
 // Writes all records of a file, with zeros in its holes, or `-` if it has none.
-fn write_records<W: Writer>(writer: &mut W, file: &SeenFile<'_>, count: u32) -> Result<(), Failed>
+fn write_records<W: Writer>(writer: &mut W, file: &FileView<'_>, count: u32) -> Result<(), Failed>
     requires room { (W.output writer.old).failures < 2 ^ 63 }
     requires count { count ≡
-        length (unwrap_or (told file.now.host.now (own_of file.now) file.now.key) []) }
+        length (unwrap_or (file_contents file.now.host.now (view_own file.now) file.now.key) []) }
     ensures { WritesText (W.output writer.old) (W.output writer.new)
-        (records_text (unwrap_or (told file.now.host.now (own_of file.now) file.now.key) [])) result }
+        (records_text (unwrap_or (file_contents file.now.host.now (view_own file.now) file.now.key) []))
+        result }
 {
     if count == 0 {
         return write_all(writer, b"-");
     }
     let mut block = ArrayVec::<u8, 2048>::new();
     for place in 0..count {
-        let Some(record) = file.told_record(place).copied() else {
+        let Some(record) = file.contents_record(place).copied() else {
             unreachable!();
         };
         if block.remaining_capacity() < record.len() {

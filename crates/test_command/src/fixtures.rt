@@ -162,7 +162,7 @@ fn find_no_room<R: Files + AllocGlobal + Clone + Drop + Abort>(
     compare(rt, folder, (status, b"".as_slice(), err.as_slice()), wanted);
 }
 
-fn leave_untold<R: Files + AllocGlobal + Clone + Drop + Abort>(
+fn leave_unreported<R: Files + AllocGlobal + Clone + Drop + Abort>(
     rt: &R,
     folder: &str,
     words: &[String],
@@ -184,7 +184,7 @@ fn ask<R: Files + AllocGlobal + Clone + Drop + Abort>(
 ) {
     match wanted {
         Wanted::NoRoom(room) => find_no_room(rt, folder, words, room, wanted),
-        Wanted::Untold(room, _) => leave_untold(rt, folder, words, room, wanted),
+        Wanted::Untold(room, _) => leave_unreported(rt, folder, words, room, wanted),
         _ => answer(rt, folder, words, wanted),
     }
 }

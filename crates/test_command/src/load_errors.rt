@@ -44,7 +44,7 @@ const ORDER: &[Act<'_>] = &[
 ];
 
 #[test]
-fn the_first_fault_is_told(rt: HostRuntime) -> Result<(), Fail> {
+fn the_first_error_is_reported(rt: HostRuntime) -> Result<(), Fail> {
     in_folder_of(&rt, rt.process(), "order", ORDER)
 }
 
@@ -63,7 +63,7 @@ const NAMES: &[Act<'_>] = &[
 ];
 
 #[test]
-fn two_files_of_one_name_are_told(rt: HostRuntime) -> Result<(), Fail> {
+fn two_files_of_one_name_are_reported(rt: HostRuntime) -> Result<(), Fail> {
     in_folder_of(&rt, rt.process(), "names", NAMES)
 }
 

@@ -13,7 +13,7 @@ b2345678901234567890123456789012345678901234567890123456789012345678901234567890
 c234567890123456789012345678901234567890123456789012345678901234567890123456789012345678901234567890";
 
 // Checks that an error has this message, between `cpmrun: ` and the end of its line, and this status.
-fn is_told(rt: &impl Abort, alloc: Global, fault: Fault<'_>, wanted: (&str, &str, u8)) {
+fn is_reported(rt: &impl Abort, alloc: Global, fault: Fault<'_>, wanted: (&str, &str, u8)) {
     let (before, after, code) = wanted;
     let mut err = Over::new(Vec::new(alloc));
     let status = complain(alloc, fault, &mut err);
@@ -35,27 +35,27 @@ fn text(alloc: Global, text: &str) -> Result<String, AllocError> {
 fn each_fault_has_its_message(rt: HostRuntime) -> Result<(), Fail> {
     let alloc = rt.alloc();
     let cannot_read = Fault::CannotRead("a/b.com");
-    is_told(&rt, alloc, cannot_read, ("cannot read ", "a/b.com", 1));
-    is_told(
+    is_reported(&rt, alloc, cannot_read, ("cannot read ", "a/b.com", 1));
+    is_reported(
         &rt,
         alloc,
         Fault::CannotWrite,
         ("cannot write ", "standard output", 1),
     );
-    is_told(&rt, alloc, Fault::Refused(4), ("session refused ", "4", 1));
-    is_told(
+    is_reported(&rt, alloc, Fault::Refused(4), ("session refused ", "4", 1));
+    is_reported(
         &rt,
         alloc,
         Fault::Malformed(1_000_001),
         ("line ", "1000001 is malformed", 2),
     );
-    is_told(
+    is_reported(
         &rt,
         alloc,
         Fault::TooLong(17),
         ("line ", "17 is too long", 2),
     );
-    is_told(&rt, alloc, Fault::OutOfMemory, ("out of ", "memory", 12));
+    is_reported(&rt, alloc, Fault::OutOfMemory, ("out of ", "memory", 12));
     Ok(())
 }
 
@@ -67,10 +67,10 @@ fn a_fault_of_a_folder_has_its_message(rt: HostRuntime) -> Result<(), Fail> {
     let unwritten = Fault::Folders(folders::Fault::CannotWrite(text(alloc, "disk/A.TXT")?));
     let twice = Fault::Folders(folders::Fault::TwoFiles(name));
     let refused = Fault::Folders(folders::Fault::Refused(name, 2));
-    is_told(&rt, alloc, unread, ("cannot read ", "disk/a.txt", 1));
-    is_told(&rt, alloc, unwritten, ("cannot write ", "disk/A.TXT", 1));
-    is_told(&rt, alloc, twice, ("two files are ", "C:A.TXT", 1));
-    is_told(&rt, alloc, refused, ("file ", "C:A.TXT refused 2", 1));
+    is_reported(&rt, alloc, unread, ("cannot read ", "disk/a.txt", 1));
+    is_reported(&rt, alloc, unwritten, ("cannot write ", "disk/A.TXT", 1));
+    is_reported(&rt, alloc, twice, ("two files are ", "C:A.TXT", 1));
+    is_reported(&rt, alloc, refused, ("file ", "C:A.TXT refused 2", 1));
     Ok(())
 }
 
@@ -79,14 +79,14 @@ fn a_message_has_a_long_path(rt: HostRuntime) -> Result<(), Fail> {
     let alloc = rt.alloc();
     let unread = Fault::Folders(folders::Fault::CannotRead(text(alloc, LONG)?));
     let unwritten = Fault::Folders(folders::Fault::CannotWrite(text(alloc, LONG)?));
-    is_told(
+    is_reported(
         &rt,
         alloc,
         Fault::CannotRead(LONG),
         ("cannot read ", LONG, 1),
     );
-    is_told(&rt, alloc, unread, ("cannot read ", LONG, 1));
-    is_told(&rt, alloc, unwritten, ("cannot write ", LONG, 1));
+    is_reported(&rt, alloc, unread, ("cannot read ", LONG, 1));
+    is_reported(&rt, alloc, unwritten, ("cannot write ", LONG, 1));
     Ok(())
 }
 
@@ -94,7 +94,7 @@ fn a_message_has_a_long_path(rt: HostRuntime) -> Result<(), Fail> {
 fn a_fault_of_use_has_its_own_text(rt: HostRuntime) -> Result<(), Fail> {
     let alloc = rt.alloc();
     let used = Fault::Use(text(alloc, "cpmrun: wrong words\n")?);
-    is_told(&rt, alloc, used, ("wrong ", "words", 1));
+    is_reported(&rt, alloc, used, ("wrong ", "words", 1));
     let mut err = Over::new(Vec::new(alloc));
     let status = complain(alloc, Fault::NotText, &mut err);
     let err = err.into_inner();

@@ -167,7 +167,7 @@ fn repeated(
 
 // `Hi` is printed many times by one call. A report of 1024 bytes has 926 digits.
 #[test]
-fn a_text_is_told_whole_however_long(rt: HostRuntime) -> Result<(), Fail> {
+fn a_text_is_reported_whole_however_long(rt: HostRuntime) -> Result<(), Fail> {
     for count in [2, 231, 232, 512, 1023, 1024, 1025, 2048, 3000] {
         let program = repeated(rt.alloc(), BEFORE_STRING, b"Hi", count, b"$")?;
         let replies = repeated(rt.alloc(), BEFORE_DIGITS, b"4869", count, b"\nend\n")?;

@@ -58,7 +58,7 @@ pub fn step(
     match act {
         Note(ask, step) => return steps.note(&ask, step),
         EraseFrom(from) => steps.erase_from(from),
-        StepOf(ask, step) => return Ok(steps.files.of(&ask) == step),
+        StepOf(ask, step) => return Ok(steps.files.get(&ask) == step),
         Touch(least, key, step) => {
             return Ok(
                 steps

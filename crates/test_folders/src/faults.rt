@@ -6,7 +6,7 @@ use crate::acts::{Act, play};
 use std::test::Fail;
 
 #[test]
-fn two_files_of_one_name_are_told(rt: HostRuntime) -> Result<(), Fail> {
+fn two_files_of_one_name_are_reported(rt: HostRuntime) -> Result<(), Fail> {
     const ACTS: &[Act<'_>] = &[
         Put("z", b"x"),
         Put("Z", b"x"),
@@ -22,7 +22,7 @@ fn two_files_of_one_name_are_told(rt: HostRuntime) -> Result<(), Fail> {
 }
 
 #[test]
-fn a_folder_that_is_not_there_is_told(rt: HostRuntime) -> Result<(), Fail> {
+fn a_missing_folder_is_reported(rt: HostRuntime) -> Result<(), Fail> {
     const ACTS: &[Act<'_>] = &[
         Tells("none", Some(1), Around("cannot read ", "/none")),
         Put("none", b"x"),

@@ -24,7 +24,7 @@ fn records_are_written_with_holes_as_zeros(rt: HostRuntime) -> Result<(), Fail> 
 
 // A folder is at the path where the file is first written, so that nothing can be written there.
 #[test]
-fn an_older_file_stands_where_the_new_one_is_not_written(rt: HostRuntime) -> Result<(), Fail> {
+fn an_older_file_stays_if_the_new_one_is_not_written(rt: HostRuntime) -> Result<(), Fail> {
     const ACTS: &[Act<'_>] = &[
         Put("H.DAT", b"as it was"),
         MakeFolder(".H.DAT.new"),
@@ -58,7 +58,7 @@ fn what_was_left_is_not_written_into(rt: HostRuntime) -> Result<(), Fail> {
 
 // No other file is left in the folder.
 #[test]
-fn a_file_that_is_not_written_is_told(rt: HostRuntime) -> Result<(), Fail> {
+fn a_file_that_is_not_written_is_reported(rt: HostRuntime) -> Result<(), Fail> {
     const ACTS: &[Act<'_>] = &[
         Writes("none", "b:h", WithAHole, Around("cannot write ", "/none/H")),
         MakeFolder("H"),

@@ -5,7 +5,7 @@ use filenames::{Drive, Name};
 use folders::{
     ChangedFile, Failure, SystemFiles, name_in_folder, temporary_name, write_file, write_to_drive,
 };
-use hostfiles::{HostFiles, Journal, told_count};
+use hostfiles::{HostFiles, Journal, contents_count};
 use std::alloc::{AllocError, Global};
 use std::fs;
 use std::io::ErrorKind;
@@ -59,7 +59,7 @@ fn write(
     how: How,
 ) -> Result<String, AllocError> {
     let host = HostFiles::new(rt.alloc());
-    if told_count(&host, journal, &name.key()).is_none() {
+    if contents_count(&host, journal, &name.key()).is_none() {
         return String::from_str(rt.alloc(), "no such file");
     }
     let folders = [None, Some(folder), None, Some("/none")];

@@ -208,7 +208,7 @@ const NEW_NAME: &[Row<'_>] = &[
 ];
 
 #[test]
-fn a_new_name_stands_in_page_zero(rt: HostRuntime) -> Result<(), Trouble> {
+fn a_new_name_is_in_page_zero(rt: HostRuntime) -> Result<(), Trouble> {
     all_halt(rt.alloc(), NEW_NAME)
 }
 
@@ -234,7 +234,7 @@ const READ_AT: &[Row<'_>] = &[
 ];
 
 #[test]
-fn a_random_place_to_read_stands_in_page_zero(rt: HostRuntime) -> Result<(), Trouble> {
+fn a_random_number_to_read_is_in_page_zero(rt: HostRuntime) -> Result<(), Trouble> {
     all_halt(rt.alloc(), READ_AT)
 }
 
@@ -276,7 +276,7 @@ const WRITTEN_AT: &[Row<'_>] = &[
 ];
 
 #[test]
-fn a_random_place_to_write_stands_in_page_zero(rt: HostRuntime) -> Result<(), Trouble> {
+fn a_random_number_to_write_is_in_page_zero(rt: HostRuntime) -> Result<(), Trouble> {
     all_halt(rt.alloc(), WRITTEN_AT)
 }
 

@@ -117,7 +117,7 @@ fn cells_are_shared_and_copied(rt: HostRuntime) -> Result<(), Fail> {
     cells.ready(0x0101)?;
     cells.write(0x0101, 0x5a);
     cells.share()?;
-    let mut copy = Overlay::over(BlankMarks::new(rt.alloc())?, cells.snapshot()?);
+    let mut copy = Overlay::from_parts(BlankMarks::new(rt.alloc())?, cells.snapshot()?);
     copy_is_as_before(&rt, &mut cells, &mut copy)
 }
 

@@ -129,6 +129,6 @@ const CASES: &[Case<'_>] = &[
 ];
 
 #[test]
-fn what_stands_after_changes(rt: HostRuntime) -> Result<(), Fail> {
+fn what_is_there_after_changes(rt: HostRuntime) -> Result<(), Fail> {
     play(rt.alloc(), CASES)
 }

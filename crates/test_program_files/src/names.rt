@@ -130,7 +130,7 @@ const PLACES: &[(u32, u8, u8, u8)] = &[
 ];
 
 // Returns whether a record number that is set has these bytes, and all other bytes are unchanged.
-fn is_told_by(place: u32, ex: u8, s2: u8, cr: u8) -> bool {
+fn has_fields(place: u32, ex: u8, s2: u8, cr: u8) -> bool {
     if place > 65_536 {
         return false;
     }
@@ -146,6 +146,6 @@ fn is_told_by(place: u32, ex: u8, s2: u8, cr: u8) -> bool {
 #[test]
 fn a_place_is_three_bytes(rt: HostRuntime) {
     for (place, ex, s2, cr) in PLACES {
-        assert!(rt; is_told_by(*place, *ex, *s2, *cr), "{place}");
+        assert!(rt; has_fields(*place, *ex, *s2, *cr), "{place}");
     }
 }

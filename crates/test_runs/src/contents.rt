@@ -32,7 +32,7 @@ fn a_file_that_is_set_is_found(rt: HostRuntime) -> Result<(), Trouble> {
 }
 
 #[test]
-fn a_renamed_file_stands_on_its_host_file(rt: HostRuntime) -> Result<(), Trouble> {
+fn a_renamed_file_reads_its_host_file(rt: HostRuntime) -> Result<(), Trouble> {
     play(rt.alloc(), 0, &RENAMED_FILE)
 }
 
@@ -120,7 +120,7 @@ const MADE: Case<'_> = Case {
 };
 
 #[test]
-fn a_made_file_is_told_until_the_host_has_it(rt: HostRuntime) -> Result<(), Trouble> {
+fn a_made_file_is_reported_until_the_host_has_it(rt: HostRuntime) -> Result<(), Trouble> {
     play(rt.alloc(), 0, &MADE)
 }
 

@@ -87,7 +87,7 @@ const HOLE: Case<'_> = Case {
 };
 
 #[test]
-fn a_hole_is_told_as_zeros(rt: HostRuntime) -> Result<(), Trouble> {
+fn a_hole_is_reported_as_zeros(rt: HostRuntime) -> Result<(), Trouble> {
     play(rt.alloc(), 0, &HOLE)
 }
 

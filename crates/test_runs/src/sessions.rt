@@ -1,6 +1,6 @@
 // Sessions that are edited and run again.
 
-use machine::{Cause, whole_is_laid};
+use machine::{Cause, plain_machine_is_laid};
 use replay::{EditError, Options, OptionsError, Runner, prefix_dependence};
 use std::alloc::Global;
 use std::test::Fail;
@@ -129,9 +129,9 @@ const REPORTED: Case<'_> = Case {
 };
 
 #[test]
-fn a_report_tells_how_the_run_ended(rt: HostRuntime) -> Result<(), Trouble> {
+fn a_report_has_the_end_of_the_run(rt: HostRuntime) -> Result<(), Trouble> {
     play(rt.alloc(), 0, &REPORTED)?;
-    whole_is_laid();
+    plain_machine_is_laid();
     prefix_dependence();
     Ok(())
 }

@@ -127,7 +127,7 @@ const LENGTHS: &[Case<'_>] = &[
 ];
 
 #[test]
-fn the_tail_stands_behind_its_length(rt: HostRuntime) -> Result<(), Trouble> {
+fn the_tail_follows_its_length(rt: HostRuntime) -> Result<(), Trouble> {
     play_all(rt.alloc(), LENGTHS)
 }
 

@@ -51,7 +51,7 @@ fn help_names_each_option_and_status(rt: HostRuntime) -> Result<(), Fail> {
 const VERSION: &[Row<'_>] = &[(&["--version"], Told(Outcome::Information, "cpmrun 1.0.0\n"))];
 
 #[test]
-fn the_version_is_told(rt: HostRuntime) -> Result<(), Fail> {
+fn the_version_is_printed(rt: HostRuntime) -> Result<(), Fail> {
     come_to(&rt, rt.alloc(), VERSION)
 }
 

@@ -1,18 +1,18 @@
 use Rattle.std.proofs.Common.{rules, refl, ap}
-use Rattle.file_calls.specs.FileCalls.{found}
-use Rattle.bdos.specs.Questions.{asking_files}
-use Rattle.bdos.specs.FileCalls.{carried_on}
+use Rattle.file_calls.specs.Findings.{finding_of}
+use Rattle.bdos.specs.SystemQuestions.{bind_files}
+use Rattle.bdos.specs.FileCalls.{call_with_finding}
 use Rattle.bdos.proofs.Chains.{heads, after_files, fails_asking, answered_as}
 use Rattle.bdos.proofs.calls.file_call.Goals as goal
 
 pub returns-in-Ok-clause-fulfils : goal.returns-in-Ok-clause-fulfils
 returns-in-Ok-clause-fulfils g c script =
-    heads _ _ c.args.desk.now.desk.spot (λ b to. asking_files (found c.args.function b) (λ x. carried_on x c.args.regs.now c.args.desk.now.desk.spot to)) c.has_random_place.ensures c.word_of-at.ensures c.drive.ensures c.fetch-dr.ensures (search rules) c.fetch_block-block.ensures c.fetch_word-to.ensures
-    (after_files _ (λ x. carried_on x c.args.regs.now c.args.desk.now.desk.spot c.fetch_word-to.result) _ (answered_as (found c.args.function c.fetch_block-block.result) c.args.table.now.host.now c.in-Ok.is c.inquire.ensures.asks) (c.carry_on.ensures.fulfils script))
+    heads _ _ c.args.desk.now.desk.spot (λ b to. bind_files (finding_of c.args.function b) (λ x. call_with_finding x c.args.regs.now c.args.desk.now.desk.spot to)) c.has_random_place.ensures c.word_of-at.ensures c.drive.ensures c.fetch-dr.ensures (search rules) c.fetch_block-block.ensures c.fetch_word-to.ensures
+    (after_files _ (λ x. call_with_finding x c.args.regs.now c.args.desk.now.desk.spot c.fetch_word-to.result) _ (answered_as (finding_of c.args.function c.fetch_block-block.result) c.args.table.now.host.now c.in-Ok.is c.inquire.ensures.asks) (c.apply_finding.ensures.fulfils script))
 
 pub returns-in-Err-clause-fulfils : goal.returns-in-Err-clause-fulfils
 returns-in-Err-clause-fulfils g c script =
     let h = c.inquire.ensures.asks in
-    let bound = answered_as (found c.args.function c.fetch_block-block.result) c.args.table.now.host.now c.in-Err.is h in
-    heads _ _ c.args.desk.now.desk.spot (λ b to. asking_files (found c.args.function b) (λ x. carried_on x c.args.regs.now c.args.desk.now.desk.spot to)) c.has_random_place.ensures c.word_of-at.ensures c.drive.ensures c.fetch-dr.ensures (search rules) c.fetch_block-block.ensures c.fetch_word-to.ensures
-    (fails_asking (found c.args.function c.fetch_block-block.result) (λ x. carried_on x c.args.regs.now c.args.desk.now.desk.spot c.fetch_word-to.result) refl refl refl (ap (λ j. j.entries) h.stays) h.extends bound.bound refl refl (λ j. refl))
+    let bound = answered_as (finding_of c.args.function c.fetch_block-block.result) c.args.table.now.host.now c.in-Err.is h in
+    heads _ _ c.args.desk.now.desk.spot (λ b to. bind_files (finding_of c.args.function b) (λ x. call_with_finding x c.args.regs.now c.args.desk.now.desk.spot to)) c.has_random_place.ensures c.word_of-at.ensures c.drive.ensures c.fetch-dr.ensures (search rules) c.fetch_block-block.ensures c.fetch_word-to.ensures
+    (fails_asking (finding_of c.args.function c.fetch_block-block.result) (λ x. call_with_finding x c.args.regs.now c.args.desk.now.desk.spot c.fetch_word-to.result) refl refl refl (ap (λ j. j.entries) h.stays) h.extends bound.bound refl refl (λ j. refl))

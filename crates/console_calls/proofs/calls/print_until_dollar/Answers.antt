@@ -1,5 +1,5 @@
 use Rattle.std.proofs.Common.{sym, subst, ◌∙◌, rules, arith}
-use Rattle.console_calls.specs.Printing.{Grown}
+use Rattle.console_calls.specs.Printing.{GrowsText}
 use Rattle.console_calls.proofs.Scanning.{byte_read, looked_at, desk_on, looks_on, desk_here, looks_here, desk_end, looks_end, found_some, found_none, desk_is, grown_on}
 use Rattle.console_calls.proofs.Looking.{one_more}
 use Rattle.console_calls.proofs.calls.print_until_dollar.Goals as goal
@@ -13,7 +13,7 @@ loop-cell-preserved g c =
       desk = desk_on _ 65536 c.loop-cell._cell _ _ _ _ (omega arith) value (omega arith) c.in_ok-print.ensures.ok ∙ i.desk;
       looks = looks_on _ _ _ _ 65536 c.loop-cell._cell _ _ (omega arith) value (omega arith) looked ∙ i.looks;
       extends = one_more _ _ _ _ _ i.extends looked;
-      grown = subst (Grown c.args.desk.now.desk) (sym c.in_ok-print.ensures.ok) (grown_on _ _ _ i.grown);
+      grown = subst (GrowsText c.args.desk.now.desk) (sym c.in_ok-print.ensures.ok) (grown_on _ _ _ i.grown);
       places = search rules;
       own = search rules;
       beneath = search rules;

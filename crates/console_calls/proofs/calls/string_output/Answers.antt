@@ -1,6 +1,6 @@
 use Rattle.std.proofs.Common.{rules, ℕ, ap}
 use Rattle.std.proofs.lemmas.Result.{err_from_is_err_and}
-use Rattle.console_calls.specs.Places.{is_within}
+use Rattle.console_calls.specs.ScriptLooks.{is_within}
 use Rattle.console_calls.proofs.Carried.{fails}
 use Rattle.console_calls.proofs.Looking.{past_two}
 use Rattle.console_calls.proofs.Strings.{string_stops, string_goes, string_bound}

@@ -1,5 +1,5 @@
 use Rattle.std.proofs.Common.{ap, sym, ◌∙◌, arith}
-use Rattle.console_calls.specs.Types.{typed_of}
+use Rattle.console_calls.specs.Types.{line_step_of}
 use Rattle.console_calls.proofs.Typing.{goes_typed, full_types, ends_types, boots_types, short_types, byte_is, no_byte}
 use Rattle.console_calls.proofs.line.take_line.Goals as goal
 
@@ -9,12 +9,12 @@ returns-then-len-capacity-clause-types c byte n within = full_types c.loop-place
 pub returns-in-Ends-clause-types : goal.returns-in-Ends-clause-types
 returns-in-Ends-clause-types c byte n within =
     ends_types c.loop-place.invariant.typed byte n (omega arith) (omega arith) _ (byte_is _ c.loop-place.place _ _ c.loop-place.invariant.place (omega arith)) _
-    (sym (ap (λ t. typed_of t c.take.new.self) c.in-Ends.is) ∙ c.in_ok-take.ensures.typed)
+    (sym (ap (λ t. line_step_of t c.take.new.self) c.in-Ends.is) ∙ c.in_ok-take.ensures.typed)
 
 pub returns-in-Boots-clause-types : goal.returns-in-Boots-clause-types
 returns-in-Boots-clause-types c byte n within =
     boots_types c.loop-place.invariant.typed byte n (omega arith) (omega arith) _ (byte_is _ c.loop-place.place _ _ c.loop-place.invariant.place (omega arith))
-    (sym (ap (λ t. typed_of t c.take.new.self) c.in-Boots.is) ∙ c.in_ok-take.ensures.typed)
+    (sym (ap (λ t. line_step_of t c.take.new.self) c.in-Boots.is) ∙ c.in_ok-take.ensures.typed)
 
 pub loop-place-preserved : goal.loop-place-preserved
 loop-place-preserved c = record {
@@ -23,7 +23,7 @@ loop-place-preserved c = record {
   bound = omega arith;
   room = omega arith;
   typed = goes_typed c.loop-place.invariant.typed (omega arith) _ (byte_is _ c.loop-place.place _ _ c.loop-place.invariant.place (omega arith))
-      (sym (ap (λ t. typed_of t c.take.new.self) c.in-Goes.is) ∙ c.in_ok-take.ensures.typed);
+      (sym (ap (λ t. line_step_of t c.take.new.self) c.in-Goes.is) ∙ c.in_ok-take.ensures.typed);
 }
 
 pub returns-then-len-capacity-2-clause-types : goal.returns-then-len-capacity-2-clause-types

@@ -2,17 +2,17 @@ use Rattle.std.proofs.Common.{◌≡◌, true, false, rules}
 use Rattle.std.proofs.lemmas.Result.{err_from_is_err_and}
 use Rattle.filenames.specs.Names.{is_sayable}
 use Rattle.hostfiles.specs.Hosts.{Key}
-use Rattle.hostfiles.specs.Files.{Own}
-use Rattle.hostfiles.specs.Looks.{Extends, look_has}
-use Rattle.hostfiles.specs.declared.looks.Looks.{Looks}
-use Rattle.cpmfiles.specs.Tables.{look_renamed}
+use Rattle.hostfiles.specs.Files.{OwnFiles}
+use Rattle.hostfiles.specs.FileLooks.{KeepsAsks, look_has}
+use Rattle.hostfiles.specs.declared.looks.FileLooks.{FileLooks}
+use Rattle.cpmfiles.specs.Tables.{look_rename}
 use Rattle.cpmfiles.specs.Renaming.{has_wildcard}
 use Rattle.cpmfiles.proofs.LookLaws.{within_second}
 use Rattle.cpmfiles.proofs.asking.can_rename.Goals as goal
 
 -- A rename asks about the first of its two keys.
-first_key : (own : Own) (old new : Key) (l m : Looks) → has_wildcard old ≡ false → is_sayable new ≡ true
-    → Extends l (look_has own old m) → Extends l (look_renamed own old new m)
+first_key : (own : OwnFiles) (old new : Key) (l m : FileLooks) → has_wildcard old ≡ false → is_sayable new ≡ true
+    → KeepsAsks l (look_has own old m) → KeepsAsks l (look_rename own old new m)
 first_key own old new l m plain fit h = rw (plain, fit) (within_second own old new l m h)
 
 pub returns-in_err-there-clause-inquires : goal.returns-in_err-there-clause-inquires

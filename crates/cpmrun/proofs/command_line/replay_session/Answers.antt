@@ -1,7 +1,7 @@
 use Rattle.std.proofs.Common.{[], ap, subst}
 use Rattle.std.proofs.KnownBytes.{Consumes-nil}
 use Rattle.std.proofs.lemmas.Result.{IfErr-weaker, err_from_is_err_and}
-use Rattle.machine.specs.Given.{Session}
+use Rattle.machine.specs.Inputs.{Session}
 use Rattle.replay.specs.RunnerView.{RunnerView}
 use Rattle.edit_lines.specs.Faults.{Faults}
 use Rattle.cpmrun.proofs.Writing.{writes_replay}

@@ -1,11 +1,11 @@
 use Rattle.std.proofs.Common.{◌≡◌, ◌≤◌, ℕ, vec_len}
-use Rattle.file_steps.specs.Noting.{erased}
+use Rattle.file_steps.specs.Noting.{step_below}
 use Rattle.file_steps.specs.FirstSteps.{IsInOrder, latest_of, step_at}
 use Rattle.file_steps.proofs.first_steps.erase_from.Given as goal
 
 abbrev pub invariant-loop-last : goal.invariant-loop-last
 invariant-loop-last l = record {
-  left : (k : ℕ) → erased l.from (step_at l.steps.items k) ≡ erased l.from (step_at l.initial.steps.items k);
+  left : (k : ℕ) → step_below l.from (step_at l.steps.items k) ≡ step_below l.from (step_at l.initial.steps.items k);
   order : IsInOrder l.steps.items l.looks.items;
   latest : latest_of l.looks.items ≤ latest_of l.initial.looks.items;
 }

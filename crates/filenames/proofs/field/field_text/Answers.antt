@@ -8,4 +8,4 @@ only_ok (Ok x) P Q h never = refl
 only_ok (Err e) P Q h never = absurd (never e h)
 
 pub unwrap-requires : goal.unwrap-requires
-unwrap-requires c = only_ok _ _ _ c.from_utf8.ensures.cases (λ e no. no.0 (field_is_text c.first-end.result c.args.field.now c.requires))
+unwrap-requires c = only_ok _ _ _ c.from_utf8.ensures.cases (λ e no. no.0 (field_is_text c.find_byte-end.result c.args.field.now c.requires))

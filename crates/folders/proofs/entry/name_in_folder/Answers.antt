@@ -8,7 +8,7 @@ use Rattle.folders.proofs.entry.name_in_folder.Goals as goal
 pub returns-in-Ok-clause-key : goal.returns-in-Ok-clause-key
 returns-in-Ok-clause-key c =
     let plain : list_any is_colon c.args.file.now ≡ false = search rules in
-    ap Some c.moved_to.ensures.moved ∙ sym (said_key c.args.file.now (drive_number c.args.drive) c.in-Ok.name plain c.in-Ok.ensures)
+    ap Some c.with_drive.ensures.moved ∙ sym (said_key c.args.file.now (drive_number c.args.drive) c.in-Ok.name plain c.in-Ok.ensures)
 
 pub returns-in-Err-clause-key : goal.returns-in-Err-clause-key
 returns-in-Err-clause-key c =

@@ -21,7 +21,7 @@ read_one-requires g c = rw c.loop-key.invariant.0 c.requires.failures
 pub loop-key-preserved : goal.loop-key-preserved
 loop-key-preserved g c =
     let key = c.in-Some.key.now in
-    let same : c.of_key.result ≡ key = c.of_key.ensures in
+    let same : c.from_valid_key.result ≡ key = c.from_valid_key.ensures in
     let now = c.read_one.new.files in
     let listed = c.args.listing.now.files in
     let files = (g.S.FileSystem.files c.args.system.now).bytes in
@@ -56,7 +56,7 @@ returns-in_err-read_one-clause-fault g c =
     (listed_fails files folder listed c.args.files.now c.loop-key.after host c.in-Some.key.now c.in-Some.file.now failure c.loop-key.invariant.1
     c.in-Some.ensures.least c.in-Some.ensures.there
     (subst (λ (text : Path). FailsBy (FailsFile files (path_text folder text) host c.in-Some.key.now) failure) c.as_str.ensures.value
-    (subst (λ (n : Key). FailsBy (FailsFile files (path_text folder c.as_str.result.now) host n) failure) c.of_key.ensures
+    (subst (λ (n : Key). FailsBy (FailsFile files (path_text folder c.as_str.result.now) host n) failure) c.from_valid_key.ensures
     (rw c.loop-key.invariant.0 at c.in_err-read_one.ensures.fault))))
 
 pub returns : goal.returns

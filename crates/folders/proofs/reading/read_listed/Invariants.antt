@@ -1,5 +1,5 @@
 use Rattle.std.proofs.Common.{◌≡◌}
-use Rattle.keymaps.specs.Walks.{left}
+use Rattle.keymaps.specs.Walks.{count_above}
 use Rattle.folders.proofs.ReadLemmas.{SetUpTo, WantedOf}
 use Rattle.folders.proofs.reading.read_listed.Given as goal
 
@@ -9,4 +9,4 @@ invariant-loop-key g l =
     × SetUpTo (WantedOf (g.S.FileSystem.files l.fn.system).bytes l.folder l.listing.files) l.listing.files l.fn.files l.after l.files
 
 abbrev pub decreases-loop-key : goal.decreases-loop-key
-decreases-loop-key g l = left l.listing.files l.after
+decreases-loop-key g l = count_above l.listing.files l.after

@@ -1,4 +1,4 @@
-use Rattle.keymaps.specs.Walks.{left}
+use Rattle.keymaps.specs.Walks.{count_above}
 use Rattle.hostfiles.proofs.ChangedWalk.{Passed}
 use Rattle.hostfiles.proofs.names.next_above.Given as goal
 
@@ -6,4 +6,4 @@ abbrev pub invariant-loop-key : goal.invariant-loop-key
 invariant-loop-key l = Passed l.host l.journal.entries l.fn.after l.low
 
 abbrev pub decreases-loop-key : goal.decreases-loop-key
-decreases-loop-key l = left l.journal.entries l.low
+decreases-loop-key l = count_above l.journal.entries l.low

@@ -1,7 +1,7 @@
 use Rattle.std.proofs.Common.{arith, refl, ℕ}
-use Rattle.machine.specs.Machine.{ask}
+use Rattle.machine.specs.Machine.{session_answers}
 use Rattle.replay.proofs.RingLemmas.{on_err, begins_below, none_added}
-use Rattle.replay.specs.declared.keeping.RunNotes.{RunNotes}
+use Rattle.replay.specs.declared.run_notes.RunNotes.{RunNotes}
 use Rattle.replay.specs.declared.ring.Checkpoints.{Checkpoints}
 use Rattle.replay.specs.Resuming.{AddsDue}
 use Rattle.replay.specs.Ring.{start_step}
@@ -15,7 +15,7 @@ use Rattle.replay.proofs.rerun.rerun.Goals as goal
 pub returns-in_err-from-clause-broken_off : goal.returns-in_err-from-clause-broken_off
 returns-in_err-from-clause-broken_off c =
     let s = c.args.last_run.now.session in
-    let start = start_reached (ask s) s.limit c.args.last_run.now.text.items c.args.checkpoints.now.ring.items c.requires.sound.stands in
+    let start = start_reached (session_answers s) s.limit c.args.last_run.now.text.items c.args.checkpoints.now.ring.items c.requires.sound.stands in
     on_err c.from_residual.result _ (start_step s.limit c.args.checkpoints.now.ring.items, start.0, start.1, start_within s.limit c.args.checkpoints.now.ring.items, omega arith)
 
 pub returns-in_err-steps-clause-broken_off : goal.returns-in_err-steps-clause-broken_off
@@ -35,7 +35,7 @@ resume-ran-requires-clause-begins c = record {
 
 pub resume-ran-requires-clause-sound : goal.resume-ran-requires-clause-sound
 resume-ran-requires-clause-sound c = record {
-  valid = stands_valid (ask c.args.last_run.now.session) c.args.last_run.now.text.items c.args.checkpoints.now.ring.items c.requires.sound.stands;
+  valid = stands_valid (session_answers c.args.last_run.now.session) c.args.last_run.now.text.items c.args.checkpoints.now.ring.items c.requires.sound.stands;
   rising = c.requires.sound.rising;
   below = c.requires.sound.below;
   noted = c.requires.sound.noted;
@@ -43,21 +43,21 @@ resume-ran-requires-clause-sound c = record {
   seen_in = c.requires.sound.seen_in;
 }
 
-failed : (c : goal.After-drop-kept-inside-in_err-steps) → Left (ask c.args.last_run.now.session) c.resume-ran.new.running.state c.put_by-kept.new.text.items c.resume-ran.new.checkpoints.ring.items
+failed : (c : goal.After-drop-kept-inside-in_err-steps) → Left (session_answers c.args.last_run.now.session) c.resume-ran.new.running.state c.save_end-kept.new.text.items c.resume-ran.new.checkpoints.ring.items
 failed c =
     let at = c.resume-ran.ensures.at in
-    left (ask c.args.last_run.now.session) c.args.last_run.now.session.limit c.newest_step-newest.result c.in_ok-from.from c.limit.result c.resume-ran.new.running.state c.args.checkpoints.now.ring c.resume-ran.new.checkpoints.ring
-    c.args.last_run.now.text.items c.begin.new.text.items c.put_by-kept.new.text.items
+    left (session_answers c.args.last_run.now.session) c.args.last_run.now.session.limit c.newest_step-newest.result c.in_ok-from.from c.limit.result c.resume-ran.new.running.state c.args.checkpoints.now.ring c.resume-ran.new.checkpoints.ring
+    c.args.last_run.now.text.items c.begin.new.text.items c.save_end-kept.new.text.items
     c.requires.sound.stands c.newest_step-newest.ensures.there c.limit.ensures.value c.in_ok-from.ensures.step (at.0, at.1, at.2, at.3) c.resume-ran.ensures.same c.resume-ran.ensures.sound.valid
-    c.in_ok-from.ensures.needed c.put_by-kept.ensures.text c.put_by-kept.ensures.needed
+    c.in_ok-from.ensures.needed c.save_end-kept.ensures.text c.save_end-kept.ensures.needed
 
-ended : (c : goal.Joined-last_run-2) → Left (ask c.args.last_run.now.session) c.resume-ran.new.running.state c.put_by-kept.new.text.items c.resume-ran.new.checkpoints.ring.items
+ended : (c : goal.Joined-last_run-2) → Left (session_answers c.args.last_run.now.session) c.resume-ran.new.running.state c.save_end-kept.new.text.items c.resume-ran.new.checkpoints.ring.items
 ended c =
     let at = c.resume-ran.ensures.at in
-    left (ask c.args.last_run.now.session) c.args.last_run.now.session.limit c.newest_step-newest.result c.in_ok-from.from c.limit.result c.resume-ran.new.running.state c.args.checkpoints.now.ring c.resume-ran.new.checkpoints.ring
-    c.args.last_run.now.text.items c.begin.new.text.items c.put_by-kept.new.text.items
+    left (session_answers c.args.last_run.now.session) c.args.last_run.now.session.limit c.newest_step-newest.result c.in_ok-from.from c.limit.result c.resume-ran.new.running.state c.args.checkpoints.now.ring c.resume-ran.new.checkpoints.ring
+    c.args.last_run.now.text.items c.begin.new.text.items c.save_end-kept.new.text.items
     c.requires.sound.stands c.newest_step-newest.ensures.there c.limit.ensures.value c.in_ok-from.ensures.step (at.0, at.1, at.2, at.3) c.resume-ran.ensures.same c.resume-ran.ensures.sound.valid
-    c.in_ok-from.ensures.needed c.put_by-kept.ensures.text c.put_by-kept.ensures.needed
+    c.in_ok-from.ensures.needed c.save_end-kept.ensures.text c.save_end-kept.ensures.needed
 
 pub returns-in_err-steps-clause-sound : goal.returns-in_err-steps-clause-sound
 returns-in_err-steps-clause-sound c = record {
@@ -80,10 +80,10 @@ returns-clause-sound c = record {
 }
 
 pub returns-clause-ended : goal.returns-clause-ended
-returns-clause-ended c = (refl, rw c.put_by-kept.ensures.kept (ended c).fits)
+returns-clause-ended c = (refl, rw c.save_end-kept.ensures.kept (ended c).fits)
 
 pub returns-clause-cold : goal.returns-clause-cold
-returns-clause-cold c = rw c.put_by-kept.ensures.kept (rw (ended c).begins c.in_ok-steps.ensures.cold)
+returns-clause-cold c = rw c.save_end-kept.ensures.kept (rw (ended c).begins c.in_ok-steps.ensures.cold)
 
 pub returns-in_err-from-clause-adds : goal.returns-in_err-from-clause-adds
 returns-in_err-from-clause-adds c =

@@ -3,10 +3,10 @@ use Rattle.std.proofs.Math.Nat.{eq-or-lt_of_le}
 use Rattle.std.proofs.lemmas.Bool.Decides.{eqb_tells}
 use Rattle.machine.specs.Cause.{Cause}
 use Rattle.machine.specs.StateView.{PartialState}
-use Rattle.machine.specs.Machine.{ask}
-use Rattle.machine.specs.Stretch.{LooksAtNothingNew, Stretches}
-use Rattle.replay.specs.declared.keeping.RunNotes.{RunNotes}
-use Rattle.replay.specs.FirstLooks.{Noted, IsFirstLooks}
+use Rattle.machine.specs.Machine.{session_answers}
+use Rattle.machine.specs.Stretch.{LooksAtNothingNew, RunsStretch}
+use Rattle.replay.specs.declared.run_notes.RunNotes.{RunNotes}
+use Rattle.replay.specs.FirstLooks.{FirstLooksView, IsFirstLooks}
 use Rattle.replay.proofs.StretchNotes.{stretch_kept, passed}
 use Rattle.replay.proofs.OutcomeLemmas.{match_err}
 use Rattle.replay.proofs.RefusalLemmas.{none_counted, once_on, once_at_stop}
@@ -20,22 +20,22 @@ loop-n-preserved c =
     let i = c.loop-n.invariant in
     let reached = c.in_ok-reached.reached in
     let (x, stretched, metered, same) = c.in_ok-reached.ensures.runs in
-    let stretch : Stretches c.args.session.now c.loop-n.n c.bound_of-bound.result c.loop-n.running.looked reached (Ok None) c.run_from.new.running =
-    subst (λ (k : ℕ). Stretches c.args.session.now c.loop-n.n c.bound_of-bound.result c.loop-n.running.looked k (Ok None) c.run_from.new.running) (sym same)
-    (subst (λ (o : Option Cause). Stretches c.args.session.now c.loop-n.n c.bound_of-bound.result c.loop-n.running.looked x (Ok o) c.run_from.new.running) c.in_default.is stretched) in
+    let stretch : RunsStretch c.args.session.now c.loop-n.n c.bound_of-bound.result c.loop-n.running.looked reached (Ok None) c.run_from.new.running =
+    subst (λ (k : ℕ). RunsStretch c.args.session.now c.loop-n.n c.bound_of-bound.result c.loop-n.running.looked k (Ok None) c.run_from.new.running) (sym same)
+    (subst (λ (o : Option Cause). RunsStretch c.args.session.now c.loop-n.n c.bound_of-bound.result c.loop-n.running.looked x (Ok o) c.run_from.new.running) c.in_default.is stretched) in
     let more : c.loop-n.n < reached = rw c.in_default.is at c.in_ok-reached.ensures.progress in
     let seen : c.loop-n.n < c.loop-n.notes.looks.seen → reached ≤ c.loop-n.notes.looks.seen = λ low. omega (arith, stretch.within, c.seen.ensures, c.bound_of-bound.ensures.seen (omega (arith, low, c.seen.ensures))) in
-    let other = c.keep_looks.ensures.other in
-    let notes = stretch_kept c.args.session.now c.bound_of-bound.result c.loop-n.n reached c.loop-n.notes.looks c.keep_looks.new.notes.looks c.loop-n.notes.refusals c.keep_looks.new.notes.refusals _ c.loop-n.running.looked
-    c.run_from.new.running.looked c.keep_looks.new.running.looked stretch more i.noted i.looks seen c.keep_looks.ensures.cells (λ ne. (ap (λ (t : RunNotes). t.looks) (other ne).0, ap (λ (t : RunNotes). t.refusals) (other ne).0, (other ne).1, (other ne).2))
-    (rw c.look_count-noted.ensures at c.keep_looks.ensures.here) in
+    let other = c.note_last_step.ensures.other in
+    let notes = stretch_kept c.args.session.now c.bound_of-bound.result c.loop-n.n reached c.loop-n.notes.looks c.note_last_step.new.notes.looks c.loop-n.notes.refusals c.note_last_step.new.notes.refusals _ c.loop-n.running.looked
+    c.run_from.new.running.looked c.note_last_step.new.running.looked stretch more i.noted i.looks seen c.note_last_step.ensures.cells (λ ne. (ap (λ (t : RunNotes). t.looks) (other ne).0, ap (λ (t : RunNotes). t.refusals) (other ne).0, (other ne).1, (other ne).2))
+    (rw c.look_count-noted.ensures at c.note_last_step.ensures.here) in
     record {
-      at = stretch.at ∙ ap (λ (st : PartialState). Some st) (sym c.keep_looks.ensures.state);
+      at = stretch.at ∙ ap (λ (st : PartialState). Some st) (sym c.note_last_step.ensures.state);
       looks = notes.looks;
       noted = notes.noted;
       seen_in = elim notes.within [ inl e ↦ omega (arith, e, i.seen_in) | inr e ↦ omega (arith, e, stretch.within, c.bound_of-bound.ensures.within, c.requires.order) ];
       counted = (omega (arith, notes.counted, i.counted), omega (arith, notes.counted, i.counted, more));
-      once = once_on _ _ _ _ _ c.loop-n.notes.looks _ i.once i.low c.keep_looks.new.notes.looks _ _ _ _ more (λ ne. (ap (λ (t : RunNotes). t.looks) (other ne).0, ap (λ (t : RunNotes). t.refusals) (other ne).0)) c.keep_looks.ensures.here;
+      once = once_on _ _ _ _ _ c.loop-n.notes.looks _ i.once i.low c.note_last_step.new.notes.looks _ _ _ _ more (λ ne. (ap (λ (t : RunNotes). t.looks) (other ne).0, ap (λ (t : RunNotes). t.refusals) (other ne).0)) c.note_last_step.ensures.here;
       all = λ low none. notes.all (omega (arith, none, notes.counted, i.counted)) (i.all low (omega (arith, none, notes.counted, i.counted)));
       grows = omega (arith, notes.grows, i.grows);
       low = omega (arith, more, i.low);
@@ -47,26 +47,26 @@ pub returns-in-Some-clause-noted : goal.returns-in-Some-clause-noted
 returns-in-Some-clause-noted c =
     let i = c.loop-n.invariant in
     let (x, stretched, metered, same) = c.in_ok-reached.ensures.runs in
-    let stretch = subst (λ (o : Option Cause). Stretches c.args.session.now c.loop-n.n c.bound_of-bound.result c.loop-n.running.looked x (Ok o) c.run_from.new.running) c.in-Some.is stretched in
+    let stretch = subst (λ (o : Option Cause). RunsStretch c.args.session.now c.loop-n.n c.bound_of-bound.result c.loop-n.running.looked x (Ok o) c.run_from.new.running) c.in-Some.is stretched in
     elim (eqb_tells c.loop-n.n c.loop-n.notes.looks.seen) [
       | inl e ↦
-          let quiet : LooksAtNothingNew (ask c.args.session.now) c.loop-n.running.looked c.loop-n.notes.looks.seen c.in_ok-reached.reached =
-          subst (λ (k : ℕ). LooksAtNothingNew (ask c.args.session.now) c.loop-n.running.looked k c.in_ok-reached.reached) e.1
-          (subst (λ (k : ℕ). LooksAtNothingNew (ask c.args.session.now) c.loop-n.running.looked c.loop-n.n k) (sym same) stretch.before_stop) in
-          subst (λ (t : Noted). IsFirstLooks (ask c.args.session.now) t) (sym (c.keep_seen.ensures.here e.1))
-          (passed (ask c.args.session.now) c.loop-n.notes.looks c.loop-n.running.looked i.noted (i.looks (omega (arith, e.1))) c.in_ok-reached.reached (omega (arith, e.1, stretch.within, same)) quiet)
-      | inr ne ↦ subst (λ (t : Noted). IsFirstLooks (ask c.args.session.now) t) (sym (c.keep_seen.ensures.other ne.1)) i.noted
+          let quiet : LooksAtNothingNew (session_answers c.args.session.now) c.loop-n.running.looked c.loop-n.notes.looks.seen c.in_ok-reached.reached =
+          subst (λ (k : ℕ). LooksAtNothingNew (session_answers c.args.session.now) c.loop-n.running.looked k c.in_ok-reached.reached) e.1
+          (subst (λ (k : ℕ). LooksAtNothingNew (session_answers c.args.session.now) c.loop-n.running.looked c.loop-n.n k) (sym same) stretch.before_stop) in
+          subst (λ (t : FirstLooksView). IsFirstLooks (session_answers c.args.session.now) t) (sym (c.pass_seen.ensures.here e.1))
+          (passed (session_answers c.args.session.now) c.loop-n.notes.looks c.loop-n.running.looked i.noted (i.looks (omega (arith, e.1))) c.in_ok-reached.reached (omega (arith, e.1, stretch.within, same)) quiet)
+      | inr ne ↦ subst (λ (t : FirstLooksView). IsFirstLooks (session_answers c.args.session.now) t) (sym (c.pass_seen.ensures.other ne.1)) i.noted
     ]
 
 pub returns-in-Some-clause-counts : goal.returns-in-Some-clause-counts
 returns-in-Some-clause-counts c =
     let i = c.loop-n.invariant in
     let (x, stretched, metered, same) = c.in_ok-reached.ensures.runs in
-    let stretch = subst (λ (o : Option Cause). Stretches c.args.session.now c.loop-n.n c.bound_of-bound.result c.loop-n.running.looked x (Ok o) c.run_from.new.running) c.in-Some.is stretched in
+    let stretch = subst (λ (o : Option Cause). RunsStretch c.args.session.now c.loop-n.n c.bound_of-bound.result c.loop-n.running.looked x (Ok o) c.run_from.new.running) c.in-Some.is stretched in
     let low : c.loop-n.n ≤ c.in_ok-reached.reached = omega (arith, stretch.within, same) in
-    let here = c.keep_seen.ensures.here in
-    let other = c.keep_seen.ensures.other in (
-      once_at_stop _ _ _ _ _ c.loop-n.notes.looks _ i.once i.low c.keep_seen.new.looks low here other,
+    let here = c.pass_seen.ensures.here in
+    let other = c.pass_seen.ensures.other in (
+      once_at_stop _ _ _ _ _ c.loop-n.notes.looks _ i.once i.low c.pass_seen.new.looks low here other,
       record {
         grows = omega (arith, i.counted);
         few = omega (arith, i.counted, low);

@@ -1,18 +1,18 @@
 use Rattle.std.proofs.Common.{◌≡◌, ◌+◌, ◌-◌, ◌≤◌, Some}
 use Rattle.machine.specs.declared.session.TheConstants.{STEP_LIMIT}
-use Rattle.machine.specs.Machine.{ask, after}
+use Rattle.machine.specs.Machine.{session_answers, after}
 use Rattle.replay.specs.FirstLooks.{AllNoted, IsFirstLooks}
-use Rattle.replay.specs.RefusalCount.{RefusesLooksOnce}
+use Rattle.replay.specs.AllocFailures.{FailsLooksOnce}
 use Rattle.replay.proofs.run.advance.Given as goal
 
 abbrev pub invariant-loop-n : goal.invariant-loop-n
 invariant-loop-n l = record {
-  at : after (ask l.session) l.n ≡ Some l.running.state;
+  at : after (session_answers l.session) l.n ≡ Some l.running.state;
   looks : l.n ≤ l.notes.looks.seen → AllNoted l.notes.looks l.running.looked;
-  noted : IsFirstLooks (ask l.session) l.notes.looks;
+  noted : IsFirstLooks (session_answers l.session) l.notes.looks;
   seen_in : l.notes.looks.seen ≤ STEP_LIMIT;
   counted : (l.initial.notes.refusals ≤ l.notes.refusals) × (l.notes.refusals + l.from ≤ l.initial.notes.refusals + l.n);
-  once : RefusesLooksOnce l.initial.notes.looks.seen l.from l.initial.notes.refusals l.notes.looks.seen l.n l.notes.refusals;
+  once : FailsLooksOnce l.initial.notes.looks.seen l.from l.initial.notes.refusals l.notes.looks.seen l.n l.notes.refusals;
   all : l.from ≤ l.initial.notes.looks.seen → l.notes.refusals ≡ l.initial.notes.refusals → l.n ≤ l.notes.looks.seen;
   grows : l.initial.notes.looks.seen ≤ l.notes.looks.seen;
   low : l.from ≤ l.n;

@@ -1,6 +1,6 @@
 use Rattle.std.proofs.Common.{inl, inr, arith, subst, ℕ, refl, ◌∙◌, ◌≡◌, ◌+◌, ◌≤◌, ◌<◌, ap, sym, Some}
 use Rattle.machine.specs.StateView.{StateView}
-use Rattle.machine.specs.Machine.{ask, after}
+use Rattle.machine.specs.Machine.{session_answers, after}
 use Rattle.replay.specs.Ring.{Adds, AddsAll}
 use Rattle.replay.proofs.KeepingLemmas.{new_valid}
 use Rattle.replay.proofs.RingLemmas.{Each-weaken, widen_to, relast_adding, kept_adds, kept_capacity, kept_each, kept_known, kept_same, begins_below, none_made, adds_rising}
@@ -77,9 +77,9 @@ returns-in_err-reached-clause-sound c =
 pub returns-in-Some-clause-cold : goal.returns-in-Some-clause-cold
 returns-in-Some-clause-cold c =
     let a = c.in_ok-reached.ensures.at in
-    let at : after (ask c.args.session.now) c.in_ok-reached.reached ≡ Some c.advance.new.running.state = rw a.4 a.1 in
+    let at : after (session_answers c.args.session.now) c.in_ok-reached.reached ≡ Some c.advance.new.running.state = rw a.4 a.1 in
     let stopped = rw c.in-Some.is at c.in_ok-reached.ensures.stopped in
-    rw c.keep_above-last_kept.ensures.running (cold_stop _ _ _ _ at (omega (arith, stopped.0, c.due_after-end.ensures.later, c.limit-limit.ensures.value)) stopped.1)
+    rw c.push_checkpoint-last_kept.ensures.running (cold_stop _ _ _ _ at (omega (arith, stopped.0, c.due_after-end.ensures.later, c.limit-limit.ensures.value)) stopped.1)
 
 pub returns-in-Some-clause-at : goal.returns-in-Some-clause-at
 returns-in-Some-clause-at c =
@@ -89,9 +89,9 @@ returns-in-Some-clause-at c =
     let low = a.2 in
     let high = a.3 in (
       a.0,
-      a.1 ∙ ap (λ (r : StateView). Some r.state) (sym c.keep_above-last_kept.ensures.running),
+      a.1 ∙ ap (λ (r : StateView). Some r.state) (sym c.push_checkpoint-last_kept.ensures.running),
       omega (arith, high, c.due_after-end.ensures.later, c.limit-limit.ensures.value),
-      λ h. kept_each _ c.loop-n.checkpoints.ring _ _ _ c.keep_above-last_kept.ensures.ring (Each-weaken _ _ _ (λ d e. omega (arith, e, low)) (i.upto h)) (λ e. omega (arith, here)),
+      λ h. kept_each _ c.loop-n.checkpoints.ring _ _ _ c.push_checkpoint-last_kept.ensures.ring (Each-weaken _ _ _ (λ d e. omega (arith, e, low)) (i.upto h)) (λ e. omega (arith, here)),
       omega (arith, low, i.low),
       omega (arith, a.5, i.meter),
       here,
@@ -104,21 +104,21 @@ returns-in-Some-clause-same c h =
     let here : c.in_ok-reached.reached ≡ a.0 = a.4 in
     let high = a.3 in
     let past : c.args.session.now.limit < c.args.newest = h in
-    kept_same _ c.loop-n.checkpoints.ring _ _ c.keep_above-last_kept.ensures.ring (omega (arith, here, high, past, i.newer, c.due_after-end.ensures.later, c.limit-limit.ensures.value)) ∙ i.same (omega (arith, past, c.limit-limit.ensures.value))
+    kept_same _ c.loop-n.checkpoints.ring _ _ c.push_checkpoint-last_kept.ensures.ring (omega (arith, here, high, past, i.newer, c.due_after-end.ensures.later, c.limit-limit.ensures.value)) ∙ i.same (omega (arith, past, c.limit-limit.ensures.value))
 
-all_due : (c : goal.In-Some) → c.keep_above-last_kept.new.refusals ≡ 0 → AddsAll c.args.checkpoints.now.ring.items c.keep_above-last_kept.new.ring.items c.args.checkpoints.now.ring.capacity c.args.from c.in_ok-reached.reached c.in_ok-reached.reached c.args.checkpoints.now.spacing
+all_due : (c : goal.In-Some) → c.push_checkpoint-last_kept.new.refusals ≡ 0 → AddsAll c.args.checkpoints.now.ring.items c.push_checkpoint-last_kept.new.ring.items c.args.checkpoints.now.ring.capacity c.args.from c.in_ok-reached.reached c.in_ok-reached.reached c.args.checkpoints.now.spacing
 all_due c r =
     let stopped = rw c.in-Some.is at c.in_ok-reached.ensures.stopped in
     let i = c.loop-n.invariant in
     let a = c.in_ok-reached.ensures.at in
     let low : c.loop-n.n ≤ c.in_ok-reached.reached = rw a.4 a.2 in
-    let ring = c.keep_above-last_kept.ensures.ring in
+    let ring = c.push_checkpoint-last_kept.ensures.ring in
     let counted = c.in_ok-reached.ensures.counts.1 in
-    elim c.keep_above-last_kept.ensures.refused [
+    elim c.push_checkpoint-last_kept.ensures.refused [
       | inl e ↦ all_made _ _ _ _ _ _ _ _ (all_on _ _ _ _ _ _ c.loop-n.checkpoints.ring _ _ _ i.capacity low (inr refl)
           (λ k a b m. elim m [ inl w ↦ c.due_after-end.ensures.first k a (omega (arith, b, stopped.0)) w | inr l ↦ omega (arith, b, l) ])
           (relast_all _ _ _ _ _ _ c.in_ok-reached.reached _ _ c.loop-n-test.true low i.spot (i.all (omega (arith, counted.grows, e, r))))
-          _ _ _ _ c.requires.newest.there i.last e (c.in_ok-reached.ensures.counts.1.all (i.on (omega (arith, counted.grows, e, r))) (omega (arith, counted.grows, e, r))) ring (rw c.seen-seen.ensures at c.keep_above-last_kept.ensures.made)) refl
+          _ _ _ _ c.requires.newest.there i.last e (c.in_ok-reached.ensures.counts.1.all (i.on (omega (arith, counted.grows, e, r))) (omega (arith, counted.grows, e, r))) ring (rw c.seen-seen.ensures at c.push_checkpoint-last_kept.ensures.made)) refl
       | inr e ↦ absurd (omega (arith, e.2, r))
     ]
 
@@ -128,9 +128,9 @@ returns-in-Some-clause-adds c =
     let a = c.in_ok-reached.ensures.at in
     let low : c.loop-n.n ≤ c.in_ok-reached.reached = rw a.4 a.2 in
     let g = relast_adding _ _ _ _ _ _ c.in_ok-reached.reached _ _ c.loop-n-test.true i.adds in
-    let ring = c.keep_above-last_kept.ensures.ring in
+    let ring = c.push_checkpoint-last_kept.ensures.ring in
     let all = kept_adds _ _ _ _ _ _ c.loop-n.checkpoints.ring _ _ _ i.capacity g low (inr refl) ring in
-    let refused = c.keep_above-last_kept.ensures.refused in
+    let refused = c.push_checkpoint-last_kept.ensures.refused in
     let counted = c.in_ok-reached.ensures.counts.1 in
     let few : c.advance.new.notes.refusals + c.loop-n.n ≤ c.loop-n.checkpoints.notes.refusals + c.in_ok-reached.reached = counted.few in
     let kept = counted_above _ _ _ _ _ _ (rw c.seen-seen.ensures at refused) in (
@@ -150,16 +150,16 @@ pub returns-in-Some-clause-sound : goal.returns-in-Some-clause-sound
 returns-in-Some-clause-sound c =
     let i = c.loop-n.invariant in
     let a = c.in_ok-reached.ensures.at in
-    let at : after (ask c.args.session.now) c.in_ok-reached.reached ≡ Some c.advance.new.running.state = rw a.4 a.1 in
+    let at : after (session_answers c.args.session.now) c.in_ok-reached.reached ≡ Some c.advance.new.running.state = rw a.4 a.1 in
     let low : c.loop-n.n ≤ c.in_ok-reached.reached = rw a.4 a.2 in
     let g = relast_adding _ _ _ _ _ _ c.in_ok-reached.reached _ _ c.loop-n-test.true i.adds in
-    let ring = c.keep_above-last_kept.ensures.ring in
+    let ring = c.push_checkpoint-last_kept.ensures.ring in
     let all = kept_adds _ _ _ _ _ _ c.loop-n.checkpoints.ring _ _ _ i.capacity g low (inr refl) ring in
     let s = c.advance.ensures.seen.0 in
     record {
       valid = kept_each _ c.loop-n.checkpoints.ring _ _ _ ring i.valid (λ h. new_valid _ _ _ (omega (arith, h)) at);
       rising = adds_rising _ _ _ _ _ _ _ c.requires.sound.rising all.adds;
-      below = kept_known _ c.loop-n.checkpoints.ring _ c.advance.new.notes.looks.seen _ ring (rw c.seen-seen.ensures at c.keep_above-last_kept.ensures.seen) (Each-weaken _ _ _ (λ d h. omega (arith, h, s)) i.known);
+      below = kept_known _ c.loop-n.checkpoints.ring _ c.advance.new.notes.looks.seen _ ring (rw c.seen-seen.ensures at c.push_checkpoint-last_kept.ensures.seen) (Each-weaken _ _ _ (λ d h. omega (arith, h, s)) i.known);
       noted = c.advance.ensures.noted;
       spacing_in = rw i.spacing c.requires.sound.spacing_in;
       seen_in = c.advance.ensures.seen.1;
@@ -173,19 +173,19 @@ loop-n-preserved c =
     let i = c.loop-n.invariant in
     let s = c.advance.ensures.seen.0 in
     let a = c.in_ok-reached.ensures.at in
-    let at : after (ask c.args.session.now) c.in_ok-reached.reached ≡ Some c.advance.new.running.state = rw a.4 a.1 in
+    let at : after (session_answers c.args.session.now) c.in_ok-reached.reached ≡ Some c.advance.new.running.state = rw a.4 a.1 in
     let low : c.loop-n.n ≤ c.in_ok-reached.reached = rw a.4 a.2 in
-    let ring = c.keep_above-last_kept.ensures.ring in
-    let newest = c.keep_above-last_kept.ensures.newest in
-    let refused = c.keep_above-last_kept.ensures.refused in
+    let ring = c.push_checkpoint-last_kept.ensures.ring in
+    let newest = c.push_checkpoint-last_kept.ensures.newest in
+    let refused = c.push_checkpoint-last_kept.ensures.refused in
     let counted = c.in_ok-reached.ensures.counts.1 in
     let few : c.advance.new.notes.refusals + c.loop-n.n ≤ c.loop-n.checkpoints.notes.refusals + c.in_ok-reached.reached = counted.few in
     let once = c.in_ok-reached.ensures.counts.0 in
     let kept = counted_above _ _ _ _ _ _ (rw c.seen-seen.ensures at refused) in
     let ends_later : c.loop-n.n < c.in_ok-reached.reached = omega (arith, ends, c.due_after-end.ensures.later) in
     record {
-      at = rw c.keep_above-last_kept.ensures.running at;
-      looks = rw c.keep_above-last_kept.ensures.running looks;
+      at = rw c.push_checkpoint-last_kept.ensures.running at;
+      looks = rw c.push_checkpoint-last_kept.ensures.running looks;
       noted = c.advance.ensures.noted;
       seen_in = c.advance.ensures.seen.1;
       low = omega (arith, low);
@@ -198,13 +198,13 @@ loop-n-preserved c =
       spacing = i.spacing;
       capacity = kept_capacity _ c.loop-n.checkpoints.ring _ _ ring ∙ i.capacity;
       valid = kept_each _ c.loop-n.checkpoints.ring _ _ _ ring i.valid (λ h. new_valid _ _ _ (omega (arith, h)) at);
-      known = kept_known _ c.loop-n.checkpoints.ring _ c.advance.new.notes.looks.seen _ ring (rw c.seen-seen.ensures at c.keep_above-last_kept.ensures.seen) (Each-weaken _ _ _ (λ d h. omega (arith, h, s)) i.known);
+      known = kept_known _ c.loop-n.checkpoints.ring _ c.advance.new.notes.looks.seen _ ring (rw c.seen-seen.ensures at c.push_checkpoint-last_kept.ensures.seen) (Each-weaken _ _ _ (λ d h. omega (arith, h, s)) i.known);
       adds = rw newest (kept_adds _ _ _ _ _ _ c.loop-n.checkpoints.ring _ _ _ i.capacity i.adds low marked ring);
       all = λ r. elim refused [
         | inl e ↦ rw newest (all_on _ _ _ _ _ _ c.loop-n.checkpoints.ring _ _ _ i.capacity low marked
             (λ k a b m. elim m [ inl w ↦ c.due_after-end.ensures.first k a (omega (arith, b, ends)) w | inr l ↦ omega (arith, b, l, ends, c.due_after-end.ensures.later) ])
             (i.all (omega (arith, counted.grows, e, r)))
-            _ _ _ _ c.requires.newest.there i.last e (c.in_ok-reached.ensures.counts.1.all (i.on (omega (arith, counted.grows, e, r))) (omega (arith, counted.grows, e, r))) ring (rw c.seen-seen.ensures at c.keep_above-last_kept.ensures.made))
+            _ _ _ _ c.requires.newest.there i.last e (c.in_ok-reached.ensures.counts.1.all (i.on (omega (arith, counted.grows, e, r))) (omega (arith, counted.grows, e, r))) ring (rw c.seen-seen.ensures at c.push_checkpoint-last_kept.ensures.made))
         | inr e ↦ absurd (omega (arith, e.2, r))
       ];
       due = λ left. elim marked [

@@ -1,6 +1,6 @@
 use Rattle.std.proofs.Common.{◌≡◌, ◌+◌, ◌*◌, ◌-◌, ◌/◌, ◌%◌, ◌<◌, ◌≤◌, ◌⊎◌, max, Some}
 use Rattle.machine.specs.declared.session.TheConstants.{STEP_LIMIT}
-use Rattle.machine.specs.Machine.{ask, after}
+use Rattle.machine.specs.Machine.{session_answers, after}
 use Rattle.replay.specs.FirstLooks.{AllNoted, IsFirstLooks}
 use Rattle.replay.specs.Ring.{Each, IsValid}
 use Rattle.replay.proofs.RingLemmas.{Adding}
@@ -10,16 +10,16 @@ use Rattle.replay.proofs.run.resume.Given as goal
 
 abbrev pub invariant-loop-n : goal.invariant-loop-n
 invariant-loop-n l = record {
-  at : after (ask l.session) l.n ≡ Some l.running.state;
+  at : after (session_answers l.session) l.n ≡ Some l.running.state;
   looks : l.n ≤ l.checkpoints.notes.looks.seen → AllNoted l.checkpoints.notes.looks l.running.looked;
-  noted : IsFirstLooks (ask l.session) l.checkpoints.notes.looks;
+  noted : IsFirstLooks (session_answers l.session) l.checkpoints.notes.looks;
   seen_in : l.checkpoints.notes.looks.seen ≤ STEP_LIMIT;
   low : l.from ≤ l.n;
   high : l.n ≤ l.limit;
   meter : l.meter + l.from ≡ l.initial.meter + l.n;
   spacing : l.checkpoints.spacing ≡ l.initial.checkpoints.spacing;
   capacity : l.checkpoints.ring.capacity ≡ l.initial.checkpoints.ring.capacity;
-  valid : Each (IsValid (ask l.session)) l.checkpoints.ring.items;
+  valid : Each (IsValid (session_answers l.session)) l.checkpoints.ring.items;
   known : Each (λ c. c.step ≤ l.checkpoints.notes.looks.seen) l.checkpoints.ring.items;
   adds : Adding l.initial.checkpoints.ring.items l.checkpoints.ring.items l.initial.checkpoints.ring.capacity l.from l.n l.limit l.spacing l.last_kept;
   on : l.checkpoints.notes.refusals ≡ 0 → l.n ≤ l.checkpoints.notes.looks.seen;

@@ -2,22 +2,22 @@ use Rattle.std.proofs.Common.{refl, ap, ◌∙◌}
 use Rattle.std.specs.Option.{option_map}
 use Rattle.machine.specs.StateView.{PartialState}
 use Rattle.machine.specs.Step.{next}
-use Rattle.machine.specs.Machine.{ask, part, made, start}
-use Rattle.machine.specs.LaidOver.{laid_over}
+use Rattle.machine.specs.Machine.{session_answers, session_tree, outcome_with, start}
+use Rattle.machine.specs.PlainLaid.{laid_state}
 use Rattle.machine.proofs.DependenceLemmas as lemmas
 use Rattle.machine.proofs.WholeLemmas.{whole_goes_as_laid}
 use Rattle.replay.proofs.runner.prefix_dependence.Goals as goal
 
 pub returns : goal.returns
 returns c s t limits other_limits n st at untouched =
-    let (same, asked) = lemmas.prefix_dependence part (λ (st : PartialState). st.own) (λ (st : PartialState). next st.core) made start (ask s) (ask t) n untouched in
+    let (same, asked) = lemmas.prefix_dependence session_tree (λ (st : PartialState). st.own) (λ (st : PartialState). next st.core) outcome_with start (session_answers s) (session_answers t) n untouched in
     record {
       other = st;
       there = same ∙ at;
       regs = refl;
       desk = refl;
       own = refl;
-      plain = whole_goes_as_laid.states s limits n ∙ ap (option_map (laid_over s)) at;
-      other_plain = whole_goes_as_laid.states t other_limits n ∙ ap (option_map (laid_over t)) (same ∙ at);
+      plain = whole_goes_as_laid.states s limits n ∙ ap (option_map (laid_state s)) at;
+      other_plain = whole_goes_as_laid.states t other_limits n ∙ ap (option_map (laid_state t)) (same ∙ at);
       looks = asked;
     }

@@ -1,5 +1,5 @@
 use Rattle.std.proofs.Common.{◌≡◌, ◌+◌, arith, length}
-use Rattle.machine.specs.Machine.{Cell, ask}
+use Rattle.machine.specs.Machine.{Cell, session_answers}
 use Rattle.replay.specs.Edits.{with_poke}
 use Rattle.replay.proofs.FirstLemmas.{noted_below}
 use Rattle.replay.proofs.LeastLemmas.{least_of_none, least_more}
@@ -15,7 +15,7 @@ loop-i-preserved c =
     let bytes = c.args.bytes.now in
     let i = c.loop-i.i in
     let old : c.program-program.result.now ≡ s.program = c.program-program.ensures.value in
-    let one = least_more (IsPoked c.args.at i) (IsPoked c.args.at (i + 1)) (ask s) (ask (with_poke s c.args.at bytes)) c.args.looks.now (Cell (256 + (c.args.at + i)))
+    let one = least_more (IsPoked c.args.at i) (IsPoked c.args.at (i + 1)) (session_answers s) (session_answers (with_poke s c.args.at bytes)) c.args.looks.now (Cell (256 + (c.args.at + i)))
     (one_more_poked c.args.at i) c.loop-i.touch c.loop-i.invariant (noted_below _ _ c.requires.noted (Cell (256 + (c.args.at + i)))) _
     (changes s c.args.at bytes c.requires.inside i c.loop-i-test.true).0 (changes s c.args.at bytes c.requires.inside i c.loop-i-test.true).1 in
     rw (c.lesser_if_changed-touch.ensures, old) one

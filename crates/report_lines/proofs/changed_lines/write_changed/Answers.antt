@@ -1,7 +1,7 @@
 use Rattle.std.proofs.Common.{◌≡◌, ◌∙◌, ◌++◌, ◌∷◌, [], ap, codes, unwrap_or}
-use Rattle.filenames.specs.Names.{printed}
-use Rattle.hostfiles.specs.Files.{told}
-use Rattle.hostfiles.specs.Seen.{own_of}
+use Rattle.filenames.specs.Names.{display_text}
+use Rattle.hostfiles.specs.Files.{file_contents}
+use Rattle.hostfiles.specs.FileView.{view_own}
 use Rattle.report_lines.specs.ChangedLines.{records_text, changed_line}
 use Rattle.report_lines.proofs.WrittenPieces.{whole_then, part_then, part_more, writes_part, writes_then, writes_same, gone, there, gone_line, file_line, same_told}
 use Rattle.report_lines.proofs.changed_lines.write_changed.Goals as goal
@@ -10,10 +10,10 @@ pub returns-in_err-write_head : goal.returns-in_err-write_head
 returns-in_err-write_head g c =
     let key = c.args.name.now in
     let file = c.find-file.result in
-    let t = told file.host.now (own_of file) file.key in
-    let all = told c.args.host.now c.args.journal.now.entries key in
+    let t = file_contents file.host.now (view_own file) file.key in
+    let all = file_contents c.args.host.now c.args.journal.now.entries key in
     let same : t ≡ all = same_told (ap (λ h. h.now) c.find-file.ensures.host) (ap (λ j. j.now.entries) c.find-file.ensures.journal) (c.find-file.ensures.key ∙ c.key.ensures.key) in
-    let head = codes "gone " ++ printed key in
+    let head = codes "gone " ++ display_text key in
     let text = gone_line key t all same (gone t c.in_default.ensures) in
     writes_same _ _ (head ++ 10 ∷ []) (changed_line key all) c.from_residual.result text
     (writes_part (head ++ 10 ∷ []) c.from_residual.result c.from_residual.ensures.0 (part_more head (10 ∷ []) c.in_err-write_head.ensures))
@@ -22,10 +22,10 @@ pub returns-in_default : goal.returns-in_default
 returns-in_default g c =
     let key = c.args.name.now in
     let file = c.find-file.result in
-    let t = told file.host.now (own_of file) file.key in
-    let all = told c.args.host.now c.args.journal.now.entries key in
+    let t = file_contents file.host.now (view_own file) file.key in
+    let all = file_contents c.args.host.now c.args.journal.now.entries key in
     let same : t ≡ all = same_told (ap (λ h. h.now) c.find-file.ensures.host) (ap (λ j. j.now.entries) c.find-file.ensures.journal) (c.find-file.ensures.key ∙ c.key.ensures.key) in
-    let head = codes "gone " ++ printed key in
+    let head = codes "gone " ++ display_text key in
     let text = gone_line key t all same (gone t c.in_default.ensures) in
     writes_same _ _ (head ++ 10 ∷ []) (changed_line key all) c.write_all.result text
     (writes_then _ head (10 ∷ []) c.write_all.result c.in_ok-write_head.ensures c.write_all.ensures)
@@ -34,10 +34,10 @@ pub returns-in_err-write_head-2 : goal.returns-in_err-write_head-2
 returns-in_err-write_head-2 g c =
     let key = c.args.name.now in
     let file = c.find-file.result in
-    let t = told file.host.now (own_of file) file.key in
-    let all = told c.args.host.now c.args.journal.now.entries key in
+    let t = file_contents file.host.now (view_own file) file.key in
+    let all = file_contents c.args.host.now c.args.journal.now.entries key in
     let same : t ≡ all = same_told (ap (λ h. h.now) c.find-file.ensures.host) (ap (λ j. j.now.entries) c.find-file.ensures.journal) (c.find-file.ensures.key ∙ c.key.ensures.key) in
-    let head = codes "file " ++ printed key in
+    let head = codes "file " ++ display_text key in
     let digits = records_text (unwrap_or t []) in
     let text = file_line key t all same (there t c.in-Some.count c.in-Some.ensures) in
     writes_same _ _ (((head ++ codes " ") ++ digits) ++ 10 ∷ []) (changed_line key all) c.from_residual-in_err-write_head-2.result text
@@ -48,10 +48,10 @@ pub returns-in_err-write_all : goal.returns-in_err-write_all
 returns-in_err-write_all g c =
     let key = c.args.name.now in
     let file = c.find-file.result in
-    let t = told file.host.now (own_of file) file.key in
-    let all = told c.args.host.now c.args.journal.now.entries key in
+    let t = file_contents file.host.now (view_own file) file.key in
+    let all = file_contents c.args.host.now c.args.journal.now.entries key in
     let same : t ≡ all = same_told (ap (λ h. h.now) c.find-file.ensures.host) (ap (λ j. j.now.entries) c.find-file.ensures.journal) (c.find-file.ensures.key ∙ c.key.ensures.key) in
-    let head = codes "file " ++ printed key in
+    let head = codes "file " ++ display_text key in
     let digits = records_text (unwrap_or t []) in
     let text = file_line key t all same (there t c.in-Some.count c.in-Some.ensures) in
     writes_same _ _ (((head ++ codes " ") ++ digits) ++ 10 ∷ []) (changed_line key all) c.from_residual-in_err-write_all.result text
@@ -63,10 +63,10 @@ pub returns-in_err-write_records : goal.returns-in_err-write_records
 returns-in_err-write_records g c =
     let key = c.args.name.now in
     let file = c.find-file.result in
-    let t = told file.host.now (own_of file) file.key in
-    let all = told c.args.host.now c.args.journal.now.entries key in
+    let t = file_contents file.host.now (view_own file) file.key in
+    let all = file_contents c.args.host.now c.args.journal.now.entries key in
     let same : t ≡ all = same_told (ap (λ h. h.now) c.find-file.ensures.host) (ap (λ j. j.now.entries) c.find-file.ensures.journal) (c.find-file.ensures.key ∙ c.key.ensures.key) in
-    let head = codes "file " ++ printed key in
+    let head = codes "file " ++ display_text key in
     let digits = records_text (unwrap_or t []) in
     let text = file_line key t all same (there t c.in-Some.count c.in-Some.ensures) in
     writes_same _ _ (((head ++ codes " ") ++ digits) ++ 10 ∷ []) (changed_line key all) c.from_residual-in_err-write_records.result text
@@ -78,10 +78,10 @@ pub returns : goal.returns
 returns g c =
     let key = c.args.name.now in
     let file = c.find-file.result in
-    let t = told file.host.now (own_of file) file.key in
-    let all = told c.args.host.now c.args.journal.now.entries key in
+    let t = file_contents file.host.now (view_own file) file.key in
+    let all = file_contents c.args.host.now c.args.journal.now.entries key in
     let same : t ≡ all = same_told (ap (λ h. h.now) c.find-file.ensures.host) (ap (λ j. j.now.entries) c.find-file.ensures.journal) (c.find-file.ensures.key ∙ c.key.ensures.key) in
-    let head = codes "file " ++ printed key in
+    let head = codes "file " ++ display_text key in
     let digits = records_text (unwrap_or t []) in
     let text = file_line key t all same (there t c.in-Some.count c.in-Some.ensures) in
     writes_same _ _ (((head ++ codes " ") ++ digits) ++ 10 ∷ []) (changed_line key all) c.write_all-3.result text

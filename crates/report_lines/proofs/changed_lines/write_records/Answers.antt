@@ -1,8 +1,8 @@
 use Rattle.std.proofs.Common.{◌≡◌, ◌++◌, ◌≤◌, Some, slice_get, [], drop, length, unwrap_or, ◌∙◌, arith, ap, append-nil, rules}
 use Rattle.std.specs.List.{concat}
 use Rattle.hex.specs.Hex.{encode_lower}
-use Rattle.hostfiles.specs.Files.{told}
-use Rattle.hostfiles.specs.Seen.{own_of}
+use Rattle.hostfiles.specs.Files.{file_contents}
+use Rattle.hostfiles.specs.FileView.{view_own}
 use Rattle.report_lines.specs.ChangedLines.{records_text}
 use Rattle.report_lines.proofs.WrittenPieces.{whole_nil, whole_then, part_then, part_more, writes_part, writes_then, writes_same, no_bytes, encode-append, one_record_more, first_digits, last_digits, record_here, no_record}
 use Rattle.report_lines.proofs.changed_lines.write_records.Goals.{then-remaining_capacity-lt128+in_ok-write_hex, else-remaining_capacity-lt128}
@@ -13,11 +13,11 @@ loop-place-init g c = record { first = []; split = c.new-block.ensures; written 
 
 pub unreachable-requires : goal.unreachable-requires
 unreachable-requires g c =
-    no_record (told c.args.file.now.host.now (own_of c.args.file.now) c.args.file.now.key) c.loop-place.place (let n = c.requires.count in let h = c.loop-place-test.true in omega arith) (c.in_default.ensures ∙ c.told_record.ensures)
+    no_record (file_contents c.args.file.now.host.now (view_own c.args.file.now) c.args.file.now.key) c.loop-place.place (let n = c.requires.count in let h = c.loop-place-test.true in omega arith) (c.in_default.ensures ∙ c.contents_record.ensures)
 
 pub returns-in_err-write_hex : goal.returns-in_err-write_hex
 returns-in_err-write_hex g c =
-    let records = unwrap_or (told c.args.file.now.host.now (own_of c.args.file.now) c.args.file.now.key) [] in
+    let records = unwrap_or (file_contents c.args.file.now.host.now (view_own c.args.file.now) c.args.file.now.key) [] in
     let place = c.loop-place.place in
     let first = c.loop-place.invariant.first in
     let block = c.as_slice.result.now in
@@ -31,11 +31,11 @@ returns-in_err-write_hex g c =
 
 pub loop-place-preserved : goal.loop-place-preserved
 loop-place-preserved g c =
-    let t = told c.args.file.now.host.now (own_of c.args.file.now) c.args.file.now.key in
+    let t = file_contents c.args.file.now.host.now (view_own c.args.file.now) c.args.file.now.key in
     let records = unwrap_or t [] in
     let place = c.loop-place.place in
     let first = c.loop-place.invariant.first in
-    let here : slice_get records place ≡ Some c.in-Some.record = record_here t place c.in-Some.record (c.in-Some.ensures ∙ c.told_record.ensures) in
+    let here : slice_get records place ≡ Some c.in-Some.record = record_here t place c.in-Some.record (c.in-Some.ensures ∙ c.contents_record.ensures) in
     let grown : c.try_extend_from_slice.new.self.items ≡ c.if-remaining_capacity-lt128.block.items ++ c.in-Some.record = search rules in
     elim c.if-remaining_capacity-lt128.branch [
       | then-remaining_capacity-lt128+in_ok-write_hex w ↦
@@ -57,7 +57,7 @@ loop-place-preserved g c =
 
 pub returns : goal.returns
 returns g c =
-    let records = unwrap_or (told c.args.file.now.host.now (own_of c.args.file.now) c.args.file.now.key) [] in
+    let records = unwrap_or (file_contents c.args.file.now.host.now (view_own c.args.file.now) c.args.file.now.key) [] in
     let first = c.loop-place.invariant.first in
     let block = c.as_slice-2.result.now in
     let some : length records ≡ 0 → ⊥ = λ none. c.if-count-eq0.false (c.requires.count ∙ none) in

@@ -1,5 +1,5 @@
 use Rattle.std.proofs.Common.{sym, ap, ◌∙◌}
-use Rattle.hostfiles.specs.Files.{deleted}
+use Rattle.hostfiles.specs.Files.{after_delete}
 use Rattle.cpmfiles.proofs.DeleteLaws.{one_deleted, none_deleted}
 use Rattle.cpmfiles.proofs.table.Table.delete_one.Goals as goal
 
@@ -8,4 +8,4 @@ returns-then-not-branch-clause-done c = none_deleted _ _ c.args.key.now _ c.requ
 
 pub returns-clause-done : goal.returns-clause-done
 returns-clause-done c = one_deleted _ _ c.args.key.now _ c.requires (sym c.in_ok-has.ensures.inquires.answer ∙ c.if-not-branch.false)
-    (c.in_ok-delete.ensures.ok ∙ ap (λ j. deleted j.entries c.args.key.now) c.in_ok-has.ensures.inquires.stays)
+    (c.in_ok-delete.ensures.ok ∙ ap (λ j. after_delete j.entries c.args.key.now) c.in_ok-has.ensures.inquires.stays)

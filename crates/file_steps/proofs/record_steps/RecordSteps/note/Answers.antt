@@ -6,7 +6,7 @@ use Rattle.std.specs.BTreeMap.{is_at}
 use Rattle.hostfiles.specs.Hosts.{Key}
 use Rattle.std.proofs.lemmas.Result.{on_ok_weaker, on_err_weaker}
 use Rattle.std.specs.Option.{option_copied_mut}
-use Rattle.file_steps.specs.Noting.{or_else, mark}
+use Rattle.file_steps.specs.Noting.{or_else, step_if}
 use Rattle.file_steps.specs.FirstSteps.{Steps, step_in}
 use Rattle.file_steps.specs.RecordSteps.{steps_of}
 use Rattle.file_steps.proofs.RecordLemmas.{noted_in, same_in, within_in, within_more}
@@ -60,4 +60,4 @@ pub returns-clause-ok : goal.returns-clause-ok
 returns-clause-ok c =
     let gone = sym (ap option_copied_mut c.in_default.is) ∙ c.get_mut.ensures.value in
     rw (← c.self.view_is) (noted_in c.self.inside.files.entries _ c.args.key.now c.note-2.new.self (put c) c.args.place c.args.step
-    (rw (← gone) (λ k. c.in_ok-note.ensures.ok k ∙ ap (λ (s : Steps). or_else (step_in s.entries k) (mark (k == c.args.place) c.args.step)) c.new-steps.ensures)))
+    (rw (← gone) (λ k. c.in_ok-note.ensures.ok k ∙ ap (λ (s : Steps). or_else (step_in s.entries k) (step_if (k == c.args.place) c.args.step)) c.new-steps.ensures)))

@@ -1,6 +1,6 @@
 use Rattle.std.proofs.Common.{ap, sym, ◌∙◌, slice_index}
 use Rattle.std.specs.List.{before_first}
-use Rattle.filenames.specs.Names.{drive_text, printed, is_blank, name_field, type_field}
+use Rattle.filenames.specs.Names.{drive_text, display_text, is_blank, name_field, type_field}
 use Rattle.filenames.proofs.NameLemmas.{sayable_parts, printed_pieces}
 use Rattle.filenames.proofs.name.Name.pieces.Goals as goal
 
@@ -22,4 +22,4 @@ returns-clause-kind c = c.field_text-kind.ensures ∙ ap (λ k. before_first is_
 pub returns-clause-printed : goal.returns-clause-printed
 returns-clause-printed c =
     printed_pieces c.self.inside.key _ _ _ _ (c.drive_text.ensures ∙ ap drive_text (c.drive.ensures ∙ ap (λ k. slice_index k 0) (sym c.self.view_is))) c.field_text.ensures c.field_text-kind.ensures c.dot_before.ensures.printed
-    ∙ ap printed c.self.view_is
+    ∙ ap display_text c.self.view_is

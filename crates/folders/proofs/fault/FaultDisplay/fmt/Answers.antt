@@ -2,11 +2,11 @@ use Rattle.std.proofs.Common.{◌∙◌, ◌++◌, ap, sym, codes}
 use Rattle.std.proofs.Output.{has_written_of_eq}
 use Rattle.std.proofs.lemmas.List.{append_assoc}
 use Rattle.std.specs.Fmt.{decimal}
-use Rattle.filenames.specs.Names.{printed}
+use Rattle.filenames.specs.Names.{display_text}
 use Rattle.folders.specs.Faults.{text_of}
 use Rattle.folders.proofs.fault.FaultDisplay.fmt.Goals as goal
 
 pub returns-in-Refused-clause-writes : goal.returns-in-Refused-clause-writes
 returns-in-Refused-clause-writes g c =
-    let parts = ap (λ t. codes "file " ++ t) (sym (append_assoc (printed c.in-Refused.name) (codes " refused ") (decimal c.in-Refused.number))) in
+    let parts = ap (λ t. codes "file " ++ t) (sym (append_assoc (display_text c.in-Refused.name) (codes " refused ") (decimal c.in-Refused.number))) in
     λ p k. has_written_of_eq _ _ _ _ _ (parts ∙ ap text_of (sym c.in-Refused.is)) (c.write-in-Refused.ensures.writes p k)

@@ -6,9 +6,9 @@ use Rattle.hostfiles.proofs.host.HostFile.new.Goals as goal
 
 pub loop-i-preserved : goal.loop-i-preserved
 loop-i-preserved c =
-    let more : c.push.new.self.items ≡ c.loop-i.records.items ++ c.record_at.result ∷ [] = search rules in
+    let more : c.push.new.self.items ≡ c.loop-i.records.items ++ c.record_in.result ∷ [] = search rules in
     let zero_on : 0 + c.loop-i.i ≡ c.loop-i.i = omega arith in
-    more ∙ ap (λ xs. xs ++ c.record_at.result ∷ []) c.loop-i.invariant ∙ ap (λ r. map (record_in c.args.bytes.now) (range_with_len 0 c.loop-i.i) ++ r ∷ []) c.record_at.ensures
+    more ∙ ap (λ xs. xs ++ c.record_in.result ∷ []) c.loop-i.invariant ∙ ap (λ r. map (record_in c.args.bytes.now) (range_with_len 0 c.loop-i.i) ++ r ∷ []) c.record_in.ensures
     ∙ sym (map-range_with_len_more (record_in c.args.bytes.now) 0 c.loop-i.i c.loop-i.i zero_on)
 
 pub invariant_of-result : goal.invariant_of-result

@@ -1,7 +1,7 @@
 use Rattle.std.proofs.Common.{ap, sym, ◌∙◌}
 use Rattle.std.specs.FinMap.{remove}
 use Rattle.std.specs.Cmp.Lexicographic.{nat_list_cmp_total}
-use Rattle.hostfiles.specs.Files.{renamed}
+use Rattle.hostfiles.specs.Files.{after_rename}
 use Rattle.keymaps.proofs.Views.{there_now, remove_back, absent_of, same_key}
 use Rattle.hostfiles.proofs.JournalLemmas.{renamed_over}
 use Rattle.hostfiles.proofs.journal.Journal.rename.Goals as goal
@@ -16,5 +16,5 @@ returns-in-Err-clause-err c =
 
 pub returns-clause-ok : goal.returns-clause-ok
 returns-clause-ok c =
-    c.in_default.ensures.ok ∙ ap (λ m. renamed m c.args.old.now c.args.new.now) c.in_ok-insert.ensures.ok
-    ∙ renamed_over c.args.self.now.entries _ _ c.nothing.result c.requires
+    c.in_default.ensures.ok ∙ ap (λ m. after_rename m c.args.old.now c.args.new.now) c.in_ok-insert.ensures.ok
+    ∙ renamed_over c.args.self.now.entries _ _ c.gone.result c.requires

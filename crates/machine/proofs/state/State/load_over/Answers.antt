@@ -6,8 +6,8 @@ use Rattle.machine.proofs.state.State.load_over.Goals as goal
 
 pub returns-clause-state : goal.returns-clause-state
 returns-clause-state c =
-    let none = c.over.ensures.own ∙ c.in_ok-cells.ensures in
+    let none = c.from_parts.ensures.own ∙ c.in_ok-cells.ensures in
     λ i. record { core = record { regs = first_regs; desk = c.new-2.ensures.desk i }; own = record { cells = cells_none _ none i; files = c.new-3.ensures.own i } }
 
 pub returns-clause-looked : goal.returns-clause-looked
-returns-clause-looked c = record { cells = c.over.ensures.looks; places = c.new-2.ensures.places; files = λ a. nothing_asked c.new-3.result.looks a c.new-3.ensures.looks }
+returns-clause-looked c = record { cells = c.from_parts.ensures.looks; places = c.new-2.ensures.places; files = λ a. nothing_asked c.new-3.result.looks a c.new-3.ensures.looks }

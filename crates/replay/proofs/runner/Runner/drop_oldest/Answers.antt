@@ -1,6 +1,6 @@
 use Rattle.std.proofs.Common.{◌≡◌, ◌-◌, List, ap, arith, length, sym}
 use Rattle.std.proofs.lemmas.List.{drop-map}
-use Rattle.replay.specs.RunnerView.{RunnerView, Checkpoint, seen_with}
+use Rattle.replay.specs.RunnerView.{RunnerView, Checkpoint, checkpoint_with_text}
 use Rattle.replay.proofs.RunnerLemmas.{all_stand, sound_last}
 use Rattle.replay.proofs.runner.Runner.drop_oldest.Goals as goal
 
@@ -11,7 +11,7 @@ pub returns-then-count-len-clause-dropped : goal.returns-then-count-len-clause-d
 returns-then-count-len-clause-dropped c =
     let ring = c.self.inside.checkpoints.ring in
     let count : length ring.items - (c.len-len.result - c.args.count) ≡ c.args.count = omega (arith, c.len-len.ensures.len, c.if-count-len.true) in
-    let left = sym (drop-map (seen_with c.self.inside.last_run.text.items) c.args.count ring.items) in
+    let left = sym (drop-map (checkpoint_with_text c.self.inside.last_run.text.items) c.args.count ring.items) in
     rw (← c.self.view_is, c.truncate_front.ensures, count) (ap (λ (cs : List Checkpoint). let r : RunnerView = record { session = c.self.inside.last_run.session; spacing = c.self.inside.checkpoints.spacing; slots = ring.capacity; checkpoints = cs; refused = c.self.inside.checkpoints.notes.refusals } in r) left)
 
 pub returns-then-count-len-clause-stand : goal.returns-then-count-len-clause-stand

@@ -1,5 +1,5 @@
 use Rattle.std.proofs.Common.{◌≡◌, refl, sym, ap, subst}
-use Rattle.replay.specs.Plain.{PlainRun, plain_run}
+use Rattle.replay.specs.PlainRun.{PlainRun, plain_run}
 use Rattle.replay.proofs.PlainLemmas.{reports_run}
 use Rattle.replay.proofs.RingLemmas.{on_err}
 use Rattle.replay.proofs.OutcomeLemmas.{if_err, match_err}

@@ -1,0 +1,309 @@
+// What a call does with what it found.
+
+ghost use Rattle.std.specs.Prelude.{◌≡◌, ◌≢◌, ◌≤◌, ◌/◌, ◌%◌, List, [], ◌∷◌, ℕ, true, Ok, OnOk, OnErr, length};
+ghost use Rattle.console_calls.specs.ScriptLooks.{DeskLooks};
+ghost use Rattle.file_calls.specs.TableView.{TableView, table_view};
+ghost use Rattle.file_calls.specs.DistinctKeys.{HasDistinctKeys};
+ghost use Rattle.file_calls.specs.Changes.{Unchanged, Stored};
+ghost use Rattle.file_calls.specs.Deletes.{own_after_change};
+ghost use Rattle.file_calls.specs.declared.finding.Finding.TheVariants as finding;
+ghost use Rattle.i8080.specs.End.{cells_from};
+ghost use Rattle.i8080.specs.Registers.{word};
+ghost use Rattle.bdos.specs.FileCalls.{call_with_finding, return_with, directory_record, random_cells};
+ghost use Rattle.bdos.specs.FileCalls.{random_bytes, opened_bytes, made_bytes};
+ghost use Rattle.bdos.specs.PerformsSystemCall.{PerformsSystemCall, scene};
+ghost use Rattle.bdos.specs.Growth.{is_done};
+
+use crate::cells::{fetch_cells, put_cells, put_record, ready_place, write_place};
+use console_calls::{Desk, Served, give_back};
+use cpmfiles::{Key, RECORD_BYTES, Record, Table};
+use directory::Search;
+use file_calls::{Finding, Write};
+use i8080::{Bus, Regs, word_of};
+use std::alloc::AllocError;
+
+/// Completes a call by what it found, and returns to the caller at `to`.
+///
+/// # Errors
+///
+/// `Err` means out of memory; the registers, cells, desk and files are unchanged. A finding that is a value, or that
+/// no entry matches, is never an `Err`.
+#[inline(always)]
+pub fn apply_finding<B: Bus>(
+    finding: &Finding,
+    regs: &mut Regs,
+    bus: &mut B,
+    table: &mut Table<'_>,
+    desk: &mut Desk,
+    to: u16,
+) -> Result<Served, AllocError>
+    requires { HasDistinctKeys finding.now }
+    ensures fulfils { (script : List ℕ) →
+        PerformsSystemCall (call_with_finding finding.now regs.old desk.old.desk.spot to) script
+        (scene regs.old (B.memory bus.old) desk.old (table_view table.old)) result
+        (scene regs.new (B.memory bus.new) desk.new (table_view table.new)) }
+    ensures grows { OnErr result (is_done finding.now ≡ true) }
+{
+    match finding {
+        Finding::Value(value) => Ok(give_nothing(regs, bus, desk, *value, to)),
+        Finding::Opened(count) => give_count(regs, bus, desk, *count, to),
+        Finding::FirstEntry(search) => give_entry(regs, bus, desk, search, to),
+        Finding::NoEntry => Ok(give_no_entry(regs, bus, desk, to)),
+        Finding::Found(bytes, next) => give_record(regs, bus, desk, bytes, *next, to),
+        Finding::Write(write) => store(regs, bus, table, desk, write, to),
+        Finding::Make(key) => make(regs, bus, table, desk, key, to),
+        Finding::Rename(old, new) => rename(regs, bus, table, desk, (*old, *new), to),
+        Finding::Length(places) => give_place(regs, bus, desk, *places, 0, to),
+        Finding::NoLength => give_place(regs, bus, desk, 0, 0xff, to),
+        Finding::RandomPlace(place) => give_place(regs, bus, desk, *place, 0, to),
+    }
+}
+
+// Completes a call with a value and does nothing else.
+#[tactic(auto, using(crate::proofs::Parts::still_looked_at))]
+fn give_nothing<B: Bus>(regs: &mut Regs, bus: &B, desk: &Desk, value: u8, to: u16) -> Served
+    ensures { (script : List ℕ) (v : TableView) →
+        PerformsSystemCall (call_with_finding (finding.Value value) regs.old desk.now.desk.spot to) script
+        (scene regs.old (B.memory bus.now) desk.now v) (Ok result)
+        (scene regs.new (B.memory bus.now) desk.now v) }
+{
+    give_back(regs, value as u16, to);
+    Served::Went
+}
+
+// Clears the bytes 13 to 31 of the control block, except byte 15, which gets the record count of the opened extent.
+#[tactic(auto, using(crate::proofs::Parts::still_looked_at))]
+fn give_count<B: Bus>(
+    regs: &mut Regs,
+    bus: &mut B,
+    desk: &Desk,
+    count: u8,
+    to: u16,
+) -> Result<Served, AllocError>
+    ensures { (script : List ℕ) (v : TableView) →
+        PerformsSystemCall (call_with_finding (finding.Opened count) regs.old desk.now.desk.spot to) script
+        (scene regs.old (B.memory bus.old) desk.now v) result
+        (scene regs.new (B.memory bus.new) desk.now v) }
+{
+    let at = word_of(regs.e, regs.d).wrapping_add(13);
+    give_cells(regs, bus, at, &opened_bytes(count), 0, to)
+}
+
+// Writes a random record number into the bytes 33 to 35 of the control block, and completes the call with a value.
+#[tactic(auto, using(crate::proofs::Parts::still_looked_at))]
+fn give_place<B: Bus>(
+    regs: &mut Regs,
+    bus: &mut B,
+    desk: &Desk,
+    place: u32,
+    value: u8,
+    to: u16,
+) -> Result<Served, AllocError>
+    ensures { (script : List ℕ) (v : TableView) →
+        let cells = random_cells (word regs.old.e regs.old.d) place in
+        PerformsSystemCall (return_with value regs.old desk.now.desk.spot to cells Unchanged) script
+        (scene regs.old (B.memory bus.old) desk.now v) result
+        (scene regs.new (B.memory bus.new) desk.now v) }
+{
+    let at = word_of(regs.e, regs.d).wrapping_add(33);
+    give_cells(regs, bus, at, &random_bytes(place), value, to)
+}
+
+// Completes a call whose search matches no entry, which ends the search.
+#[tactic(auto, using(crate::proofs::Parts::still_looked_at))]
+fn give_no_entry<B: Bus>(regs: &mut Regs, bus: &B, desk: &mut Desk, to: u16) -> Served
+    ensures { (script : List ℕ) (v : TableView) →
+        PerformsSystemCall (call_with_finding finding.NoEntry regs.old desk.old.desk.spot to) script
+        (scene regs.old (B.memory bus.now) desk.old v) (Ok result)
+        (scene regs.new (B.memory bus.now) desk.new v) }
+{
+    desk.set_search(None);
+    give_back(regs, 0xff, to);
+    Served::Went
+}
+
+// Writes bytes into the cells from an address on, and completes the call with a value.
+#[tactic(auto, using(crate::proofs::Parts::still_looked_at))]
+fn give_cells<B: Bus>(
+    regs: &mut Regs,
+    bus: &mut B,
+    at: u16,
+    bytes: &[u8],
+    value: u8,
+    to: u16,
+) -> Result<Served, AllocError>
+    requires { length bytes.now ≤ 128 }
+    ensures { (script : List ℕ) (d : DeskLooks) (v : TableView) →
+        PerformsSystemCall
+        (return_with value regs.old d.desk.spot to (cells_from at bytes.now) Unchanged) script
+        (scene regs.old (B.memory bus.old) d v) result
+        (scene regs.new (B.memory bus.new) d v) }
+{
+    put_cells(bus, at, bytes)?;
+    give_back(regs, value as u16, to);
+    Ok(Served::Went)
+}
+
+// Writes the entry that a search found into the buffer, as a directory record, and sets where the search continues.
+#[tactic(auto, using(crate::proofs::Parts::still_looked_at))]
+fn give_entry<B: Bus>(
+    regs: &mut Regs,
+    bus: &mut B,
+    desk: &mut Desk,
+    search: &Search,
+    to: u16,
+) -> Result<Served, AllocError>
+    ensures { (script : List ℕ) (v : TableView) →
+        PerformsSystemCall
+        (call_with_finding (finding.FirstEntry search.now) regs.old desk.old.desk.spot to) script
+        (scene regs.old (B.memory bus.old) desk.old v) result
+        (scene regs.new (B.memory bus.new) desk.new v) }
+{
+    put_cells(bus, desk.buffer(), &directory_record(&search.last))?;
+    desk.set_search(Some(*search));
+    give_back(regs, 0, to);
+    Ok(Served::Went)
+}
+
+// Returns a directory record with this first entry; the other entries are unused.
+fn directory_record(entry: &[u8; 32]) -> Record
+    ensures { result ≡ directory_record entry.now }
+{
+    let mut bytes = [0xe5; RECORD_BYTES];
+    bytes[..32].copy_from_slice(entry);
+    bytes
+}
+
+// Writes the record that was read into the buffer, and a sequential record number into the control block.
+#[tactic(auto, using(crate::proofs::Parts::still_looked_at))]
+fn give_record<B: Bus>(
+    regs: &mut Regs,
+    bus: &mut B,
+    desk: &Desk,
+    bytes: &Record,
+    next: u32,
+    to: u16,
+) -> Result<Served, AllocError>
+    ensures { (script : List ℕ) (v : TableView) →
+        PerformsSystemCall
+        (call_with_finding (finding.Found bytes.now next) regs.old desk.now.desk.spot to) script
+        (scene regs.old (B.memory bus.old) desk.now v) result
+        (scene regs.new (B.memory bus.new) desk.now v) }
+{
+    let block = word_of(regs.e, regs.d);
+    put_record(bus, desk.buffer(), bytes, block, next)?;
+    give_back(regs, 0, to);
+    Ok(Served::Went)
+}
+
+// Writes the record in the buffer to a file, and a sequential record number into the control block.
+fn store<B: Bus>(
+    regs: &mut Regs,
+    bus: &mut B,
+    table: &mut Table<'_>,
+    desk: &Desk,
+    write: &Write,
+    to: u16,
+) -> Result<Served, AllocError>
+    ensures { (script : List ℕ) →
+        PerformsSystemCall (call_with_finding (finding.Write write.now) regs.old desk.now.desk.spot to) script
+        (scene regs.old (B.memory bus.old) desk.now (table_view table.old)) result
+        (scene regs.new (B.memory bus.new) desk.now (table_view table.new)) }
+{
+    let mut bytes = [0; RECORD_BYTES];
+    fetch_cells(bus, desk.buffer(), &mut bytes);
+    let block = word_of(regs.e, regs.d);
+    ready_place(bus, block)?;
+    write_record(table, write, &bytes)?;
+    write_place(bus, block, write.next);
+    give_back(regs, 0, to);
+    Ok(Served::Went)
+}
+
+// Writes a record to a file; the gap before it becomes holes or zeros. An `Err` changes no file.
+fn write_record(table: &mut Table<'_>, write: &Write, bytes: &Record) -> Result<(), AllocError>
+    ensures ok { OnOk result ((table_view table.new).own ≡
+        own_after_change (Stored write.now bytes.now) (table_view table.old).own) }
+    ensures err { OnErr result ((table_view table.new).own ≡ (table_view table.old).own) }
+    ensures looks { (table_view table.new).looks ≡ (table_view table.old).looks }
+    ensures host { (table_view table.new).host ≡ (table_view table.old).host }
+    ensures lender { (table_view table.new).lender ≡ (table_view table.old).lender }
+{
+    let journal = &mut table.changes.journal;
+    let place = write.place as u32;
+    journal.write(&write.key, write.length, place, bytes, write.filled)
+}
+
+// Makes an empty file, and clears the bytes 13 to 31 of the control block.
+fn make<B: Bus>(
+    regs: &mut Regs,
+    bus: &mut B,
+    table: &mut Table<'_>,
+    desk: &Desk,
+    key: &Key,
+    to: u16,
+) -> Result<Served, AllocError>
+    ensures { (script : List ℕ) →
+        PerformsSystemCall (call_with_finding (finding.Make key.now) regs.old desk.now.desk.spot to) script
+        (scene regs.old (B.memory bus.old) desk.now (table_view table.old)) result
+        (scene regs.new (B.memory bus.new) desk.now (table_view table.new)) }
+{
+    let at = word_of(regs.e, regs.d).wrapping_add(13);
+    bus.ready_cells(at, 19)?;
+    table.changes.journal.make(key)?;
+    bus.write_cells(at, &made_bytes());
+    give_back(regs, 0, to);
+    Ok(Served::Went)
+}
+
+// Renames a file.
+fn rename<B: Bus>(
+    regs: &mut Regs,
+    bus: &B,
+    table: &mut Table<'_>,
+    desk: &Desk,
+    keys: (Key, Key),
+    to: u16,
+) -> Result<Served, AllocError>
+    requires { keys.0 ≢ keys.1 }
+    ensures { (script : List ℕ) →
+        PerformsSystemCall
+        (call_with_finding (finding.Rename keys.0 keys.1) regs.old desk.now.desk.spot to) script
+        (scene regs.old (B.memory bus.now) desk.now (table_view table.old)) result
+        (scene regs.new (B.memory bus.now) desk.now (table_view table.new)) }
+{
+    let (old, new) = keys;
+    table.changes.journal.rename(&old, &new)?;
+    give_back(regs, 0, to);
+    Ok(Served::Went)
+}
+
+// Returns the bytes 13 to 31 of a control block that is opened at an extent with this record count.
+#[tactic(auto, unfolding(crate::specs::FileCalls::opened_bytes))]
+fn opened_bytes(count: u8) -> [u8; 19]
+    ensures { result ≡ opened_bytes count }
+{
+    let mut bytes = [0; 19];
+    bytes[2] = count;
+    bytes
+}
+
+// Returns the bytes 13 to 31 of a control block whose file is made.
+#[tactic(auto, unfolding(crate::specs::FileCalls::made_bytes))]
+fn made_bytes() -> [u8; 19]
+    ensures { result ≡ made_bytes }
+{
+    [0; 19]
+}
+
+// Returns the three bytes of a random record number, the low byte first.
+#[tactic(auto, unfolding(crate::specs::FileCalls::random_bytes))]
+fn random_bytes(place: u32) -> [u8; 3]
+    ensures { result ≡ random_bytes place }
+{
+    [
+        (place % 256) as u8,
+        (place / 256 % 256) as u8,
+        (place / 65_536 % 256) as u8,
+    ]
+}

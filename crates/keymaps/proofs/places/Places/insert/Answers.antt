@@ -1,7 +1,0 @@
-use Rattle.std.proofs.Common.{ap, ◌∙◌}
-use Rattle.std.specs.FinMap as finmap
-use Rattle.keymaps.proofs.Views.{insert_view, places_total, same_place}
-use Rattle.keymaps.proofs.places.Places.insert.Goals as goal
-
-pub returns-clause-ok : goal.returns-clause-ok
-returns-clause-ok c = insert_view places_total same_place _ _ (c.args.key, c.args.place) tt c.in_ok-insert.ensures.updates.0 ∙ ap (λ m. finmap.insert m (c.args.key, c.args.place) tt) c.self.view_is

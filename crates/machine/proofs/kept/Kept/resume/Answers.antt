@@ -1,5 +1,0 @@
-use Rattle.machine.proofs.HostLemmas.{nothing_asked}
-use Rattle.machine.proofs.kept.Kept.resume.Goals as goal
-
-pub returns-clause-looked : goal.returns-clause-looked
-returns-clause-looked c = record { cells = c.requires.looks; places = c.over.ensures.places; files = λ a. nothing_asked c.args.changes.looks a c.requires.asks }

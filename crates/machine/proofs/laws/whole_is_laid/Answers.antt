@@ -1,5 +1,0 @@
-use Rattle.machine.proofs.WholeLemmas.{whole_goes_as_laid}
-use Rattle.machine.proofs.laws.whole_is_laid.Goals as goal
-
-pub returns : goal.returns
-returns c = whole_goes_as_laid

@@ -1,5 +1,0 @@
-use Rattle.replay.proofs.RunnerLemmas.{spacing_within}
-use Rattle.replay.proofs.runner.Runner.within.Goals as goal
-
-pub with_spacing_in_range-requires : goal.with_spacing_in_range-requires
-with_spacing_in_range-requires c = spacing_within c.args.options c.requires
