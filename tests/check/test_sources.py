@@ -125,23 +125,23 @@ def other_citations() -> Iterator[Line]:
 
 
 MAY_REPORT_OUT_OF_MEMORY = set('''
-command_words::outcome_of
+command_words::error_class
 command_words::read_words
-cpmrun::complain
+cpmrun::report_fault
 cpmrun::fixed_message
 cpmrun::message
 cpmrun::read_request
 cpmrun::replay_file
 cpmrun::status
-edit_lines::carry_out_edit
+edit_lines::execute_edit
 edit_lines::hex_bytes
 executable::main
 folders::count
 folders::read_folder
 folders::read_one
 folders::set
-folders::unread
-folders::unwritten
+folders::read_failure
+folders::write_failure
 folders::write_file
 hostfiles::number
 loading::read_fault

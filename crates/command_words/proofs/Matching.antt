@@ -9,7 +9,7 @@ use Rattle.clap.specs.declared.error.Error.{Error}
 use Rattle.clap.specs.declared.parser.matches.Found.{Found}
 use Rattle.clap.proofs.OnLiterals.{clap_on_literals}
 use Rattle.clap.proofs.WalkLemmas.{first_value-rows, one_text-rows}
-use Rattle.command_words.specs.CommandLine.{Says, SaysNumber, command_line, faults_at, matches_at, text_of}
+use Rattle.command_words.specs.CommandLine.{AreWordsOf, IsNumberOf, command_line, faults_at, matches_at, text_of}
 use Rattle.command_words.specs.declared.words.Words.{Words}
 
 pub is_simple_line : is_simple command_line ≡ true
@@ -38,15 +38,15 @@ text_said f id rows r same e = e ∙ first_value-rows f id ∙ ap (first_of id) 
 -- A number that was read is the number in the row.
 pub number_said : {E : Type 0} (f : Found) (id : Text) (G : List ℕ → Result ℕ E → Type 0) (n : ℕ) → (one_text f id ≡ None → Some n ≡ None)
     → ((t : List ℕ) → one_text f id ≡ Some t → ReadsOne G t (Some n)) → ((t : List ℕ) (x : Result ℕ E) → G t x → ParsesUnsigned 64 10 t x)
-    → SaysNumber (rows_of f) id n
-number_said f id G n none value parses = elim (one_text f id) as (λ o. one_text f id ≡ o → SaysNumber (rows_of f) id n) [
+    → IsNumberOf (rows_of f) id n
+number_said f id G n none value parses = elim (one_text f id) as (λ o. one_text f id ≡ o → IsNumberOf (rows_of f) id n) [
   | None ↦ λ e. let bad : Some n ≡ None = none e in cc
   | Some t ↦ λ e. let read = parses t (Ok n) (value t e) in (t, sym (one_text-rows f id) ∙ e, (read.0.0, read.1))
 ] refl
 
 -- If the row has a number of 64 bits, that number was read.
 pub number_read : {E : Type 0} (f : Found) (id : Text) (G : List ℕ → Result ℕ E → Type 0) (r : Option ℕ) → ((t : List ℕ) → one_text f id ≡ Some t → ReadsOne G t r)
-    → ((t : List ℕ) (x : Result ℕ E) → G t x → ParsesUnsigned 64 10 t x) → (n : ℕ) → SaysNumber (rows_of f) id n → n < 2 ^ 64 → r ≡ Some n
+    → ((t : List ℕ) (x : Result ℕ E) → G t x → ParsesUnsigned 64 10 t x) → (n : ℕ) → IsNumberOf (rows_of f) id n → n < 2 ^ 64 → r ≡ Some n
 number_read {E = E} f id G r value parses n says fits = by_read r (value says.0 (one_text-rows f id ∙ says.1)) where
   by_read : (r : Option ℕ) → ReadsOne G says.0 r → r ≡ Some n
   by_read (Some v) h = let read = parses says.0 (Ok v) h in ap Some (read.1 ∙ sym says.2.1)
@@ -70,8 +70,8 @@ pub four_texts : (a b c d : Option (Bor Text)) (w x y z : Option Text) → text_
 four_texts a b c d w x y z p q r s = cc
 
 -- What holds for the rows holds for equal rows.
-pub says_at : (rows others : List Row) (words : Words) → rows ≡ others → Says rows words → Says others words
-says_at rows others words same h = subst (λ r. Says r words) same h
+pub says_at : (rows others : List Row) (words : Words) → rows ≡ others → AreWordsOf rows words → AreWordsOf others words
+says_at rows others words same h = subst (λ r. AreWordsOf r words) same h
 
 -- A parse that returned matches had no error.
 pub no_fault : {T : Type 0} (words : List Text) (r : Result T Error) (x : T) → r ≡ Ok x → FailsBy (faults_at words) r → faults_at words ≡ []

@@ -26,8 +26,8 @@ with_rules app [] = app
 with_rules app (rule ∷ rules) = with_rules (with_rule app rule) rules
 
 -- The program, which is required, and the tail.
-abbrev pub place_rules : List Rule
-place_rules = record (new_rule (codes "PROGRAM")) { required = true } ∷ new_rule (codes "TAIL") ∷ []
+abbrev pub positional_rules : List Rule
+positional_rules = record (new_rule (codes "PROGRAM")) { required = true } ∷ new_rule (codes "TAIL") ∷ []
 
 -- The folders that are read.
 abbrev pub folder_rules : List Rule
@@ -54,7 +54,7 @@ plain_command = on_top (λ s. record s { no_binary_name = true; has_version = tr
 
 -- The command line with all its arguments.
 abbrev pub command_line : App
-command_line = with_rules (with_rules (with_rules (with_rules (with_rules plain_command place_rules) folder_rules) file_rules) output_rules) number_rules
+command_line = with_rules (with_rules (with_rules (with_rules (with_rules plain_command positional_rules) folder_rules) file_rules) output_rules) number_rules
 
 -- The matches that clap returns for the words, and the kinds of its errors if it returns none.
 unfoldable pub matches_at : List Text → List Row
@@ -70,12 +70,12 @@ abbrev pub IsDecimal : Text → ℕ → Type 0
 IsDecimal text n = IsNumeral 10 (without_leading_plus text) × (n ≡ digits_value 10 (without_leading_plus text))
 
 -- The text of the first value of an argument is a number.
-abbrev pub SaysNumber : List Row → Text → ℕ → Type 0
-SaysNumber rows id n = (text : Text) × (one_of id rows ≡ Some text) × IsDecimal text n
+abbrev pub IsNumberOf : List Row → Text → ℕ → Type 0
+IsNumberOf rows id n = (text : Text) × (one_of id rows ≡ Some text) × IsDecimal text n
 
 -- The text of the first value of an argument is no number within this range.
 abbrev pub HasNoNumberWithin : List Row → Text → ℕ → ℕ → Type 0
-HasNoNumberWithin rows id least most = (n : ℕ) → SaysNumber rows id n → least ≤ n → n ≤ most → ⊥
+HasNoNumberWithin rows id least most = (n : ℕ) → IsNumberOf rows id n → least ≤ n → n ≤ most → ⊥
 
 -- The matches have no program, or a number that is not in its range.
 abbrev pub LacksWords : List Row → Type 0
@@ -91,13 +91,13 @@ abbrev pub text_of : Option (Bor Text) → Option Text
 text_of = option_map (λ s. s.now)
 
 -- The words have the values of the matches.
-pub record Says (rows : List Row) (words : Words) : Type 0 where
+pub record AreWordsOf (rows : List Row) (words : Words) : Type 0 where
   pub program : text_of (Some words.program) ≡ first_of (codes "PROGRAM") rows
   pub tail : words.tail.now ≡ unwrap_or (first_of (codes "TAIL") rows) []
   pub files : map text_of words.files ≡ texts_of rows (codes "files" ∷ codes "files-b" ∷ codes "files-c" ∷ codes "files-d" ∷ [])
   pub console : text_of words.console ≡ first_of (codes "console") rows
-  pub limit : SaysNumber rows (codes "limit") words.limit
+  pub limit : IsNumberOf rows (codes "limit") words.limit
   pub out : map text_of words.out ≡ texts_of rows (codes "out" ∷ codes "out-b" ∷ codes "out-c" ∷ codes "out-d" ∷ [])
   pub edits : text_of words.edits ≡ first_of (codes "edits") rows
-  pub spacing : SaysNumber rows (codes "spacing") words.spacing
-  pub slots : SaysNumber rows (codes "slots") words.slots
+  pub spacing : IsNumberOf rows (codes "spacing") words.spacing
+  pub slots : IsNumberOf rows (codes "slots") words.slots

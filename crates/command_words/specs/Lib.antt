@@ -1,2 +1,2 @@
-pub mod Outcome
+pub mod ErrorClass
 pub mod CommandLine

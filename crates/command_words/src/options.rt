@@ -1,6 +1,6 @@
 ghost use Rattle.std.specs.Prelude.{◌≡◌, false, codes, IfOk, map};
 ghost use Rattle.clap.specs.Words.{app_of, rule_of};
-ghost use Rattle.command_words.specs.CommandLine.{command_line, number_rule, number_rules, option_rule, place_rules, with_default, with_rules};
+ghost use Rattle.command_words.specs.CommandLine.{command_line, number_rule, number_rules, option_rule, positional_rules, with_default, with_rules};
 
 use clap::{Arg, Command, value_parser};
 use std::alloc::{AllocError, Global};
@@ -123,8 +123,8 @@ fn with_paths<'a>(
 }
 
 /// Adds the two positional arguments to a command.
-fn with_places<'a>(alloc: Global, command: Command<'a>) -> Result<Command<'a>, AllocError>
-    ensures { IfOk result (λ c. app_of c ≡ with_rules (app_of command.entry) place_rules) }
+fn with_positionals<'a>(alloc: Global, command: Command<'a>) -> Result<Command<'a>, AllocError>
+    ensures { IfOk result (λ c. app_of c ≡ with_rules (app_of command.entry) positional_rules) }
 {
     command
         .arg(
@@ -199,7 +199,7 @@ pub fn command<'a>(alloc: Global) -> Result<Command<'a>, AllocError>
         .version(VERSION)
         .about(ABOUT)
         .after_help(AFTER_HELP);
-    let command = with_places(alloc, command)?;
+    let command = with_positionals(alloc, command)?;
     let command = with_paths(alloc, command, PATHS)?;
     with_numbers(alloc, command)
 }

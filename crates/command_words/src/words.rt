@@ -1,6 +1,6 @@
 ghost use Rattle.std.specs.Prelude.{◌≤◌, IfOk, IfSome, IfNone, map, string_bytes};
 ghost use Rattle.clap.specs.Words.{FailsBy, found_of, rows_of};
-ghost use Rattle.command_words.specs.CommandLine.{HasNoNumberWithin, LacksWords, Says, SaysNumber, faults_at, matches_at};
+ghost use Rattle.command_words.specs.CommandLine.{HasNoNumberWithin, LacksWords, AreWordsOf, IsNumberOf, faults_at, matches_at};
 
 use crate::options::command;
 use clap::{ArgMatches, Error};
@@ -31,7 +31,7 @@ pub struct Words<'a> {
 
 /// Returns the number of an option, if the option is there and in its range.
 fn number(matches: &ArgMatches<'_>, id: &str, least: u64, most: u64) -> Option<u64>
-    ensures said { IfSome result (SaysNumber (rows_of (found_of matches.now)) id.now) }
+    ensures said { IfSome result (IsNumberOf (rows_of (found_of matches.now)) id.now) }
     ensures low { IfSome result (λ n. least ≤ n) }
     ensures high { IfSome result (λ n. n ≤ most) }
     ensures none { IfNone result (HasNoNumberWithin (rows_of (found_of matches.now)) id.now least most) }
@@ -44,7 +44,7 @@ fn number(matches: &ArgMatches<'_>, id: &str, least: u64, most: u64) -> Option<u
 
 /// Returns the words of the matches, or `None` if a required one is missing or a number is out of its range.
 fn words_of<'a>(matches: &ArgMatches<'a>) -> Option<Words<'a>>
-    ensures says { IfSome result (Says (rows_of (found_of matches.now))) }
+    ensures says { IfSome result (AreWordsOf (rows_of (found_of matches.now))) }
     ensures limit { IfSome result (λ w. w.limit ≤ 4000000000) }
     ensures spacing { IfSome result (λ w. (1 ≤ w.spacing) × (w.spacing ≤ 1000000000)) }
     ensures slots { IfSome result (λ w. (1 ≤ w.slots) × (w.slots ≤ 4096)) }
@@ -77,10 +77,10 @@ fn words_of<'a>(matches: &ArgMatches<'a>) -> Option<Words<'a>>
 ///
 /// # Errors
 ///
-/// Returns the error of `clap`; `outcome_of` says whether help was asked for, the words are a usage error, or an allocation
+/// Returns the error of `clap`; `error_class` says whether help was asked for, the words are a usage error, or an allocation
 /// failed.
 pub fn read_words<'a>(alloc: Global, words: &'a [String]) -> Result<Words<'a>, Error>
-    ensures says { IfOk result (Says (matches_at (map string_bytes words.entry.now))) }
+    ensures says { IfOk result (AreWordsOf (matches_at (map string_bytes words.entry.now))) }
     ensures fails { FailsBy (faults_at (map string_bytes words.entry.now)) result }
     ensures limit { IfOk result (λ w. w.limit ≤ 4000000000) }
     ensures spacing { IfOk result (λ w. (1 ≤ w.spacing) × (w.spacing ≤ 1000000000)) }

@@ -10,7 +10,7 @@ use Rattle.cpmrun.specs.Requests.{AreWords}
 use Rattle.one_run.specs.RawRun.{BreaksRun, RunsOnce}
 use Rattle.one_run.specs.declared.fault.RunFault.{RunFault}
 use Rattle.one_run.specs.World.{World}
-use Rattle.cpmrun.specs.Complaints.{of_run}
+use Rattle.cpmrun.specs.FaultReports.{of_run}
 use Rattle.cpmrun.specs.Ends.{BreaksReplay, FaultOf, IsSessionOf}
 use Rattle.cpmrun.specs.MeteredEnds.{MeteredEnds, WritesReplayBy, options_of}
 

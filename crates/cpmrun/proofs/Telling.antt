@@ -1,7 +1,7 @@
 -- The words of the program, and messages that are written whole or in part.
 use Rattle.std.proofs.Common.{◌≡◌, ◌∙◌, ℕ, inl, inr, sym}
 use Rattle.report_lines.specs.Streams.{Output}
-use Rattle.cpmrun.specs.Complaints.{ReportsFaultOrMemory, status_of}
+use Rattle.cpmrun.specs.FaultReports.{ReportsFaultOrMemory, status_of}
 use Rattle.cpmrun.specs.declared.fault.Fault.{Fault}
 use Rattle.cpmrun.specs.declared.fault.Fault.TheVariants.{Use, NotText, CannotRead, CannotWrite, Folders, Refused, Malformed, TooLong, OutOfMemory}
 

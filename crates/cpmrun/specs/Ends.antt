@@ -1,15 +1,15 @@
 -- The ways in which the program ends. (This project's profile.)
 use Rattle.std.specs.Prelude.{◌≡◌, ℕ, ◌+◌, ◌⊎◌, List, Option, Result, IfSome, MatchOption}
 use Rattle.std.specs.Io.KnownBytes.{Consumes}
-use Rattle.command_words.specs.Outcome.{ComesTo}
-use Rattle.command_words.specs.declared.outcome.Outcome.TheVariants.{Information}
+use Rattle.command_words.specs.ErrorClass.{HasErrorClass}
+use Rattle.command_words.specs.declared.error_classes.ErrorClass.TheVariants.{Information}
 use Rattle.command_words.specs.declared.words.Words.{Words}
 use Rattle.machine.specs.Inputs.{Session}
 use Rattle.edit_lines.specs.declared.ending.ReplayFault.{ReplayFault}
 use Rattle.edit_lines.specs.declared.ending.ReplayFault.TheVariants as replay_fault
 use Rattle.cpmrun.specs.declared.fault.Fault.{Fault}
 use Rattle.cpmrun.specs.declared.fault.Fault.TheVariants.{Use, NotText, CannotRead, CannotWrite, Folders, Refused, Malformed, TooLong, OutOfMemory}
-use Rattle.cpmrun.specs.Requests.{AreWords, Misread}
+use Rattle.cpmrun.specs.Requests.{AreWords, FailsToParse}
 use Rattle.loading.specs.Loading.{FailsToLoad, IsLoadedFrom}
 use Rattle.loading.specs.declared.fault.LoadFault.{LoadFault}
 use Rattle.one_run.specs.RawRun.{BreaksRun, RunsOnce}
@@ -18,7 +18,7 @@ use Rattle.report_lines.specs.Streams.{Output, WritesPart, WritesText, WritesWho
 use Rattle.one_run.specs.declared.fault.RunFault.{RunFault}
 use Rattle.folders.specs.FileSystem.{text_at}
 use Rattle.edit_lines.specs.Pieces.{lines_of}
-use Rattle.cpmrun.specs.Complaints.{ReportsFaultOrMemory, file_failures, of_load, of_run}
+use Rattle.cpmrun.specs.FaultReports.{ReportsFaultOrMemory, file_failures, of_load, of_run}
 use Rattle.edit_lines.specs.Faults.{Faults}
 use Rattle.edit_lines.specs.Replay.{Finished, Replays}
 
@@ -72,7 +72,7 @@ Completes IsReplayed w s status before after = MatchOption w.edits
 -- failed. `IsReplayed` holds for a replay.
 abbrev pub EndsBy : (Words → Session → List ℕ → Type 0) → List (List ℕ) → ℕ → World → World → Type 0
 EndsBy IsReplayed words status before after = (after.files.failures ≡ before.files.failures) × (
-    (ComesTo words Information × (status ≡ 0) × (after.err ≡ before.err) × (after.files.bytes ≡ before.files.bytes) × ((text : List ℕ) × WritesWhole before.out after.out text))
+    (HasErrorClass words Information × (status ≡ 0) × (after.err ≡ before.err) × (after.files.bytes ≡ before.files.bytes) × ((text : List ℕ) × WritesWhole before.out after.out text))
     ⊎ ((w : Words) × AreWords words w × ((s : Session) × IsSessionOf before w s × Completes (IsReplayed w s) w s status before after)))
 
 -- The same, with a replay that writes the text of its lines.
@@ -94,8 +94,8 @@ WritesNothing before after = (after.out ≡ before.out) × (after.files.bytes �
 -- its run or replay.
 abbrev pub FaultOf : List (List ℕ) → World → World → Fault → Type 0
 FaultOf words before after fault =
-    (Misread words fault × WritesNothing before after)
-    ⊎ (ComesTo words Information × (fault ≡ CannotWrite) × ((text : List ℕ) × WritesPart before.out after.out text) × (after.files.bytes ≡ before.files.bytes))
+    (FailsToParse words fault × WritesNothing before after)
+    ⊎ (HasErrorClass words Information × (fault ≡ CannotWrite) × ((text : List ℕ) × WritesPart before.out after.out text) × (after.files.bytes ≡ before.files.bytes))
     ⊎ ((w : Words) × AreWords words w × (((f : LoadFault) × (fault ≡ of_load f) × FailsToLoad before.files w f × WritesNothing before after)
     ⊎ ((s : Session) × IsSessionOf before w s × StopsByFault w s before after fault)))
 

@@ -1,4 +1,4 @@
-pub mod Complaints
+pub mod FaultReports
 pub mod Requests
 pub mod Ends
 pub mod MeteredEnds

@@ -5,14 +5,14 @@ ghost use Rattle.machine.specs.Inputs.{Session};
 ghost use Rattle.replay.specs.Options.{refusal_of};
 ghost use Rattle.replay.specs.RunnerView.{with_no_checkpoint};
 ghost use Rattle.folders.specs.Failures.{CountsFailures, KeepsFiles};
-ghost use Rattle.cpmrun.specs.Complaints.{file_failures};
+ghost use Rattle.cpmrun.specs.FaultReports.{file_failures};
 ghost use Rattle.cpmrun.specs.Ends.{BreaksOffWith, BreaksReplay, EndsWithoutFault, EndsByFault, FaultOf, WritesSomeText};
 ghost use Rattle.cpmrun.specs.MeteredEnds.{MeteredEnds, WritesReplayBy, options_of};
 ghost use Rattle.one_run.specs.World.{world};
 ghost use Rattle.folders.specs.FileSystem.{text_at};
 
 use crate::edit_file::EditFile;
-use crate::fault::{Fault, complain};
+use crate::fault::{Fault, report_fault};
 use crate::request::{Request, read_request};
 use command_words::Words;
 use edit_lines::{Ending, Reader, ReplayFault, Writer, replay};
@@ -96,7 +96,7 @@ fn replay_file<'a, S: FileSystem, O: Writer>(
 }
 
 /// Writes help or the version.
-fn inform<'a, O: Writer>(text: &str, out: &mut O) -> Result<(), Fault<'a>>
+fn print_information<'a, O: Writer>(text: &str, out: &mut O) -> Result<(), Fault<'a>>
     requires { (O.output out.old).failures < 2 ^ 63 }
     ensures writes { WritesSomeText (O.output out.old) (O.output out.new) result }
     ensures fault { IfErr result (λ f. f ≡ Fault.CannotWrite) }
@@ -131,7 +131,7 @@ fn run<'a, S: FileSystem, O: Writer, E: Writer>(
     let words = match read_request(system.alloc(), words)? {
         Request::Session(words) => words,
         Request::Information(text) => {
-            inform(text.as_str(), out)?;
+            print_information(text.as_str(), out)?;
             return Ok(0);
         }
     };
@@ -165,7 +165,7 @@ pub fn metered_command<S: FileSystem, O: Writer, E: Writer>(
 {
     match run(system, words, meter, out, err) {
         Ok(status) => status,
-        Err(fault) => complain(system.alloc(), fault, err),
+        Err(fault) => report_fault(system.alloc(), fault, err),
     }
 }
 

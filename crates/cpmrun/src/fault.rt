@@ -1,5 +1,5 @@
 ghost use Rattle.std.specs.Prelude.{◌≡◌, ◌^◌, ◌<◌, IfOk, IfSome, IfNone, string_bytes};
-ghost use Rattle.cpmrun.specs.Complaints.{ReportsFaultOrMemory};
+ghost use Rattle.cpmrun.specs.FaultReports.{ReportsFaultOrMemory};
 ghost use Rattle.report_lines.specs.Streams.{WritesOrFails};
 
 use loading::LoadFault;
@@ -32,7 +32,7 @@ pub enum Fault<'a> {
 
 impl<'a> From<LoadFault<'a>> for Fault<'a> {
     ghost use Rattle.std.specs.Prelude.{◌≡◌};
-    ghost use Rattle.cpmrun.specs.Complaints.{of_load};
+    ghost use Rattle.cpmrun.specs.FaultReports.{of_load};
 
     ghost from_gives = { λ load fault. fault ≡ of_load load };
 
@@ -48,7 +48,7 @@ impl<'a> From<LoadFault<'a>> for Fault<'a> {
 
 impl From<RunFault> for Fault<'_> {
     ghost use Rattle.std.specs.Prelude.{◌≡◌};
-    ghost use Rattle.cpmrun.specs.Complaints.{of_run};
+    ghost use Rattle.cpmrun.specs.FaultReports.{of_run};
 
     ghost from_gives = { λ run fault. fault ≡ of_run run };
 
@@ -71,7 +71,7 @@ For more information, try '--help'.
 ";
 
 impl Fault<'_> {
-    ghost use Rattle.cpmrun.specs.Complaints.{NamesAValue, message_of, status_of};
+    ghost use Rattle.cpmrun.specs.FaultReports.{NamesAValue, message_of, status_of};
 
     /// Returns the exit status: 1 for a usage error, an I/O error, invalid host files or a refused session, 2 for an edit line,
     /// 12 for out of memory.
@@ -118,7 +118,7 @@ impl Fault<'_> {
 }
 
 /// Writes a text. A failure of the writer is ignored.
-fn tell<E: Writer>(err: &mut E, text: &[u8])
+fn write_message<E: Writer>(err: &mut E, text: &[u8])
     requires { (E.output err.old).failures < 2 ^ 63 }
     ensures { WritesOrFails (E.output err.old) (E.output err.new) text.now }
 {
@@ -127,21 +127,21 @@ fn tell<E: Writer>(err: &mut E, text: &[u8])
 
 /// Writes the message of an error and returns the status. If there is no memory to put a path, name or number into the message,
 /// it reports out of memory instead. A failure of the writer is ignored.
-pub fn complain<E: Writer>(alloc: Global, fault: Fault<'_>, err: &mut E) -> u8
+pub fn report_fault<E: Writer>(alloc: Global, fault: Fault<'_>, err: &mut E) -> u8
     requires { (E.output err.old).failures < 2 ^ 63 }
     ensures { ReportsFaultOrMemory fault.entry result (E.output err.old) (E.output err.new) }
 {
     if let Some(text) = fault.fixed_message() {
-        tell(err, text.as_bytes());
+        write_message(err, text.as_bytes());
         return fault.status();
     }
     match fault.message(alloc) {
         Ok(text) => {
-            tell(err, text.as_bytes());
+            write_message(err, text.as_bytes());
             fault.status()
         }
         Err(AllocError) => {
-            tell(err, b"cpmrun: out of memory\n".as_slice());
+            write_message(err, b"cpmrun: out of memory\n".as_slice());
             Fault::OutOfMemory.status()
         }
     }

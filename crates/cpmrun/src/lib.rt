@@ -13,8 +13,8 @@ mod request;
 pub use command_line::{command, metered_command};
 pub use command_words::{Words, read_words};
 pub use edit_lines::{
-    Command, Ending, Failed, Over, Reader, ReplayFault, Writer, parse_line, refused, replay,
+    Command, Ending, Failed, Over, Reader, ReplayFault, Writer, parse_line, refused_line, replay,
 };
-pub use fault::{Fault, complain};
+pub use fault::{Fault, report_fault};
 pub use folders::{FileSystem, SystemFiles};
 pub use report_lines::cause_text;

@@ -11,7 +11,7 @@ use Rattle.replay.specs.declared.edit.Edit.TheVariants.{Insert, Replace, Remove,
 use Rattle.edit_lines.specs.declared.line.Command.{Command}
 use Rattle.edit_lines.specs.declared.line.Command.TheVariants.{Edit, Run, DropOldest}
 use Rattle.edit_lines.specs.EditLine.{EditLine, IsAddress, IsHexText, IsNumber, IsName}
-use Rattle.edit_lines.specs.LineParts.{IsPaired, IsPlaced}
+use Rattle.edit_lines.specs.LineParts.{IsTwoWordCommand, IsThreeWordCommand}
 use Rattle.filenames.specs.Names.{Key}
 use Rattle.edit_lines.specs.FileLines.{IsFile}
 use Rattle.edit_lines.specs.Pieces.{words_of}
@@ -30,7 +30,7 @@ first_word : (a b : List (List ℕ)) → a ≡ b → get_or a 0 [] ≡ get_or b 
 first_word a b e = ap (λ (words : List (List ℕ)). get_or words 0 []) e
 
 -- If two words have no meaning, neither has the line.
-pub two_words : (line a b : List ℕ) → words_of line ≡ a ∷ b ∷ [] → ((c : Command) → IsPaired a b c → ⊥) → (c : Command) → EditLine line c → ⊥
+pub two_words : (line a b : List ℕ) → words_of line ≡ a ∷ b ∷ [] → ((c : Command) → IsTwoWordCommand a b c → ⊥) → (c : Command) → EditLine line c → ⊥
 two_words line a b e none (Edit (Insert n m)) p = let w = p.2 in cc
 two_words line a b e none (Edit (Replace n m)) p = let w = p.2 in cc
 two_words line a b e none (Edit (Remove n m)) p = let w = p.2 in cc
@@ -51,7 +51,7 @@ two_words line a b e none (DropOldest n) p =
     none (DropOldest n) (verb, subst (λ x. IsNumber x n) same p.2)
 
 -- If three words have no meaning, neither has the line.
-pub three_words : (line a b d : List ℕ) → words_of line ≡ a ∷ b ∷ d ∷ [] → ((c : Command) → IsPlaced a b d c → ⊥) → (c : Command) → EditLine line c → ⊥
+pub three_words : (line a b d : List ℕ) → words_of line ≡ a ∷ b ∷ d ∷ [] → ((c : Command) → IsThreeWordCommand a b d c → ⊥) → (c : Command) → EditLine line c → ⊥
 three_words line a b d e none (Edit (Insert n m)) p =
     let verb : a ≡ codes "insert" = let w = p.2 in cc in
     let first : p.0 ≡ b = let w = p.2 in cc in
@@ -112,7 +112,7 @@ no_digits w dash none bytes (inl p) = dash p.0
 no_digits w dash none bytes (inr p) = none (decode_of-ok w bytes p.1).1
 
 -- Words without a meaning.
-pub no_address : (a h : List ℕ) → ((at : ℕ) → IsAddress a at → ⊥) → (c : Command) → IsPlaced (codes "poke") a h c → ⊥
+pub no_address : (a h : List ℕ) → ((at : ℕ) → IsAddress a at → ⊥) → (c : Command) → IsThreeWordCommand (codes "poke") a h c → ⊥
 no_address a h none (Edit (Insert n m)) p = let e = p.0 in cc
 no_address a h none (Edit (Replace n m)) p = let e = p.0 in cc
 no_address a h none (Edit (Remove n m)) p = let e = p.0 in cc
@@ -123,7 +123,7 @@ no_address a h none (Edit (SetLimit n)) p = p
 no_address a h none Run p = p
 no_address a h none (DropOldest n) p = p
 
-pub no_poke_bytes : (a h : List ℕ) → ((bytes : List ℕ) → IsHexText h bytes → ⊥) → (c : Command) → IsPlaced (codes "poke") a h c → ⊥
+pub no_poke_bytes : (a h : List ℕ) → ((bytes : List ℕ) → IsHexText h bytes → ⊥) → (c : Command) → IsThreeWordCommand (codes "poke") a h c → ⊥
 no_poke_bytes a h none (Edit (Insert n m)) p = let e = p.0 in cc
 no_poke_bytes a h none (Edit (Replace n m)) p = let e = p.0 in cc
 no_poke_bytes a h none (Edit (Remove n m)) p = let e = p.0 in cc
@@ -134,7 +134,7 @@ no_poke_bytes a h none (Edit (SetLimit n)) p = p
 no_poke_bytes a h none Run p = p
 no_poke_bytes a h none (DropOldest n) p = p
 
-pub no_insert_place : (a h : List ℕ) → ((at : ℕ) → IsNumber a at → ⊥) → (c : Command) → IsPlaced (codes "insert") a h c → ⊥
+pub no_insert_place : (a h : List ℕ) → ((at : ℕ) → IsNumber a at → ⊥) → (c : Command) → IsThreeWordCommand (codes "insert") a h c → ⊥
 no_insert_place a h none (Edit (Insert n m)) p = none n p.1
 no_insert_place a h none (Edit (Replace n m)) p = let e = p.0 in cc
 no_insert_place a h none (Edit (Remove n m)) p = insert_or_remove p.0
@@ -145,7 +145,7 @@ no_insert_place a h none (Edit (SetLimit n)) p = p
 no_insert_place a h none Run p = p
 no_insert_place a h none (DropOldest n) p = p
 
-pub no_insert_bytes : (a h : List ℕ) → ((bytes : List ℕ) → IsHexText h bytes → ⊥) → (c : Command) → IsPlaced (codes "insert") a h c → ⊥
+pub no_insert_bytes : (a h : List ℕ) → ((bytes : List ℕ) → IsHexText h bytes → ⊥) → (c : Command) → IsThreeWordCommand (codes "insert") a h c → ⊥
 no_insert_bytes a h none (Edit (Insert n m)) p = none m p.2
 no_insert_bytes a h none (Edit (Replace n m)) p = let e = p.0 in cc
 no_insert_bytes a h none (Edit (Remove n m)) p = insert_or_remove p.0
@@ -156,7 +156,7 @@ no_insert_bytes a h none (Edit (SetLimit n)) p = p
 no_insert_bytes a h none Run p = p
 no_insert_bytes a h none (DropOldest n) p = p
 
-pub no_replace_place : (a h : List ℕ) → ((at : ℕ) → IsNumber a at → ⊥) → (c : Command) → IsPlaced (codes "replace") a h c → ⊥
+pub no_replace_place : (a h : List ℕ) → ((at : ℕ) → IsNumber a at → ⊥) → (c : Command) → IsThreeWordCommand (codes "replace") a h c → ⊥
 no_replace_place a h none (Edit (Insert n m)) p = let e = p.0 in cc
 no_replace_place a h none (Edit (Replace n m)) p = none n p.1
 no_replace_place a h none (Edit (Remove n m)) p = let e = p.0 in cc
@@ -167,7 +167,7 @@ no_replace_place a h none (Edit (SetLimit n)) p = p
 no_replace_place a h none Run p = p
 no_replace_place a h none (DropOldest n) p = p
 
-pub no_replace_bytes : (a h : List ℕ) → ((bytes : List ℕ) → IsHexText h bytes → ⊥) → (c : Command) → IsPlaced (codes "replace") a h c → ⊥
+pub no_replace_bytes : (a h : List ℕ) → ((bytes : List ℕ) → IsHexText h bytes → ⊥) → (c : Command) → IsThreeWordCommand (codes "replace") a h c → ⊥
 no_replace_bytes a h none (Edit (Insert n m)) p = let e = p.0 in cc
 no_replace_bytes a h none (Edit (Replace n m)) p = none m p.2
 no_replace_bytes a h none (Edit (Remove n m)) p = let e = p.0 in cc
@@ -178,7 +178,7 @@ no_replace_bytes a h none (Edit (SetLimit n)) p = p
 no_replace_bytes a h none Run p = p
 no_replace_bytes a h none (DropOldest n) p = p
 
-pub no_removal_place : (a h : List ℕ) → ((at : ℕ) → IsNumber a at → ⊥) → (c : Command) → IsPlaced (codes "remove") a h c → ⊥
+pub no_removal_place : (a h : List ℕ) → ((at : ℕ) → IsNumber a at → ⊥) → (c : Command) → IsThreeWordCommand (codes "remove") a h c → ⊥
 no_removal_place a h none (Edit (Insert n m)) p = insert_or_remove (sym p.0)
 no_removal_place a h none (Edit (Replace n m)) p = let e = p.0 in cc
 no_removal_place a h none (Edit (Remove n m)) p = none n p.1
@@ -189,7 +189,7 @@ no_removal_place a h none (Edit (SetLimit n)) p = p
 no_removal_place a h none Run p = p
 no_removal_place a h none (DropOldest n) p = p
 
-pub no_removal_count : (a h : List ℕ) → ((count : ℕ) → IsNumber h count → ⊥) → (c : Command) → IsPlaced (codes "remove") a h c → ⊥
+pub no_removal_count : (a h : List ℕ) → ((count : ℕ) → IsNumber h count → ⊥) → (c : Command) → IsThreeWordCommand (codes "remove") a h c → ⊥
 no_removal_count a h none (Edit (Insert n m)) p = insert_or_remove (sym p.0)
 no_removal_count a h none (Edit (Replace n m)) p = let e = p.0 in cc
 no_removal_count a h none (Edit (Remove n m)) p = none m p.2
@@ -200,7 +200,7 @@ no_removal_count a h none (Edit (SetLimit n)) p = p
 no_removal_count a h none Run p = p
 no_removal_count a h none (DropOldest n) p = p
 
-pub no_file : (a h : List ℕ) → ((key bytes : List ℕ) → IsFile a h key bytes → ⊥) → (c : Command) → IsPlaced (codes "file") a h c → ⊥
+pub no_file : (a h : List ℕ) → ((key bytes : List ℕ) → IsFile a h key bytes → ⊥) → (c : Command) → IsThreeWordCommand (codes "file") a h c → ⊥
 no_file a h none (Edit (Insert n m)) p = let e = p.0 in cc
 no_file a h none (Edit (Replace n m)) p = let e = p.0 in cc
 no_file a h none (Edit (Remove n m)) p = let e = p.0 in cc
@@ -211,7 +211,7 @@ no_file a h none (Edit (SetLimit n)) p = p
 no_file a h none Run p = p
 no_file a h none (DropOldest n) p = p
 
-pub other_verb : (verb a h : List ℕ) → verb ≢ codes "insert" → verb ≢ codes "replace" → verb ≢ codes "remove" → verb ≢ codes "poke" → verb ≢ codes "file" → (c : Command) → IsPlaced verb a h c → ⊥
+pub other_verb : (verb a h : List ℕ) → verb ≢ codes "insert" → verb ≢ codes "replace" → verb ≢ codes "remove" → verb ≢ codes "poke" → verb ≢ codes "file" → (c : Command) → IsThreeWordCommand verb a h c → ⊥
 other_verb verb a h i r m k f (Edit (Insert n x)) p = i p.0
 other_verb verb a h i r m k f (Edit (Replace n x)) p = r p.0
 other_verb verb a h i r m k f (Edit (Remove n x)) p = m p.0
@@ -222,7 +222,7 @@ other_verb verb a h i r m k f (Edit (SetLimit n)) p = p
 other_verb verb a h i r m k f Run p = p
 other_verb verb a h i r m k f (DropOldest n) p = p
 
-pub no_name : (word : List ℕ) → ((key : List ℕ) → IsName word key → ⊥) → (c : Command) → IsPaired (codes "gone") word c → ⊥
+pub no_name : (word : List ℕ) → ((key : List ℕ) → IsName word key → ⊥) → (c : Command) → IsTwoWordCommand (codes "gone") word c → ⊥
 no_name word none (Edit (Insert n x)) p = p
 no_name word none (Edit (Replace n x)) p = p
 no_name word none (Edit (Remove n x)) p = p
@@ -233,7 +233,7 @@ no_name word none (Edit (SetLimit n)) p = let e = p.0 in cc
 no_name word none Run p = p
 no_name word none (DropOldest n) p = drop_or_gone (sym p.0)
 
-pub no_number : (verb word : List ℕ) → verb ≢ codes "gone" → (verb ≡ codes "limit" → (n : ℕ) → IsNumber word n → ⊥) → (verb ≡ codes "drop" → (n : ℕ) → IsNumber word n → ⊥) → (c : Command) → IsPaired verb word c → ⊥
+pub no_number : (verb word : List ℕ) → verb ≢ codes "gone" → (verb ≡ codes "limit" → (n : ℕ) → IsNumber word n → ⊥) → (verb ≡ codes "drop" → (n : ℕ) → IsNumber word n → ⊥) → (c : Command) → IsTwoWordCommand verb word c → ⊥
 no_number verb word g l d (Edit (Insert n x)) p = p
 no_number verb word g l d (Edit (Replace n x)) p = p
 no_number verb word g l d (Edit (Remove n x)) p = p

@@ -11,7 +11,7 @@ use Rattle.edit_lines.specs.declared.ending.ReplayFault.{ReplayFault}
 use Rattle.edit_lines.specs.declared.ending.ReplayFault.TheVariants.{OutOfMemory}
 use Rattle.edit_lines.specs.declared.limits.TheConstants.{LINE_LIMIT, LINES_LIMIT}
 use Rattle.edit_lines.specs.EditLine.{EditLine}
-use Rattle.edit_lines.specs.LineParts.{MayWantMemory}
+use Rattle.edit_lines.specs.LineParts.{LineAllocates}
 use Rattle.edit_lines.specs.Pieces.{first_piece, other_pieces, pieces, without_empty_last, lines_of, past_lines}
 use Rattle.edit_lines.specs.Effects.{LineTakesEffect}
 use Rattle.edit_lines.specs.Progress.{ExecutesLine, IsPartFault, IsReplayedTo, ReplayState}
@@ -48,7 +48,7 @@ no_words (Edit (SetLimit n)) is = let words = is.1 in cc
 no_words Run is = cc
 no_words (DropOldest n) is = let words = is.1 in cc
 
-pub wants_some : (s : Session) (line : List ℕ) → MayWantMemory s line → 0 < length line
+pub wants_some : (s : Session) (line : List ℕ) → LineAllocates s line → 0 < length line
 wants_some s [] h = absurd (no_words h.0 h.1)
 wants_some s (b ∷ l) h = omega arith
 

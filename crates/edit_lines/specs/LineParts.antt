@@ -11,28 +11,28 @@ use Rattle.edit_lines.specs.declared.line.Words.TheVariants.{One, Two, Three, Mo
 use Rattle.edit_lines.specs.EditLine.{EditLine, IsAddress, IsHexText, IsName, IsNumber}
 
 -- The meaning of two words, of which the second is a number or a name.
-abbrev pub IsPaired : List ℕ → List ℕ → Command → Type 0
-IsPaired verb word (Edit (Insert at bytes)) = ⊥
-IsPaired verb word (Edit (Replace at bytes)) = ⊥
-IsPaired verb word (Edit (Remove at count)) = ⊥
-IsPaired verb word (Edit (Poke at bytes)) = ⊥
-IsPaired verb word (Edit (SetFile key bytes)) = ⊥
-IsPaired verb word (Edit (RemoveFile key)) = (verb ≡ codes "gone") × IsName word key
-IsPaired verb word (Edit (SetLimit n)) = (verb ≡ codes "limit") × IsNumber word n
-IsPaired verb word Run = ⊥
-IsPaired verb word (DropOldest n) = (verb ≡ codes "drop") × IsNumber word n
+abbrev pub IsTwoWordCommand : List ℕ → List ℕ → Command → Type 0
+IsTwoWordCommand verb word (Edit (Insert at bytes)) = ⊥
+IsTwoWordCommand verb word (Edit (Replace at bytes)) = ⊥
+IsTwoWordCommand verb word (Edit (Remove at count)) = ⊥
+IsTwoWordCommand verb word (Edit (Poke at bytes)) = ⊥
+IsTwoWordCommand verb word (Edit (SetFile key bytes)) = ⊥
+IsTwoWordCommand verb word (Edit (RemoveFile key)) = (verb ≡ codes "gone") × IsName word key
+IsTwoWordCommand verb word (Edit (SetLimit n)) = (verb ≡ codes "limit") × IsNumber word n
+IsTwoWordCommand verb word Run = ⊥
+IsTwoWordCommand verb word (DropOldest n) = (verb ≡ codes "drop") × IsNumber word n
 
 -- The meaning of three words.
-abbrev pub IsPlaced : List ℕ → List ℕ → List ℕ → Command → Type 0
-IsPlaced verb a h (Edit (Insert at bytes)) = (verb ≡ codes "insert") × IsNumber a at × IsHexText h bytes
-IsPlaced verb a h (Edit (Replace at bytes)) = (verb ≡ codes "replace") × IsNumber a at × IsHexText h bytes
-IsPlaced verb a h (Edit (Remove at count)) = (verb ≡ codes "remove") × IsNumber a at × IsNumber h count
-IsPlaced verb a h (Edit (Poke at bytes)) = (verb ≡ codes "poke") × IsAddress a at × IsHexText h bytes
-IsPlaced verb a h (Edit (SetFile key bytes)) = (verb ≡ codes "file") × IsName a key × IsHexText h bytes
-IsPlaced verb a h (Edit (RemoveFile key)) = ⊥
-IsPlaced verb a h (Edit (SetLimit n)) = ⊥
-IsPlaced verb a h Run = ⊥
-IsPlaced verb a h (DropOldest n) = ⊥
+abbrev pub IsThreeWordCommand : List ℕ → List ℕ → List ℕ → Command → Type 0
+IsThreeWordCommand verb a h (Edit (Insert at bytes)) = (verb ≡ codes "insert") × IsNumber a at × IsHexText h bytes
+IsThreeWordCommand verb a h (Edit (Replace at bytes)) = (verb ≡ codes "replace") × IsNumber a at × IsHexText h bytes
+IsThreeWordCommand verb a h (Edit (Remove at count)) = (verb ≡ codes "remove") × IsNumber a at × IsNumber h count
+IsThreeWordCommand verb a h (Edit (Poke at bytes)) = (verb ≡ codes "poke") × IsAddress a at × IsHexText h bytes
+IsThreeWordCommand verb a h (Edit (SetFile key bytes)) = (verb ≡ codes "file") × IsName a key × IsHexText h bytes
+IsThreeWordCommand verb a h (Edit (RemoveFile key)) = ⊥
+IsThreeWordCommand verb a h (Edit (SetLimit n)) = ⊥
+IsThreeWordCommand verb a h Run = ⊥
+IsThreeWordCommand verb a h (DropOldest n) = ⊥
 
 -- The words of a line, if there are at most three.
 abbrev pub AreSplit : List (List ℕ) → Words → Type 0
@@ -54,11 +54,11 @@ NamesBytes Run = ⊥
 NamesBytes (DropOldest n) = ⊥
 
 -- The commands that may need memory in a session: a run, and an insertion or a file that the session does not refuse.
-abbrev pub WantsMemory : Session → Command → Type 0
-WantsMemory s (Edit e) = EditAllocates e × ((t : Session) × (edited s e ≡ Ok t))
-WantsMemory s Run = Unit {0}
-WantsMemory s (DropOldest n) = ⊥
+abbrev pub CommandAllocates : Session → Command → Type 0
+CommandAllocates s (Edit e) = EditAllocates e × ((t : Session) × (edited s e ≡ Ok t))
+CommandAllocates s Run = Unit {0}
+CommandAllocates s (DropOldest n) = ⊥
 
 -- The lines that may need memory in a session: edit lines, for the bytes that they name or for what they do.
-abbrev pub MayWantMemory : Session → List ℕ → Type 0
-MayWantMemory s line = (c : Command) × EditLine line c × (NamesBytes c ⊎ WantsMemory s c)
+abbrev pub LineAllocates : Session → List ℕ → Type 0
+LineAllocates s line = (c : Command) × EditLine line c × (NamesBytes c ⊎ CommandAllocates s c)

@@ -7,7 +7,7 @@ use Rattle.edit_lines.specs.declared.line.Command.TheVariants.{Run}
 use Rattle.edit_lines.specs.declared.ending.ReplayFault.TheVariants.{OutOfMemory}
 use Rattle.edit_lines.specs.declared.limits.TheConstants.{LINE_LIMIT, LINES_LIMIT}
 use Rattle.edit_lines.specs.EditLine.{EditLine}
-use Rattle.edit_lines.specs.LineParts.{MayWantMemory}
+use Rattle.edit_lines.specs.LineParts.{LineAllocates}
 use Rattle.edit_lines.specs.Pieces.{lines_of, past_lines}
 use Rattle.edit_lines.specs.Replay.{ExecutesLines}
 use Rattle.edit_lines.specs.Effects.{Effects, LineTakesEffect, RunCutShort}
@@ -42,5 +42,5 @@ pub record StopsForMemory (first : RunnerView) (begun : ℕ) (before : Output) (
   pub carried : ExecutesLines first.session done replies now.session
   pub written : WritesWhole before after (concat replies)
   pub effects : EffectsBefore first begun done line now meter
-  pub wants : IsLongest done line ⊎ ((length done < LINES_LIMIT) × MayWantMemory now.session line)
+  pub wants : IsLongest done line ⊎ ((length done < LINES_LIMIT) × LineAllocates now.session line)
   pub near : length (past_lines (length done) bytes) ≤ 2 * LINE_LIMIT

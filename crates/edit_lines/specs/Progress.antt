@@ -10,7 +10,7 @@ use Rattle.edit_lines.specs.declared.ending.Ending.{Ending}
 use Rattle.edit_lines.specs.declared.ending.ReplayFault.{ReplayFault}
 use Rattle.edit_lines.specs.declared.ending.ReplayFault.TheVariants.{Malformed, LineTooLong, Read, Write, OutOfMemory}
 use Rattle.edit_lines.specs.EditLine.{EditLine}
-use Rattle.edit_lines.specs.LineParts.{WantsMemory, MayWantMemory}
+use Rattle.edit_lines.specs.LineParts.{CommandAllocates, LineAllocates}
 use Rattle.edit_lines.specs.Effects.{Effects, EffectsAtFault}
 use Rattle.edit_lines.specs.Faults.{Faults}
 use Rattle.edit_lines.specs.Pieces.{pieces, lines_of}
@@ -47,7 +47,7 @@ pub record IsReplayedTo (first : ReplayState) (bytes : List ℕ) (now : ReplaySt
 abbrev pub ExecutesCommand : {U : Type 0} → Command → Session → Session → Output → Output → Result U ReplayFault → Type 0
 ExecutesCommand c s t before after (Ok _) = (t ≡ session_after s c) × WritesWhole before after (reply s c)
 ExecutesCommand c s t before after (Err Write) = (t ≡ session_after s c) × WritesPart before after (reply s c)
-ExecutesCommand c s t before after (Err OutOfMemory) = WantsMemory s c × (t ≡ s) × (after ≡ before)
+ExecutesCommand c s t before after (Err OutOfMemory) = CommandAllocates s c × (t ≡ s) × (after ≡ before)
 ExecutesCommand c s t before after (Err (Malformed k)) = ⊥
 ExecutesCommand c s t before after (Err (LineTooLong k)) = ⊥
 ExecutesCommand c s t before after (Err Read) = ⊥
@@ -58,7 +58,7 @@ ExecutesLine n line s t before after (Ok _) =
     (c : Command) × EditLine line c × (n ≤ LINES_LIMIT) × (t ≡ session_after s c) × WritesWhole before after (reply s c)
 ExecutesLine n line s t before after (Err Write) =
     (c : Command) × EditLine line c × (n ≤ LINES_LIMIT) × (t ≡ session_after s c) × WritesPart before after (reply s c)
-ExecutesLine n line s t before after (Err OutOfMemory) = (n ≤ LINES_LIMIT) × MayWantMemory s line × (t ≡ s) × (after ≡ before)
+ExecutesLine n line s t before after (Err OutOfMemory) = (n ≤ LINES_LIMIT) × LineAllocates s line × (t ≡ s) × (after ≡ before)
 ExecutesLine n line s t before after (Err (Malformed k)) = (k ≡ n) × IsMalformed n line × (t ≡ s) × (after ≡ before)
 ExecutesLine n line s t before after (Err (LineTooLong k)) = ⊥
 ExecutesLine n line s t before after (Err Read) = ⊥

@@ -2,12 +2,12 @@
 //!
 //! - `line`, `file_lines`, `reply`: the command of a line; the words of `file NAME HEX` and `gone NAME`; the reply to a refused
 //!   edit
-//! - `carry_out`, `stream`, `ending`: one line executed; lines read from a reader and executed one by one; how a replay ends
+//! - `execute`, `stream`, `ending`: one line executed; lines read from a reader and executed one by one; how a replay ends
 //! - `limits`: the largest length of a line, and the largest number of lines
 #![tactic(auto)]
 
-mod carry_out;
 mod ending;
+mod execute;
 mod file_lines;
 mod limits;
 mod line;
@@ -16,7 +16,7 @@ mod stream;
 
 pub use ending::{Ending, ReplayFault};
 pub use limits::{LINE_LIMIT, LINES_LIMIT};
-pub use line::{Command, one_command, parse_line};
-pub use reply::refused;
+pub use line::{Command, lines_have_one_command, parse_line};
+pub use reply::refused_line;
 pub use report_lines::{Failed, Over, Reader, Writer};
-pub use stream::{one_replay, replay};
+pub use stream::{replay, replays_are_equal};

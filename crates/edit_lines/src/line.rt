@@ -2,7 +2,7 @@ ghost use Rattle.std.specs.Prelude.{◌≡◌, ℕ, ◌<◌, ◌∷◌, [], List
 ghost use Rattle.std.specs.List.{AllPass};
 ghost use Rattle.hex.specs.Hex.{is_hex_digit};
 ghost use Rattle.edit_lines.specs.EditLine.{EditLine, IsAddress, IsHexText, IsNumber};
-ghost use Rattle.edit_lines.specs.LineParts.{AreSplit, IsPaired, IsPlaced, NamesBytes};
+ghost use Rattle.edit_lines.specs.LineParts.{AreSplit, IsTwoWordCommand, IsThreeWordCommand, NamesBytes};
 ghost use Rattle.edit_lines.specs.Pieces.{first_piece, other_pieces, pieces, words_of};
 ghost use Rattle.edit_lines.specs.declared.line.Command.{Command};
 
@@ -144,9 +144,9 @@ fn address(word: &[u8]) -> Option<u16>
 }
 
 /// Parses the command of two words, of which the second is a number or a name.
-fn paired(verb: &[u8], word: &[u8]) -> Option<Command>
-    ensures found { IfSome result (IsPaired verb.now word.now) }
-    ensures none { IfNone result ((c : Command) → IsPaired verb.now word.now c → ⊥) }
+fn two_word_command(verb: &[u8], word: &[u8]) -> Option<Command>
+    ensures found { IfSome result (IsTwoWordCommand verb.now word.now) }
+    ensures none { IfNone result ((c : Command) → IsTwoWordCommand verb.now word.now c → ⊥) }
 {
     if verb == b"gone".as_slice() {
         let name = name(word)?;
@@ -165,11 +165,11 @@ fn paired(verb: &[u8], word: &[u8]) -> Option<Command>
 
 /// Parses the words after `poke`: an address and the bytes.
 fn poke(alloc: Global, at: &[u8], bytes: &[u8]) -> Result<Option<Command>, AllocError>
-    ensures found { IfOk result (λ r. IfSome r (IsPlaced (codes "poke") at.now bytes.now)) }
+    ensures found { IfOk result (λ r. IfSome r (IsThreeWordCommand (codes "poke") at.now bytes.now)) }
     ensures none { IfOk result
-        (λ r. IfNone r ((c : Command) → IsPlaced (codes "poke") at.now bytes.now c → ⊥)) }
+        (λ r. IfNone r ((c : Command) → IsThreeWordCommand (codes "poke") at.now bytes.now c → ⊥)) }
     ensures memory { OnErr result
-        ((c : Command) × IsPlaced (codes "poke") at.now bytes.now c × NamesBytes c) }
+        ((c : Command) × IsThreeWordCommand (codes "poke") at.now bytes.now c × NamesBytes c) }
 {
     let Some(at) = address(at) else {
         return Ok(None);
@@ -182,11 +182,11 @@ fn poke(alloc: Global, at: &[u8], bytes: &[u8]) -> Result<Option<Command>, Alloc
 
 /// Parses the words after `insert`: an offset and the bytes.
 fn insert(alloc: Global, at: &[u8], bytes: &[u8]) -> Result<Option<Command>, AllocError>
-    ensures found { IfOk result (λ r. IfSome r (IsPlaced (codes "insert") at.now bytes.now)) }
+    ensures found { IfOk result (λ r. IfSome r (IsThreeWordCommand (codes "insert") at.now bytes.now)) }
     ensures none { IfOk result
-        (λ r. IfNone r ((c : Command) → IsPlaced (codes "insert") at.now bytes.now c → ⊥)) }
+        (λ r. IfNone r ((c : Command) → IsThreeWordCommand (codes "insert") at.now bytes.now c → ⊥)) }
     ensures memory { OnErr result
-        ((c : Command) × IsPlaced (codes "insert") at.now bytes.now c × NamesBytes c) }
+        ((c : Command) × IsThreeWordCommand (codes "insert") at.now bytes.now c × NamesBytes c) }
 {
     let Some(at) = number(at) else {
         return Ok(None);
@@ -199,11 +199,11 @@ fn insert(alloc: Global, at: &[u8], bytes: &[u8]) -> Result<Option<Command>, All
 
 /// Parses the words after `replace`: an offset and the bytes.
 fn replace(alloc: Global, at: &[u8], bytes: &[u8]) -> Result<Option<Command>, AllocError>
-    ensures found { IfOk result (λ r. IfSome r (IsPlaced (codes "replace") at.now bytes.now)) }
+    ensures found { IfOk result (λ r. IfSome r (IsThreeWordCommand (codes "replace") at.now bytes.now)) }
     ensures none { IfOk result
-        (λ r. IfNone r ((c : Command) → IsPlaced (codes "replace") at.now bytes.now c → ⊥)) }
+        (λ r. IfNone r ((c : Command) → IsThreeWordCommand (codes "replace") at.now bytes.now c → ⊥)) }
     ensures memory { OnErr result
-        ((c : Command) × IsPlaced (codes "replace") at.now bytes.now c × NamesBytes c) }
+        ((c : Command) × IsThreeWordCommand (codes "replace") at.now bytes.now c × NamesBytes c) }
 {
     let Some(at) = number(at) else {
         return Ok(None);
@@ -216,8 +216,9 @@ fn replace(alloc: Global, at: &[u8], bytes: &[u8]) -> Result<Option<Command>, Al
 
 /// Parses the words after `remove`: an offset and a count.
 fn remove(at: &[u8], count: &[u8]) -> Option<Command>
-    ensures found { IfSome result (IsPlaced (codes "remove") at.now count.now) }
-    ensures none { IfNone result ((c : Command) → IsPlaced (codes "remove") at.now count.now c → ⊥) }
+    ensures found { IfSome result (IsThreeWordCommand (codes "remove") at.now count.now) }
+    ensures none { IfNone result
+        ((c : Command) → IsThreeWordCommand (codes "remove") at.now count.now c → ⊥) }
 {
     let at = number(at)?;
     let count = number(count)?;
@@ -226,11 +227,11 @@ fn remove(at: &[u8], count: &[u8]) -> Option<Command>
 
 /// Parses the words after `file`: a name and the bytes.
 fn set_file(alloc: Global, name: &[u8], bytes: &[u8]) -> Result<Option<Command>, AllocError>
-    ensures found { IfOk result (λ r. IfSome r (IsPlaced (codes "file") name.now bytes.now)) }
+    ensures found { IfOk result (λ r. IfSome r (IsThreeWordCommand (codes "file") name.now bytes.now)) }
     ensures none { IfOk result
-        (λ r. IfNone r ((c : Command) → IsPlaced (codes "file") name.now bytes.now c → ⊥)) }
+        (λ r. IfNone r ((c : Command) → IsThreeWordCommand (codes "file") name.now bytes.now c → ⊥)) }
     ensures memory { OnErr result
-        ((c : Command) × IsPlaced (codes "file") name.now bytes.now c × NamesBytes c) }
+        ((c : Command) × IsThreeWordCommand (codes "file") name.now bytes.now c × NamesBytes c) }
 {
     match file(alloc, name, bytes)? {
         Some((name, bytes)) => Ok(Some(Command::Edit(Edit::SetFile(name, bytes)))),
@@ -239,11 +240,17 @@ fn set_file(alloc: Global, name: &[u8], bytes: &[u8]) -> Result<Option<Command>,
 }
 
 /// Parses the command of three words.
-fn placed(alloc: Global, verb: &[u8], at: &[u8], last: &[u8]) -> Result<Option<Command>, AllocError>
-    ensures found { IfOk result (λ r. IfSome r (IsPlaced verb.now at.now last.now)) }
+fn three_word_command(
+    alloc: Global,
+    verb: &[u8],
+    at: &[u8],
+    last: &[u8],
+) -> Result<Option<Command>, AllocError>
+    ensures found { IfOk result (λ r. IfSome r (IsThreeWordCommand verb.now at.now last.now)) }
     ensures none { IfOk result
-        (λ r. IfNone r ((c : Command) → IsPlaced verb.now at.now last.now c → ⊥)) }
-    ensures memory { OnErr result ((c : Command) × IsPlaced verb.now at.now last.now c × NamesBytes c) }
+        (λ r. IfNone r ((c : Command) → IsThreeWordCommand verb.now at.now last.now c → ⊥)) }
+    ensures memory { OnErr result
+        ((c : Command) × IsThreeWordCommand verb.now at.now last.now c × NamesBytes c) }
 {
     if verb == b"insert".as_slice() {
         return insert(alloc, at, last);
@@ -275,13 +282,13 @@ pub fn parse_line(alloc: Global, line: &[u8]) -> Result<Option<Command>, AllocEr
 {
     match split(line) {
         Words::One(verb) if verb == b"run".as_slice() => Ok(Some(Command::Run)),
-        Words::Two(verb, word) => Ok(paired(verb, word)),
-        Words::Three(verb, at, last) => placed(alloc, verb, at, last),
+        Words::Two(verb, word) => Ok(two_word_command(verb, word)),
+        Words::Three(verb, at, last) => three_word_command(alloc, verb, at, last),
         _ => Ok(None),
     }
 }
 
 /// A line has at most one command.
-pub fn one_command()
+pub fn lines_have_one_command()
     ensures { (line : List ℕ) (c d : Command) → EditLine line c → EditLine line d → c ≡ d }
 {}

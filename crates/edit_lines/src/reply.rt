@@ -3,7 +3,7 @@ ghost use Rattle.std.specs.Fmt.{decimal};
 ghost use Rattle.report_lines.specs.FirstLines.{line};
 
 /// Returns the reply to an edit that was refused by this number, which is below 10: the line `refused N`.
-pub fn refused(number: u8) -> [u8; 10]
+pub fn refused_line(number: u8) -> [u8; 10]
     requires { number < 10 }
     ensures { result ≡ line (codes "refused " ++ decimal number) }
 {

@@ -11,8 +11,8 @@ ghost use Rattle.edit_lines.specs.Faults.{Faults};
 ghost use Rattle.edit_lines.specs.MemoryFaults.{FailsForMemory, StopsForMemory};
 ghost use Rattle.edit_lines.specs.Progress.{ContinuesReplay, FinishesReplay, IsPartFault, IsReplayedTo, ReplayState, replay_state};
 
-use crate::carry_out::carry_out;
 use crate::ending::{Ending, ReplayFault};
+use crate::execute::execute_line;
 use crate::limits::{LINE_LIMIT, LINES_LIMIT};
 use machine::{Meter, STEP_LIMIT};
 use memchr::memchr;
@@ -22,7 +22,7 @@ use std::alloc::Global;
 
 /// The beginning of a line that was read, and the number of lines that were executed.
 #[derive(Drop)]
-struct Place {
+struct LineBuffer {
     line: Vec<u8>,
     lines: u64,
     ghost short: { vec_len line ≤ LINE_LIMIT },
@@ -35,7 +35,7 @@ struct Place {
 ///
 /// Returns `Err` if the line would be too long, or if its buffer has no room for the part and cannot grow. The line is then
 /// unchanged.
-fn take_part(place: &mut Place, part: &[u8]) -> Result<(), ReplayFault>
+fn take_part(place: &mut LineBuffer, part: &[u8]) -> Result<(), ReplayFault>
     ensures lines { place.new.lines ≡ place.old.lines }
     ensures taken { OnOk result (place.new.line.items ≡ place.old.line.items ++ part.now) }
     ensures stays { OnErr result (place.new.line.items ≡ place.old.line.items) }
@@ -53,7 +53,7 @@ fn take_part(place: &mut Place, part: &[u8]) -> Result<(), ReplayFault>
 /// Executes the line, whose 0AH was read, and begins the next one. Memory can run out only for a line that may need it.
 fn end_line<W: Writer>(
     alloc: Global,
-    place: &mut Place,
+    place: &mut LineBuffer,
     runner: &mut Runner,
     meter: &mut Meter,
     writer: &mut W,
@@ -74,7 +74,7 @@ fn end_line<W: Writer>(
         → FailsForMemory (place.old.lines + 1) place.old.line.items runner.old meter.old
         runner.new meter.new (W.output writer.old) (W.output writer.new) }
 {
-    carry_out(
+    execute_line(
         alloc,
         place.line.as_slice(),
         place.lines + 1,
@@ -90,7 +90,7 @@ fn end_line<W: Writer>(
 /// Takes a piece of the text.
 fn take_piece<W: Writer>(
     alloc: Global,
-    place: &mut Place,
+    place: &mut LineBuffer,
     runner: &mut Runner,
     meter: &mut Meter,
     writer: &mut W,
@@ -127,7 +127,7 @@ fn take_piece<W: Writer>(
 /// Executes the last line if it has no 0AH.
 fn finish<W: Writer>(
     alloc: Global,
-    place: Place,
+    place: LineBuffer,
     runner: &mut Runner,
     meter: &mut Meter,
     writer: &mut W,
@@ -147,7 +147,7 @@ fn finish<W: Writer>(
     if place.line.is_empty() {
         return Ok(Ending { lines: place.lines });
     }
-    carry_out(
+    execute_line(
         alloc,
         place.line.as_slice(),
         place.lines + 1,
@@ -210,7 +210,7 @@ pub fn replay<R: Reader, W: Writer>(
     ensures read { result ≡ Err ReplayFault.Read
         → (R.input reader.old).failures < (R.input reader.new).failures }
 {
-    let mut place = Place {
+    let mut place = LineBuffer {
         line: Vec::new(alloc),
         lines: 0,
     };
@@ -228,7 +228,7 @@ pub fn replay<R: Reader, W: Writer>(
 
 /// A replay is a function of its first session and its lines: two replays of the same lines write the same text, and have the
 /// same last session and the same end.
-pub fn one_replay()
+pub fn replays_are_equal()
     ensures { (first : Session) (lines : List (List ℕ)) (text other_text : List ℕ)
         (last other_last : Session) (end other_end : ReplayEnd)
         → Replays first lines text last end → Replays first lines other_text other_last other_end

@@ -3,7 +3,7 @@ use Rattle.std.proofs.Common.{◌≡◌, ℕ, Bool, true, false, cond, ◌&&◌,
 use Rattle.std.specs.Prelude.{Result, Ok, Err, slice_set, ◌==◌}
 use Rattle.std.specs.List.{before_first, after_first, list_any}
 use Rattle.filenames.specs.Names.{Key, is_colon, is_dot, is_valid, key_of, key_or_refusal, name_on_drive, drive_of, name_without_drive, has_drive, name_of}
-use Rattle.folders.specs.Entries.{key_in, ok_or_none}
+use Rattle.folders.specs.FolderNames.{key_in, ok_or_none}
 
 -- A name without a `:` names no drive.
 no_letter : (file : List ℕ) → list_any is_colon file ≡ false → has_drive file ≡ false

@@ -11,18 +11,18 @@ use Rattle.keymaps.specs.Order.{is_above}
 use Rattle.filenames.specs.Names.{Key}
 use Rattle.hostfiles.specs.Hosts.{Host, refusal_of}
 use Rattle.hostfiles.specs.declared.host.TheConstants.{FILE_LIMIT}
-use Rattle.folders.specs.Entries.{path_text}
+use Rattle.folders.specs.FolderNames.{path_text}
 use Rattle.folders.specs.Faults.{FailsBy}
-use Rattle.folders.specs.FileSystem.{Path, FileBytes, Reads, StoredFiles}
-use Rattle.folders.specs.Listings.{Lists}
-use Rattle.folders.specs.Folders.{AreOf, FailsFile, FailsFolder, FailsListed, IsNextFile, IsReadAs, RefusesAs, folder_of}
+use Rattle.folders.specs.FileSystem.{Path, FileBytes, ReadsFile, StoredFiles}
+use Rattle.folders.specs.Listings.{ListsFolder}
+use Rattle.folders.specs.Folders.{AreFromFolder, FailsFile, FailsFolder, FailsListed, IsNextFile, IsReadAs, RefusesAs, folder_of}
 use Rattle.folders.specs.declared.fault.Failure.{Failure}
 use Rattle.folders.specs.declared.fault.Failure.TheVariants.{AtFault, OutOfMemory}
 use Rattle.folders.proofs.ListingLemmas.{Map}
 use Rattle.folders.proofs.ReadLemmas.{ReadBelow, SetUpTo, WantedOf, named_of, still_of}
 
 -- A file that was read is refused, or an allocation failed.
-pub set_fails : (files : Option FileBytes) (path : Path) (host : Host) (key : Key) (bytes : List ℕ) (r : Result (Unit {0}) Failure) → Reads files path (FILE_LIMIT + 1) bytes
+pub set_fails : (files : Option FileBytes) (path : Path) (host : Host) (key : Key) (bytes : List ℕ) (r : Result (Unit {0}) Failure) → ReadsFile files path (FILE_LIMIT + 1) bytes
     → RefusesAs (refusal_of host key bytes) key r → IfErr r (FailsBy (FailsFile files path host key))
 set_fails files path host key bytes r read h = by_number (refusal_of host key bytes) refl r h where
   by_number : (o : Option ℕ) → refusal_of host key bytes ≡ o → (r : Result (Unit {0}) Failure) → RefusesAs o key r → IfErr r (FailsBy (FailsFile files path host key))
@@ -59,7 +59,7 @@ listed_fails {Z = Z} files folder listed first after host key file (AtFault faul
 
 -- If a listing is not read, its folder is not.
 pub folder_fails : {Z : Type 0} (files : StoredFiles) (drive : ℕ) (folder : Path) (listed : Map (String Z)) (twice : Option Key) (host : Host) (r : Result (Unit {0}) Failure)
-    → IfSome files.bytes (λ stored. Lists stored drive folder (files.names folder) listed twice) → twice ≡ None
+    → IfSome files.bytes (λ stored. ListsFolder stored drive folder (files.names folder) listed twice) → twice ≡ None
     → ((k : Key) → contains_key listed k ≡ true → slice_index k 0 ≡ drive)
     → IfErr r (FailsBy (FailsListed files.bytes folder listed host)) → IfErr r (FailsBy (FailsFolder files drive folder host))
 folder_fails files drive folder listed twice host (Ok u) l one on h = tt
@@ -71,7 +71,7 @@ folder_fails files drive folder listed twice host (Err (AtFault fault)) l one on
   next = next_in files.bytes l h.before;
   fails = h.fails;
 })) where
-  next_in : (o : Option FileBytes) → IfSome o (λ stored. Lists stored drive folder (files.names folder) listed twice)
+  next_in : (o : Option FileBytes) → IfSome o (λ stored. ListsFolder stored drive folder (files.names folder) listed twice)
       → ((k : Key) → is_lt (slice_cmp nat_cmp k h.key) ≡ true → IsReadAs o folder (get listed k) (get host k))
       → IfSome o (λ stored. IsNextFile stored (files.names folder) drive folder host h.key (string_bytes h.file))
   next_in None l b = tt
@@ -85,10 +85,10 @@ folder_fails files drive folder listed twice host (Err (AtFault fault)) l one on
 -- The folders of the drives before one were read, and this still holds if no file of them changes.
 pub before_still : (files : StoredFiles) (folders : List (Option (Bor (List ℕ)))) (drive : ℕ) (before now : Host) → ReadBelow files folders drive before
     → ((k : Key) → slice_index k 0 ≢ drive → get now k ≡ get before k)
-    → IfSome files.bytes (λ stored. (d : ℕ) (f : Path) → d < drive → folder_of folders d ≡ Some f → AreOf stored (files.names f) d f now)
+    → IfSome files.bytes (λ stored. (d : ℕ) (f : Path) → d < drive → folder_of folders d ≡ Some f → AreFromFolder stored (files.names f) d f now)
 before_still files folders drive before now r others = all_of files.bytes r.all where
-  all_of : (o : Option FileBytes) → IfSome o (λ stored. (d : ℕ) (f : Path) → d < drive → folder_of folders d ≡ Some f → AreOf stored (files.names f) d f before)
-      → IfSome o (λ stored. (d : ℕ) (f : Path) → d < drive → folder_of folders d ≡ Some f → AreOf stored (files.names f) d f now)
+  all_of : (o : Option FileBytes) → IfSome o (λ stored. (d : ℕ) (f : Path) → d < drive → folder_of folders d ≡ Some f → AreFromFolder stored (files.names f) d f before)
+      → IfSome o (λ stored. (d : ℕ) (f : Path) → d < drive → folder_of folders d ≡ Some f → AreFromFolder stored (files.names f) d f now)
   all_of None a = tt
   all_of (Some stored) a = λ d f low e. still_of stored (files.names f) d f before now (λ k on. others k (λ bad. apart d low (sym on ∙ bad))) (a d f low e) where
     apart : (d : ℕ) → d < drive → d ≢ drive

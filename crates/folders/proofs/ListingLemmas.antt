@@ -11,7 +11,7 @@ use Rattle.std.specs.FinMap.{FinMap, get, insert, empty, contains_key, get-empty
 use Rattle.keymaps.proofs.Views.{same_key, key_of, get_here, get_apart, there_still}
 use Rattle.filenames.specs.Names.{Key}
 use Rattle.folders.specs.FileSystem.{Path, FileBytes}
-use Rattle.folders.specs.Listings.{AreTwo, IsHostFile, Lists, least}
+use Rattle.folders.specs.Listings.{AreDuplicates, IsHostFile, ListsFolder, least}
 
 abbrev pub Map : Type 0 → Type 0
 Map X = FinMap (slice_cmp nat_cmp) X
@@ -61,7 +61,7 @@ some_at None e = cc
 some_at (Some x) e = (x, refl)
 
 module _ (stored : FileBytes) (drive : ℕ) (folder : Path) where
-  two_further : (names : List Path) (file : Path) (key : Key) → AreTwo stored drive folder names key → AreTwo stored drive folder (names ++ file ∷ []) key
+  two_further : (names : List Path) (file : Path) (key : Key) → AreDuplicates stored drive folder names key → AreDuplicates stored drive folder (names ++ file ∷ []) key
   two_further names file key t = record {
     before = t.before;
     name = t.name;
@@ -73,7 +73,7 @@ module _ (stored : FileBytes) (drive : ℕ) (folder : Path) where
     second = t.second;
   }
 
-  some_further : (names : List Path) (file : Path) (twice : Option Key) → IfSome twice (AreTwo stored drive folder names) → IfSome twice (AreTwo stored drive folder (names ++ file ∷ []))
+  some_further : (names : List Path) (file : Path) (twice : Option Key) → IfSome twice (AreDuplicates stored drive folder names) → IfSome twice (AreDuplicates stored drive folder (names ++ file ∷ []))
   some_further names file None t = tt
   some_further names file (Some key) t = two_further names file key t
 
@@ -81,9 +81,9 @@ module _ (stored : FileBytes) (drive : ℕ) (folder : Path) where
   one_key : (file : Path) (a b : Key) → IsHostFile stored drive folder a file → IsHostFile stored drive folder b file → a ≡ b
   one_key file a b p q = let same : Some a ≡ Some b = sym p.gives ∙ q.gives in cc
 
-  module _ {Z : Type 0} (names : List Path) (files : Map (String Z)) (twice : Option Key) (file : Path) (l : Lists stored drive folder names files twice) where
+  module _ {Z : Type 0} (names : List Path) (files : Map (String Z)) (twice : Option Key) (file : Path) (l : ListsFolder stored drive folder names files twice) where
     -- The name belongs to no host file.
-    pub passed_over : ((key : Key) → IsHostFile stored drive folder key file → ⊥) → Lists stored drive folder (names ++ file ∷ []) files twice
+    pub passed_over : ((key : Key) → IsHostFile stored drive folder key file → ⊥) → ListsFolder stored drive folder (names ++ file ∷ []) files twice
     passed_over none = record {
       listed = λ key f e. let h = l.listed key f e in (Contains-append_left names (file ∷ []) (string_bytes f) h.0, h.1);
       all = λ key name h is. elim (Contains-push_cases names file name h) [ inl r ↦ l.all key name r is | inr e ↦ absurd (none key (subst (IsHostFile stored drive folder key) (sym e) is)) ];
@@ -102,7 +102,7 @@ module _ (stored : FileBytes) (drive : ℕ) (folder : Path) where
       by_key false k f same e = let h = l.listed k f e in (Contains-append_left names (file ∷ []) (string_bytes f) h.0, h.1)
 
       -- The name belongs to a host file whose key no earlier name has.
-      pub added_once : contains_key files key ≡ false → Lists stored drive folder (names ++ file ∷ []) (insert files key text) twice
+      pub added_once : contains_key files key ≡ false → ListsFolder stored drive folder (names ++ file ∷ []) (insert files key text) twice
       added_once new = record {
         listed = λ k f e. by_key (eq_by_cmp (slice_cmp nat_cmp) k key) k f (key_of same_key k key) (sym (get-insert nat_list_cmp_total files key text k) ∙ e);
         all = λ k name h at. elim (Contains-push_cases names file name h) [
@@ -120,22 +120,22 @@ module _ (stored : FileBytes) (drive : ℕ) (folder : Path) where
         two = some_further names file twice l.two;
       }
 
-      now_two : contains_key files key ≡ true → AreTwo stored drive folder (names ++ file ∷ []) key
+      now_two : contains_key files key ≡ true → AreDuplicates stored drive folder (names ++ file ∷ []) key
       now_two old =
           let first = some_at (get files key) old in
           let h = l.listed key first.0 first.1 in
           record { before = names; name = file; after = []; listed = refl; other = string_bytes first.0; earlier = h.0; first = h.1; second = is }
 
-      lesser_two : (b : Bool) (other : Key) → contains_key files key ≡ true → AreTwo stored drive folder names other → AreTwo stored drive folder (names ++ file ∷ []) (cond b other key)
+      lesser_two : (b : Bool) (other : Key) → contains_key files key ≡ true → AreDuplicates stored drive folder names other → AreDuplicates stored drive folder (names ++ file ∷ []) (cond b other key)
       lesser_two true other old t = two_further names file other t
       lesser_two false other old t = now_two old
 
-      least_two : (o : Option Key) → contains_key files key ≡ true → IfSome o (AreTwo stored drive folder names) → AreTwo stored drive folder (names ++ file ∷ []) (least key o)
+      least_two : (o : Option Key) → contains_key files key ≡ true → IfSome o (AreDuplicates stored drive folder names) → AreDuplicates stored drive folder (names ++ file ∷ []) (least key o)
       least_two None old t = now_two old
       least_two (Some other) old t = lesser_two (is_lt (slice_cmp nat_cmp other key)) other old t
 
       -- The name belongs to a host file whose key an earlier name has.
-      pub added_again : contains_key files key ≡ true → Lists stored drive folder (names ++ file ∷ []) files (Some (least key twice))
+      pub added_again : contains_key files key ≡ true → ListsFolder stored drive folder (names ++ file ∷ []) files (Some (least key twice))
       added_again old = record {
         listed = λ k f e. let h = l.listed k f e in (Contains-append_left names (file ∷ []) (string_bytes f) h.0, h.1);
         all = λ k name h at. elim (Contains-push_cases names file name h) [
@@ -150,15 +150,15 @@ module _ (stored : FileBytes) (drive : ℕ) (folder : Path) where
       pub added : (now : Map (String Z)) (then : Option Key)
           → (contains_key files key ≡ false → (now ≡ insert files key text) × (then ≡ twice))
           → (contains_key files key ≡ true → (now ≡ files) × (then ≡ Some (least key twice)))
-          → Lists stored drive folder (names ++ file ∷ []) now then
+          → ListsFolder stored drive folder (names ++ file ∷ []) now then
       added now then once again = by_old (contains_key files key) refl where
-        by_old : (b : Bool) → contains_key files key ≡ b → Lists stored drive folder (names ++ file ∷ []) now then
-        by_old true e = let a = again e in subst (λ m. Lists stored drive folder (names ++ file ∷ []) m then) (sym a.0) (subst (Lists stored drive folder (names ++ file ∷ []) files) (sym a.1) (added_again e))
-        by_old false e = let o = once e in subst (λ m. Lists stored drive folder (names ++ file ∷ []) m then) (sym o.0) (subst (Lists stored drive folder (names ++ file ∷ []) (insert files key text)) (sym o.1) (added_once e))
+        by_old : (b : Bool) → contains_key files key ≡ b → ListsFolder stored drive folder (names ++ file ∷ []) now then
+        by_old true e = let a = again e in subst (λ m. ListsFolder stored drive folder (names ++ file ∷ []) m then) (sym a.0) (subst (ListsFolder stored drive folder (names ++ file ∷ []) files) (sym a.1) (added_again e))
+        by_old false e = let o = once e in subst (λ m. ListsFolder stored drive folder (names ++ file ∷ []) m then) (sym o.0) (subst (ListsFolder stored drive folder (names ++ file ∷ []) (insert files key text)) (sym o.1) (added_once e))
 
   -- There are no names.
-  pub none_listed : {Z : Type 0} (files : Map (String Z)) (twice : Option Key) → files ≡ empty → twice ≡ None → Lists stored drive folder [] files twice
-  none_listed {Z} files twice e t = subst (λ m. Lists stored drive folder [] m twice) (sym e) (subst (Lists stored drive folder [] empty) (sym t) (record {
+  pub none_listed : {Z : Type 0} (files : Map (String Z)) (twice : Option Key) → files ≡ empty → twice ≡ None → ListsFolder stored drive folder [] files twice
+  none_listed {Z} files twice e t = subst (λ m. ListsFolder stored drive folder [] m twice) (sym e) (subst (ListsFolder stored drive folder [] empty) (sym t) (record {
     listed = λ key f h. absurd (none_there (String Z) key (ap is_some h));
     all = λ key name h is. absurd (none_in h);
     alone = λ one key name h is. absurd (none_in h);
@@ -173,40 +173,40 @@ module _ {Z : Type 0} (drive : ℕ) (folder : Path) (files : Map (String Z)) (tw
       → (now : Map (String Z)) (then : Option Key)
       → (contains_key files key ≡ false → (now ≡ insert files key text) × (then ≡ twice))
       → (contains_key files key ≡ true → (now ≡ files) × (then ≡ Some (least key twice)))
-      → IfSome o (λ stored. (names : List Path) → Lists stored drive folder names files twice → Lists stored drive folder (names ++ file ∷ []) now then)
+      → IfSome o (λ stored. (names : List Path) → ListsFolder stored drive folder names files twice → ListsFolder stored drive folder (names ++ file ∷ []) now then)
   added_if_told None key text says is now then once again = tt
   added_if_told (Some stored) key text says is now then once again = λ names l. added stored drive folder names files twice file l key text says is now then once again
 
   pub passed_over_if_told : (o : Option FileBytes) → IfSome o (λ stored. (key : Key) → IsHostFile stored drive folder key file → ⊥)
-      → IfSome o (λ stored. (names : List Path) → Lists stored drive folder names files twice → Lists stored drive folder (names ++ file ∷ []) files twice)
+      → IfSome o (λ stored. (names : List Path) → ListsFolder stored drive folder names files twice → ListsFolder stored drive folder (names ++ file ∷ []) files twice)
   passed_over_if_told None none = tt
   passed_over_if_told (Some stored) none = λ names l. passed_over stored drive folder names files twice file l none
 
   -- One more of the names that are listed.
   pub further : (o : Option FileBytes) (items : List (String Z)) (i : ℕ) (item : String Z) (d : ℕ) (now : Map (String Z)) (then : Option Key)
       → i < length items → item ≡ get_or items i item → file ≡ string_bytes item → d ≡ drive
-      → IfSome o (λ stored. Lists stored drive folder (take i (map string_bytes items)) files twice)
-      → IfSome o (λ stored. (names : List Path) → Lists stored d folder names files twice → Lists stored d folder (names ++ file ∷ []) now then)
-      → IfSome o (λ stored. Lists stored drive folder (take (i + 1) (map string_bytes items)) now then)
+      → IfSome o (λ stored. ListsFolder stored drive folder (take i (map string_bytes items)) files twice)
+      → IfSome o (λ stored. (names : List Path) → ListsFolder stored d folder names files twice → ListsFolder stored d folder (names ++ file ∷ []) now then)
+      → IfSome o (λ stored. ListsFolder stored drive folder (take (i + 1) (map string_bytes items)) now then)
   further None items i item d now then lt is says on l h = tt
   further (Some stored) items i item d now then lt is says on l h =
       let whole : take (i + 1) (map string_bytes items) ≡ take i (map string_bytes items) ++ file ∷ [] =
       take-map string_bytes (i + 1) items ∙ map_more string_bytes items i item lt
       ∙ ap (λ xs. xs ++ string_bytes (get_or items i item) ∷ []) (sym (take-map string_bytes i items))
       ∙ ap (λ x. take i (map string_bytes items) ++ x ∷ []) (ap string_bytes (sym is) ∙ sym says) in
-      subst (λ names. Lists stored drive folder names now then) (sym whole)
-      (subst (λ n. Lists stored n folder (take i (map string_bytes items) ++ file ∷ []) now then) on
-      (h (take i (map string_bytes items)) (subst (λ n. Lists stored n folder (take i (map string_bytes items)) files twice) (sym on) l)))
+      subst (λ names. ListsFolder stored drive folder names now then) (sym whole)
+      (subst (λ n. ListsFolder stored n folder (take i (map string_bytes items) ++ file ∷ []) now then) on
+      (h (take i (map string_bytes items)) (subst (λ n. ListsFolder stored n folder (take i (map string_bytes items)) files twice) (sym on) l)))
 
 module _ {Z : Type 0} (drive : ℕ) (folder : Path) (files : Map (String Z)) (twice : Option Key) where
-  pub none_listed_if_told : (o : Option FileBytes) → files ≡ empty → twice ≡ None → IfSome o (λ stored. Lists stored drive folder [] files twice)
+  pub none_listed_if_told : (o : Option FileBytes) → files ≡ empty → twice ≡ None → IfSome o (λ stored. ListsFolder stored drive folder [] files twice)
   none_listed_if_told None e t = tt
   none_listed_if_told (Some stored) e t = none_listed stored drive folder files twice e t
 
   -- The names are all of them.
   pub all_listed : (o : Option FileBytes) (items : List (String Z)) (i : ℕ) (names : List Path) → length items ≤ i → IfSome o (λ _. map string_bytes items ≡ names)
-      → IfSome o (λ stored. Lists stored drive folder (take i (map string_bytes items)) files twice) → IfSome o (λ stored. Lists stored drive folder names files twice)
+      → IfSome o (λ stored. ListsFolder stored drive folder (take i (map string_bytes items)) files twice) → IfSome o (λ stored. ListsFolder stored drive folder names files twice)
   all_listed None items i names le e l = tt
   all_listed (Some stored) items i names le e l =
       let long = length-map items (string_bytes {Z = Z}) in
-      subst (λ n. Lists stored drive folder n files twice) (take_all i (map string_bytes items) (omega (arith, le, long)) ∙ e) l
+      subst (λ n. ListsFolder stored drive folder n files twice) (take_all i (map string_bytes items) (omega (arith, le, long)) ∙ e) l

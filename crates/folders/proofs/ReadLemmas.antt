@@ -17,10 +17,10 @@ use Rattle.filenames.specs.Drives.{drives, drive_number}
 use Rattle.filenames.specs.declared.drive.Drive.TheVariants.{A}
 use Rattle.hostfiles.specs.Hosts.{Host, Record, records_in}
 use Rattle.hostfiles.specs.declared.host.TheConstants.{FILE_LIMIT}
-use Rattle.folders.specs.Entries.{path_text}
-use Rattle.folders.specs.FileSystem.{Path, FileBytes, Opens, Reads, StoredFiles}
-use Rattle.folders.specs.Listings.{IsHostFile, Lists}
-use Rattle.folders.specs.Folders.{AreFromFolders, AreOf, AreRead, IsRead, IsReadAs, folder_of}
+use Rattle.folders.specs.FolderNames.{path_text}
+use Rattle.folders.specs.FileSystem.{Path, FileBytes, Opens, ReadsFile, StoredFiles}
+use Rattle.folders.specs.Listings.{IsHostFile, ListsFolder}
+use Rattle.folders.specs.Folders.{AreFromFolders, AreFromFolder, HaveBytesOf, HasBytesOf, IsReadAs, folder_of}
 use Rattle.folders.proofs.EntryLemmas.{drive_in}
 use Rattle.folders.proofs.ListingLemmas.{Map, none_there}
 
@@ -31,14 +31,14 @@ up_to None n got h = tt
 up_to (Some xs) n got h = h
 
 -- What is read of a file that was opened.
-pub reads : (files : Option FileBytes) (path : Path) (n : ℕ) (left : Option (List ℕ)) (got : List ℕ) → Opens files path left → IfSome left (λ all. got ≡ take n all) → Reads files path n got
+pub reads : (files : Option FileBytes) (path : Path) (n : ℕ) (left : Option (List ℕ)) (got : List ℕ) → Opens files path left → IfSome left (λ all. got ≡ take n all) → ReadsFile files path n got
 reads None path n left got o h = tt
 reads (Some stored) path n None got o h = let bad : false ≡ true = o.1 in cc
 reads (Some stored) path n (Some all) got o h = (all, sym o.0, h)
 
 -- A file that was read and set.
-pub put_in : (files : Option FileBytes) (path : Path) (bytes : List ℕ) (before : Host) (key : Key) (now : Host) → Reads files path (FILE_LIMIT + 1) bytes
-    → now ≡ insert before key (records_in bytes) → IfSome files (λ stored. IsRead stored path (get now key))
+pub put_in : (files : Option FileBytes) (path : Path) (bytes : List ℕ) (before : Host) (key : Key) (now : Host) → ReadsFile files path (FILE_LIMIT + 1) bytes
+    → now ≡ insert before key (records_in bytes) → IfSome files (λ stored. HasBytesOf stored path (get now key))
 put_in None path bytes before key now r e = tt
 put_in (Some stored) path bytes before key now r e = record {
   bytes = r.0;
@@ -96,30 +96,30 @@ abbrev pub WantedOf : {Z : Type 0} → Option FileBytes → Path → Map (String
 WantedOf files folder listed key records = IsReadAs files folder (get listed key) records
 
 pub read_as : {Z : Type 0} (files : Option FileBytes) (folder : Path) (o : Option (String Z)) (text : String Z) (records : Option (List Record)) → o ≡ Some text
-    → is_some records ≡ true → IfSome files (λ stored. IsRead stored (path_text folder (string_bytes text)) records) → IsReadAs files folder o records
+    → is_some records ≡ true → IfSome files (λ stored. HasBytesOf stored (path_text folder (string_bytes text)) records) → IsReadAs files folder o records
 read_as files folder None text records e there h = cc
 read_as None folder (Some file) text records e there h = there
-read_as (Some stored) folder (Some file) text records e there h = let same : text ≡ file = cc in subst (λ f. IsRead stored (path_text folder (string_bytes f)) records) same h
+read_as (Some stored) folder (Some file) text records e there h = let same : text ≡ file = cc in subst (λ f. HasBytesOf stored (path_text folder (string_bytes f)) records) same h
 
 pub all_read : {Z : Type 0} (files : Option FileBytes) (folder : Path) (listed : Map (String Z)) (host : Host)
-    → ((k : Key) → contains_key listed k ≡ true → WantedOf files folder listed k (get host k)) → AreRead files folder listed host
+    → ((k : Key) → contains_key listed k ≡ true → WantedOf files folder listed k (get host k)) → HaveBytesOf files folder listed host
 all_read {Z = Z} files folder listed host h k = by_there (get listed k) refl where
   by_there : (o : Option (String Z)) → get listed k ≡ o → IsReadAs files folder o (get host k)
   by_there None e = tt
   by_there (Some file) e = subst (λ o. IsReadAs files folder o (get host k)) e (h k (ap is_some e))
 
 pub named_of : {Z : Type 0} (stored : FileBytes) (folder name : Path) (o : Option (String Z)) (records : Option (List Record)) → option_map string_bytes o ≡ Some name
-    → IsReadAs (Some stored) folder o records → IsRead stored (path_text folder name) records
+    → IsReadAs (Some stored) folder o records → HasBytesOf stored (path_text folder name) records
 named_of stored folder name None records e h = cc
-named_of stored folder name (Some file) records e h = let same : string_bytes file ≡ name = cc in subst (λ n. IsRead stored (path_text folder n) records) same h
+named_of stored folder name (Some file) records e h = let same : string_bytes file ≡ name = cc in subst (λ n. HasBytesOf stored (path_text folder n) records) same h
 
 -- A folder whose listing was read, on a drive without files.
 pub folder_read : {Z : Type 0} (files : Option FileBytes) (names : List Path) (drive : ℕ) (folder : Path) (listed : Map (String Z)) (twice : Option Key) (before now : Host)
-    → IfSome files (λ stored. Lists stored drive folder names listed twice) → twice ≡ None
+    → IfSome files (λ stored. ListsFolder stored drive folder names listed twice) → twice ≡ None
     → ((k : Key) → slice_index k 0 ≡ drive → contains_key before k ≡ false)
     → ((k : Key) → contains_key listed k ≡ false → get now k ≡ get before k)
-    → AreRead files folder listed now
-    → IfSome files (λ stored. AreOf stored names drive folder now)
+    → HaveBytesOf files folder listed now
+    → IfSome files (λ stored. AreFromFolder stored names drive folder now)
 folder_read None names drive folder listed twice before now l one none others read = tt
 folder_read {Z = Z} (Some stored) names drive folder listed twice before now l one none others read = record {
   read = λ key name h is. named_of stored folder name (get listed key) (get now key) (l.alone one key name h is) (read key);
@@ -151,7 +151,7 @@ OnlyOf folders files = (k : Key) → contains_key files k ≡ true → is_some (
 pub record ReadBelow (files : StoredFiles) (folders : List (Option (Bor (List ℕ)))) (drive : ℕ) (host : Host) : Type 0 where
   pub below : (k : Key) → contains_key host k ≡ true → slice_index k 0 < drive
   pub only : OnlyOf folders host
-  pub all : IfSome files.bytes (λ stored. (d : ℕ) (folder : Path) → d < drive → folder_of folders d ≡ Some folder → AreOf stored (files.names folder) d folder host)
+  pub all : IfSome files.bytes (λ stored. (d : ℕ) (folder : Path) → d < drive → folder_of folders d ≡ Some folder → AreFromFolder stored (files.names folder) d folder host)
 
 pub none_read : (files : StoredFiles) (folders : List (Option (Bor (List ℕ)))) (host : Host) → host ≡ empty → ReadBelow files folders 0 host
 none_read files folders host e = record {
@@ -159,15 +159,15 @@ none_read files folders host e = record {
   only = λ k h. absurd (none_there (List Record) k (ap (λ m. contains_key m k) (sym e) ∙ h));
   all = none_told files.bytes;
 } where
-  none_told : (o : Option FileBytes) → IfSome o (λ stored. (d : ℕ) (folder : Path) → d < 0 → folder_of folders d ≡ Some folder → AreOf stored (files.names folder) d folder host)
+  none_told : (o : Option FileBytes) → IfSome o (λ stored. (d : ℕ) (folder : Path) → d < 0 → folder_of folders d ≡ Some folder → AreFromFolder stored (files.names folder) d folder host)
   none_told None = tt
   none_told (Some stored) = λ d folder less. absurd (omega (arith, less))
 
 -- The files of a drive are still the files of its folder if they are unchanged.
 pub still_of : (stored : FileBytes) (names : List Path) (drive : ℕ) (folder : Path) (before now : Host) → ((k : Key) → slice_index k 0 ≡ drive → get now k ≡ get before k)
-    → AreOf stored names drive folder before → AreOf stored names drive folder now
+    → AreFromFolder stored names drive folder before → AreFromFolder stored names drive folder now
 still_of stored names drive folder before now same a = record {
-  read = λ key name h is. subst (IsRead stored (path_text folder name)) (sym (same key (drive_in drive name key is.gives))) (a.read key name h is);
+  read = λ key name h is. subst (HasBytesOf stored (path_text folder name)) (sym (same key (drive_in drive name key is.gives))) (a.read key name h is);
   only = λ key on there. a.only key on (ap is_some (sym (same key on)) ∙ there);
 }
 
@@ -184,20 +184,20 @@ some_none e = cc
 pub one_read : (files : StoredFiles) (folders : List (Option (Bor (List ℕ)))) (drive : ℕ) (folder : Path) (before now : Host)
     → ReadBelow files folders drive before → folder_of folders drive ≡ Some folder
     → ((k : Key) → slice_index k 0 ≢ drive → get now k ≡ get before k)
-    → IfSome files.bytes (λ stored. AreOf stored (files.names folder) drive folder now)
+    → IfSome files.bytes (λ stored. AreFromFolder stored (files.names folder) drive folder now)
     → ReadBelow files folders (drive + 1) now
 one_read files folders drive folder before now r here others read = record {
   below = λ k h. elim (same_or_not (slice_index k 0) drive) [ inl e ↦ omega (arith, e) | inr ne ↦ let low = r.below k (ap is_some (sym (others k ne)) ∙ h) in omega (arith, low) ];
   only = λ k h. elim (same_or_not (slice_index k 0) drive) [ inl e ↦ ap is_some (ap (folder_of folders) e ∙ here) | inr ne ↦ r.only k (ap is_some (sym (others k ne)) ∙ h) ];
   all = all_of files.bytes r.all read;
 } where
-  all_of : (o : Option FileBytes) → IfSome o (λ stored. (d : ℕ) (f : Path) → d < drive → folder_of folders d ≡ Some f → AreOf stored (files.names f) d f before)
-      → IfSome o (λ stored. AreOf stored (files.names folder) drive folder now)
-      → IfSome o (λ stored. (d : ℕ) (f : Path) → d < drive + 1 → folder_of folders d ≡ Some f → AreOf stored (files.names f) d f now)
+  all_of : (o : Option FileBytes) → IfSome o (λ stored. (d : ℕ) (f : Path) → d < drive → folder_of folders d ≡ Some f → AreFromFolder stored (files.names f) d f before)
+      → IfSome o (λ stored. AreFromFolder stored (files.names folder) drive folder now)
+      → IfSome o (λ stored. (d : ℕ) (f : Path) → d < drive + 1 → folder_of folders d ≡ Some f → AreFromFolder stored (files.names f) d f now)
   all_of None a b = tt
   all_of (Some stored) a b = λ d f less e. elim (same_or_not d drive) [
     | inl same ↦ let one : folder ≡ f = some_same (sym here ∙ ap (folder_of folders) (sym same) ∙ e) in
-        subst (λ x. AreOf stored (files.names f) x f now) (sym same) (subst (λ x. AreOf stored (files.names x) drive x now) one b)
+        subst (λ x. AreFromFolder stored (files.names f) x f now) (sym same) (subst (λ x. AreFromFolder stored (files.names x) drive x now) one b)
     | inr ne ↦ still_of stored (files.names f) d f before now (λ k on. others k (λ bad. ne (sym on ∙ bad))) (a d f (omega (arith, less, ne)) e)
   ]
 
@@ -209,8 +209,8 @@ none_more files folders drive host r none = record {
   only = r.only;
   all = all_of files.bytes r.all;
 } where
-  all_of : (o : Option FileBytes) → IfSome o (λ stored. (d : ℕ) (f : Path) → d < drive → folder_of folders d ≡ Some f → AreOf stored (files.names f) d f host)
-      → IfSome o (λ stored. (d : ℕ) (f : Path) → d < drive + 1 → folder_of folders d ≡ Some f → AreOf stored (files.names f) d f host)
+  all_of : (o : Option FileBytes) → IfSome o (λ stored. (d : ℕ) (f : Path) → d < drive → folder_of folders d ≡ Some f → AreFromFolder stored (files.names f) d f host)
+      → IfSome o (λ stored. (d : ℕ) (f : Path) → d < drive + 1 → folder_of folders d ≡ Some f → AreFromFolder stored (files.names f) d f host)
   all_of None a = tt
   all_of (Some stored) a = λ d f less e. elim (same_or_not d drive) [
     | inl same ↦ let bad : Some f ≡ None = sym e ∙ ap (folder_of folders) same ∙ none in absurd (some_none bad)
@@ -221,8 +221,8 @@ none_more files folders drive host r none = record {
 pub all_drives : (files : StoredFiles) (folders : List (Option (Bor (List ℕ)))) (drive : ℕ) (host : Host) → length folders ≡ 4 → 4 ≤ drive
     → ReadBelow files folders drive host → AreFromFolders files folders host
 all_drives files folders drive host four le r = record { only = r.only; all = all_of files.bytes r.all } where
-  all_of : (o : Option FileBytes) → IfSome o (λ stored. (d : ℕ) (f : Path) → d < drive → folder_of folders d ≡ Some f → AreOf stored (files.names f) d f host)
-      → IfSome o (λ stored. (d : ℕ) (f : Path) → folder_of folders d ≡ Some f → AreOf stored (files.names f) d f host)
+  all_of : (o : Option FileBytes) → IfSome o (λ stored. (d : ℕ) (f : Path) → d < drive → folder_of folders d ≡ Some f → AreFromFolder stored (files.names f) d f host)
+      → IfSome o (λ stored. (d : ℕ) (f : Path) → folder_of folders d ≡ Some f → AreFromFolder stored (files.names f) d f host)
   all_of None a = tt
   all_of (Some stored) a = λ d f e. a d f (by_place d f e) e where
     past : (d : ℕ) (f : Path) → 4 ≤ d → folder_of folders d ≡ Some f → ⊥

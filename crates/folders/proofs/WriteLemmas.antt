@@ -6,8 +6,8 @@ use Rattle.std.specs.Cmp.Lexicographic.{slice_cmp, nat_list_cmp_total}
 use Rattle.std.specs.FinMap.{get, insert, remove, get-remove}
 use Rattle.keymaps.proofs.Views.{same_key, key_of, get_here, get_apart}
 use Rattle.filenames.specs.Names.{Key}
-use Rattle.folders.specs.Entries.{file_text, needs_slash, path_text, temporary_text}
-use Rattle.folders.specs.FileSystem.{Path, FileBytes, Becomes, ChangesAt, PutsInPlace, moved, moved_to}
+use Rattle.folders.specs.FolderNames.{file_text, needs_slash, path_text, temporary_text}
+use Rattle.folders.specs.FileSystem.{Path, FileBytes, Becomes, ChangesAt, PutsInPlace, files_after_rename, with_file_at}
 use Rattle.hostfiles.specs.Hosts.{Host}
 use Rattle.hostfiles.specs.Files.{OwnFiles, file_contents}
 use Rattle.std.specs.List.{concat, slice_get}
@@ -74,17 +74,17 @@ removed_apart files path p ne = get-remove nat_list_cmp_total files path p ∙ b
 
 -- What was removed, written and renamed is in place.
 placed : (path temporary : Path) (bytes : List ℕ) (before removed written after : Option FileBytes) → temporary ≢ path → ChangesAt temporary before removed
-    → Becomes removed written (λ stored. insert stored temporary bytes) → Becomes written after (moved temporary path)
+    → Becomes removed written (λ stored. insert stored temporary bytes) → Becomes written after (files_after_rename temporary path)
     → PutsInPlace before after path temporary bytes
 placed path temporary bytes None removed written after apart r w m = tt
 placed path temporary bytes (Some files) removed written after apart r w m =
     let w' = subst (λ x. Becomes x written (λ stored. insert stored temporary bytes)) r.1 w in
     let first = insert r.0 temporary bytes in
-    let m' = subst (λ x. Becomes x after (moved temporary path)) w' m in
+    let m' = subst (λ x. Becomes x after (files_after_rename temporary path)) w' m in
     let here : get first temporary ≡ Some bytes = get_here nat_list_cmp_total same_key r.0 temporary bytes in
     let rest = remove first temporary in (
       insert rest path bytes,
-      m' ∙ ap (λ o. Some (moved_to path o rest)) here,
+      m' ∙ ap (λ o. Some (with_file_at path o rest)) here,
       record {
         there = get_here nat_list_cmp_total same_key rest path bytes;
         gone = get_apart nat_list_cmp_total same_key rest path bytes temporary apart ∙ removed_here first temporary;
@@ -94,7 +94,7 @@ placed path temporary bytes (Some files) removed written after apart r w m =
     )
 
 pub placed_at_ok : {E : Type 0} (path temporary : Path) (bytes : List ℕ) (before removed written after : Option FileBytes) (r : Result (Unit {0}) E) → temporary ≢ path
-    → ChangesAt temporary before removed → Becomes removed written (λ stored. insert stored temporary bytes) → OnOk r (Becomes written after (moved temporary path))
+    → ChangesAt temporary before removed → Becomes removed written (λ stored. insert stored temporary bytes) → OnOk r (Becomes written after (files_after_rename temporary path))
     → OnOk r (PutsInPlace before after path temporary bytes)
 placed_at_ok path temporary bytes before removed written after (Ok u) apart h w m = placed path temporary bytes before removed written after apart h w m
 placed_at_ok path temporary bytes before removed written after (Err x) apart h w m = tt

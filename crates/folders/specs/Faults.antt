@@ -31,15 +31,15 @@ reported_failures (AtFault fault) = fault_failures fault
 reported_failures OutOfMemory = 0
 
 -- The file or folder of this path could not be read.
-abbrev pub Unread : List ℕ → Fault → Type 0
-Unread path (CannotRead p) = string_bytes p ≡ path
-Unread path (CannotWrite p) = ⊥
-Unread path (TwoFiles name) = ⊥
-Unread path (Refused name n) = ⊥
+abbrev pub IsReadFault : List ℕ → Fault → Type 0
+IsReadFault path (CannotRead p) = string_bytes p ≡ path
+IsReadFault path (CannotWrite p) = ⊥
+IsReadFault path (TwoFiles name) = ⊥
+IsReadFault path (Refused name n) = ⊥
 
 -- The file of this path could not be written.
-abbrev pub Unwritten : List ℕ → Fault → Type 0
-Unwritten path (CannotRead p) = ⊥
-Unwritten path (CannotWrite p) = string_bytes p ≡ path
-Unwritten path (TwoFiles name) = ⊥
-Unwritten path (Refused name n) = ⊥
+abbrev pub IsWriteFault : List ℕ → Fault → Type 0
+IsWriteFault path (CannotRead p) = ⊥
+IsWriteFault path (CannotWrite p) = string_bytes p ≡ path
+IsWriteFault path (TwoFiles name) = ⊥
+IsWriteFault path (Refused name n) = ⊥

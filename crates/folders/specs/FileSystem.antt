@@ -30,9 +30,9 @@ Opens None path left = ⊤
 Opens (Some files) path left = (left ≡ get files path) × IsSome left
 
 -- If the files are known, there is one of this path, and these are its bytes, or its first n if it has more.
-abbrev pub Reads : Option FileBytes → Path → ℕ → List ℕ → Type 0
-Reads None path n got = ⊤
-Reads (Some files) path n got = (all : List ℕ) × (get files path ≡ Some all) × (got ≡ take n all)
+abbrev pub ReadsFile : Option FileBytes → Path → ℕ → List ℕ → Type 0
+ReadsFile None path n got = ⊤
+ReadsFile (Some files) path n got = (all : List ℕ) × (get files path ≡ Some all) × (got ≡ take n all)
 
 -- If the files are known, they change in this way.
 abbrev pub Becomes : Option FileBytes → Option FileBytes → (FileBytes → FileBytes) → Type 0
@@ -45,12 +45,12 @@ ChangesAt path None after = ⊤
 ChangesAt path (Some files) after = (changed : FileBytes) × (after ≡ Some changed) × ((p : Path) → p ≢ path → get changed p ≡ get files p)
 
 -- The file of one path is moved to another, replacing what was there.
-abbrev pub moved_to : Path → Option (List ℕ) → FileBytes → FileBytes
-moved_to to None files = files
-moved_to to (Some bytes) files = insert files to bytes
+abbrev pub with_file_at : Path → Option (List ℕ) → FileBytes → FileBytes
+with_file_at to None files = files
+with_file_at to (Some bytes) files = insert files to bytes
 
-abbrev pub moved : Path → Path → FileBytes → FileBytes
-moved from to files = moved_to to (get files from) (remove files from)
+abbrev pub files_after_rename : Path → Path → FileBytes → FileBytes
+files_after_rename from to files = with_file_at to (get files from) (remove files from)
 
 -- A file was put in place: its path has all of these bytes, nothing is at the path under which it was written, and every other
 -- file is unchanged.

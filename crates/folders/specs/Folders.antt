@@ -8,10 +8,10 @@ use Rattle.std.specs.FinMap.{FinMap, get, contains_key}
 use Rattle.filenames.specs.Names.{Key}
 use Rattle.hostfiles.specs.Hosts.{Host, Record, records_in, refusal_of}
 use Rattle.hostfiles.specs.declared.host.TheConstants.{FILE_LIMIT}
-use Rattle.folders.specs.Entries.{file_text, path_text, temporary_text}
-use Rattle.folders.specs.Faults.{FailsBy, Unread, Unwritten}
-use Rattle.folders.specs.FileSystem.{Path, FileBytes, StoredFiles, ChangesAt, PutsInPlace, Reads}
-use Rattle.folders.specs.Listings.{AreTwo, IsHostFile}
+use Rattle.folders.specs.FolderNames.{file_text, path_text, temporary_text}
+use Rattle.folders.specs.Faults.{FailsBy, IsReadFault, IsWriteFault}
+use Rattle.folders.specs.FileSystem.{Path, FileBytes, StoredFiles, ChangesAt, PutsInPlace, ReadsFile}
+use Rattle.folders.specs.Listings.{AreDuplicates, IsHostFile}
 use Rattle.folders.specs.declared.fault.Fault.{Fault}
 use Rattle.folders.specs.declared.fault.Fault.TheVariants.{CannotRead, CannotWrite, TwoFiles, Refused}
 use Rattle.folders.specs.declared.fault.Failure.{Failure}
@@ -25,11 +25,11 @@ RefusesAs (Some n) name (Ok x) = ⊥
 RefusesAs (Some n) name (Err f) = f ≡ AtFault (Refused name n)
 
 -- The host files of such keys are unchanged.
-abbrev pub StaysWhere : (Key → Type 0) → Host → Host → Type 0
-StaysWhere Such before after = (k : Key) → Such k → get after k ≡ get before k
+abbrev pub KeepsFilesWhere : (Key → Type 0) → Host → Host → Type 0
+KeepsFilesWhere Such before after = (k : Key) → Such k → get after k ≡ get before k
 
 -- A host file has the records of the file of a path, of which at most one byte more is read than a host file can have.
-pub record IsRead (stored : FileBytes) (path : Path) (records : Option (List Record)) : Type 0 where
+pub record HasBytesOf (stored : FileBytes) (path : Path) (records : Option (List Record)) : Type 0 where
   pub bytes : List ℕ
   pub stands : get stored path ≡ Some bytes
   pub read : records ≡ Some (records_in (take (FILE_LIMIT + 1) bytes))
@@ -38,15 +38,15 @@ pub record IsRead (stored : FileBytes) (path : Path) (records : Option (List Rec
 abbrev pub IsReadAs : {Z : Type 0} → Option FileBytes → Path → Option (String Z) → Option (List Record) → Type 0
 IsReadAs files folder None records = ⊤
 IsReadAs None folder (Some file) records = is_some records ≡ true
-IsReadAs (Some stored) folder (Some file) records = IsRead stored (path_text folder (string_bytes file)) records
+IsReadAs (Some stored) folder (Some file) records = HasBytesOf stored (path_text folder (string_bytes file)) records
 
 -- The same for each key of a listing.
-abbrev pub AreRead : {Z : Type 0} → Option FileBytes → Path → FinMap (slice_cmp nat_cmp) (String Z) → Host → Type 0
-AreRead files folder listed host = (key : Key) → IsReadAs files folder (get listed key) (get host key)
+abbrev pub HaveBytesOf : {Z : Type 0} → Option FileBytes → Path → FinMap (slice_cmp nat_cmp) (String Z) → Host → Type 0
+HaveBytesOf files folder listed host = (key : Key) → IsReadAs files folder (get listed key) (get host key)
 
 -- The bytes of the file of a path are refused by this number, if they are set under a name among these host files.
 abbrev pub RefusesFile : Option FileBytes → Path → Host → Key → ℕ → Type 0
-RefusesFile files path host name n = (bytes : List ℕ) × Reads files path (FILE_LIMIT + 1) bytes × (refusal_of host name bytes ≡ Some n)
+RefusesFile files path host name n = (bytes : List ℕ) × ReadsFile files path (FILE_LIMIT + 1) bytes × (refusal_of host name bytes ≡ Some n)
 
 -- Why the file of a path is not read and set under a name among these host files.
 abbrev pub FailsFile : Option FileBytes → Path → Host → Key → Fault → Type 0
@@ -68,7 +68,7 @@ pub record IsNextFile (stored : FileBytes) (names : List Path) (drive : ℕ) (fo
   pub listed : Contains names name
   pub is : IsHostFile stored drive folder key name
   pub before : (k : Key) (other : Path) → is_lt (slice_cmp nat_cmp k key) ≡ true → Contains names other → IsHostFile stored drive folder k other
-      → IsRead stored (path_text folder other) (get host k)
+      → HasBytesOf stored (path_text folder other) (get host k)
 
 -- Why the host file of a key, the next in the folder of a drive, is not read.
 pub record FailsNext (files : Option FileBytes) (names : List Path) (drive : ℕ) (folder : Path) (host : Host) (fault : Fault) : Type 0 where
@@ -82,19 +82,19 @@ pub record FailsNext (files : Option FileBytes) (names : List Path) (drive : ℕ
 abbrev pub FailsTwice : Option FileBytes → List Path → ℕ → Path → Fault → Type 0
 FailsTwice files names drive folder (CannotRead p) = ⊥
 FailsTwice files names drive folder (CannotWrite p) = ⊥
-FailsTwice files names drive folder (TwoFiles name) = (slice_index name 0 ≡ drive) × IfSome files (λ stored. AreTwo stored drive folder names name)
+FailsTwice files names drive folder (TwoFiles name) = (slice_index name 0 ≡ drive) × IfSome files (λ stored. AreDuplicates stored drive folder names name)
 FailsTwice files names drive folder (Refused name n) = ⊥
 
 -- Why the folder of a drive is not read among these host files: it cannot be listed, two of its files have the same name, or one of
 -- them is not read.
 abbrev pub FailsFolder : StoredFiles → ℕ → Path → Host → Fault → Type 0
 FailsFolder files drive folder host fault =
-    Unread folder fault ⊎ FailsTwice files.bytes (files.names folder) drive folder fault
+    IsReadFault folder fault ⊎ FailsTwice files.bytes (files.names folder) drive folder fault
     ⊎ FailsNext files.bytes (files.names folder) drive folder host fault
 
 -- The host files of a drive are exactly the files of its folder, which has these names, each with its records.
-pub record AreOf (stored : FileBytes) (names : List Path) (drive : ℕ) (folder : Path) (host : Host) : Type 0 where
-  pub read : (key : Key) (name : Path) → Contains names name → IsHostFile stored drive folder key name → IsRead stored (path_text folder name) (get host key)
+pub record AreFromFolder (stored : FileBytes) (names : List Path) (drive : ℕ) (folder : Path) (host : Host) : Type 0 where
+  pub read : (key : Key) (name : Path) → Contains names name → IsHostFile stored drive folder key name → HasBytesOf stored (path_text folder name) (get host key)
   pub only : (key : Key) → slice_index key 0 ≡ drive → contains_key host key ≡ true → (name : Path) × Contains names name × IsHostFile stored drive folder key name
 
 -- The folder of a drive, if it has one.
@@ -104,7 +104,7 @@ folder_of folders drive = option_map (λ s. s.now) (get_or folders drive None)
 -- The host files of each drive are the files of its folder, and a drive without a folder has none.
 pub record AreFromFolders (files : StoredFiles) (folders : List (Option (Bor (List ℕ)))) (host : Host) : Type 0 where
   pub only : (key : Key) → contains_key host key ≡ true → is_some (folder_of folders (slice_index key 0)) ≡ true
-  pub all : IfSome files.bytes (λ stored. (drive : ℕ) (folder : Path) → folder_of folders drive ≡ Some folder → AreOf stored (files.names folder) drive folder host)
+  pub all : IfSome files.bytes (λ stored. (drive : ℕ) (folder : Path) → folder_of folders drive ≡ Some folder → AreFromFolder stored (files.names folder) drive folder host)
 
 -- Why the folders of the drives are not read: one of them is not, and the folders of the drives before it were.
 pub record FailsFolders (files : StoredFiles) (folders : List (Option (Bor (List ℕ)))) (failure : Failure) : Type 0 where
@@ -112,13 +112,13 @@ pub record FailsFolders (files : StoredFiles) (folders : List (Option (Bor (List
   pub folder : Path
   pub here : folder_of folders drive ≡ Some folder
   pub host : Host
-  pub before : IfSome files.bytes (λ stored. (d : ℕ) (f : Path) → d < drive → folder_of folders d ≡ Some f → AreOf stored (files.names f) d f host)
+  pub before : IfSome files.bytes (λ stored. (d : ℕ) (f : Path) → d < drive → folder_of folders d ≡ Some f → AreFromFolder stored (files.names f) d f host)
   pub fails : FailsBy (FailsFolder files drive folder host) failure
 
 -- Why a file is not written into the folder of its drive.
 abbrev pub FailsToWrite : List (Option (Bor (List ℕ))) → Key → Failure → Type 0
 FailsToWrite folders name failure =
-    (folder : List ℕ) × (folder_of folders (slice_index name 0) ≡ Some folder) × FailsBy (Unwritten (path_text folder (file_text name))) failure
+    (folder : List ℕ) × (folder_of folders (slice_index name 0) ≡ Some folder) × FailsBy (IsWriteFault (path_text folder (file_text name))) failure
 
 -- A file was written into the folder of its drive, or nowhere if the drive has no folder.
 abbrev pub WritesInto : Option Path → Option FileBytes → Option FileBytes → Key → List ℕ → Type 0

@@ -1,7 +1,7 @@
 pub mod Failures
 pub mod FileSystem
-pub mod Entries
+pub mod FolderNames
 pub mod Faults
 pub mod Listings
 pub mod Folders
-pub mod Written
+pub mod ChangedBytes

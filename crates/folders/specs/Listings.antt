@@ -6,7 +6,7 @@ use Rattle.std.specs.Ordering.{nat_cmp, is_lt}
 use Rattle.std.specs.Cmp.Lexicographic.{slice_cmp}
 use Rattle.std.specs.FinMap.{FinMap, get, insert, contains_key}
 use Rattle.filenames.specs.Names.{Key}
-use Rattle.folders.specs.Entries.{key_in, path_text}
+use Rattle.folders.specs.FolderNames.{key_in, path_text}
 use Rattle.folders.specs.FileSystem.{Path, FileBytes}
 
 -- The lesser of two keys, or the first if there is no second.
@@ -20,7 +20,7 @@ pub record IsHostFile (stored : FileBytes) (drive : ℕ) (folder : Path) (key : 
   pub there : contains_key stored (path_text folder name) ≡ true
 
 -- Two of the names in the folder of a drive belong to the host file of a key.
-pub record AreTwo (stored : FileBytes) (drive : ℕ) (folder : Path) (names : List Path) (key : Key) : Type 0 where
+pub record AreDuplicates (stored : FileBytes) (drive : ℕ) (folder : Path) (names : List Path) (key : Key) : Type 0 where
   pub before : List Path
   pub name : Path
   pub after : List Path
@@ -36,11 +36,11 @@ Finds stored drive folder name (Some key) = IsHostFile stored drive folder key n
 Finds stored drive folder name None = (key : Key) → IsHostFile stored drive folder key name → ⊥
 
 -- The names of the host files in the folder of a drive by their keys, and some key that two of them have, if there is one.
-pub record Lists {Z : Type 0} (stored : FileBytes) (drive : ℕ) (folder : Path) (names : List Path) (files : FinMap (slice_cmp nat_cmp) (String Z)) (twice : Option Key) : Type 0 where
+pub record ListsFolder {Z : Type 0} (stored : FileBytes) (drive : ℕ) (folder : Path) (names : List Path) (files : FinMap (slice_cmp nat_cmp) (String Z)) (twice : Option Key) : Type 0 where
   pub listed : (key : Key) (file : String Z) → get files key ≡ Some file → Contains names (string_bytes file) × IsHostFile stored drive folder key (string_bytes file)
   pub all : (key : Key) (name : Path) → Contains names name → IsHostFile stored drive folder key name → contains_key files key ≡ true
   pub alone : twice ≡ None → (key : Key) (name : Path) → Contains names name → IsHostFile stored drive folder key name → option_map string_bytes (get files key) ≡ Some name
-  pub two : IfSome twice (AreTwo stored drive folder names)
+  pub two : IfSome twice (AreDuplicates stored drive folder names)
 
 -- A file is listed under a key that no file had, and no other key becomes one that two have.
 abbrev pub ListsOnce : {Z : Type 0} → Key → String Z → FinMap (slice_cmp nat_cmp) (String Z) → Option Key → FinMap (slice_cmp nat_cmp) (String Z) → Option Key → Type 0

@@ -1,6 +1,6 @@
 ghost use Rattle.std.specs.Prelude.{◌≡◌, string_bytes};
 ghost use Rattle.folders.specs.Failures.{io_failures};
-ghost use Rattle.folders.specs.Faults.{FailsBy, Unread, Unwritten, reported_failures};
+ghost use Rattle.folders.specs.Faults.{FailsBy, IsReadFault, IsWriteFault, reported_failures};
 
 use filenames::Name;
 use std::io::ErrorKind;
@@ -46,8 +46,8 @@ impl fmt::Display for Fault {
 }
 
 /// Returns the failure for an error of reading the file or folder of this path.
-pub fn unread(error: io::Error, path: String) -> Failure
-    ensures fault { FailsBy (Unread (string_bytes path)) result }
+pub fn read_failure(error: io::Error, path: String) -> Failure
+    ensures fault { FailsBy (IsReadFault (string_bytes path)) result }
     ensures failures { reported_failures result ≡ io_failures error }
 {
     if error.kind() == ErrorKind::OutOfMemory {
@@ -57,8 +57,8 @@ pub fn unread(error: io::Error, path: String) -> Failure
 }
 
 /// Returns the failure for an error of writing the file of this path.
-pub fn unwritten(error: io::Error, path: String) -> Failure
-    ensures fault { FailsBy (Unwritten (string_bytes path)) result }
+pub fn write_failure(error: io::Error, path: String) -> Failure
+    ensures fault { FailsBy (IsWriteFault (string_bytes path)) result }
     ensures failures { reported_failures result ≡ io_failures error }
 {
     if error.kind() == ErrorKind::OutOfMemory {

@@ -4,7 +4,7 @@ ghost use Rattle.std.specs.Prelude.{◌≡◌, ◌≤◌, ◌<◌, ◌+◌, ◌^
 ghost use Rattle.std.specs.FinMap.{contains_key, insert};
 ghost use Rattle.std.specs.Io.KnownBytes.{Appends, ReadConsumes};
 ghost use Rattle.folders.specs.Failures.{AddsFailures, CountsFailures, KeepsFiles, io_failures};
-ghost use Rattle.folders.specs.FileSystem.{Becomes, ChangesAt, Opens, Reads, StoredFiles, moved};
+ghost use Rattle.folders.specs.FileSystem.{Becomes, ChangesAt, Opens, ReadsFile, StoredFiles, files_after_rename};
 
 use std::alloc::Global;
 use std::fs::{OpenOptions, read_dir};
@@ -70,7 +70,7 @@ pub trait FileSystem {
     /// Reads a file: all of its bytes, or its first `most` if it has more.
     fn read(&mut self, path: &str, most: u64) -> io::Result<Vec<u8>>
         requires { (files self.old).failures < 2 ^ 63 }
-        ensures reads { IfOk result (λ bytes. Reads (files self.old).bytes path.now most bytes.items) }
+        ensures reads { IfOk result (λ bytes. ReadsFile (files self.old).bytes path.now most bytes.items) }
         ensures unchanged { KeepsFiles io_failures result (files self.old) (files self.new) };
 
     /// Returns the names in a folder.
@@ -99,7 +99,7 @@ pub trait FileSystem {
     fn rename(&mut self, from: &str, to: &str) -> io::Result<()>
         requires { (files self.old).failures < 2 ^ 63 }
         ensures moved { OnOk result
-            (Becomes (files self.old).bytes (files self.new).bytes (moved from.now to.now)) }
+            (Becomes (files self.old).bytes (files self.new).bytes (files_after_rename from.now to.now)) }
         ensures err { OnErr result ((files self.new).bytes ≡ (files self.old).bytes) }
         ensures failures { CountsFailures io_failures result (files self.old) (files self.new) };
 

@@ -1,21 +1,21 @@
 //! The folders of the host for the drives A to D: their files are read as host files, and changed files are written into them.
 //!
-//! - `entry`, `listing`: the names of files in a folder, and their paths; the files of a folder by their keys
+//! - `folder_names`, `listing`: the names of files in a folder, and their paths; the files of a folder by their keys
 //! - `file_system`: `FileSystem`, files by their paths as contracts see them, and `SystemFiles`, the files of the operating
 //!   system
 //! - `reading`, `writing`, `fault`: reading folders into host files; writing a changed file; why either fails, and the message
 #![tactic(auto)]
 
-mod entry;
 mod fault;
 mod file_system;
+mod folder_names;
 mod listing;
 mod reading;
 mod writing;
 
-pub use entry::{file_name, name_in_folder, path_in, temporary_name};
 pub use fault::{Failure, Fault};
 pub use file_system::{Contents, FileSystem, InputFile, SystemFile, SystemFiles};
+pub use folder_names::{file_name, name_in_folder, path_in, temporary_name};
 pub use listing::Listing;
 pub use reading::{read_folder, read_folders};
 pub use writing::{ChangedFile, write_file, write_records, write_to_drive};

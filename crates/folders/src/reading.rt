@@ -4,15 +4,15 @@ ghost use Rattle.std.specs.Prelude.{◌≡◌, ◌≢◌, ◌<◌, ◌^◌, ◌�
 ghost use Rattle.std.specs.FinMap as finmap;
 ghost use Rattle.filenames.specs.Drives.{drive_number};
 ghost use Rattle.hostfiles.specs.Hosts.{records_in, refusal_of};
-ghost use Rattle.folders.specs.Entries.{key_in, path_text};
+ghost use Rattle.folders.specs.FolderNames.{key_in, path_text};
 ghost use Rattle.folders.specs.Failures.{KeepsFiles, io_failures};
 ghost use Rattle.folders.specs.Faults.{FailsBy, reported_failures};
-ghost use Rattle.folders.specs.Folders.{AreFromFolders, AreOf, FailsFile, FailsFolder, FailsFolders, FailsListed, AreRead, IsRead, RefusesAs, StaysWhere};
-ghost use Rattle.folders.specs.Listings.{Finds, Lists};
+ghost use Rattle.folders.specs.Folders.{AreFromFolders, AreFromFolder, FailsFile, FailsFolder, FailsFolders, FailsListed, HaveBytesOf, HasBytesOf, RefusesAs, KeepsFilesWhere};
+ghost use Rattle.folders.specs.Listings.{Finds, ListsFolder};
 
-use crate::entry::{name_in_folder, path_in};
-use crate::fault::{Failure, Fault, unread};
+use crate::fault::{Failure, Fault, read_failure};
 use crate::file_system::FileSystem;
+use crate::folder_names::{name_in_folder, path_in};
 use crate::listing::Listing;
 use filenames::{Drive, Key, Name};
 use hostfiles::host::FILE_LIMIT;
@@ -71,8 +71,9 @@ fn add_file<S: FileSystem>(
     requires { (S.files system.old).failures < 2 ^ 63 }
     ensures drive { listing.new.drive ≡ listing.old.drive }
     ensures lists { OnOk result (IfSome (S.files system.old).bytes (λ stored. (names : List (List ℕ))
-        → Lists stored (drive_number listing.old.drive) folder.now names listing.old.files listing.old.twice
-        → Lists stored (drive_number listing.old.drive) folder.now (names ++ file.now ∷ [])
+        → ListsFolder stored
+        (drive_number listing.old.drive) folder.now names listing.old.files listing.old.twice
+        → ListsFolder stored (drive_number listing.old.drive) folder.now (names ++ file.now ∷ [])
         listing.new.files listing.new.twice)) }
     ensures unchanged { KeepsFiles io_failures result (S.files system.old) (S.files system.new) }
 {
@@ -88,7 +89,7 @@ fn list<S: FileSystem>(system: &mut S, drive: Drive, folder: &str) -> io::Result
     requires { (S.files system.old).failures < 2 ^ 63 }
     ensures drive { IfOk result (λ listing. listing.drive ≡ drive) }
     ensures lists { IfOk result (λ listing. IfSome (S.files system.old).bytes (λ stored.
-        Lists stored (drive_number drive) folder.now ((S.files system.old).names folder.now)
+        ListsFolder stored (drive_number drive) folder.now ((S.files system.old).names folder.now)
         listing.files listing.twice)) }
     ensures unchanged { KeepsFiles io_failures result (S.files system.old) (S.files system.new) }
 {
@@ -109,10 +110,10 @@ fn read_one<S: FileSystem>(
     files: &mut HostFiles,
 ) -> Result<(), Failure>
     requires { (S.files system.old).failures < 2 ^ 63 }
-    ensures others { StaysWhere (λ k. k ≢ name) files.old files.new }
+    ensures others { KeepsFilesWhere (λ k. k ≢ name) files.old files.new }
     ensures there { OnOk result (finmap.contains_key files.new name ≡ true) }
     ensures read { OnOk result (IfSome (S.files system.old).bytes (λ stored.
-        IsRead stored (path_text folder.now file.now) (finmap.get files.new name))) }
+        HasBytesOf stored (path_text folder.now file.now) (finmap.get files.new name))) }
     ensures err { OnErr result (files.new ≡ files.old) }
     ensures fault { IfErr result
         (FailsBy (FailsFile (S.files system.old).bytes (path_text folder.now file.now)
@@ -124,7 +125,7 @@ fn read_one<S: FileSystem>(
     };
     match system.read(path.as_str(), MOST_READ) {
         Ok(bytes) => set(files, name, bytes.as_slice()),
-        Err(error) => Err(unread(error, path)),
+        Err(error) => Err(read_failure(error, path)),
     }
 }
 
@@ -137,9 +138,10 @@ fn read_listed<S: FileSystem>(
 ) -> Result<(), Failure>
     requires failures { (S.files system.old).failures < 2 ^ 63 }
     requires alone { listing.now.twice ≡ None }
-    ensures others { StaysWhere
+    ensures others { KeepsFilesWhere
         (λ k. finmap.contains_key listing.now.files k ≡ false) files.old files.new }
-    ensures read { OnOk result (AreRead (S.files system.old).bytes folder.now listing.now.files files.new) }
+    ensures read { OnOk result
+        (HaveBytesOf (S.files system.old).bytes folder.now listing.now.files files.new) }
     ensures fault { IfErr result (FailsBy (FailsListed (S.files system.old).bytes folder.now
         listing.now.files files.new)) }
     ensures unchanged { KeepsFiles reported_failures result (S.files system.old) (S.files system.new) }
@@ -171,9 +173,10 @@ pub fn read_folder<S: FileSystem>(
     requires failures { (S.files system.old).failures < 2 ^ 63 }
     requires none { (k : List ℕ) → slice_index k 0 ≡ drive_number drive
         → finmap.contains_key files.old k ≡ false }
-    ensures others { StaysWhere (λ k. slice_index k 0 ≢ drive_number drive) files.old files.new }
+    ensures others { KeepsFilesWhere (λ k. slice_index k 0 ≢ drive_number drive) files.old files.new }
     ensures read { OnOk result (IfSome (S.files system.old).bytes (λ stored.
-        AreOf stored ((S.files system.old).names folder.now) (drive_number drive) folder.now files.new)) }
+        AreFromFolder stored ((S.files system.old).names folder.now)
+        (drive_number drive) folder.now files.new)) }
     ensures fault { IfErr result (FailsBy (FailsFolder (S.files system.old)
         (drive_number drive) folder.now files.new)) }
     ensures unchanged { KeepsFiles reported_failures result (S.files system.old) (S.files system.new) }
@@ -183,7 +186,7 @@ pub fn read_folder<S: FileSystem>(
     };
     let listing = match list(system, drive, folder) {
         Ok(listing) => listing,
-        Err(error) => return Err(unread(error, path)),
+        Err(error) => return Err(read_failure(error, path)),
     };
     if let Some(name) = listing.twice {
         return Err(Failure::AtFault(Fault::TwoFiles(name)));

@@ -2,16 +2,16 @@
 
 ghost use Rattle.std.specs.Prelude.{◌≡◌, ◌≢◌, ◌<◌, ◌^◌, Some, OnOk, OnErr, IfOk, IfErr, slice_index, string_bytes};
 ghost use Rattle.std.specs.Io.KnownBytes.{Appends};
-ghost use Rattle.folders.specs.Entries.{file_text, path_text, temporary_text};
+ghost use Rattle.folders.specs.FolderNames.{file_text, path_text, temporary_text};
 ghost use Rattle.folders.specs.Failures.{CountsFailures, io_failures};
-ghost use Rattle.folders.specs.Faults.{FailsBy, Unwritten, reported_failures};
+ghost use Rattle.folders.specs.Faults.{FailsBy, IsWriteFault, reported_failures};
 ghost use Rattle.folders.specs.FileSystem.{ChangesAt, PutsInPlace};
 ghost use Rattle.folders.specs.Folders.{FailsToWrite, LeavesIn, WritesInto, folder_of};
-ghost use Rattle.folders.specs.Written.{bytes_of};
+ghost use Rattle.folders.specs.ChangedBytes.{bytes_of};
 
-use crate::entry::{file_name, path_in, temporary_name};
-use crate::fault::{Failure, unwritten};
+use crate::fault::{Failure, write_failure};
 use crate::file_system::{Contents, FileSystem};
+use crate::folder_names::{file_name, path_in, temporary_name};
 use filenames::Name;
 use hostfiles::{FileView, HostFiles, Journal};
 use std::alloc::{AllocError, Global};
@@ -99,7 +99,7 @@ pub fn write_file<S: FileSystem, C: Contents>(
         (S.files system.old).bytes (S.files system.new).bytes name.now (C.bytes contents.now)) }
     ensures err { OnErr result (LeavesIn (Some folder.now)
         (S.files system.old).bytes (S.files system.new).bytes name.now) }
-    ensures fault { IfErr result (FailsBy (Unwritten (path_text folder.now (file_text name.now)))) }
+    ensures fault { IfErr result (FailsBy (IsWriteFault (path_text folder.now (file_text name.now)))) }
     ensures failures { CountsFailures reported_failures result (S.files system.old) (S.files system.new) }
 {
     let Ok((path, temporary)) = paths(system.alloc(), folder, name) else {
@@ -109,7 +109,7 @@ pub fn write_file<S: FileSystem, C: Contents>(
         Ok(()) => Ok(()),
         Err(error) => {
             system.remove(temporary.as_str());
-            Err(unwritten(error, path))
+            Err(write_failure(error, path))
         }
     }
 }

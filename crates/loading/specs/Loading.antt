@@ -3,7 +3,7 @@ use Rattle.std.specs.Prelude.{◌≡◌, ◌+◌, ℕ, ◌⊎◌, List, [], Opti
 use Rattle.command_words.specs.CommandLine.{text_of}
 use Rattle.command_words.specs.declared.words.Words.{Words}
 use Rattle.hostfiles.specs.Hosts.{Host}
-use Rattle.folders.specs.FileSystem.{FileBytes, Reads, StoredFiles}
+use Rattle.folders.specs.FileSystem.{FileBytes, ReadsFile, StoredFiles}
 use Rattle.folders.specs.Folders.{AreFromFolders, FailsFolders}
 use Rattle.folders.specs.declared.fault.Failure.TheVariants.{AtFault}
 use Rattle.machine.specs.declared.session.TheConstants.{PROGRAM_LIMIT, SCRIPT_LIMIT}
@@ -14,12 +14,12 @@ use Rattle.loading.specs.declared.fault.LoadFault.TheVariants.{CannotRead, Folde
 
 -- The bytes of a program: the file PROGRAM, of which at most one byte more is read than a session takes.
 abbrev pub IsProgramOf : StoredFiles → Words → List ℕ → Type 0
-IsProgramOf files w program = Reads files.bytes w.program.now (PROGRAM_LIMIT + 1) program
+IsProgramOf files w program = ReadsFile files.bytes w.program.now (PROGRAM_LIMIT + 1) program
 
 -- The bytes of a script: none without a path, or else its file, of which at most one byte more is read than a session takes.
 abbrev pub IsScriptAt : Option FileBytes → Option (List ℕ) → List ℕ → Type 0
 IsScriptAt files None script = script ≡ []
-IsScriptAt files (Some path) script = Reads files path (SCRIPT_LIMIT + 1) script
+IsScriptAt files (Some path) script = ReadsFile files path (SCRIPT_LIMIT + 1) script
 
 abbrev pub IsScriptOf : StoredFiles → Words → List ℕ → Type 0
 IsScriptOf files w script = IsScriptAt files.bytes (text_of w.console) script

@@ -3,7 +3,7 @@
 ghost use Rattle.std.specs.Prelude.{◌≡◌, ◌+◌, ◌<◌, ◌^◌, IfOk, IfErr};
 ghost use Rattle.command_words.specs.CommandLine.{text_of};
 ghost use Rattle.folders.specs.Failures.{KeepsFiles, io_failures};
-ghost use Rattle.folders.specs.FileSystem.{Opens, Reads};
+ghost use Rattle.folders.specs.FileSystem.{Opens, ReadsFile};
 ghost use Rattle.machine.specs.Session.{session_or_refusal};
 ghost use Rattle.loading.specs.Faults.{load_failures};
 ghost use Rattle.loading.specs.Loading.{IsLoadedFrom, IsScriptAt, MadeOrRefused, FailsToLoad, IsReadFaultOf, IsReadFaultIfAny};
@@ -58,7 +58,7 @@ pub fn open<'a, S: FileSystem>(system: &mut S, path: &'a str) -> Result<S::Input
 fn program_at<'a, S: FileSystem>(system: &mut S, path: &'a str) -> Result<Vec<u8>, LoadFault<'a>>
     requires { (S.files system.old).failures < 2 ^ 63 }
     ensures program { IfOk result
-        (λ program. Reads (S.files system.old).bytes path.now (PROGRAM_LIMIT + 1) program.items) }
+        (λ program. ReadsFile (S.files system.old).bytes path.now (PROGRAM_LIMIT + 1) program.items) }
     ensures fault { IfErr result (IsReadFaultOf path.now) }
     ensures unchanged { KeepsFiles load_failures result (S.files system.old) (S.files system.new) }
 {

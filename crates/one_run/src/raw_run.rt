@@ -4,7 +4,7 @@ ghost use Rattle.std.specs.Prelude.{◌≡◌, ◌^◌, ◌<◌, ◌≤◌, ◌+
 ghost use Rattle.folders.specs.Failures.{CountsFailures};
 ghost use Rattle.folders.specs.Faults.{reported_failures};
 ghost use Rattle.folders.specs.Folders.{FailsToWrite, LeavesIn, WritesInto};
-ghost use Rattle.folders.specs.Written.{bytes_of};
+ghost use Rattle.folders.specs.ChangedBytes.{bytes_of};
 ghost use Rattle.hostfiles.specs.Files.{files};
 ghost use Rattle.replay.specs.Report.{run_of, session_of};
 ghost use Rattle.report_lines.specs.ChangedLines.{gone_lines};

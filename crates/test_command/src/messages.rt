@@ -1,6 +1,6 @@
 // The message and the status of each error.
 
-use cpmrun::{Fault, Over, complain};
+use cpmrun::{Fault, Over, report_fault};
 use filenames::Name;
 use std::alloc::{AllocError, Global};
 use std::process::Abort;
@@ -16,7 +16,7 @@ c2345678901234567890123456789012345678901234567890123456789012345678901234567890
 fn is_reported(rt: &impl Abort, alloc: Global, fault: Fault<'_>, wanted: (&str, &str, u8)) {
     let (before, after, code) = wanted;
     let mut err = Over::new(Vec::new(alloc));
-    let status = complain(alloc, fault, &mut err);
+    let status = report_fault(alloc, fault, &mut err);
     let err = err.into_inner();
     let rest = err.as_slice().strip_prefix(b"cpmrun: ".as_slice());
     let rest = rest.and_then(|text| text.strip_prefix(before.as_bytes()));
@@ -70,7 +70,7 @@ fn a_fault_of_a_folder_has_its_message(rt: HostRuntime) -> Result<(), Fail> {
     is_reported(&rt, alloc, unread, ("cannot read ", "disk/a.txt", 1));
     is_reported(&rt, alloc, unwritten, ("cannot write ", "disk/A.TXT", 1));
     is_reported(&rt, alloc, twice, ("two files are ", "C:A.TXT", 1));
-    is_reported(&rt, alloc, refused, ("file ", "C:A.TXT refused 2", 1));
+    is_reported(&rt, alloc, refused_line, ("file ", "C:A.TXT refused 2", 1));
     Ok(())
 }
 
@@ -96,7 +96,7 @@ fn a_fault_of_use_has_its_own_text(rt: HostRuntime) -> Result<(), Fail> {
     let used = Fault::Use(text(alloc, "cpmrun: wrong words\n")?);
     is_reported(&rt, alloc, used, ("wrong ", "words", 1));
     let mut err = Over::new(Vec::new(alloc));
-    let status = complain(alloc, Fault::NotText, &mut err);
+    let status = report_fault(alloc, Fault::NotText, &mut err);
     let err = err.into_inner();
     assert!(&rt; status == 1 && err.as_slice() == NOT_TEXT.as_bytes());
     Ok(())

@@ -2,10 +2,10 @@
 
 use crate::fixtures::Wanted::{self, Refused, Told};
 use crate::fixtures::{Row, come_to};
-use command_words::Outcome;
+use command_words::ErrorClass;
 use std::test::Fail;
 
-const MISUSE: Wanted<'_> = Refused(Outcome::Misuse, &[]);
+const MISUSE: Wanted<'_> = Refused(ErrorClass::Misuse, &[]);
 
 const MISUSED: &[Row<'_>] = &[
     (&[], MISUSE),
@@ -24,7 +24,7 @@ fn words_that_are_a_fault_of_use(rt: HostRuntime) -> Result<(), Fail> {
 }
 
 const HELP: Wanted<'_> = Refused(
-    Outcome::Information,
+    ErrorClass::Information,
     &[
         "Usage: cpmrun [OPTIONS] <PROGRAM> [TAIL]",
         "--files <DIR>",
@@ -48,7 +48,10 @@ fn help_names_each_option_and_status(rt: HostRuntime) -> Result<(), Fail> {
     come_to(&rt, rt.alloc(), HELPED)
 }
 
-const VERSION: &[Row<'_>] = &[(&["--version"], Told(Outcome::Information, "cpmrun 1.0.0\n"))];
+const VERSION: &[Row<'_>] = &[(
+    &["--version"],
+    Told(ErrorClass::Information, "cpmrun 1.0.0\n"),
+)];
 
 #[test]
 fn the_version_is_printed(rt: HostRuntime) -> Result<(), Fail> {
@@ -57,7 +60,7 @@ fn the_version_is_printed(rt: HostRuntime) -> Result<(), Fail> {
 
 const NAMED: &[Row<'_>] = &[(
     &["p.com", "--slots", "0"],
-    Refused(Outcome::Misuse, &["'0'", "--slots <N>"]),
+    Refused(ErrorClass::Misuse, &["'0'", "--slots <N>"]),
 )];
 
 #[test]

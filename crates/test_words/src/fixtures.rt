@@ -1,6 +1,6 @@
 // The results of words that a caller gives.
 
-use command_words::{Outcome, Words, outcome_of, read_words};
+use command_words::{ErrorClass, Words, error_class, read_words};
 use std::alloc::{AllocError, Global};
 use std::process::Abort;
 use std::test::Fail;
@@ -27,9 +27,9 @@ pub enum Wanted<'a> {
     /// Words that are read, with these values.
     Read(&'a Fields<'a>),
     /// Words that are not read, with the meaning of their error, and parts of its text.
-    Refused(Outcome, &'a [&'a str]),
+    Refused(ErrorClass, &'a [&'a str]),
     /// Words that are not read, with the meaning of their error, and its whole text.
-    Told(Outcome, &'a str),
+    Told(ErrorClass, &'a str),
 }
 
 /// Words, and the expected result.
@@ -93,7 +93,7 @@ fn has_parts(text: &str, parts: &[&str]) -> bool {
     true
 }
 
-fn is_refused(outcome: Outcome, text: &str, wanted: Wanted<'_>) -> bool {
+fn is_refused(outcome: ErrorClass, text: &str, wanted: Wanted<'_>) -> bool {
     match wanted {
         Wanted::Read(_) => false,
         Wanted::Refused(wanted, parts) => outcome == wanted && has_parts(text, parts),
@@ -106,7 +106,7 @@ fn compare_words(rt: &impl Abort, read: &Words<'_>, row: &Row<'_>) {
     assert!(rt; is_read(read, *wanted), "{words:?}");
 }
 
-fn compare_error(rt: &impl Abort, outcome: Outcome, text: &str, row: &Row<'_>) {
+fn compare_error(rt: &impl Abort, outcome: ErrorClass, text: &str, row: &Row<'_>) {
     let (words, wanted) = row;
     assert!(rt;
         is_refused(outcome, text, *wanted),
@@ -124,7 +124,7 @@ fn compare(
         Ok(words) => compare_words(rt, &words, row),
         Err(error) => {
             let text = format!(in alloc; "{error}")?;
-            compare_error(rt, outcome_of(&error), text.as_str(), row);
+            compare_error(rt, error_class(&error), text.as_str(), row);
         }
     }
     Ok(())

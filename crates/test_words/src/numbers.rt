@@ -2,7 +2,7 @@
 
 use crate::fixtures::Wanted::{self, Read, Refused};
 use crate::fixtures::{Fields, PROGRAM, Row, come_to};
-use command_words::Outcome;
+use command_words::ErrorClass;
 use std::test::Fail;
 
 const WITHIN: &[Row<'_>] = &[
@@ -55,7 +55,7 @@ fn numbers_within_their_ranges(rt: HostRuntime) -> Result<(), Fail> {
     come_to(&rt, rt.alloc(), WITHIN)
 }
 
-const MISUSE: Wanted<'_> = Refused(Outcome::Misuse, &[]);
+const MISUSE: Wanted<'_> = Refused(ErrorClass::Misuse, &[]);
 
 const PAST: &[Row<'_>] = &[
     (&["p.com", "--limit", "4000000001"], MISUSE),

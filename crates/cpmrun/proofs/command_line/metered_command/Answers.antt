@@ -7,8 +7,8 @@ returns-in-Err-clause-ends g c = inr (record {
   fault = c.in-Err.fault;
   comes = c.in-Err.ensures.fault;
   failed = c.in-Err.ensures.failures;
-  telling = rw c.in-Err.ensures.untold at c.complain.ensures;
+  telling = rw c.in-Err.ensures.untold at c.report_fault.ensures;
 })
 
 pub returns-in-Err-clause-done : goal.returns-in-Err-clause-done
-returns-in-Err-clause-done g c zero = absurd (faults_are_told c.in-Err.fault c.complain.result _ _ c.complain.ensures zero)
+returns-in-Err-clause-done g c zero = absurd (faults_are_told c.in-Err.fault c.report_fault.result _ _ c.report_fault.ensures zero)

@@ -2,7 +2,7 @@ use Rattle.std.proofs.Common.{◌≡◌, ◌≢◌, ◌∙◌, ap, sym, refl, su
 use Rattle.std.specs.Option.{option_map}
 use Rattle.std.proofs.lemmas.Result.{err_from_is_err_and}
 use Rattle.folders.specs.Faults.{FailsBy}
-use Rattle.folders.specs.Folders.{AreOf, FailsFolder, StaysWhere, folder_of}
+use Rattle.folders.specs.Folders.{AreFromFolder, FailsFolder, KeepsFilesWhere, folder_of}
 use Rattle.folders.proofs.FaultLemmas.{before_still}
 use Rattle.folders.proofs.FilesLemmas.{keeps_err, keeps_same, same_files}
 use Rattle.folders.proofs.ReadLemmas.{ReadBelow, number_in, none_read, one_read, none_more, all_drives, nothing_yet}
@@ -42,7 +42,7 @@ returns-in_err-read_folder-clause-fault g c =
       here = at ∙ ap (option_map (λ s. s.now)) c.in-Some.is;
       host = now;
       before = before_still files folders drive c.loop-drive.files now c.loop-drive.invariant.1
-          (subst (λ d. StaysWhere (λ k. slice_index k 0 ≢ d) c.loop-drive.files now) same c.read_folder.ensures.others);
+          (subst (λ d. KeepsFilesWhere (λ k. slice_index k 0 ≢ d) c.loop-drive.files now) same c.read_folder.ensures.others);
       fails = subst (λ d. FailsBy (FailsFolder files d folder now) c.in_err-read_folder.field-0.0) same
           (rw c.loop-drive.invariant.0 at c.in_err-read_folder.ensures.fault);
     })
@@ -60,8 +60,8 @@ loop-drive-preserved g c =
         subst (ReadBelow files folders (drive + 1)) (sym w.files-is)
             (one_read files folders drive w.in-Some.folder.now c.loop-drive.files w.read_folder.new.files c.loop-drive.invariant.1
             (at ∙ ap (option_map (λ s. s.now)) w.in-Some.is)
-            (subst (λ d. StaysWhere (λ k. slice_index k 0 ≢ d) c.loop-drive.files w.read_folder.new.files) same w.read_folder.ensures.others)
-            (subst (λ d. IfSome files.bytes (λ stored. AreOf stored (files.names w.in-Some.folder.now) d w.in-Some.folder.now w.read_folder.new.files)) same
+            (subst (λ d. KeepsFilesWhere (λ k. slice_index k 0 ≢ d) c.loop-drive.files w.read_folder.new.files) same w.read_folder.ensures.others)
+            (subst (λ d. IfSome files.bytes (λ stored. AreFromFolder stored (files.names w.in-Some.folder.now) d w.in-Some.folder.now w.read_folder.new.files)) same
             (rw c.loop-drive.invariant.0 at w.in_ok-read_folder.ensures.read))),
       )
       | in_default w ↦ (

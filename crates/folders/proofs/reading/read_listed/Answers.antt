@@ -3,10 +3,10 @@ use Rattle.std.proofs.lemmas.Result.{err_from_is_err_and}
 use Rattle.std.specs.FinMap.{get, contains_key}
 use Rattle.filenames.specs.Names.{Key}
 use Rattle.hostfiles.specs.Hosts.{Host}
-use Rattle.folders.specs.Entries.{path_text}
+use Rattle.folders.specs.FolderNames.{path_text}
 use Rattle.folders.specs.Faults.{FailsBy}
 use Rattle.folders.specs.FileSystem.{Path}
-use Rattle.folders.specs.Folders.{FailsFile, IsRead}
+use Rattle.folders.specs.Folders.{FailsFile, HasBytesOf}
 use Rattle.folders.proofs.FaultLemmas.{listed_fails}
 use Rattle.folders.proofs.FilesLemmas.{keeps_err, keeps_same, same_files}
 use Rattle.folders.proofs.ReadLemmas.{WantedOf, none_set, one_more, all_set, read_as, all_read}
@@ -31,8 +31,8 @@ loop-key-preserved g c =
           (subst (λ (n : Key). (k : Key) → k ≢ n → get now k ≡ get c.loop-key.files k) same c.read_one.ensures.others)
           (read_as files c.args.folder.now (get listed key) c.in-Some.file.now (get now key) c.in-Some.ensures.there
           (subst (λ (n : Key). contains_key now n ≡ true) same ok.there)
-          (subst (λ text. IfSome files (λ stored. IsRead stored (path_text c.args.folder.now text) (get now key))) c.as_str.ensures.value
-          (subst (λ (n : Key). IfSome files (λ stored. IsRead stored (path_text c.args.folder.now c.as_str.result.now) (get now n))) same
+          (subst (λ text. IfSome files (λ stored. HasBytesOf stored (path_text c.args.folder.now text) (get now key))) c.as_str.ensures.value
+          (subst (λ (n : Key). IfSome files (λ stored. HasBytesOf stored (path_text c.args.folder.now c.as_str.result.now) (get now n))) same
           (rw c.loop-key.invariant.0 at ok.read)))),
     )
 

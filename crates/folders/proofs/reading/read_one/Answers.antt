@@ -2,7 +2,7 @@ use Rattle.std.proofs.Common.{◌∙◌, ap, subst}
 use Rattle.std.proofs.lemmas.Result.{on_ok_weaker}
 use Rattle.hostfiles.specs.Hosts.{records_in}
 use Rattle.std.specs.FinMap.{insert}
-use Rattle.folders.specs.FileSystem.{Reads}
+use Rattle.folders.specs.FileSystem.{ReadsFile}
 use Rattle.folders.proofs.ListingLemmas.{other_stays, now_there}
 use Rattle.folders.proofs.FaultLemmas.{set_fails}
 use Rattle.folders.proofs.ReadLemmas.{put_in}
@@ -20,7 +20,7 @@ returns-in-Ok-read-clause-read g c =
     let bytes = c.in-Ok-read.bytes.items in
     on_ok_weaker c.set.result
     (λ put. put_in files _ bytes c.args.files.now c.args.name c.set.new.files
-    (subst (λ p. Reads files p 8388609 bytes) (c.as_str.ensures.value ∙ c.in-Ok.ensures) c.in-Ok-read.ensures.reads)
+    (subst (λ p. ReadsFile files p 8388609 bytes) (c.as_str.ensures.value ∙ c.in-Ok.ensures) c.in-Ok-read.ensures.reads)
     (put ∙ ap (λ b. insert c.args.files.now c.args.name (records_in b)) c.as_slice.ensures.value))
     c.set.ensures.ok
 
@@ -28,5 +28,5 @@ pub returns-in-Ok-read-clause-fault : goal.returns-in-Ok-read-clause-fault
 returns-in-Ok-read-clause-fault g c =
     let bytes = c.in-Ok-read.bytes.items in
     set_fails (g.S.FileSystem.files c.args.system.now).bytes _ c.args.files.now c.args.name bytes c.set.result
-    (subst (λ p. Reads (g.S.FileSystem.files c.args.system.now).bytes p 8388609 bytes) (c.as_str.ensures.value ∙ c.in-Ok.ensures) c.in-Ok-read.ensures.reads)
+    (subst (λ p. ReadsFile (g.S.FileSystem.files c.args.system.now).bytes p 8388609 bytes) (c.as_str.ensures.value ∙ c.in-Ok.ensures) c.in-Ok-read.ensures.reads)
     (rw c.as_slice.ensures.value at c.set.ensures.refusal)

@@ -1,5 +1,5 @@
 use Rattle.std.proofs.Common.{◌∙◌, sym, subst}
-use Rattle.folders.specs.Entries.{path_text, temporary_text}
+use Rattle.folders.specs.FolderNames.{path_text, temporary_text}
 use Rattle.folders.specs.FileSystem.{ChangesAt, PutsInPlace}
 use Rattle.folders.proofs.WriteLemmas.{changes_twice, paths_differ, unchanged}
 use Rattle.folders.proofs.writing.write_file.Goals as goal

@@ -2,7 +2,7 @@
 
 ghost use Rattle.std.specs.Prelude.{◌≡◌, ℕ, None, IfOk, IfSome, slice_index, string_bytes};
 ghost use Rattle.filenames.specs.Drives.{drive_number};
-ghost use Rattle.folders.specs.Entries.{key_in, file_text, temporary_text, needs_slash, path_text};
+ghost use Rattle.folders.specs.FolderNames.{key_in, file_text, temporary_text, needs_slash, path_text};
 
 use filenames::{Drive, Name};
 use std::alloc::{AllocError, Global};

@@ -1,13 +1,13 @@
 ghost use Rattle.std.specs.Prelude.{◌≡◌};
 ghost use Rattle.clap.specs.Values.{kind_of};
-ghost use Rattle.command_words.specs.Outcome.{outcome_of};
+ghost use Rattle.command_words.specs.ErrorClass.{error_class};
 
 use clap::Error;
 use clap::error::ErrorKind;
 
 /// What a program is to do with an error of `read_words`.
 #[derive(Clone, Copy, Debug, PartialEq, Eq)]
-pub enum Outcome {
+pub enum ErrorClass {
     /// A request for help or the version. The error's text goes to standard output; the status is 0.
     Information,
     /// A usage error. The error's text goes to standard error; the status is 1.
@@ -17,12 +17,12 @@ pub enum Outcome {
 }
 
 /// Returns what an error of `read_words` means for the program, by its kind.
-pub fn outcome_of(error: &Error) -> Outcome
-    ensures { result ≡ outcome_of (kind_of error.now) }
+pub fn error_class(error: &Error) -> ErrorClass
+    ensures { result ≡ error_class (kind_of error.now) }
 {
     match error.kind() {
-        ErrorKind::OutOfMemory => Outcome::OutOfMemory,
-        ErrorKind::DisplayHelp | ErrorKind::DisplayVersion => Outcome::Information,
-        _ => Outcome::Misuse,
+        ErrorKind::OutOfMemory => ErrorClass::OutOfMemory,
+        ErrorKind::DisplayHelp | ErrorKind::DisplayVersion => ErrorClass::Information,
+        _ => ErrorClass::Misuse,
     }
 }

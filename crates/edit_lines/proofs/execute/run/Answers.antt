@@ -1,6 +1,6 @@
 use Rattle.replay.specs.Report.{run_of}
 use Rattle.edit_lines.proofs.EffectLemmas.{run_effect}
-use Rattle.edit_lines.proofs.carry_out.run.Goals as goal
+use Rattle.edit_lines.proofs.execute.run.Goals as goal
 
 pub returns-in-Ok-clause-effect : goal.returns-in-Ok-clause-effect
 returns-in-Ok-clause-effect g c =

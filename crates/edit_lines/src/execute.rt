@@ -11,7 +11,7 @@ ghost use Rattle.report_lines.specs.Streams.{WritesText};
 use crate::ending::ReplayFault;
 use crate::limits::LINES_LIMIT;
 use crate::line::{Command, parse_line};
-use crate::reply::refused;
+use crate::reply::refused_line;
 use arrayvec::ArrayVec;
 use machine::{Meter, STEP_LIMIT};
 use replay::{Edit, EditError, Report, Runner};
@@ -33,7 +33,7 @@ fn write_reply<W: Writer>(writer: &mut W, text: &[u8]) -> Result<(), ReplayFault
 
 /// Applies an edit and writes its reply. Exactly the checkpoints that it does not touch are left, or all if it is refused. Memory
 /// can run out only for an insertion or a file that is not refused.
-fn carry_out_edit<W: Writer>(
+fn execute_edit<W: Writer>(
     runner: &mut Runner,
     edit: Edit,
     writer: &mut W,
@@ -48,7 +48,7 @@ fn carry_out_edit<W: Writer>(
     match runner.edit(edit) {
         Ok(()) => write_reply(writer, b"ok\n"),
         Err(EditError::OutOfMemory) => Err(ReplayFault::OutOfMemory),
-        Err(refusal) => write_reply(writer, &refused(refusal.number())),
+        Err(refusal) => write_reply(writer, &refused_line(refusal.number())),
     }
 }
 
@@ -119,7 +119,7 @@ fn run<W: Writer>(runner: &mut Runner, meter: &mut Meter, writer: &mut W) -> Res
 
 /// Executes the line with this number. The runner and the meter change only as its command says, and not at all if the line is
 /// malformed.
-pub fn carry_out<W: Writer>(
+pub fn execute_line<W: Writer>(
     alloc: Global,
     line: &[u8],
     number: u64,
@@ -140,7 +140,7 @@ pub fn carry_out<W: Writer>(
     }
     match parse_line(alloc, line)? {
         None => Err(ReplayFault::Malformed(number)),
-        Some(Command::Edit(edit)) => carry_out_edit(runner, edit, writer),
+        Some(Command::Edit(edit)) => execute_edit(runner, edit, writer),
         Some(Command::Run) => run(runner, meter, writer),
         Some(Command::DropOldest(count)) => drop_oldest(runner, count, writer),
     }

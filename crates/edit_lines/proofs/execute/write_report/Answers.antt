@@ -7,7 +7,7 @@ use Rattle.edit_lines.specs.Reports.{report_text}
 use Rattle.report_lines.specs.ChangedLines.{changed_lines}
 use Rattle.report_lines.proofs.WrittenPieces.{whole_then, part_then, part_more, writes_part, writes_then, writes_same}
 use Rattle.edit_lines.proofs.Reporting.{report_is}
-use Rattle.edit_lines.proofs.carry_out.write_report.Goals as goal
+use Rattle.edit_lines.proofs.execute.write_report.Goals as goal
 
 pub returns-in_err-write_all : goal.returns-in_err-write_all
 returns-in_err-write_all g c =

@@ -1,7 +1,7 @@
 use Rattle.std.proofs.Common.{ap, sym}
 use Rattle.edit_lines.specs.Replay.{edit_after, edit_reply}
 use Rattle.edit_lines.proofs.Reporting.{edit_does}
-use Rattle.edit_lines.proofs.carry_out.carry_out_edit.Goals as goal
+use Rattle.edit_lines.proofs.execute.execute_edit.Goals as goal
 
 pub returns-in-Ok-clause-does : goal.returns-in-Ok-clause-does
 returns-in-Ok-clause-does g c =

@@ -3,7 +3,7 @@ use Rattle.std.specs.List.{list_any}
 use Rattle.filenames.specs.Drives.{drive_number}
 use Rattle.filenames.specs.Names.{is_colon}
 use Rattle.folders.proofs.EntryLemmas.{said_key, refused_key}
-use Rattle.folders.proofs.entry.name_in_folder.Goals as goal
+use Rattle.folders.proofs.folder_names.name_in_folder.Goals as goal
 
 pub returns-in-Ok-clause-key : goal.returns-in-Ok-clause-key
 returns-in-Ok-clause-key c =

@@ -1,9 +1,9 @@
 use Rattle.std.proofs.Common.{◌≡◌, ◌∙◌, ◌++◌, ap, IfOk, rules, codes}
 use Rattle.std.specs.Prelude.{string_bytes}
 use Rattle.std.proofs.lemmas.Result.{IfOk-weaker}
-use Rattle.folders.specs.Entries.{file_text, key_in, temporary_text}
+use Rattle.folders.specs.FolderNames.{file_text, key_in, temporary_text}
 use Rattle.folders.proofs.EntryLemmas.{dotted_key}
-use Rattle.folders.proofs.entry.temporary_name.Goals as goal
+use Rattle.folders.proofs.folder_names.temporary_name.Goals as goal
 
 pub returns-clause-passed_over : goal.returns-clause-passed_over
 returns-clause-passed_over c =
