@@ -70,7 +70,7 @@ fn a_fault_of_a_folder_has_its_message(rt: HostRuntime) -> Result<(), Fail> {
     is_reported(&rt, alloc, unread, ("cannot read ", "disk/a.txt", 1));
     is_reported(&rt, alloc, unwritten, ("cannot write ", "disk/A.TXT", 1));
     is_reported(&rt, alloc, twice, ("two files are ", "C:A.TXT", 1));
-    is_reported(&rt, alloc, refused_line, ("file ", "C:A.TXT refused 2", 1));
+    is_reported(&rt, alloc, refused, ("file ", "C:A.TXT refused 2", 1));
     Ok(())
 }
 
