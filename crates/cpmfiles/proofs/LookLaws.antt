@@ -1,5 +1,5 @@
 -- No look is lost, and a call that fails has only looks of the whole call.
-use Rattle.std.proofs.Common.{◌≡◌, ℕ, Bool, true, false, cond, is_some, nat_lt, refl, sym, subst}
+use Rattle.std.proofs.Common.{◌≡◌, ℕ, Bool, true, false, cond, is_some, nat_lt, refl}
 use Rattle.std.specs.FinMap.{get}
 use Rattle.hostfiles.specs.Hosts.{Key, Host}
 use Rattle.hostfiles.specs.Files.{OwnFiles, has, length_at, entry_at, is_host_part}
@@ -41,17 +41,6 @@ within_read host own key k l m h = by_case (has host own key) (nat_lt k (length_
   by_case true true = within_content own key k l (look_records host own key m) h
   by_case true false = h
   by_case false c = h
-
--- A read first asks whether the file is there, and then how long it is.
-pub within_read_first : (host : Host) (own : OwnFiles) (key : Key) (k : ℕ) (l m : FileLooks) → KeepsAsks l (look_has own key m)
-    → KeepsAsks l (look_read host own key k m)
-within_read_first host own key k l m h = within_read host own key k l m (within_records host own key l m h)
-
-pub within_read_length : (host : Host) (own : OwnFiles) (key : Key) (k : ℕ) (l m : FileLooks) → has host own key ≡ true
-    → KeepsAsks l (look_length own key (look_has own key m)) → KeepsAsks l (look_read host own key k m)
-within_read_length host own key k l m there h =
-    within_read host own key k l m
-    (subst (λ b. KeepsAsks l (cond b (look_length own key (look_has own key m)) (look_has own key m))) (sym there) h)
 
 -- A rename asks about the second key after the first.
 pub within_second : (own : OwnFiles) (old new : Key) (l m : FileLooks) → KeepsAsks l (look_has own old m)

@@ -6,7 +6,8 @@ ghost use Rattle.std.specs.Option.{option_map};
 ghost use Rattle.directory.specs.Entries.{position_of};
 ghost use Rattle.hostfiles.specs.Files.{has, records, record_at, shapes};
 ghost use Rattle.hostfiles.specs.FileLooks.{look_has, look_records, look_read, look_directory};
-ghost use Rattle.hostfiles.specs.Asking.{Inquires};
+ghost use Rattle.hostfiles.specs.Asking.{AsksFor, Inquires};
+ghost use Rattle.hostfiles.specs.FileView.{view_own};
 ghost use Rattle.filenames.specs.Names.{is_sayable};
 ghost use Rattle.cpmfiles.specs.Renaming.{is_rename};
 ghost use Rattle.cpmfiles.specs.Tables.{can_make, can_rename, extent_count, look_make, look_rename, next_bytes};
@@ -18,6 +19,7 @@ use hostfiles::changes::Changes;
 use hostfiles::directory_view::DirectoryView;
 use hostfiles::file_view::FileView;
 use hostfiles::host::HostFiles;
+use hostfiles::looks::FileLooks;
 use records::Record;
 use std::alloc::AllocError;
 
@@ -29,8 +31,19 @@ pub fn has(host: &HostFiles, changes: &mut Changes, key: &Key) -> Result<bool, A
     FileView::find(host, &changes.journal, key).ask_presence(&mut changes.looks)
 }
 
-/// Returns the length of the file of the key in records, holes included; `None` if there is no file.
+// Returns the length of a file in records, holes included, or `None` if there is no file.
 #[tactic(auto, using(crate::proofs::LookLaws::asked_in_turn))]
+fn ask_records(file: &FileView<'_>, looks: &mut FileLooks) -> Result<Option<u32>, AllocError>
+    ensures { AsksFor result (records file.now.host.now (view_own file.now) file.now.key)
+        (look_records file.now.host.now (view_own file.now) file.now.key) looks.old looks.new }
+{
+    if !file.ask_presence(looks)? {
+        return Ok(None);
+    }
+    Ok(Some(file.ask_length(looks)?))
+}
+
+/// Returns the length of the file of the key in records, holes included; `None` if there is no file.
 pub fn records(
     host: &HostFiles,
     changes: &mut Changes,
@@ -39,11 +52,10 @@ pub fn records(
     ensures { Inquires result (λ own. records host.now own key.now)
         (λ own. look_records host.now own key.now) changes.old changes.new }
 {
-    let file = FileView::find(host, &changes.journal, key);
-    if !file.ask_presence(&mut changes.looks)? {
-        return Ok(None);
-    }
-    Ok(Some(file.ask_length(&mut changes.looks)?))
+    ask_records(
+        &FileView::find(host, &changes.journal, key),
+        &mut changes.looks,
+    )
 }
 
 /// Returns the record count of an extent of the file of the key, or `None` if there is no file. The count is the
@@ -59,10 +71,11 @@ pub fn extent(
     ensures { Inquires result (λ own. extent_count host.now own key.now extent)
         (λ own. look_records host.now own key.now) changes.old changes.new }
 {
-    if records(host, changes, key)?.is_none() {
+    let file = FileView::find(host, &changes.journal, key);
+    if ask_records(&file, &mut changes.looks)?.is_none() {
         return Ok(None);
     }
-    Ok(Some(FileView::find(host, &changes.journal, key).count(extent)))
+    Ok(Some(file.count(extent)))
 }
 
 /// Reads record `k` of the file of the key. Returns `None` if there is no file, if `k` is not below its length, or
@@ -78,10 +91,10 @@ pub fn read(
         (λ own. look_read host.now own key.now k) changes.old changes.new }
 {
     let file = FileView::find(host, &changes.journal, key);
-    if !file.ask_presence(&mut changes.looks)? {
+    let Some(length) = ask_records(&file, &mut changes.looks)? else {
         return Ok(None);
-    }
-    if k >= file.ask_length(&mut changes.looks)? {
+    };
+    if k >= length {
         return Ok(None);
     }
     file.ask_record(&mut changes.looks, k)

@@ -11,5 +11,5 @@ pub mod table;
 
 pub use filenames::{Fcb, Key, Name, NameError};
 pub use hostfiles::{Ask, Changes, FileLooks, FilesError, HostFiles, Journal};
-pub use records::{EXTENT_RECORDS, PLACES, RECORD_BYTES, Record, Records};
+pub use records::{EXTENT_RECORDS, RECORD_BYTES, RECORD_LIMIT, Record, Records};
 pub use table::Table;

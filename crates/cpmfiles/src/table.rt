@@ -1,7 +1,8 @@
 // Host files together with what a run did to them.
 
 ghost use Rattle.std.specs.Prelude.{◌≡◌, ◌<◌, true, false, OnOk, OnErr, IfOk, Some, Ok, slice_index};
-ghost use Rattle.hostfiles.specs.Files.{has, records, length_at, record_at, shapes, after_make, after_rename, after_write, after_write_with_holes, after_write_with_zeros};
+ghost use Rattle.hostfiles.specs.Files.{has, records, length_at, record_at, shapes, after_make, after_rename, after_write};
+ghost use Rattle.hostfiles.specs.declared.journal.Gap.TheVariants.{Holes, Zeros};
 ghost use Rattle.hostfiles.specs.FileLooks.{look_has, look_records, look_read, look_directory, KeepsAsks};
 ghost use Rattle.hostfiles.specs.Asking.{AsksFor, Inquires};
 ghost use Rattle.cpmfiles.specs.Tables.{can_make, can_rename, extent_count, look_make, look_rename};
@@ -15,6 +16,7 @@ use filenames::Key;
 use hostfiles::changes::Changes;
 use hostfiles::directory_view::without_matches;
 use hostfiles::host::HostFiles;
+use hostfiles::journal::Gap;
 use records::Record;
 use std::alloc::AllocError;
 
@@ -106,12 +108,12 @@ impl Table<'_> {
             (look_records self.old.host.now (own_of_table self.old) key.now)
             (looks_of_table self.old) (looks_of_table self.new) }
         ensures does { DoesIf result
-            (after_write_with_holes (length_at self.old.host.now (own_of_table self.old) key.now)
+            (after_write Holes (length_at self.old.host.now (own_of_table self.old) key.now)
             (own_of_table self.old) key.now k bytes.now)
             (own_of_table self.old) (own_of_table self.new) }
         ensures over { StandsOver self.old self.new }
     {
-        self.store(key, k, bytes, false)
+        self.store(key, k, bytes, Gap::Holes)
     }
 
     /// Writes record `k`, at most 65,535, of the file of the key and returns `true`, or returns `false` if there is no file.
@@ -122,22 +124,22 @@ impl Table<'_> {
             (look_records self.old.host.now (own_of_table self.old) key.now)
             (looks_of_table self.old) (looks_of_table self.new) }
         ensures does { DoesIf result
-            (after_write_with_zeros (length_at self.old.host.now (own_of_table self.old) key.now)
+            (after_write Zeros (length_at self.old.host.now (own_of_table self.old) key.now)
             (own_of_table self.old) key.now k bytes.now)
             (own_of_table self.old) (own_of_table self.new) }
         ensures over { StandsOver self.old self.new }
     {
-        self.store(key, k, bytes, true)
+        self.store(key, k, bytes, Gap::Zeros)
     }
 
-    // Writes a record, if there is a file. The gap between the end and the record becomes zeros if `filled`, else holes.
-    fn store(&mut self, key: &Key, k: u32, bytes: &Record, filled: bool) -> Result<bool, AllocError>
+    // Writes a record, if there is a file, with this gap between the end and the record.
+    fn store(&mut self, key: &Key, k: u32, bytes: &Record, gap: Gap) -> Result<bool, AllocError>
         requires { k < 65536 }
         ensures asks { AsksFor result (has self.old.host.now (own_of_table self.old) key.now)
             (look_records self.old.host.now (own_of_table self.old) key.now)
             (looks_of_table self.old) (looks_of_table self.new) }
         ensures does { DoesIf result
-            (after_write filled (length_at self.old.host.now (own_of_table self.old) key.now)
+            (after_write gap (length_at self.old.host.now (own_of_table self.old) key.now)
             (own_of_table self.old) key.now k bytes.now)
             (own_of_table self.old) (own_of_table self.new) }
         ensures over { StandsOver self.old self.new }
@@ -145,7 +147,7 @@ impl Table<'_> {
         let Some(n) = self.records(key)? else {
             return Ok(false);
         };
-        self.changes.journal.write(key, n, k, bytes, filled)?;
+        self.changes.journal.write(key, n, k, bytes, gap)?;
         Ok(true)
     }
 

@@ -1,6 +1,6 @@
 -- The directory, entry by entry. ([Interface Guide 1979, file control blocks and functions 17 to 19]; the order of entries,
 -- bytes 12 to 31 of an entry, and extents with holes: this project's profile.)
-use Rattle.std.specs.Prelude.{ℕ, ◌+◌, ◌*◌, ◌/◌, ◌%◌, Bool, true, false, ◌&&◌, ◌||◌, ◌==◌, List, [], ◌∷◌, ◌++◌, Option, Some, None, nat_lt, if◌then◌else◌, take, drop, replicate, slice_index, flat_map}
+use Rattle.std.specs.Prelude.{ℕ, ◌+◌, ◌*◌, ◌/◌, ◌%◌, Bool, true, false, ◌&&◌, ◌||◌, ◌==◌, List, [], ◌∷◌, ◌++◌, Option, Some, None, nat_lt, if◌then◌else◌, take, drop, replicate, slice_index, flat_map, find}
 use Rattle.std.specs.Ordering.{nat_cmp, is_lt, is_eq}
 use Rattle.std.specs.List.{range_with_len}
 use Rattle.std.specs.Cmp.Lexicographic.{slice_cmp}
@@ -61,11 +61,6 @@ listing_entries files = flat_map (λ e. entries_of e.0 e.1) files
 abbrev pub directory : Shapes → List Entry
 directory m = listing_entries (entries m)
 
--- The first element that passes a test, if any.
-abbrev pub first_where : {X : Type 0} → (X → Bool) → List X → Option X
-first_where p [] = None
-first_where p (x ∷ xs) = if p x then Some x else first_where p xs
-
 -- Whether an entry is after a position, by key and then by extent. Every entry is after `None`.
 abbrev pub is_after : Option Position → Entry → Bool
 is_after None e = true
@@ -87,11 +82,11 @@ matches pattern ex e = is_match pattern e.key && (ex == 63 || ex == e.extent)
 
 -- The first match among entries.
 abbrev pub first_match : Key → ℕ → List Entry → Option Entry
-first_match pattern ex es = first_where (matches pattern ex) es
+first_match pattern ex es = find (matches pattern ex) es
 
 -- The first match after a position, if there is one, among the entries of files.
 abbrev pub next_among : Key → ℕ → Option Position → Listing → Option Entry
-next_among pattern ex after files = first_where (λ e. is_after after e && matches pattern ex e) (listing_entries files)
+next_among pattern ex after files = find (λ e. is_after after e && matches pattern ex e) (listing_entries files)
 
 abbrev pub next_entry : Key → ℕ → Option Position → Shapes → Option Entry
 next_entry pattern ex after m = next_among pattern ex after (entries m)

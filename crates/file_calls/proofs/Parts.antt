@@ -54,12 +54,12 @@ below_all k from n h e = elim (cases_lt k from) [
   | inr l ↦ let no : nat_lt k from ≡ false = search rules in cc
 ]
 
-grown_is : (host : Host) (key : Key) (e : Entry) (g : Growth) → e.grown ≡ Some g → g.from ≤ length (base_records host key e) → shape_with g.from e ≡ shape_with (length (base_records host key e)) e
+grown_is : (host : Host) (key : Key) (e : Entry) (g : Growth) → e.grown ≡ Some g → g.host_end ≤ length (base_records host key e) → shape_with g.host_end e ≡ shape_with (length (base_records host key e)) e
 unfolding shape_with
 grown_is host key e g is h =
-    let by : (o : Option Growth) → o ≡ Some g → map (λ k. is_some (get e.records k) || (is_host_part k o && nat_lt k g.from)) (range_with_len 0 (length_by g.from o))
+    let by : (o : Option Growth) → o ≡ Some g → map (λ k. is_some (get e.records k) || (is_host_part k o && nat_lt k g.host_end)) (range_with_len 0 (length_by g.host_end o))
     ≡ map (λ k. is_some (get e.records k) || (is_host_part k o && nat_lt k (length (base_records host key e)))) (range_with_len 0 (length_by (length (base_records host key e)) o)) = λ o x. rw x
-    (ap (λ (f : ℕ → Bool). map f (range_with_len 0 g.to)) (λ i k. is_some (get e.records k) || and_below (nat_lt k g.from) (nat_lt k (length (base_records host key e))) (below_all k g.from (length (base_records host key e)) h) i)) in
+    (ap (λ (f : ℕ → Bool). map f (range_with_len 0 g.length)) (λ i k. is_some (get e.records k) || and_below (nat_lt k g.host_end) (nat_lt k (length (base_records host key e))) (below_all k g.host_end (length (base_records host key e)) h) i)) in
     by e.grown is
 
 pub shape_here_is : (host : Host) (key : Key) (e : Entry) → host_end_of e.grown ≤ length (base_records host key e)

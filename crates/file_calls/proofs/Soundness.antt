@@ -5,9 +5,11 @@ use Rattle.std.specs.Cmp.Lexicographic.{slice_cmp, nat_list_cmp_total}
 use Rattle.std.specs.FinMap.{get, insert, empty, get-empty, get-insert}
 use Rattle.hostfiles.proofs.Views.{same_key, key_of}
 use Rattle.hostfiles.specs.Hosts.{Key, Record, Host}
-use Rattle.hostfiles.specs.Files.{OwnFiles, entry_at, untouched_entry, new_entry, gone_entry, renamed_from, base_records, host_records, length_by, length_of, limit_by, growth_after, entry_with_holes, entry_with_zeros, after_delete, after_write_with_holes, after_write_with_zeros}
+use Rattle.hostfiles.specs.Files.{OwnFiles, entry_at, untouched_entry, new_entry, gone_entry, renamed_from, base_records, host_records, length_by, length_of, limit_by, growth_after, entry_after_write, after_delete}
+use Rattle.hostfiles.specs.declared.journal.Gap.{Gap}
 use Rattle.hostfiles.specs.declared.journal.Growth.{Growth}
 use Rattle.hostfiles.specs.declared.journal.Entry.{Entry}
+use Rattle.hostfiles.proofs.JournalLemmas.{each_untouched, each_with}
 use Rattle.hostfiles.proofs.LaidLemmas.{stands_moved}
 use Rattle.file_calls.specs.Changes.{FileChange, Unchanged, Made, Deleted, Renamed, Stored}
 use Rattle.file_calls.specs.Deletes.{own_after_change}
@@ -34,28 +36,20 @@ moved_sound host old new e same s = record {
 
 -- The number from which on no record is the host file's, after a write.
 grown_from : (u n k : ℕ) (g : Option Growth) → n ≡ length_by u g → host_end_of g ≤ u → host_end_of (growth_after n k g) ≤ u
-grown_from u n k g e h = elim (nat_lt k n) as (λ b. host_end_of (cond b g (Some (record { from = limit_by n g; to = k + 1 }))) ≤ u) [ true ↦ h | false ↦ limit g e h ] where
+grown_from u n k g e h = elim (nat_lt k n) as (λ b. host_end_of (cond b g (Some (record { host_end = limit_by n g; length = k + 1 }))) ≤ u) [ true ↦ h | false ↦ limit g e h ] where
   limit : (g : Option Growth) → n ≡ length_by u g → host_end_of g ≤ u → limit_by n g ≤ u
   limit None e h = omega arith
   limit (Some g) e h = h
 
-wrote_sound : (host : Host) (q : Key) (n k : ℕ) (r : Record) (e : Entry) → n ≡ length_of host q e → IsSoundEntry host q e → IsSoundEntry host q (entry_with_holes n k r e)
-wrote_sound host q n k r e same s = record { grown = grown_from (length (base_records host q e)) n k e.grown same s.grown; drive = s.drive }
-
-filled_sound : (host : Host) (q : Key) (n k : ℕ) (r : Record) (e : Entry) → n ≡ length_of host q e → IsSoundEntry host q e → IsSoundEntry host q (entry_with_zeros n k r e)
-filled_sound host q n k r e same s = record { grown = grown_from (length (base_records host q e)) n k e.grown same s.grown; drive = s.drive }
+wrote_sound : (host : Host) (q : Key) (gap : Gap) (n k : ℕ) (r : Record) (e : Entry) → n ≡ length_of host q e → IsSoundEntry host q e → IsSoundEntry host q (entry_after_write gap n k r e)
+wrote_sound host q gap n k r e same s = record { grown = grown_from (length (base_records host q e)) n k e.grown same s.grown; drive = s.drive }
 
 -- One more entry.
-module _ (host : Host) (own : OwnFiles) (sound : AreSoundOwnFiles host own) (key : Key) (e : Entry) (here : IsSoundEntry host key e) where
-  at_key : (q : Key) (b : Bool) → eq_by_cmp (slice_cmp nat_cmp) q key ≡ b → IsSoundEntry host q (unwrap_or (cond b (Some e) (get own q)) untouched_entry)
-  at_key q true is = subst (λ (x : Key). IsSoundEntry host x e) (sym (key_of same_key q key is)) here
-  at_key q false is = sound.at q
-
-  insert_sound : AreSoundOwnFiles host (insert own key e)
-  insert_sound = record { at = λ q. subst (λ o. IsSoundEntry host q (unwrap_or o untouched_entry)) (sym (get-insert nat_list_cmp_total own key e q)) (at_key q (eq_by_cmp (slice_cmp nat_cmp) q key) refl) }
+insert_sound : (host : Host) (own : OwnFiles) → AreSoundOwnFiles host own → (key : Key) (e : Entry) → IsSoundEntry host key e → AreSoundOwnFiles host (insert own key e)
+insert_sound host own sound key e here = record { at = each_with (IsSoundEntry host) own key e sound.at here }
 
 pub starts_sound : (host : Host) → AreSoundOwnFiles host empty
-starts_sound host = record { at = λ q. subst (λ o. IsSoundEntry host q (unwrap_or o untouched_entry)) (sym (get-empty (slice_cmp nat_cmp) q)) (untouched_sound host q) }
+starts_sound host = record { at = each_untouched (IsSoundEntry host) (untouched_sound host) }
 
 without_sound : (host : Host) (own : OwnFiles) (keys : List Key) → AreSoundOwnFiles host own → AreSoundOwnFiles host (own_without own keys)
 without_sound host own [] s = s
@@ -67,7 +61,5 @@ stays_sound host own (Made key) fits s = insert_sound host own s key new_entry (
 stays_sound host own (Deleted keys) fits s = without_sound host own keys s
 stays_sound host own (Renamed old new) fits s =
     insert_sound host (insert own old gone_entry) (insert_sound host own s old gone_entry (nothing_sound host old)) new (renamed_from old (entry_at own old)) (moved_sound host old new (entry_at own old) fits (s.at old))
-stays_sound host own (Stored w r) fits s = elim w.filled as (λ b. AreSoundOwnFiles host (cond b (after_write_with_zeros w.length own w.key w.place r) (after_write_with_holes w.length own w.key w.place r))) [
-  | true ↦ insert_sound host own s w.key (entry_with_zeros w.length w.place r (entry_at own w.key)) (filled_sound host w.key w.length w.place r (entry_at own w.key) fits (s.at w.key))
-  | false ↦ insert_sound host own s w.key (entry_with_holes w.length w.place r (entry_at own w.key)) (wrote_sound host w.key w.length w.place r (entry_at own w.key) fits (s.at w.key))
-]
+stays_sound host own (Stored w r) fits s =
+    insert_sound host own s w.key (entry_after_write w.gap w.length w.place r (entry_at own w.key)) (wrote_sound host w.key w.gap w.length w.place r (entry_at own w.key) fits (s.at w.key))

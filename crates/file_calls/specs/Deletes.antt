@@ -21,7 +21,7 @@ own_after_change Unchanged own = own
 own_after_change (Made key) own = after_make own key
 own_after_change (Deleted keys) own = own_without own keys
 own_after_change (Renamed old new) own = after_rename own old new
-own_after_change (Stored w r) own = after_write w.filled w.length own w.key w.place r
+own_after_change (Stored w r) own = after_write w.gap w.length own w.key w.place r
 
 -- The function deletes the files of the keys that a tree of questions ends with, and returns whether there are any.
 pub record Deletes (t : FileTree (List Key)) (v : TableView) (result : Result Bool AllocError) (v' : TableView) : Type 0 where

@@ -9,6 +9,8 @@ use Rattle.directory.specs.Entries.{Shape, Listing, count_at, next_among, positi
 use Rattle.directory.specs.declared.entry.Entry.{Entry}
 use Rattle.directory.specs.declared.entry.Position.{Position}
 use Rattle.hostfiles.specs.Hosts.{Key, Record}
+use Rattle.hostfiles.specs.declared.journal.Gap.{Gap}
+use Rattle.hostfiles.specs.declared.journal.Gap.TheVariants.{Holes, Zeros}
 use Rattle.cpmfiles.specs.Renaming.{has_wildcard, is_rename}
 use Rattle.file_calls.specs.declared.block.Block.{Block}
 use Rattle.file_calls.specs.declared.function.FileFunction.{FileFunction}
@@ -81,12 +83,12 @@ read_sequential b = if_there (key_of b) (Query (ShapeOf (key_of b)) (λ s.
 
 -- A record to be written at a record number of the file, whose length is asked for, and the record number that the control
 -- block gets then.
-abbrev pub write_finding : Block → ℕ → ℕ → Bool → FileTree Finding
-write_finding b place next filled = Query (ShapeOf (key_of b)) (λ s. Return (finding.Write (record { key = key_of b; length = length s; place = place; next = next; filled = filled })))
+abbrev pub write_finding : Block → ℕ → ℕ → Gap → FileTree Finding
+write_finding b place next gap = Query (ShapeOf (key_of b)) (λ s. Return (finding.Write (record { key = key_of b; length = length s; place = place; next = next; gap = gap })))
 
 -- Function 21 finds the record to be written; a file has at most 65,536 records.
 abbrev pub write_sequential : Block → FileTree Finding
-write_sequential b = if_there (key_of b) (if nat_lt (place_of b.fcb) 65536 then write_finding b (place_of b.fcb) (place_of b.fcb + 1) false else Return (finding.Value 2))
+write_sequential b = if_there (key_of b) (if nat_lt (place_of b.fcb) 65536 then write_finding b (place_of b.fcb) (place_of b.fcb + 1) Holes else Return (finding.Value 2))
 
 -- Function 22 finds the key, if it is valid and no file has it.
 abbrev pub make_file : Block → FileTree Finding
@@ -117,8 +119,8 @@ read_random b = if_in_range b (Query (ShapeOf (key_of b)) (λ s.
     else Return (finding.Value (missing_value s (random_place_of b.fcb)))))
 
 -- Functions 34 and 40 find the record to be written; function 40 writes zeros in the gap before it.
-abbrev pub write_random : Bool → Block → FileTree Finding
-write_random filled b = if_in_range b (write_finding b (random_place_of b.fcb) (random_place_of b.fcb) filled)
+abbrev pub write_random : Gap → Block → FileTree Finding
+write_random gap b = if_in_range b (write_finding b (random_place_of b.fcb) (random_place_of b.fcb) gap)
 
 -- Function 35 finds the length.
 abbrev pub file_size : Block → FileTree Finding
@@ -138,10 +140,10 @@ finding_of WriteSequential b = write_sequential b
 finding_of Make b = make_file b
 finding_of Rename b = rename_file b
 finding_of ReadRandom b = read_random b
-finding_of WriteRandom b = write_random false b
+finding_of WriteRandom b = write_random Holes b
 finding_of FileSize b = file_size b
 finding_of SetRandomRecord b = set_random b
-finding_of WriteRandomZeroFill b = write_random true b
+finding_of WriteRandomZeroFill b = write_random Zeros b
 
 -- The number of bytes of its control block that a call reads: 36 if it has a random record number, else 33.
 abbrev pub block_length : FileFunction → ℕ

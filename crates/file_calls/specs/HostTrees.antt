@@ -55,7 +55,7 @@ shape_with n e = map (has_record_at n e) (range_with_len 0 (length_by n e.grown)
 -- The shape of a file. A file that was made longer knows how many records of its host file it has; any other file asks for the
 -- length of its host file, if it has one. A renamed file has the host file of its old key.
 abbrev pub shape_tree : Key → Base → Option Growth → Entry → HostTree Shape
-shape_tree key base (Some g) e = Return (shape_with g.from e)
+shape_tree key base (Some g) e = Return (shape_with g.host_end e)
 shape_tree key Same None e = Query (Length key) (λ n. Return (shape_with (unwrap_or n 0) e))
 shape_tree key Gone None e = Return (shape_with 0 e)
 shape_tree key New None e = Return (shape_with 0 e)
@@ -87,7 +87,7 @@ host_tree own (FilesOn drive) = Query (Directory drive) (λ names. Return (files
 -- In a file that was made longer, the number from which on no record is the host file's; 0 for any other file.
 abbrev pub host_end_of : Option Growth → ℕ
 host_end_of None = 0
-host_end_of (Some g) = g.from
+host_end_of (Some g) = g.host_end
 
 -- In a file that was made longer, the number from which on no record is the host file's is at most the host file's length; and a
 -- file and its host file are on the same drive.

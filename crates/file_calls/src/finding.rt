@@ -1,5 +1,6 @@
 use cpmfiles::{Key, Record};
 use directory::Search;
+use hostfiles::Gap;
 
 /// What a file call found, which says what it is to do.
 #[derive(Clone, Copy)]
@@ -39,6 +40,6 @@ pub struct Write {
     pub place: u16,
     /// The record number that the control block gets, at most 65,536.
     pub next: u32,
-    /// Whether the gap between the end of the file and the record becomes zeros; otherwise it becomes holes.
-    pub filled: bool,
+    /// What the record numbers between the end of the file and the record become.
+    pub gap: Gap,
 }

@@ -10,6 +10,7 @@ use crate::inquiry::{
     search_first, set_random, write_random, write_sequential,
 };
 use cpmfiles::{Changes, HostFiles};
+use hostfiles::Gap;
 use std::alloc::AllocError;
 
 /// A call that names a file by a control block, except deletion.
@@ -79,10 +80,10 @@ impl FileFunction {
             FileFunction::Make => make_file(host, changes, block),
             FileFunction::Rename => rename_file(host, changes, block),
             FileFunction::ReadRandom => read_random(host, changes, block),
-            FileFunction::WriteRandom => write_random(host, changes, block, false),
+            FileFunction::WriteRandom => write_random(host, changes, block, Gap::Holes),
             FileFunction::FileSize => file_size(host, changes, block),
             FileFunction::SetRandomRecord => Ok(set_random(host, changes, block)),
-            FileFunction::WriteRandomZeroFill => write_random(host, changes, block, true),
+            FileFunction::WriteRandomZeroFill => write_random(host, changes, block, Gap::Zeros),
         }
     }
 }

@@ -15,9 +15,9 @@ ghost use Rattle.file_calls.specs.Asks.{Asks, is_asking};
 
 use crate::block::Block;
 use crate::finding::{Finding, Write};
-use cpmfiles::{Changes, EXTENT_RECORDS, FileLooks, HostFiles, Key, PLACES, asking};
+use cpmfiles::{Changes, EXTENT_RECORDS, FileLooks, HostFiles, Key, RECORD_LIMIT, asking};
 use directory::Search;
-use hostfiles::FileView;
+use hostfiles::{FileView, Gap};
 use std::alloc::AllocError;
 
 // Returns the length of a file in records, holes included.
@@ -159,7 +159,7 @@ pub fn write_sequential(
     if !file.ask_presence(&mut changes.looks)? {
         return Ok(Finding::Value(0xff));
     }
-    if place >= PLACES {
+    if place >= RECORD_LIMIT {
         return Ok(Finding::Value(2));
     }
     Ok(Finding::Write(Write {
@@ -167,7 +167,7 @@ pub fn write_sequential(
         length: length(&file, &mut changes.looks)?,
         place: place as u16,
         next: place + 1,
-        filled: false,
+        gap: Gap::Holes,
     }))
 }
 
@@ -248,15 +248,15 @@ fn missing_value(file: &FileView<'_>, place: u32) -> u8
 }
 
 /// Finds the record to be written at the random record number, or the value 6 if that is past 65,535 (functions 34 and
-/// 40). Function 40 is `filled`: it writes zeros in a gap before the record.
+/// 40). Function 34 leaves holes in the gap before the record, and function 40 writes zeros there.
 #[tactic(auto, using(crate::proofs::Extending::asked_in_turn))]
 pub fn write_random(
     host: &HostFiles,
     changes: &mut Changes,
     block: &Block,
-    filled: bool,
+    gap: Gap,
 ) -> Result<Finding, AllocError>
-    ensures asks { Asks (calls.write_random filled block.now) host.now changes.old result changes.new }
+    ensures asks { Asks (calls.write_random gap block.now) host.now changes.old result changes.new }
     ensures apart { IfOk result HasDistinctKeys }
 {
     let key = block.key();
@@ -273,7 +273,7 @@ pub fn write_random(
         length: length(&file, &mut changes.looks)?,
         place: place as u16,
         next: place,
-        filled,
+        gap,
     }))
 }
 

@@ -58,20 +58,20 @@ listed_fails {Z = Z} files folder listed first after host key file (AtFault faul
   ] refl)
 
 -- If a listing is not read, its folder is not.
-pub folder_fails : {Z : Type 0} (files : StoredFiles) (drive : ℕ) (folder : Path) (listed : Map (String Z)) (twice : Option Key) (host : Host) (r : Result (Unit {0}) Failure)
-    → IfSome files.bytes (λ stored. ListsFolder stored drive folder (files.names folder) listed twice) → twice ≡ None
+pub folder_fails : {Z : Type 0} (files : StoredFiles) (drive : ℕ) (folder : Path) (listed : Map (String Z)) (duplicate : Option Key) (host : Host) (r : Result (Unit {0}) Failure)
+    → IfSome files.bytes (λ stored. ListsFolder stored drive folder (files.names folder) listed duplicate) → duplicate ≡ None
     → ((k : Key) → contains_key listed k ≡ true → slice_index k 0 ≡ drive)
     → IfErr r (FailsBy (FailsListed files.bytes folder listed host)) → IfErr r (FailsBy (FailsFolder files drive folder host))
-folder_fails files drive folder listed twice host (Ok u) l one on h = tt
-folder_fails files drive folder listed twice host (Err OutOfMemory) l one on h = tt
-folder_fails files drive folder listed twice host (Err (AtFault fault)) l one on h = inr (inr (record {
+folder_fails files drive folder listed duplicate host (Ok u) l one on h = tt
+folder_fails files drive folder listed duplicate host (Err OutOfMemory) l one on h = tt
+folder_fails files drive folder listed duplicate host (Err (AtFault fault)) l one on h = inr (inr (record {
   key = h.key;
   name = string_bytes h.file;
   on_drive = on h.key (ap is_some h.there);
   next = next_in files.bytes l h.before;
   fails = h.fails;
 })) where
-  next_in : (o : Option FileBytes) → IfSome o (λ stored. ListsFolder stored drive folder (files.names folder) listed twice)
+  next_in : (o : Option FileBytes) → IfSome o (λ stored. ListsFolder stored drive folder (files.names folder) listed duplicate)
       → ((k : Key) → is_lt (slice_cmp nat_cmp k h.key) ≡ true → IsReadAs o folder (get listed k) (get host k))
       → IfSome o (λ stored. IsNextFile stored (files.names folder) drive folder host h.key (string_bytes h.file))
   next_in None l b = tt

@@ -73,7 +73,7 @@ module _ (stored : FileBytes) (drive : ℕ) (folder : Path) where
     second = t.second;
   }
 
-  some_further : (names : List Path) (file : Path) (twice : Option Key) → IfSome twice (AreDuplicates stored drive folder names) → IfSome twice (AreDuplicates stored drive folder (names ++ file ∷ []))
+  some_further : (names : List Path) (file : Path) (duplicate : Option Key) → IfSome duplicate (AreDuplicates stored drive folder names) → IfSome duplicate (AreDuplicates stored drive folder (names ++ file ∷ []))
   some_further names file None t = tt
   some_further names file (Some key) t = two_further names file key t
 
@@ -81,14 +81,14 @@ module _ (stored : FileBytes) (drive : ℕ) (folder : Path) where
   one_key : (file : Path) (a b : Key) → IsHostFile stored drive folder a file → IsHostFile stored drive folder b file → a ≡ b
   one_key file a b p q = let same : Some a ≡ Some b = sym p.gives ∙ q.gives in cc
 
-  module _ {Z : Type 0} (names : List Path) (files : Map (String Z)) (twice : Option Key) (file : Path) (l : ListsFolder stored drive folder names files twice) where
+  module _ {Z : Type 0} (names : List Path) (files : Map (String Z)) (duplicate : Option Key) (file : Path) (l : ListsFolder stored drive folder names files duplicate) where
     -- The name belongs to no host file.
-    pub passed_over : ((key : Key) → IsHostFile stored drive folder key file → ⊥) → ListsFolder stored drive folder (names ++ file ∷ []) files twice
+    pub passed_over : ((key : Key) → IsHostFile stored drive folder key file → ⊥) → ListsFolder stored drive folder (names ++ file ∷ []) files duplicate
     passed_over none = record {
       listed = λ key f e. let h = l.listed key f e in (Contains-append_left names (file ∷ []) (string_bytes f) h.0, h.1);
       all = λ key name h is. elim (Contains-push_cases names file name h) [ inl r ↦ l.all key name r is | inr e ↦ absurd (none key (subst (IsHostFile stored drive folder key) (sym e) is)) ];
       alone = λ one key name h is. elim (Contains-push_cases names file name h) [ inl r ↦ l.alone one key name r is | inr e ↦ absurd (none key (subst (IsHostFile stored drive folder key) (sym e) is)) ];
-      two = some_further names file twice l.two;
+      two = some_further names file duplicate l.two;
     }
 
     module _ (key : Key) (text : String Z) (says : string_bytes text ≡ file) (is : IsHostFile stored drive folder key file) where
@@ -102,7 +102,7 @@ module _ (stored : FileBytes) (drive : ℕ) (folder : Path) where
       by_key false k f same e = let h = l.listed k f e in (Contains-append_left names (file ∷ []) (string_bytes f) h.0, h.1)
 
       -- The name belongs to a host file whose key no earlier name has.
-      pub added_once : contains_key files key ≡ false → ListsFolder stored drive folder (names ++ file ∷ []) (insert files key text) twice
+      pub added_once : contains_key files key ≡ false → ListsFolder stored drive folder (names ++ file ∷ []) (insert files key text) duplicate
       added_once new = record {
         listed = λ k f e. by_key (eq_by_cmp (slice_cmp nat_cmp) k key) k f (key_of same_key k key) (sym (get-insert nat_list_cmp_total files key text k) ∙ e);
         all = λ k name h at. elim (Contains-push_cases names file name h) [
@@ -117,7 +117,7 @@ module _ (stored : FileBytes) (drive : ℕ) (folder : Path) where
           | inr e ↦ ap (λ j. option_map string_bytes (get (insert files key text) j)) (one_key file k key (subst (IsHostFile stored drive folder k) (sym e) at) is)
               ∙ ap (option_map string_bytes) (get_here nat_list_cmp_total same_key files key text) ∙ ap Some (says ∙ e)
         ];
-        two = some_further names file twice l.two;
+        two = some_further names file duplicate l.two;
       }
 
       now_two : contains_key files key ≡ true → AreDuplicates stored drive folder (names ++ file ∷ []) key
@@ -135,7 +135,7 @@ module _ (stored : FileBytes) (drive : ℕ) (folder : Path) where
       least_two (Some other) old t = lesser_two (is_lt (slice_cmp nat_cmp other key)) other old t
 
       -- The name belongs to a host file whose key an earlier name has.
-      pub added_again : contains_key files key ≡ true → ListsFolder stored drive folder (names ++ file ∷ []) files (Some (least key twice))
+      pub added_again : contains_key files key ≡ true → ListsFolder stored drive folder (names ++ file ∷ []) files (Some (least key duplicate))
       added_again old = record {
         listed = λ k f e. let h = l.listed k f e in (Contains-append_left names (file ∷ []) (string_bytes f) h.0, h.1);
         all = λ k name h at. elim (Contains-push_cases names file name h) [
@@ -143,13 +143,13 @@ module _ (stored : FileBytes) (drive : ℕ) (folder : Path) where
           | inr e ↦ ap (contains_key files) (one_key file k key (subst (IsHostFile stored drive folder k) (sym e) at) is) ∙ old
         ];
         alone = λ one. cc;
-        two = least_two twice old l.two;
+        two = least_two duplicate old l.two;
       }
 
       -- The name belongs to a host file.
       pub added : (now : Map (String Z)) (then : Option Key)
-          → (contains_key files key ≡ false → (now ≡ insert files key text) × (then ≡ twice))
-          → (contains_key files key ≡ true → (now ≡ files) × (then ≡ Some (least key twice)))
+          → (contains_key files key ≡ false → (now ≡ insert files key text) × (then ≡ duplicate))
+          → (contains_key files key ≡ true → (now ≡ files) × (then ≡ Some (least key duplicate)))
           → ListsFolder stored drive folder (names ++ file ∷ []) now then
       added now then once again = by_old (contains_key files key) refl where
         by_old : (b : Bool) → contains_key files key ≡ b → ListsFolder stored drive folder (names ++ file ∷ []) now then
@@ -157,8 +157,8 @@ module _ (stored : FileBytes) (drive : ℕ) (folder : Path) where
         by_old false e = let o = once e in subst (λ m. ListsFolder stored drive folder (names ++ file ∷ []) m then) (sym o.0) (subst (ListsFolder stored drive folder (names ++ file ∷ []) (insert files key text)) (sym o.1) (added_once e))
 
   -- There are no names.
-  pub none_listed : {Z : Type 0} (files : Map (String Z)) (twice : Option Key) → files ≡ empty → twice ≡ None → ListsFolder stored drive folder [] files twice
-  none_listed {Z} files twice e t = subst (λ m. ListsFolder stored drive folder [] m twice) (sym e) (subst (ListsFolder stored drive folder [] empty) (sym t) (record {
+  pub none_listed : {Z : Type 0} (files : Map (String Z)) (duplicate : Option Key) → files ≡ empty → duplicate ≡ None → ListsFolder stored drive folder [] files duplicate
+  none_listed {Z} files duplicate e t = subst (λ m. ListsFolder stored drive folder [] m duplicate) (sym e) (subst (ListsFolder stored drive folder [] empty) (sym t) (record {
     listed = λ key f h. absurd (none_there (String Z) key (ap is_some h));
     all = λ key name h is. absurd (none_in h);
     alone = λ one key name h is. absurd (none_in h);
@@ -168,25 +168,25 @@ module _ (stored : FileBytes) (drive : ℕ) (folder : Path) where
     none_in h = absurd (omega (arith, h.1))
 
 -- The same, if the files are known.
-module _ {Z : Type 0} (drive : ℕ) (folder : Path) (files : Map (String Z)) (twice : Option Key) (file : Path) where
+module _ {Z : Type 0} (drive : ℕ) (folder : Path) (files : Map (String Z)) (duplicate : Option Key) (file : Path) where
   pub added_if_told : (o : Option FileBytes) (key : Key) (text : String Z) → string_bytes text ≡ file → IfSome o (λ stored. IsHostFile stored drive folder key file)
       → (now : Map (String Z)) (then : Option Key)
-      → (contains_key files key ≡ false → (now ≡ insert files key text) × (then ≡ twice))
-      → (contains_key files key ≡ true → (now ≡ files) × (then ≡ Some (least key twice)))
-      → IfSome o (λ stored. (names : List Path) → ListsFolder stored drive folder names files twice → ListsFolder stored drive folder (names ++ file ∷ []) now then)
+      → (contains_key files key ≡ false → (now ≡ insert files key text) × (then ≡ duplicate))
+      → (contains_key files key ≡ true → (now ≡ files) × (then ≡ Some (least key duplicate)))
+      → IfSome o (λ stored. (names : List Path) → ListsFolder stored drive folder names files duplicate → ListsFolder stored drive folder (names ++ file ∷ []) now then)
   added_if_told None key text says is now then once again = tt
-  added_if_told (Some stored) key text says is now then once again = λ names l. added stored drive folder names files twice file l key text says is now then once again
+  added_if_told (Some stored) key text says is now then once again = λ names l. added stored drive folder names files duplicate file l key text says is now then once again
 
   pub passed_over_if_told : (o : Option FileBytes) → IfSome o (λ stored. (key : Key) → IsHostFile stored drive folder key file → ⊥)
-      → IfSome o (λ stored. (names : List Path) → ListsFolder stored drive folder names files twice → ListsFolder stored drive folder (names ++ file ∷ []) files twice)
+      → IfSome o (λ stored. (names : List Path) → ListsFolder stored drive folder names files duplicate → ListsFolder stored drive folder (names ++ file ∷ []) files duplicate)
   passed_over_if_told None none = tt
-  passed_over_if_told (Some stored) none = λ names l. passed_over stored drive folder names files twice file l none
+  passed_over_if_told (Some stored) none = λ names l. passed_over stored drive folder names files duplicate file l none
 
   -- One more of the names that are listed.
   pub further : (o : Option FileBytes) (items : List (String Z)) (i : ℕ) (item : String Z) (d : ℕ) (now : Map (String Z)) (then : Option Key)
       → i < length items → item ≡ get_or items i item → file ≡ string_bytes item → d ≡ drive
-      → IfSome o (λ stored. ListsFolder stored drive folder (take i (map string_bytes items)) files twice)
-      → IfSome o (λ stored. (names : List Path) → ListsFolder stored d folder names files twice → ListsFolder stored d folder (names ++ file ∷ []) now then)
+      → IfSome o (λ stored. ListsFolder stored drive folder (take i (map string_bytes items)) files duplicate)
+      → IfSome o (λ stored. (names : List Path) → ListsFolder stored d folder names files duplicate → ListsFolder stored d folder (names ++ file ∷ []) now then)
       → IfSome o (λ stored. ListsFolder stored drive folder (take (i + 1) (map string_bytes items)) now then)
   further None items i item d now then lt is says on l h = tt
   further (Some stored) items i item d now then lt is says on l h =
@@ -196,17 +196,17 @@ module _ {Z : Type 0} (drive : ℕ) (folder : Path) (files : Map (String Z)) (tw
       ∙ ap (λ x. take i (map string_bytes items) ++ x ∷ []) (ap string_bytes (sym is) ∙ sym says) in
       subst (λ names. ListsFolder stored drive folder names now then) (sym whole)
       (subst (λ n. ListsFolder stored n folder (take i (map string_bytes items) ++ file ∷ []) now then) on
-      (h (take i (map string_bytes items)) (subst (λ n. ListsFolder stored n folder (take i (map string_bytes items)) files twice) (sym on) l)))
+      (h (take i (map string_bytes items)) (subst (λ n. ListsFolder stored n folder (take i (map string_bytes items)) files duplicate) (sym on) l)))
 
-module _ {Z : Type 0} (drive : ℕ) (folder : Path) (files : Map (String Z)) (twice : Option Key) where
-  pub none_listed_if_told : (o : Option FileBytes) → files ≡ empty → twice ≡ None → IfSome o (λ stored. ListsFolder stored drive folder [] files twice)
+module _ {Z : Type 0} (drive : ℕ) (folder : Path) (files : Map (String Z)) (duplicate : Option Key) where
+  pub none_listed_if_told : (o : Option FileBytes) → files ≡ empty → duplicate ≡ None → IfSome o (λ stored. ListsFolder stored drive folder [] files duplicate)
   none_listed_if_told None e t = tt
-  none_listed_if_told (Some stored) e t = none_listed stored drive folder files twice e t
+  none_listed_if_told (Some stored) e t = none_listed stored drive folder files duplicate e t
 
   -- The names are all of them.
   pub all_listed : (o : Option FileBytes) (items : List (String Z)) (i : ℕ) (names : List Path) → length items ≤ i → IfSome o (λ _. map string_bytes items ≡ names)
-      → IfSome o (λ stored. ListsFolder stored drive folder (take i (map string_bytes items)) files twice) → IfSome o (λ stored. ListsFolder stored drive folder names files twice)
+      → IfSome o (λ stored. ListsFolder stored drive folder (take i (map string_bytes items)) files duplicate) → IfSome o (λ stored. ListsFolder stored drive folder names files duplicate)
   all_listed None items i names le e l = tt
   all_listed (Some stored) items i names le e l =
       let long = length-map items (string_bytes {Z = Z}) in
-      subst (λ n. ListsFolder stored drive folder n files twice) (take_all i (map string_bytes items) (omega (arith, le, long)) ∙ e) l
+      subst (λ n. ListsFolder stored drive folder n files duplicate) (take_all i (map string_bytes items) (omega (arith, le, long)) ∙ e) l

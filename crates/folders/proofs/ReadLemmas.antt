@@ -114,14 +114,14 @@ named_of stored folder name None records e h = cc
 named_of stored folder name (Some file) records e h = let same : string_bytes file ≡ name = cc in subst (λ n. HasBytesOf stored (path_text folder n) records) same h
 
 -- A folder whose listing was read, on a drive without files.
-pub folder_read : {Z : Type 0} (files : Option FileBytes) (names : List Path) (drive : ℕ) (folder : Path) (listed : Map (String Z)) (twice : Option Key) (before now : Host)
-    → IfSome files (λ stored. ListsFolder stored drive folder names listed twice) → twice ≡ None
+pub folder_read : {Z : Type 0} (files : Option FileBytes) (names : List Path) (drive : ℕ) (folder : Path) (listed : Map (String Z)) (duplicate : Option Key) (before now : Host)
+    → IfSome files (λ stored. ListsFolder stored drive folder names listed duplicate) → duplicate ≡ None
     → ((k : Key) → slice_index k 0 ≡ drive → contains_key before k ≡ false)
     → ((k : Key) → contains_key listed k ≡ false → get now k ≡ get before k)
     → HaveBytesOf files folder listed now
     → IfSome files (λ stored. AreFromFolder stored names drive folder now)
-folder_read None names drive folder listed twice before now l one none others read = tt
-folder_read {Z = Z} (Some stored) names drive folder listed twice before now l one none others read = record {
+folder_read None names drive folder listed duplicate before now l one none others read = tt
+folder_read {Z = Z} (Some stored) names drive folder listed duplicate before now l one none others read = record {
   read = λ key name h is. named_of stored folder name (get listed key) (get now key) (l.alone one key name h is) (read key);
   only = λ key on there. by_there key on there (get listed key) refl;
 } where

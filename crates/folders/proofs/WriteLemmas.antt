@@ -6,21 +6,15 @@ use Rattle.std.specs.Cmp.Lexicographic.{slice_cmp, nat_list_cmp_total}
 use Rattle.std.specs.FinMap.{get, insert, remove, get-remove}
 use Rattle.keymaps.proofs.Views.{same_key, key_of, get_here, get_apart}
 use Rattle.filenames.specs.Names.{Key}
-use Rattle.folders.specs.FolderNames.{file_text, needs_slash, path_text, temporary_text}
+use Rattle.folders.specs.FolderNames.{folder_name, needs_slash, path_text, temporary_text}
 use Rattle.folders.specs.FileSystem.{Path, FileBytes, Becomes, ChangesAt, PutsInPlace, files_after_rename, with_file_at}
-use Rattle.hostfiles.specs.Hosts.{Host}
-use Rattle.hostfiles.specs.Files.{OwnFiles, file_contents}
+use Rattle.hostfiles.proofs.ContentsLemmas.{record_here}
 use Rattle.std.specs.List.{concat, slice_get}
 use Rattle.std.specs.Option.{option_map, option_and_then}
 use Rattle.std.specs.Io.KnownBytes.{Appends}
 use Rattle.std.proofs.KnownBytes.{Appends-trans, Appends-nil}
 use Rattle.std.proofs.lemmas.List.{take_all}
 use Rattle.std.proofs.lemmas.Option.{get_or_from_slice_get, slice_get_past, slice_get_within, slice_get-get_or}
-
--- The records of the contents of a file, if there is one.
-record_of : (t : Option (List (List ℕ))) (k : ℕ) → option_and_then (λ f. slice_get f k) t ≡ slice_get (unwrap_or t []) k
-record_of None k = sym (slice_get_past [] k zero-le)
-record_of (Some f) k = refl
 
 concat_push : (rs : List (List ℕ)) (r : List ℕ) → concat (rs ++ r ∷ []) ≡ concat rs ++ r
 concat_push [] r = append-nil r
@@ -31,7 +25,7 @@ pub one_more : (a b c : Option (List ℕ)) (t : Option (List (List ℕ))) (n : �
     → Appends a b (concat (take n (unwrap_or t []))) → Appends b c r → Appends a c (concat (take (n + 1) (unwrap_or t [])))
 one_more a b c t n r h p q =
     let rs = unwrap_or t [] in
-    let here : slice_get rs n ≡ Some r = sym (h ∙ record_of t n) in
+    let here = record_here t n r h in
     let one : take (n + 1) rs ≡ take n rs ++ r ∷ [] = rw add-one (take-suc rs n r (slice_get_within rs n r here)) ∙ ap (λ x. take n rs ++ x ∷ []) (get_or_from_slice_get rs n r r here) in
     subst (Appends a c) (sym (ap concat one ∙ concat_push (take n rs) r)) (Appends-trans a b c (concat (take n rs)) r p q)
 
@@ -117,11 +111,7 @@ longer front text before behind one four =
     omega (arith, a, b, d, e, one, four)
 
 -- The two paths of a file in a folder differ.
-pub paths_differ : (folder : Path) (name : Key) → path_text folder (temporary_text name) ≢ path_text folder (file_text name)
-paths_differ folder name e = no_longer _ (ap length e) (longer (folder ++ cond (needs_slash folder) (47 ∷ []) []) (file_text name) (codes ".") (codes ".new") refl refl) where
+pub paths_differ : (folder : Path) (name : Key) → path_text folder (temporary_text name) ≢ path_text folder (folder_name name)
+paths_differ folder name e = no_longer _ (ap length e) (longer (folder ++ cond (needs_slash folder) (47 ∷ []) []) (folder_name name) (codes ".") (codes ".new") refl refl) where
   no_longer : {n : ℕ} (m : ℕ) → n ≡ m → n ≡ m + 5 → ⊥
   no_longer m p q = let same : m ≡ m + 5 = sym p ∙ q in absurd (omega (arith, same))
-
--- Equal files have equal contents.
-pub same_told : {host host' : Host} {own own' : OwnFiles} {key key' : Key} → host ≡ host' → own ≡ own' → key ≡ key' → file_contents host own key ≡ file_contents host' own' key'
-same_told h o k = cc

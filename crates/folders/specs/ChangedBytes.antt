@@ -1,9 +1,9 @@
 -- The bytes of a file that is written into a folder. (This project's own.)
 use Rattle.std.specs.Prelude.{ℕ, List, [], unwrap_or}
 use Rattle.std.specs.List.{concat}
-use Rattle.hostfiles.specs.Hosts.{Key, Host}
-use Rattle.hostfiles.specs.Files.{OwnFiles, file_contents}
+use Rattle.hostfiles.specs.FileView.{view_contents}
+use Rattle.hostfiles.specs.declared.file_view.FileView.{FileView}
 
 -- The contents of a file, its records one after the other, or nothing if there is no file.
-abbrev pub bytes_of : Host → OwnFiles → Key → List ℕ
-bytes_of host own key = concat (unwrap_or (file_contents host own key) [])
+abbrev pub file_bytes : FileView → List ℕ
+file_bytes file = concat (unwrap_or (view_contents file) [])

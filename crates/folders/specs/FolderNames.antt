@@ -13,12 +13,12 @@ abbrev pub key_in : ℕ → List ℕ → Option Key
 key_in drive file = if list_any is_colon file then None else ok_or_none (name_without_drive drive file)
 
 -- The name in the folder: as printed on drive A, so without a letter and `:`.
-abbrev pub file_text : Key → List ℕ
-file_text key = display_text (slice_set key 0 0)
+abbrev pub folder_name : Key → List ℕ
+folder_name key = display_text (slice_set key 0 0)
 
 -- The name while the file is written.
 abbrev pub temporary_text : Key → List ℕ
-temporary_text key = codes "." ++ file_text key ++ codes ".new"
+temporary_text key = codes "." ++ folder_name key ++ codes ".new"
 
 -- Whether a folder needs a `/` after it: it is not empty, and its last byte is no `/`.
 abbrev pub needs_slash : List ℕ → Bool

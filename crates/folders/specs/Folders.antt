@@ -8,7 +8,7 @@ use Rattle.std.specs.FinMap.{FinMap, get, contains_key}
 use Rattle.filenames.specs.Names.{Key}
 use Rattle.hostfiles.specs.Hosts.{Host, Record, records_in, refusal_of}
 use Rattle.hostfiles.specs.declared.host.TheConstants.{FILE_LIMIT}
-use Rattle.folders.specs.FolderNames.{file_text, path_text, temporary_text}
+use Rattle.folders.specs.FolderNames.{folder_name, path_text, temporary_text}
 use Rattle.folders.specs.Faults.{FailsBy, IsReadFault, IsWriteFault}
 use Rattle.folders.specs.FileSystem.{Path, FileBytes, StoredFiles, ChangesAt, PutsInPlace, ReadsFile}
 use Rattle.folders.specs.Listings.{AreDuplicates, IsHostFile}
@@ -118,12 +118,12 @@ pub record FailsFolders (files : StoredFiles) (folders : List (Option (Bor (List
 -- Why a file is not written into the folder of its drive.
 abbrev pub FailsToWrite : List (Option (Bor (List ℕ))) → Key → Failure → Type 0
 FailsToWrite folders name failure =
-    (folder : List ℕ) × (folder_of folders (slice_index name 0) ≡ Some folder) × FailsBy (IsWriteFault (path_text folder (file_text name))) failure
+    (folder : List ℕ) × (folder_of folders (slice_index name 0) ≡ Some folder) × FailsBy (IsWriteFault (path_text folder (folder_name name))) failure
 
 -- A file was written into the folder of its drive, or nowhere if the drive has no folder.
 abbrev pub WritesInto : Option Path → Option FileBytes → Option FileBytes → Key → List ℕ → Type 0
 WritesInto None files after name bytes = after ≡ files
-WritesInto (Some folder) files after name bytes = PutsInPlace files after (path_text folder (file_text name)) (path_text folder (temporary_text name)) bytes
+WritesInto (Some folder) files after name bytes = PutsInPlace files after (path_text folder (folder_name name)) (path_text folder (temporary_text name)) bytes
 
 -- A file was not written: each file is unchanged, except what may be left at the path where it is first written.
 abbrev pub LeavesIn : Option Path → Option FileBytes → Option FileBytes → Key → Type 0

@@ -36,16 +36,16 @@ Finds stored drive folder name (Some key) = IsHostFile stored drive folder key n
 Finds stored drive folder name None = (key : Key) → IsHostFile stored drive folder key name → ⊥
 
 -- The names of the host files in the folder of a drive by their keys, and some key that two of them have, if there is one.
-pub record ListsFolder {Z : Type 0} (stored : FileBytes) (drive : ℕ) (folder : Path) (names : List Path) (files : FinMap (slice_cmp nat_cmp) (String Z)) (twice : Option Key) : Type 0 where
+pub record ListsFolder {Z : Type 0} (stored : FileBytes) (drive : ℕ) (folder : Path) (names : List Path) (files : FinMap (slice_cmp nat_cmp) (String Z)) (duplicate : Option Key) : Type 0 where
   pub listed : (key : Key) (file : String Z) → get files key ≡ Some file → Contains names (string_bytes file) × IsHostFile stored drive folder key (string_bytes file)
   pub all : (key : Key) (name : Path) → Contains names name → IsHostFile stored drive folder key name → contains_key files key ≡ true
-  pub alone : twice ≡ None → (key : Key) (name : Path) → Contains names name → IsHostFile stored drive folder key name → option_map string_bytes (get files key) ≡ Some name
-  pub two : IfSome twice (AreDuplicates stored drive folder names)
+  pub alone : duplicate ≡ None → (key : Key) (name : Path) → Contains names name → IsHostFile stored drive folder key name → option_map string_bytes (get files key) ≡ Some name
+  pub two : IfSome duplicate (AreDuplicates stored drive folder names)
 
 -- A file is listed under a key that no file had, and no other key becomes one that two have.
 abbrev pub ListsOnce : {Z : Type 0} → Key → String Z → FinMap (slice_cmp nat_cmp) (String Z) → Option Key → FinMap (slice_cmp nat_cmp) (String Z) → Option Key → Type 0
-ListsOnce key file files twice files' twice' = contains_key files key ≡ false → (files' ≡ insert files key file) × (twice' ≡ twice)
+ListsOnce key file files duplicate files' duplicate' = contains_key files key ≡ false → (files' ≡ insert files key file) × (duplicate' ≡ duplicate)
 
 -- A file has the same key as an earlier file: the first of them stays, and the key is one that two have.
 abbrev pub ListsAgain : {Z : Type 0} → Key → FinMap (slice_cmp nat_cmp) (String Z) → Option Key → FinMap (slice_cmp nat_cmp) (String Z) → Option Key → Type 0
-ListsAgain key files twice files' twice' = contains_key files key ≡ true → (files' ≡ files) × (twice' ≡ Some (least key twice))
+ListsAgain key files duplicate files' duplicate' = contains_key files key ≡ true → (files' ≡ files) × (duplicate' ≡ Some (least key duplicate))

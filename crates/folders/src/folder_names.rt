@@ -2,7 +2,7 @@
 
 ghost use Rattle.std.specs.Prelude.{◌≡◌, ℕ, None, IfOk, IfSome, slice_index, string_bytes};
 ghost use Rattle.filenames.specs.Drives.{drive_number};
-ghost use Rattle.folders.specs.FolderNames.{key_in, file_text, temporary_text, needs_slash, path_text};
+ghost use Rattle.folders.specs.FolderNames.{key_in, folder_name, temporary_text, needs_slash, path_text};
 
 use filenames::{Drive, Name};
 use std::alloc::{AllocError, Global};
@@ -24,7 +24,7 @@ pub fn name_in_folder(drive: Drive, file: &str) -> Option<Name>
 
 /// Returns the name of a file in the folder of its drive: as printed, without the letter and `:`.
 pub fn file_name(alloc: Global, name: &Name) -> Result<String, AllocError>
-    ensures { IfOk result (λ s. string_bytes s ≡ file_text name.now) }
+    ensures { IfOk result (λ s. string_bytes s ≡ folder_name name.now) }
 {
     let plain = name.with_drive(Drive::A);
     format!(in alloc; "{plain}")

@@ -20,11 +20,11 @@ pub struct Listing {
     /// The name in the folder for each key: if two files have the same key, the name of the one listed first.
     pub files: KeyMap<String>,
     /// The first name, by its key, that two files have.
-    pub twice: Option<Name>,
+    pub duplicate: Option<Name>,
     ghost names: { (k : List ℕ) → finmap.contains_key files k ≡ true → is_sayable k ≡ true },
     ghost on_drive: { (k : List ℕ) → finmap.contains_key files k ≡ true
         → slice_index k 0 ≡ drive_number drive },
-    ghost twice_there: { ForSome twice (λ k. finmap.contains_key files k ≡ true) },
+    ghost duplicate_there: { ForSome duplicate (λ k. finmap.contains_key files k ≡ true) },
 }
 
 impl Listing {
@@ -32,12 +32,12 @@ impl Listing {
     pub fn new(alloc: Global, drive: Drive) -> Listing
         ensures drive { result.drive ≡ drive }
         ensures files { result.files ≡ finmap.empty }
-        ensures twice { result.twice ≡ None }
+        ensures duplicate { result.duplicate ≡ None }
     {
         Listing {
             drive,
             files: KeyMap::new(alloc),
-            twice: None,
+            duplicate: None,
         }
     }
 
@@ -46,14 +46,14 @@ impl Listing {
         requires { slice_index name.now 0 ≡ drive_number self.old.drive }
         ensures drive { self.new.drive ≡ self.old.drive }
         ensures once { OnOk result (ListsOnce name.now file
-            self.old.files self.old.twice self.new.files self.new.twice) }
+            self.old.files self.old.duplicate self.new.files self.new.duplicate) }
         ensures again { OnOk result (ListsAgain name.now
-            self.old.files self.old.twice self.new.files self.new.twice) }
+            self.old.files self.old.duplicate self.new.files self.new.duplicate) }
         ensures err { OnErr result (self.new ≡ self.old) }
     {
         let key = name.key();
         if self.files.contains_key(&key) {
-            self.twice = Some(least(name, self.twice));
+            self.duplicate = Some(least(name, self.duplicate));
             return Ok(());
         }
         self.files.insert(key, file)

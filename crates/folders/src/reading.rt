@@ -72,9 +72,9 @@ fn add_file<S: FileSystem>(
     ensures drive { listing.new.drive ≡ listing.old.drive }
     ensures lists { OnOk result (IfSome (S.files system.old).bytes (λ stored. (names : List (List ℕ))
         → ListsFolder stored
-        (drive_number listing.old.drive) folder.now names listing.old.files listing.old.twice
+        (drive_number listing.old.drive) folder.now names listing.old.files listing.old.duplicate
         → ListsFolder stored (drive_number listing.old.drive) folder.now (names ++ file.now ∷ [])
-        listing.new.files listing.new.twice)) }
+        listing.new.files listing.new.duplicate)) }
     ensures unchanged { KeepsFiles io_failures result (S.files system.old) (S.files system.new) }
 {
     if let Some(name) = host_file(system, listing.drive, folder, file)? {
@@ -90,7 +90,7 @@ fn list<S: FileSystem>(system: &mut S, drive: Drive, folder: &str) -> io::Result
     ensures drive { IfOk result (λ listing. listing.drive ≡ drive) }
     ensures lists { IfOk result (λ listing. IfSome (S.files system.old).bytes (λ stored.
         ListsFolder stored (drive_number drive) folder.now ((S.files system.old).names folder.now)
-        listing.files listing.twice)) }
+        listing.files listing.duplicate)) }
     ensures unchanged { KeepsFiles io_failures result (S.files system.old) (S.files system.new) }
 {
     let mut listing = Listing::new(system.alloc(), drive);
@@ -137,7 +137,7 @@ fn read_listed<S: FileSystem>(
     files: &mut HostFiles,
 ) -> Result<(), Failure>
     requires failures { (S.files system.old).failures < 2 ^ 63 }
-    requires alone { listing.now.twice ≡ None }
+    requires alone { listing.now.duplicate ≡ None }
     ensures others { KeepsFilesWhere
         (λ k. finmap.contains_key listing.now.files k ≡ false) files.old files.new }
     ensures read { OnOk result
@@ -188,7 +188,7 @@ pub fn read_folder<S: FileSystem>(
         Ok(listing) => listing,
         Err(error) => return Err(read_failure(error, path)),
     };
-    if let Some(name) = listing.twice {
+    if let Some(name) = listing.duplicate {
         return Err(Failure::AtFault(Fault::TwoFiles(name)));
     }
     read_listed(system, folder, &listing, files)

@@ -2,62 +2,37 @@
 
 ghost use Rattle.std.specs.Prelude.{◌≡◌, ◌≢◌, ◌<◌, ◌^◌, Some, OnOk, OnErr, IfOk, IfErr, slice_index, string_bytes};
 ghost use Rattle.std.specs.Io.KnownBytes.{Appends};
-ghost use Rattle.folders.specs.FolderNames.{file_text, path_text, temporary_text};
+ghost use Rattle.folders.specs.FolderNames.{folder_name, path_text, temporary_text};
 ghost use Rattle.folders.specs.Failures.{CountsFailures, io_failures};
 ghost use Rattle.folders.specs.Faults.{FailsBy, IsWriteFault, reported_failures};
 ghost use Rattle.folders.specs.FileSystem.{ChangesAt, PutsInPlace};
 ghost use Rattle.folders.specs.Folders.{FailsToWrite, LeavesIn, WritesInto, folder_of};
-ghost use Rattle.folders.specs.ChangedBytes.{bytes_of};
+ghost use Rattle.folders.specs.ChangedBytes.{file_bytes};
 
 use crate::fault::{Failure, write_failure};
 use crate::file_system::{Contents, FileSystem};
 use crate::folder_names::{file_name, path_in, temporary_name};
 use filenames::Name;
-use hostfiles::{FileView, HostFiles, Journal};
+use hostfiles::FileView;
 use std::alloc::{AllocError, Global};
 use std::io;
 use std::io::Write;
 
-/// A file after what a run did to it: its records, one after the other, with zeros for a hole.
-#[derive(Clone, Copy)]
-pub struct ChangedFile<'a> {
-    /// The host files.
-    pub host: &'a HostFiles,
-    /// What the run did to them.
-    pub journal: &'a Journal,
-    /// The file's name.
-    pub name: &'a Name,
-}
-
-impl Contents for ChangedFile<'_> {
-    ghost bytes = { λ file. bytes_of file.host.now file.journal.now.entries file.name.now };
+// A file as the run left it: its records, one after the other, with zeros for a hole; nothing if there is no file.
+impl Contents for FileView<'_> {
+    ghost bytes = { file_bytes };
 
     fn write_to<W: Write>(&self, writer: &mut W) -> io::Result<()> {
-        write_records(self.host, self.journal, self.name, writer)
-    }
-}
-
-/// Writes the records of a file after what a run did to it, one after the other, with zeros for a hole. An error is the writer's;
-/// a part of them may then be written.
-pub fn write_records<W: Write>(
-    host: &HostFiles,
-    journal: &Journal,
-    name: &Name,
-    writer: &mut W,
-) -> io::Result<()>
-    ensures { OnOk result (Appends (W.contents writer.old) (W.contents writer.new)
-        (bytes_of host.now journal.now.entries name.now)) }
-{
-    let file = FileView::find(host, journal, &name.key());
-    let Some(count) = file.contents_count() else {
-        return Ok(());
-    };
-    for place in 0..count {
-        if let Some(record) = file.contents_record(place) {
-            writer.write_all(record.as_slice())?;
+        let Some(count) = self.records() else {
+            return Ok(());
+        };
+        for number in 0..count {
+            if let Some(record) = self.contents_record(number) {
+                writer.write_all(record.as_slice())?;
+            }
         }
+        Ok(())
     }
-    Ok(())
 }
 
 // Writes a file under one path and renames it to another. What is at the first path, such as an earlier part of a file or a link,
@@ -99,7 +74,7 @@ pub fn write_file<S: FileSystem, C: Contents>(
         (S.files system.old).bytes (S.files system.new).bytes name.now (C.bytes contents.now)) }
     ensures err { OnErr result (LeavesIn (Some folder.now)
         (S.files system.old).bytes (S.files system.new).bytes name.now) }
-    ensures fault { IfErr result (FailsBy (IsWriteFault (path_text folder.now (file_text name.now)))) }
+    ensures fault { IfErr result (FailsBy (IsWriteFault (path_text folder.now (folder_name name.now)))) }
     ensures failures { CountsFailures reported_failures result (S.files system.old) (S.files system.new) }
 {
     let Ok((path, temporary)) = paths(system.alloc(), folder, name) else {
@@ -116,7 +91,7 @@ pub fn write_file<S: FileSystem, C: Contents>(
 
 // Returns the path of a file in a folder, and the path under which it is first written.
 fn paths(alloc: Global, folder: &str, name: &Name) -> Result<(String, String), AllocError>
-    ensures path { IfOk result (λ r. string_bytes r.0 ≡ path_text folder.now (file_text name.now)) }
+    ensures path { IfOk result (λ r. string_bytes r.0 ≡ path_text folder.now (folder_name name.now)) }
     ensures temporary { IfOk result
         (λ r. string_bytes r.1 ≡ path_text folder.now (temporary_text name.now)) }
 {

@@ -1,13 +1,13 @@
--- A walk over the names of changed files.
+-- The changed files, by key.
 use Rattle.std.proofs.Common.{cond, is_some, List, [], ◌∷◌, ◌++◌, map, ◌≡◌, true, false, ◌&&◌, Option, Some, None, refl, sym, ap, ◌∙◌}
-use Rattle.std.specs.declared.cmp.Ordering.TheVariants.{Less, Equal, Greater}
-use Rattle.std.specs.Ordering.{nat_cmp, is_lt, ordering_reverse}
+use Rattle.std.specs.Ordering.{nat_cmp}
 use Rattle.std.specs.Cmp.Lexicographic.{slice_cmp, nat_list_cmp_total}
 use Rattle.std.specs.List.{filter}
 use Rattle.std.specs.FinMap.{FinMap, find, get, keys, entries, entries_sorted, get-entries, get-retain_keys}
 use Rattle.keymaps.specs.Order.{is_above}
+use Rattle.keymaps.specs.Walks.{EachAbove, EachBetween, IsAbsent}
 use Rattle.keymaps.proofs.Views.{same_key}
-use Rattle.keymaps.proofs.Left.{rises}
+use Rattle.keymaps.proofs.Left.{all_pass, rises}
 use Rattle.keymaps.proofs.Rising.{here, begins, ends}
 use Rattle.filenames.specs.Names.{is_sayable}
 use Rattle.hostfiles.specs.Hosts.{Key, Host}
@@ -15,50 +15,9 @@ use Rattle.hostfiles.specs.Files.{OwnFiles}
 use Rattle.hostfiles.specs.Changed.{is_changed_name, changed_names}
 use Rattle.hostfiles.proofs.Differences.{untouched_file}
 
--- All keys above the bound `low` are above the bound `after`, and no changed name is between the two.
-pub record Passed (host : Host) (own : OwnFiles) (after low : Option Key) : Type 0 where
-  pub up : (x : Key) → is_above low x ≡ true → is_above after x ≡ true
-  pub none : (x : Key) → is_above after x ≡ true → is_above low x ≡ false → is_changed_name host own x ≡ false
-
--- Nothing was done to any file between a bound and a key.
-abbrev pub NoneBetween : OwnFiles → Option Key → Key → Type 0
-NoneBetween own low k = (x : Key) → is_above low x ≡ true → slice_cmp nat_cmp x k ≡ Less → get own x ≡ None
-
-unchanged : (host : Host) (own : OwnFiles) (x : Key) → get own x ≡ None → is_changed_name host own x ≡ false
+-- A file to which nothing was done is not changed.
+pub unchanged : (host : Host) (own : OwnFiles) (x : Key) → get own x ≡ None → is_changed_name host own x ≡ false
 unchanged host own x h = ap (λ b. b && is_sayable x) (untouched_file host own x h)
-
-pub passed_none : (host : Host) (own : OwnFiles) (after : Option Key) → Passed host own after after
-passed_none host own after = record { up = λ x h. h; none = λ x h n. cc }
-
--- No changed name is below the least key above the bound.
-pub below_least : (host : Host) (own : OwnFiles) (after low : Option Key) (k : Key) → Passed host own after low → NoneBetween own low k
-    → (x : Key) → is_above after x ≡ true → slice_cmp nat_cmp x k ≡ Less → is_changed_name host own x ≡ false
-below_least host own after low k p none x a l = elim (is_above low x) as (λ b. is_above low x ≡ b → is_changed_name host own x ≡ false) [
-  | true ↦ λ b. unchanged host own x (none x b l)
-  | false ↦ λ b. p.none x a b
-] refl
-
-pub passed_more : (host : Host) (own : OwnFiles) (after low : Option Key) (k : Key) → Passed host own after low → is_above low k ≡ true → NoneBetween own low k → is_changed_name host own k ≡ false → Passed host own after (Some k)
-passed_more host own after low k p up none here = record {
-  up = λ x h. p.up x (elim (slice_cmp nat_cmp k x) as (λ r. slice_cmp nat_cmp k x ≡ r → is_lt r ≡ true → is_above low x ≡ true) [
-    | Less ↦ λ r y. rises low k x up r
-    | Equal ↦ λ r y. cc
-    | Greater ↦ λ r y. cc
-  ] refl h);
-  none = λ x a n. elim (slice_cmp nat_cmp k x) as (λ r. slice_cmp nat_cmp k x ≡ r → is_lt r ≡ false → is_changed_name host own x ≡ false) [
-    | Less ↦ λ r y. cc
-    | Equal ↦ λ r y. ap (is_changed_name host own) (sym (same_key k x r)) ∙ here
-    | Greater ↦ λ r y. below_least host own after low k p none x a (nat_list_cmp_total.antisymm x k ∙ ap ordering_reverse r)
-  ] refl n;
-}
-
--- Nothing was done to any file above the bound.
-pub changed_end : (host : Host) (own : OwnFiles) (after low : Option Key) → Passed host own after low → ((x : Key) → is_above low x ≡ true → get own x ≡ None)
-    → (x : Key) → is_above after x ≡ true → is_changed_name host own x ≡ false
-changed_end host own after low p none x a = elim (is_above low x) as (λ b. is_above low x ≡ b → is_changed_name host own x ≡ false) [
-  | true ↦ λ b. unchanged host own x (none x b)
-  | false ↦ λ b. p.none x a b
-] refl
 
 -- ---- all changed names
 
@@ -81,10 +40,6 @@ all_changed host own key = elim (is_changed_name host own key) as (λ b. is_chan
 abbrev pub keys_above : {X : Type 0} → FinMap (slice_cmp nat_cmp) X → Option Key → List Key
 keys_above m after = map (λ e. e.0) (filter (λ e. is_above after e.0) (entries m))
 
-all_pass : {X : Type 0} (es : List (Key × X)) → filter (λ e. true) es ≡ es
-all_pass [] = refl
-all_pass (e ∷ es) = ap (λ fs. e ∷ fs) (all_pass es)
-
 pub keys_above_none : {X : Type 0} (m : FinMap (slice_cmp nat_cmp) X) → keys_above m None ≡ keys m
 keys_above_none m = ap (λ es. map (λ e. e.0) es) (all_pass (entries m))
 
@@ -94,12 +49,12 @@ head_of k (Some v) es h = refl
 
 -- They begin at the least one.
 pub keys_above_least : {X : Type 0} (m : FinMap (slice_cmp nat_cmp) X) (after : Option Key) (k : Key) → is_above after k ≡ true → is_some (get m k) ≡ true
-    → ((x : Key) → is_above after x ≡ true → slice_cmp nat_cmp x k ≡ Less → get m x ≡ None) → keys_above m after ≡ k ∷ keys_above m (Some k)
+    → EachBetween after k (IsAbsent m) → keys_above m after ≡ k ∷ keys_above m (Some k)
 keys_above_least m after k up there none =
     ap (λ es. map (λ e. e.0) es) (begins nat_list_cmp_total same_key (is_above after) (rises after) k up (entries m) (entries_sorted m) (λ x a l. sym (get-entries m x) ∙ none x a l))
     ∙ head_of k (find (slice_cmp nat_cmp) k (entries m)) (filter (λ e. is_above (Some k) e.0) (entries m)) (ap is_some (sym (get-entries m k)) ∙ there)
 
-pub keys_above_end : {X : Type 0} (m : FinMap (slice_cmp nat_cmp) X) (after : Option Key) → ((x : Key) → is_above after x ≡ true → get m x ≡ None) → keys_above m after ≡ []
+pub keys_above_end : {X : Type 0} (m : FinMap (slice_cmp nat_cmp) X) (after : Option Key) → EachAbove after (IsAbsent m) → keys_above m after ≡ []
 keys_above_end m after none = ap (λ es. map (λ e. e.0) es) (ends nat_list_cmp_total same_key (is_above after) (entries m) (λ x a. sym (get-entries m x) ∙ none x a))
 
 lacks : (host : Host) (own : OwnFiles) (key : Key) → is_changed_name host own key ≡ false → get (changed_names host own) key ≡ None
@@ -107,11 +62,11 @@ lacks host own key h = get_changed host own key ∙ ap (λ b. cond b (get own ke
 
 -- The changed keys above a bound begin at the least changed name above it.
 pub changed_next : (host : Host) (own : OwnFiles) (after : Option Key) (k : Key) → is_above after k ≡ true → is_changed_name host own k ≡ true
-    → ((x : Key) → is_above after x ≡ true → slice_cmp nat_cmp x k ≡ Less → is_changed_name host own x ≡ false)
+    → EachBetween after k (λ x. is_changed_name host own x ≡ false)
     → keys_above (changed_names host own) after ≡ k ∷ keys_above (changed_names host own) (Some k)
 changed_next host own after k up here none =
     keys_above_least (changed_names host own) after k up (all_changed host own k ∙ here) (λ x a l. lacks host own x (none x a l))
 
-pub changed_none : (host : Host) (own : OwnFiles) (after : Option Key) → ((x : Key) → is_above after x ≡ true → is_changed_name host own x ≡ false)
+pub changed_none : (host : Host) (own : OwnFiles) (after : Option Key) → EachAbove after (λ x. is_changed_name host own x ≡ false)
     → keys_above (changed_names host own) after ≡ []
 changed_none host own after none = keys_above_end (changed_names host own) after (λ x a. lacks host own x (none x a))

@@ -1,7 +1,7 @@
 -- The count of an extent.
 use Rattle.std.proofs.Common.{◌≡◌, ◌<◌, ◌≤◌, ◌+◌, ◌*◌, ℕ, zero, suc, true, false, cond, is_some, List, [], ◌∷◌, length, map, take, drop, get_or, nat_lt, Option, None, Some, option_map, option_copied, Bor, rules, refl, ap, ◌∙◌, arith, inl, inr}
 use Rattle.std.proofs.lemmas.Bool.{cases_lt}
-use Rattle.std.proofs.lemmas.List.{get_or-take, get_or-drop, get_or_past, get_or-map}
+use Rattle.std.proofs.lemmas.List.{get_or-take, get_or-drop, get_or_past, get_or-map, length-map, length-take}
 use Rattle.std.proofs.lemmas.List.FromFn.{get_or-map-range_with_len, length-map-range_with_len}
 use Rattle.std.specs.Prelude.{◌==◌}
 use Rattle.std.specs.List.{range_with_len}
@@ -27,39 +27,30 @@ count_some (b ∷ bs) (suc i) h none =
     let next : i + 1 + 1 ≡ suc i + 1 = omega arith in
     ap (λ n. cond (nat_lt 0 n) (n + 1) (cond b 1 0)) rest ∙ ap (λ c. cond c (i + 1 + 1) (cond b 1 0)) more ∙ next
 
-short : {X : Type 0} (n : ℕ) (xs : List X) → length (take n xs) ≤ n
-short zero xs = omega arith
-short (suc n) [] = omega arith
-short (suc n) (x ∷ xs) = let h = short n xs in omega arith
-
-mapped : {X Y : Type 0} (f : X → Y) (xs : List X) → length (map f xs) ≡ length xs
-mapped f [] = refl
-mapped f (x ∷ xs) = ap suc (mapped f xs)
-
 -- Whether there is a record at an index of an extent.
 pub in_extent : (s : Shape) (e i : ℕ) → i < 128 → get_or (take 128 (drop (128 * e) s)) i false ≡ get_or s (128 * e + i) false
 in_extent s e i h = get_or-take 128 (drop (128 * e) s) i false h ∙ get_or-drop (128 * e) s i false
 
 pub past_extent : (s : Shape) (e i : ℕ) → 128 ≤ i → get_or (take 128 (drop (128 * e) s)) i false ≡ false
-past_extent s e i h = get_or_past (take 128 (drop (128 * e) s)) i false (let l = short 128 (drop (128 * e) s) in omega arith)
+past_extent s e i h = get_or_past (take 128 (drop (128 * e) s)) i false (let l = length-take 128 (drop (128 * e) s) in omega arith)
 
 -- A turn of the search from the extent's end.
-pub none_behind : (s : Shape) (e i : ℕ) → i < 128 → get_or s (128 * e + i) false ≡ false → ((k : ℕ) → i + 1 ≤ k → get_or (take 128 (drop (128 * e) s)) k false ≡ false)
+pub none_from : (s : Shape) (e i : ℕ) → i < 128 → get_or s (128 * e + i) false ≡ false → ((k : ℕ) → i + 1 ≤ k → get_or (take 128 (drop (128 * e) s)) k false ≡ false)
     → (k : ℕ) → i ≤ k → get_or (take 128 (drop (128 * e) s)) k false ≡ false
-none_behind s e i h here behind k l = elim (cases_lt i k) [
-  | inl over ↦ behind k (omega arith)
+none_from s e i h here past k l = elim (cases_lt i k) [
+  | inl over ↦ past k (omega arith)
   | inr under ↦ let same : k ≡ i = omega arith in ap (λ j. get_or (take 128 (drop (128 * e) s)) j false) same ∙ in_extent s e i h ∙ here
 ]
 
 pub count_found : (s : Shape) (e i : ℕ) → i < 128 → get_or s (128 * e + i) false ≡ true → ((k : ℕ) → i + 1 ≤ k → get_or (take 128 (drop (128 * e) s)) k false ≡ false) → count_at s e ≡ i + 1
-count_found s e i h here behind = count_some (take 128 (drop (128 * e) s)) i (in_extent s e i h ∙ here) (λ k l. behind k (omega arith))
+count_found s e i h here past = count_some (take 128 (drop (128 * e) s)) i (in_extent s e i h ∙ here) (λ k l. past k (omega arith))
 
 pub count_empty : (s : Shape) (e : ℕ) → ((k : ℕ) → 0 ≤ k → get_or (take 128 (drop (128 * e) s)) k false ≡ false) → count_at s e ≡ 0
 count_empty s e none = count_none (take 128 (drop (128 * e) s)) (λ k. none k (omega arith))
 
 -- Whether a file of length n has a record at a number below n.
-pub place_shape : (f : ℕ → Option (List ℕ)) (n p : ℕ) → p < n → get_or (map is_some (map f (range_with_len 0 n))) p false ≡ is_some (f p)
-place_shape f n p h =
+pub record_shape : (f : ℕ → Option (List ℕ)) (n p : ℕ) → p < n → get_or (map is_some (map f (range_with_len 0 n))) p false ≡ is_some (f p)
+record_shape f n p h =
     let count = length-map-range_with_len f 0 n in
     let at : 0 + p ≡ p = omega arith in
     get_or-map is_some (map f (range_with_len 0 n)) p None false (omega arith) ∙ ap is_some (get_or-map-range_with_len f 0 n p p None h at)
@@ -71,7 +62,7 @@ some_copied (Some r) o e = ap is_some e
 
 pub past_shape : (f : ℕ → Option (List ℕ)) (n p : ℕ) → n ≤ p → get_or (map is_some (map f (range_with_len 0 n))) p false ≡ false
 past_shape f n p h =
-    let all = mapped is_some (map f (range_with_len 0 n)) in
+    let all = length-map (map f (range_with_len 0 n)) is_some in
     let count = length-map-range_with_len f 0 n in
     get_or_past (map is_some (map f (range_with_len 0 n))) p false (omega arith)
 

@@ -1,5 +1,5 @@
 -- Deleting the files that match a pattern, one after another.
-use Rattle.std.proofs.Common.{◌≡◌, ◌≢◌, ◌+◌, ℕ, suc, Bool, true, false, cond, ◌&&◌, not, is_some, List, [], ◌∷◌, ◌++◌, length, Option, Some, None, refl, sym, ap, ◌∙◌, arith}
+use Rattle.std.proofs.Common.{◌≡◌, ◌≢◌, ◌+◌, ℕ, suc, Bool, true, false, cond, ◌&&◌, not, is_some, List, ◌∷◌, ◌++◌, length, Option, Some, None, refl, sym, ap, ◌∙◌, arith}
 use Rattle.std.specs.declared.cmp.Ordering.TheVariants.{Less, Equal, Greater}
 use Rattle.std.specs.Cmp.{eq_by_cmp_equiv}
 use Rattle.std.specs.Option.{option_map}
@@ -8,12 +8,14 @@ use Rattle.std.specs.Cmp.Lexicographic.{slice_cmp, nat_list_cmp_total}
 use Rattle.std.specs.List.{filter}
 use Rattle.std.specs.FinMap.{get, get-insert, entries, entries_sorted, get-entries}
 use Rattle.keymaps.specs.Order.{is_above}
+use Rattle.keymaps.specs.Walks.{EachAbove, EachBetween, IsInNeither}
 use Rattle.keymaps.proofs.Views.{same_key, key_of}
 use Rattle.keymaps.proofs.Rising.{here, begins, ends}
-use Rattle.keymaps.proofs.Left.{rises}
+use Rattle.keymaps.proofs.Left.{all_pass, rises}
+use Rattle.filenames.specs.Names.{is_sayable}
 use Rattle.directory.specs.Entries.{Shape, is_match}
 use Rattle.hostfiles.specs.Hosts.{Key, Host}
-use Rattle.hostfiles.specs.Files.{OwnFiles, has, gone_entry, shapes, file_of, entry_at, after_delete}
+use Rattle.hostfiles.specs.Files.{OwnFiles, has, is_listed, gone_entry, shapes, file_of, entry_at, after_delete}
 use Rattle.hostfiles.specs.File.{shape_of}
 use Rattle.hostfiles.specs.declared.journal.Entry.{Entry}
 use Rattle.hostfiles.proofs.FileLemmas.{get-shapes, no_file, nothing_listed}
@@ -34,11 +36,14 @@ CountedTo host own pattern after count =
     count + matched pattern (filter (λ e. is_above after e.0) (entries (shapes host own))) ≡ matched pattern (entries (shapes host own))
 
 -- There is no file with a key that neither map has.
-pub not_there : (host : Host) (own : OwnFiles) (q : Key) → (get host q ≡ None) × (get own q ≡ None) → has host own q ≡ false
+pub not_there : (host : Host) (own : OwnFiles) (q : Key) → IsInNeither host own q → has host own q ≡ false
 not_there host own q h = absent (has host own q) (no_file host own q h.0 h.1) where
   absent : (b : Bool) → cond b (Some (file_of host q (entry_at own q))) None ≡ None → b ≡ false
   absent true h = cc
   absent false h = refl
+
+pub unlisted : (host : Host) (own : OwnFiles) (q : Key) → IsInNeither host own q → is_listed host own q ≡ false
+unlisted host own q h = ap (λ b. b && is_sayable q) (not_there host own q h)
 
 before_start : (a b : Bool) (x : Option Entry) (r : Option Entry) → cond (a && b && false) x r ≡ r
 before_start true true x r = refl
@@ -48,10 +53,6 @@ before_start false b x r = refl
 pub deleted_start : (host : Host) (own : OwnFiles) (pattern : Key) → DeletedTo host own pattern None own
 deleted_start host own pattern q = sym (before_start (is_match pattern q) (has host own q) (Some gone_entry) (get own q))
 
-all_pass : (es : List (Key × Shape)) → filter (λ e. true) es ≡ es
-all_pass [] = refl
-all_pass (e ∷ es) = ap (λ fs. e ∷ fs) (all_pass es)
-
 pub counted_start : (host : Host) (own : OwnFiles) (pattern : Key) → CountedTo host own pattern None 0
 counted_start host own pattern =
     let zero_on : 0 + matched pattern (filter (λ e. true) (entries (shapes host own))) ≡ matched pattern (filter (λ e. true) (entries (shapes host own))) = omega arith in
@@ -59,11 +60,8 @@ counted_start host own pattern =
 
 -- ---- the next key
 
-abbrev pub NoneBetween : Host → OwnFiles → Option Key → Key → Type 0
-NoneBetween host own after k = (x : Key) → is_above after x ≡ true → slice_cmp nat_cmp x k ≡ Less → (get host x ≡ None) × (get own x ≡ None)
-
 -- A key above k was above the bound before; a key below k that was above that bound has no file.
-passed_on : (host : Host) (own : OwnFiles) (after : Option Key) (k q : Key) → is_above after k ≡ true → NoneBetween host own after k → slice_cmp nat_cmp k q ≢ Equal
+passed_on : (host : Host) (own : OwnFiles) (after : Option Key) (k q : Key) → is_above after k ≡ true → EachBetween after k (IsInNeither host own) → slice_cmp nat_cmp k q ≢ Equal
     → (has host own q && is_passed (Some k) q) ≡ (has host own q && is_passed after q)
 passed_on host own after k q up none apart =
     elim (slice_cmp nat_cmp k q) as (λ r. slice_cmp nat_cmp k q ≡ r → (has host own q && not (is_lt r)) ≡ (has host own q && is_passed after q)) [
@@ -81,7 +79,7 @@ regrouped : (a b c : Bool) → (a && b && c) ≡ (a && (b && c))
 regrouped true b c = refl
 regrouped false b c = refl
 
-all_passed_on : (host : Host) (own : OwnFiles) (pattern : Key) (after : Option Key) (k q : Key) → is_above after k ≡ true → NoneBetween host own after k → slice_cmp nat_cmp k q ≢ Equal
+all_passed_on : (host : Host) (own : OwnFiles) (pattern : Key) (after : Option Key) (k q : Key) → is_above after k ≡ true → EachBetween after k (IsInNeither host own) → slice_cmp nat_cmp k q ≢ Equal
     → (is_match pattern q && has host own q && is_passed (Some k) q) ≡ (is_match pattern q && has host own q && is_passed after q)
 all_passed_on host own pattern after k q up none apart =
     regrouped (is_match pattern q) (has host own q) (is_passed (Some k) q) ∙ ap (λ b. is_match pattern q && b) (passed_on host own after k q up none apart)
@@ -97,7 +95,7 @@ apart_of k q h e =
     cc
 
 -- If the key has no file that matches, nothing changes.
-pub deleted_past : (host : Host) (own : OwnFiles) (pattern : Key) (after : Option Key) (k : Key) (left : OwnFiles) → is_above after k ≡ true → NoneBetween host own after k → (is_match pattern k && has host own k) ≡ false
+pub deleted_past : (host : Host) (own : OwnFiles) (pattern : Key) (after : Option Key) (k : Key) (left : OwnFiles) → is_above after k ≡ true → EachBetween after k (IsInNeither host own) → (is_match pattern k && has host own k) ≡ false
     → DeletedTo host own pattern after left → DeletedTo host own pattern (Some k) left
 deleted_past host own pattern after k left up none unmatched h q =
     elim (eq_by_cmp (slice_cmp nat_cmp) q k) as (λ b. eq_by_cmp (slice_cmp nat_cmp) q k ≡ b → get left q ≡ cond (is_match pattern q && has host own q && is_passed (Some k) q) (Some gone_entry) (get own q)) [
@@ -117,7 +115,7 @@ not_above_itself k =
     ] refl
 
 -- If it has one, the file is deleted.
-pub deleted_here : (host : Host) (own : OwnFiles) (pattern : Key) (after : Option Key) (k : Key) (left m : OwnFiles) → is_above after k ≡ true → NoneBetween host own after k → (is_match pattern k && has host own k) ≡ true
+pub deleted_here : (host : Host) (own : OwnFiles) (pattern : Key) (after : Option Key) (k : Key) (left m : OwnFiles) → is_above after k ≡ true → EachBetween after k (IsInNeither host own) → (is_match pattern k && has host own k) ≡ true
     → DeletedTo host own pattern after left → m ≡ after_delete left k → DeletedTo host own pattern (Some k) m
 deleted_here host own pattern after k left m up none matched h e q =
     ap (λ x. get x q) e ∙ get-insert nat_list_cmp_total left k gone_entry q
@@ -159,14 +157,14 @@ matched_here pattern k (Some s) es =
       yes true = refl
       yes false = refl
 
-begin_here : (host : Host) (own : OwnFiles) (after : Option Key) (k : Key) → is_above after k ≡ true → NoneBetween host own after k
+begin_here : (host : Host) (own : OwnFiles) (after : Option Key) (k : Key) → is_above after k ≡ true → EachBetween after k (IsInNeither host own)
     → filter (λ e. is_above after e.0) (entries (shapes host own)) ≡ here k (get (shapes host own) k) ++ filter (λ e. is_above (Some k) e.0) (entries (shapes host own))
 begin_here host own after k up none =
     begins nat_list_cmp_total same_key (is_above after) (rises after) k up (entries (shapes host own)) (entries_sorted (shapes host own))
     (λ x a l. sym (get-entries (shapes host own) x) ∙ nothing_listed host own x (none x a l))
     ∙ ap (λ v. here k v ++ filter (λ e. is_above (Some k) e.0) (entries (shapes host own))) (sym (get-entries (shapes host own) k))
 
-pub counted_here : (host : Host) (own : OwnFiles) (pattern : Key) (after : Option Key) (k : Key) (count : ℕ) (b : Bool) → is_above after k ≡ true → NoneBetween host own after k → (is_match pattern k && has host own k) ≡ b
+pub counted_here : (host : Host) (own : OwnFiles) (pattern : Key) (after : Option Key) (k : Key) (count : ℕ) (b : Bool) → is_above after k ≡ true → EachBetween after k (IsInNeither host own) → (is_match pattern k && has host own k) ≡ b
     → CountedTo host own pattern after count → CountedTo host own pattern (Some k) (count + cond b 1 0)
 counted_here host own pattern after k count b up none e h =
     let rest = matched pattern (filter (λ e. is_above (Some k) e.0) (entries (shapes host own))) in
@@ -174,7 +172,7 @@ counted_here host own pattern after k count b up none e h =
     let grouped : count + cond b 1 0 + rest ≡ count + (cond b 1 0 + rest) = omega arith in
     grouped ∙ ap (λ n. count + n) (sym split) ∙ h
 
-pub counted_end : (host : Host) (own : OwnFiles) (pattern : Key) (after : Option Key) (count : ℕ) → ((x : Key) → is_above after x ≡ true → (get host x ≡ None) × (get own x ≡ None))
+pub counted_end : (host : Host) (own : OwnFiles) (pattern : Key) (after : Option Key) (count : ℕ) → EachAbove after (IsInNeither host own)
     → CountedTo host own pattern after count → count ≡ matched pattern (entries (shapes host own))
 counted_end host own pattern after count none h =
     let left = ap (matched pattern) (ends nat_list_cmp_total same_key (is_above after) (entries (shapes host own)) (λ x a. sym (get-entries (shapes host own) x) ∙ nothing_listed host own x (none x a))) in

@@ -23,16 +23,16 @@ records_decide = pointwise_decides bytes_decides
 
 -- ---- the contents of a file
 
-pub length_told : (host : Host) (key : Key) (e : Entry) → length (contents_of (file_of host key e)) ≡ length_of host key e
-length_told host key e = length-map (file_of host key e) (λ place. unwrap_or place zeros) ∙ length-map-range_with_len (record_of host key e) 0 (length_of host key e)
+pub length_of_contents : (host : Host) (key : Key) (e : Entry) → length (contents_of (file_of host key e)) ≡ length_of host key e
+length_of_contents host key e = length-map (file_of host key e) (λ r. unwrap_or r zeros) ∙ length-map-range_with_len (record_of host key e) 0 (length_of host key e)
 
-pub record_told : (host : Host) (key : Key) (e : Entry) (k : ℕ) (d : Record) → k < length_of host key e
+pub record_of_contents : (host : Host) (key : Key) (e : Entry) (k : ℕ) (d : Record) → k < length_of host key e
     → get_or (contents_of (file_of host key e)) k d ≡ unwrap_or (record_of host key e k) zeros
-record_told host key e k d h =
+record_of_contents host key e k d h =
     let count = length-map-range_with_len (record_of host key e) 0 (length_of host key e) in
     let at : 0 + k ≡ k = omega arith in
-    get_or-map (λ place. unwrap_or place zeros) (file_of host key e) k None d (omega arith)
-    ∙ ap (λ place. unwrap_or place zeros) (get_or-map-range_with_len (record_of host key e) 0 (length_of host key e) k k None h at)
+    get_or-map (λ r. unwrap_or r zeros) (file_of host key e) k None d (omega arith)
+    ∙ ap (λ r. unwrap_or r zeros) (get_or-map-range_with_len (record_of host key e) 0 (length_of host key e) k k None h at)
 
 -- ---- whether it is changed
 
@@ -65,26 +65,26 @@ pub other_file : (f g : List Record) → (f ≡ g → ⊥) → not (pointwise by
 other_file f g h = not_false (pointwise bytes_eq f g) (λ e. h ((records_decide f g).0 e))
 
 -- If each record is the host file's, so are the contents.
-pub same_told : (host : Host) (key : Key) (e : Entry) (f : List Record) → length_of host key e ≡ length f
+pub same_contents : (host : Host) (key : Key) (e : Entry) (f : List Record) → length_of host key e ≡ length f
     → ((k : ℕ) → k < length f → unwrap_or (record_of host key e k) zeros ≡ get_or f k zeros) → contents_of (file_of host key e) ≡ f
-same_told host key e f long each =
-    let file_contents = length_told host key e in
-    same_lists (contents_of (file_of host key e)) f (file_contents ∙ long)
+same_contents host key e f long each =
+    let size = length_of_contents host key e in
+    same_lists (contents_of (file_of host key e)) f (size ∙ long)
     (λ k d h. let below : k < length f = omega arith in let within : k < length_of host key e = omega arith in
-    record_told host key e k d within ∙ each k below ∙ get_or_default f k zeros d below)
+    record_of_contents host key e k d within ∙ each k below ∙ get_or_default f k zeros d below)
 
 pub same_records : (host : Host) (key : Key) (e : Entry) (f : List Record) → length_of host key e ≡ length f
     → ((k : ℕ) → k < length f → unwrap_or (record_of host key e k) zeros ≡ get_or f k zeros) → false ≡ not (pointwise bytes_eq (contents_of (file_of host key e)) f)
-same_records host key e f long each = sym (same_file (contents_of (file_of host key e)) f (same_told host key e f long each))
+same_records host key e f long each = sym (same_file (contents_of (file_of host key e)) f (same_contents host key e f long each))
 
 -- If one record is not the host file's, the contents are not.
 pub other_record : (host : Host) (key : Key) (e : Entry) (f : List Record) (k : ℕ) → length_of host key e ≡ length f → k < length f
     → not (bytes_eq (unwrap_or (record_of host key e k) zeros) (get_or f k zeros)) ≡ true → true ≡ not (pointwise bytes_eq (contents_of (file_of host key e)) f)
 other_record host key e f k long h differs = sym (other_file (contents_of (file_of host key e)) f (λ same.
     let within : k < length_of host key e = omega arith in
-    let one : unwrap_or (record_of host key e k) zeros ≡ get_or f k zeros = sym (record_told host key e k zeros within) ∙ ap (λ g. get_or g k zeros) same in
-    let file_contents : bytes_eq (unwrap_or (record_of host key e k) zeros) (get_or f k zeros) ≡ true = (bytes_decides (unwrap_or (record_of host key e k) zeros) (get_or f k zeros)).1 one in
-    true≢false (sym file_contents ∙ false_of _ differs)))
+    let one : unwrap_or (record_of host key e k) zeros ≡ get_or f k zeros = sym (record_of_contents host key e k zeros within) ∙ ap (λ g. get_or g k zeros) same in
+    let equal : bytes_eq (unwrap_or (record_of host key e k) zeros) (get_or f k zeros) ≡ true = (bytes_decides (unwrap_or (record_of host key e k) zeros) (get_or f k zeros)).1 one in
+    true≢false (sym equal ∙ false_of _ differs)))
 
 -- The record with this number is the host file's.
 pub equal_record : (a b : Record) → not (bytes_eq a b) ≡ false → a ≡ b
@@ -110,7 +110,7 @@ untouched_by host own key (Some f) here none =
     let long : length_of host key untouched_entry ≡ length f = ap (λ g. length (unwrap_or g [])) here in
     changed_by host own key true (Some f) (ap (λ e. is_there host key (unwrap_or e untouched_entry).base) none ∙ ap is_some here) here
     ∙ ap (λ e. not (pointwise bytes_eq (contents_of (file_of host key e)) f)) entry
-    ∙ same_file (contents_of (file_of host key untouched_entry)) f (same_told host key untouched_entry f long
+    ∙ same_file (contents_of (file_of host key untouched_entry)) f (same_contents host key untouched_entry f long
     (λ k h. own_record host key untouched_entry f k refl refl (get-empty nat_cmp k) here h))
 
 pub untouched_file : (host : Host) (own : OwnFiles) (key : Key) → get own key ≡ None → is_changed host own key ≡ false
@@ -120,7 +120,7 @@ untouched_file host own key none = untouched_by host own key (get host key) refl
 pub other_length : (host : Host) (own : OwnFiles) (key : Key) (f : List Record) → has host own key ≡ true → get host key ≡ Some f → length_at host own key ≢ length f → is_changed host own key ≡ true
 other_length host own key f there here long =
     changed_by host own key true (Some f) there here
-    ∙ other_file (contents_of (file_of host key (entry_at own key))) f (λ same. long (sym (length_told host key (entry_at own key)) ∙ ap length same))
+    ∙ other_file (contents_of (file_of host key (entry_at own key))) f (λ same. long (sym (length_of_contents host key (entry_at own key)) ∙ ap length same))
 
 -- ---- the law
 
@@ -137,11 +137,10 @@ changed_other host own key =
 
 -- ---- the same for the steps of the code
 
-pub unwritten_same : (host : Host) (own : OwnFiles) (key : Key) (e : Entry) (f : List Record) (k : ℕ) → entry_at own key ≡ e → e.base ≡ Same → e.grown ≡ None → get e.records k ≡ None
-    → get host key ≡ Some f → k < length f → false ≡ not (bytes_eq (unwrap_or (record_of host key (entry_at own key) k) zeros) (get_or f k zeros))
-unwritten_same host own key e f k entry base grown none here h =
-    sym (not_true _ ((bytes_decides (unwrap_or (record_of host key (entry_at own key) k) zeros) (get_or f k zeros)).1
-    (ap (λ x. unwrap_or (record_of host key x k) zeros) entry ∙ own_record host key e f k base grown none here h)))
+pub unwritten_same : (host : Host) (key : Key) (e : Entry) (f : List Record) (k : ℕ) → e.base ≡ Same → e.grown ≡ None → get e.records k ≡ None
+    → get host key ≡ Some f → k < length f → false ≡ not (bytes_eq (unwrap_or (record_of host key e k) zeros) (get_or f k zeros))
+unwritten_same host key e f k base grown none here h =
+    sym (not_true _ ((bytes_decides (unwrap_or (record_of host key e k) zeros) (get_or f k zeros)).1 (own_record host key e f k base grown none here h)))
 
 pub not_there : {X : Type 0} {x : X} (f : Option X) → f ≡ None → f ≡ Some x → ⊥
 not_there f none some = cc

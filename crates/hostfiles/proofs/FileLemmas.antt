@@ -42,14 +42,14 @@ grouped : (a b c d : Bool) → b ≡ (c || d) → (a || b) ≡ ((a || c) || d)
 grouped true b c d h = refl
 grouped false b c d h = h
 
-any_append : {X : Type 0} (p : X → Bool) (xs ys : List X) → list_any p (xs ++ ys) ≡ (list_any p xs || list_any p ys)
+pub any_append : {X : Type 0} (p : X → Bool) (xs ys : List X) → list_any p (xs ++ ys) ≡ (list_any p xs || list_any p ys)
 any_append p [] ys = refl
 any_append p (x ∷ xs) ys = grouped (p x) (list_any p (xs ++ ys)) (list_any p xs) (list_any p ys) (any_append p xs ys)
 
 -- The value of f at each key, if f has no value at a key that neither map has.
-pub get-from_parts : {X : Type 0} (host : Host) (own : OwnFiles) (f : Key → Option X) → ((q : Key) → get host q ≡ None → get own q ≡ None → f q ≡ None)
+pub get-over : {X : Type 0} (host : Host) (own : OwnFiles) (f : Key → Option X) → ((q : Key) → get host q ≡ None → get own q ≡ None → f q ≡ None)
     → (q : Key) → get (map_from_keys f (keys host ++ keys own)) q ≡ f q
-get-from_parts host own f h q =
+get-over host own f h q =
     get-among f (keys host ++ keys own) q ∙ ap (λ b. cond b (f q) None) (any_append (eq_by_cmp (slice_cmp nat_cmp) q) (keys host) (keys own))
     ∙ whole (list_any (eq_by_cmp (slice_cmp nat_cmp) q) (keys host)) (list_any (eq_by_cmp (slice_cmp nat_cmp) q) (keys own)) (f q)
     (λ d e. h q (absent_of (get host q) (contains_key-keys host q ∙ d)) (absent_of (get own q) (contains_key-keys own q ∙ e)))
@@ -65,11 +65,11 @@ no_shape host own q d e = ap (option_map shape_of) (no_file host own q d e)
 
 pub get-files : (host : Host) (own : OwnFiles) (q : Key) → get (files host own) q ≡ file_at host own q
 unfolding files
-get-files host own q = get-from_parts host own (file_at host own) (no_file host own) q
+get-files host own q = get-over host own (file_at host own) (no_file host own) q
 
 pub get-shapes : (host : Host) (own : OwnFiles) (q : Key) → get (shapes host own) q ≡ shape_at host own q
 unfolding shapes
-get-shapes host own q = get-from_parts host own (shape_at host own) (no_shape host own) q
+get-shapes host own q = get-over host own (shape_at host own) (no_shape host own) q
 
 made_at : (host : Host) (q : Key) (b : Bool) (x : Option Entry) → cond (is_there host q (unwrap_or (cond b (Some new_entry) x) untouched_entry).base) (Some (file_of host q (unwrap_or (cond b (Some new_entry) x) untouched_entry))) None ≡ cond b (Some []) (cond (is_there host q (unwrap_or x untouched_entry).base) (Some (file_of host q (unwrap_or x untouched_entry))) None)
 made_at host q true x = refl

@@ -4,11 +4,11 @@ pub mod FileLemmas
 pub mod LookLemmas
 pub mod CountLemmas
 pub mod DeleteLemmas
-pub mod NameWalk
+pub mod KeyWalk
 pub mod LaidLemmas
 pub mod EndLemmas
-pub mod FilledLemmas
+pub mod WriteLemmas
 pub mod Differences
 pub mod ChangedWalk
-pub mod ToldLemmas
+pub mod ContentsLemmas
 pub use Rattle.keymaps.proofs.Views

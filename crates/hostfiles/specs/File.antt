@@ -5,22 +5,25 @@ use Rattle.std.specs.Cmp.Lexicographic.{pointwise}
 use Rattle.directory.specs.Entries.{Shape}
 use Rattle.records.specs.Records.{zeros}
 use Rattle.hostfiles.specs.Hosts.{Record}
+use Rattle.hostfiles.specs.declared.journal.Gap.{Gap}
+use Rattle.hostfiles.specs.declared.journal.Gap.TheVariants.{Holes, Zeros}
 
 -- The records of a file, with `None` for a hole.
 abbrev pub File : Type 0
 File = List (Option Record)
 
--- The file after record k is written. A file that is too short is first made longer by holes.
-abbrev pub written : ℕ → Record → File → File
-written k r f = slice_set (f ++ replicate (k + 1 - length f) None) k (Some r)
+-- The record, or the hole, at each number of a gap.
+abbrev pub gap_record : Gap → Option Record
+gap_record Holes = None
+gap_record Zeros = Some zeros
 
--- The same, but the file is made longer by zeros.
-abbrev pub written_filled : ℕ → Record → File → File
-written_filled k r f = slice_set (f ++ replicate (k + 1 - length f) (Some zeros)) k (Some r)
+-- The file after record k is written. A file that is too short is first made longer by the gap.
+abbrev pub with_record : Gap → ℕ → Record → File → File
+with_record gap k r f = slice_set (f ++ replicate (k + 1 - length f) (gap_record gap)) k (Some r)
 
 -- The contents of a file: its records, with zeros in its holes.
 abbrev pub contents_of : File → List Record
-contents_of file = map (λ place. unwrap_or place zeros) file
+contents_of file = map (λ r. unwrap_or r zeros) file
 
 -- The shape of a file: for each record number whether there is a record.
 abbrev pub shape_of : File → Shape

@@ -1,8 +1,8 @@
 -- What contracts see of a file that was found. (This project's own.)
-use Rattle.std.specs.Prelude.{ℕ, Bool, Option}
+use Rattle.std.specs.Prelude.{ℕ, Bool, List, Option}
 use Rattle.directory.specs.Entries.{Shape}
 use Rattle.hostfiles.specs.Hosts.{Record}
-use Rattle.hostfiles.specs.Files.{OwnFiles, entry_at, file_of, has, length_at, record_of}
+use Rattle.hostfiles.specs.Files.{OwnFiles, entry_at, file_contents, file_of, has, length_at, record_of}
 use Rattle.hostfiles.specs.File.{shape_of}
 use Rattle.hostfiles.specs.declared.journal.Entry.{Entry}
 use Rattle.hostfiles.specs.declared.file_view.FileView.{FileView}
@@ -26,3 +26,7 @@ view_record f k = record_of f.host.now f.key (view_entry f) k
 
 abbrev pub view_shape : FileView → Shape
 view_shape f = shape_of (file_of f.host.now f.key (view_entry f))
+
+-- The contents of the file, if there is one.
+abbrev pub view_contents : FileView → Option (List Record)
+view_contents f = file_contents f.host.now (view_own f) f.key

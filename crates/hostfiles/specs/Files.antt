@@ -10,6 +10,8 @@ use Rattle.records.specs.Records.{RecordMap, zeros_at}
 use Rattle.hostfiles.specs.Hosts.{Key, Record, Host}
 use Rattle.hostfiles.specs.declared.journal.Base.{Base}
 use Rattle.hostfiles.specs.declared.journal.Base.TheVariants.{Same, Gone, New, Moved}
+use Rattle.hostfiles.specs.declared.journal.Gap.{Gap}
+use Rattle.hostfiles.specs.declared.journal.Gap.TheVariants.{Holes, Zeros}
 use Rattle.hostfiles.specs.declared.journal.Growth.{Growth}
 use Rattle.hostfiles.specs.declared.journal.Entry.{Entry}
 use Rattle.hostfiles.specs.File.{File, contents_of, shape_of}
@@ -47,12 +49,12 @@ is_there host key (Moved old) = true
 
 abbrev pub length_by : ℕ → Option Growth → ℕ
 length_by n None = n
-length_by n (Some g) = g.to
+length_by n (Some g) = g.length
 
--- Whether the host file's record with number k counts. If the file has grown, it counts only below `from`.
+-- Whether the host file's record with number k counts. If the file has grown, it counts only below `host_end`.
 abbrev pub is_host_part : ℕ → Option Growth → Bool
 is_host_part k None = true
-is_host_part k (Some g) = nat_lt k g.from
+is_host_part k (Some g) = nat_lt k g.host_end
 
 -- The record with number k, from the host file's records, the record that was written with this number, and whether the host
 -- file's record counts. A record number between the old end and a write past it is a hole.
@@ -63,7 +65,7 @@ record_by host k None false = None
 
 abbrev pub limit_by : ℕ → Option Growth → ℕ
 limit_by n None = n
-limit_by n (Some g) = g.from
+limit_by n (Some g) = g.host_end
 
 abbrev pub length_of : Host → Key → Entry → ℕ
 length_of host key e = length_by (length (base_records host key e)) e.grown
@@ -85,7 +87,7 @@ entry_at own key = unwrap_or (get own key) untouched_entry
 
 -- A file that was made.
 abbrev pub new_entry : Entry
-new_entry = record { base = New; grown = Some (record { from = 0; to = 0 }); records = empty }
+new_entry = record { base = New; grown = Some (record { host_end = 0; length = 0 }); records = empty }
 
 -- A file that is gone.
 abbrev pub gone_entry : Entry
@@ -104,21 +106,16 @@ renamed_from key e = record { base = base_renamed_from key e.base; grown = e.gro
 -- The growth after record k of a file of length n is written: the new length, and the number from which on no record is the
 -- host file's.
 abbrev pub growth_after : ℕ → ℕ → Option Growth → Option Growth
-growth_after n k g = if nat_lt k n then g else Some (record { from = limit_by n g; to = k + 1 })
+growth_after n k g = if nat_lt k n then g else Some (record { host_end = limit_by n g; length = k + 1 })
 
-abbrev pub entry_with_holes : ℕ → ℕ → Record → Entry → Entry
-entry_with_holes n k r e = record { base = e.base; grown = growth_after n k e.grown; records = insert e.records k r }
+-- The records with those of the gap from the end of a file of length n up to k, if k is past the end.
+abbrev pub records_with_gap : Gap → ℕ → ℕ → RecordMap → RecordMap
+records_with_gap Holes n k m = m
+records_with_gap Zeros n k m = if nat_lt n k then zeros_at m n (k - n) else m
 
--- The records with zeros from the end of a file of length n up to k, if k is past the end.
-abbrev pub gap_zeros : ℕ → ℕ → RecordMap → RecordMap
-gap_zeros n k m = if nat_lt n k then zeros_at m n (k - n) else m
-
-abbrev pub entry_with_zeros : ℕ → ℕ → Record → Entry → Entry
-entry_with_zeros n k r e = record { base = e.base; grown = growth_after n k e.grown; records = insert (gap_zeros n k e.records) k r }
-
--- Record k of a file of length n is written; a gap is filled with zeros or becomes holes.
-abbrev pub entry_after_write : Bool → ℕ → ℕ → Record → Entry → Entry
-entry_after_write filled n k r e = if filled then entry_with_zeros n k r e else entry_with_holes n k r e
+-- The entry after record k of a file of length n is written.
+abbrev pub entry_after_write : Gap → ℕ → ℕ → Record → Entry → Entry
+entry_after_write gap n k r e = record { base = e.base; grown = growth_after n k e.grown; records = insert (records_with_gap gap n k e.records) k r }
 
 abbrev pub after_make : OwnFiles → Key → OwnFiles
 after_make own key = insert own key new_entry
@@ -129,16 +126,9 @@ after_delete own key = insert own key gone_entry
 abbrev pub after_rename : OwnFiles → Key → Key → OwnFiles
 after_rename own old new = insert (insert own old gone_entry) new (renamed_from old (entry_at own old))
 
--- Record k of a file of length n is written; a gap becomes holes.
-abbrev pub after_write_with_holes : ℕ → OwnFiles → Key → ℕ → Record → OwnFiles
-after_write_with_holes n own key k r = insert own key (entry_with_holes n k r (entry_at own key))
-
-abbrev pub after_write_with_zeros : ℕ → OwnFiles → Key → ℕ → Record → OwnFiles
-after_write_with_zeros n own key k r = insert own key (entry_with_zeros n k r (entry_at own key))
-
--- Record k of a file of length n is written; a gap is filled with zeros or becomes holes.
-abbrev pub after_write : Bool → ℕ → OwnFiles → Key → ℕ → Record → OwnFiles
-after_write filled n own key k r = if filled then after_write_with_zeros n own key k r else after_write_with_holes n own key k r
+-- Record k of a file of length n is written.
+abbrev pub after_write : Gap → ℕ → OwnFiles → Key → ℕ → Record → OwnFiles
+after_write gap n own key k r = insert own key (entry_after_write gap n k r (entry_at own key))
 
 -- ---- the files that result from both
 

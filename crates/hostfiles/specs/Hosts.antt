@@ -1,15 +1,13 @@
 -- Host files. ([Interface Guide 1979, operating system call conventions]: a record has 128 bytes, a file at most 65,536
 -- records, and 1AH ends a text; that 1AH pads the last record, and that there are at most 512 files: this project's profile.)
 pub use Rattle.filenames.specs.Names.{Key}
+pub use Rattle.records.specs.Records.{Record}
 use Rattle.filenames.specs.Names.{is_sayable}
 use Rattle.std.specs.Prelude.{◌≡◌, ◌≤◌, ℕ, ◌+◌, ◌-◌, ◌*◌, ◌/◌, Bool, true, ◌||◌, List, ◌++◌, length, map, take, drop, replicate, nat_lt, if◌then◌else◌, Option, Some, None}
 use Rattle.std.specs.Ordering.{nat_cmp}
 use Rattle.std.specs.List.{range_with_len}
 use Rattle.std.specs.Cmp.Lexicographic.{slice_cmp}
 use Rattle.std.specs.FinMap.{FinMap, get, contains_key, len}
-
-abbrev pub Record : Type 0
-Record = List ℕ
 
 -- The records of each host file, by key.
 abbrev pub Host : Type 0

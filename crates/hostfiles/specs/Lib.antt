@@ -3,7 +3,6 @@ pub mod FilesError
 pub mod Files
 pub mod File
 pub mod FileLooks
-pub mod Above
 pub mod FileView
 pub mod Asking
 pub mod Laid

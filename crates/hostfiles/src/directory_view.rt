@@ -1,17 +1,19 @@
 // The directory of host files and what was done to them.
 
 ghost use Rattle.std.specs.Prelude.{◌≡◌, ◌<◌, ◌≤◌, ◌&&◌, ℕ, List, true, false, None, Some, filter, length};
-ghost use Rattle.std.specs.Prelude.{if◌then◌else◌, IfOk, IfSome, IfNone};
+ghost use Rattle.std.specs.Prelude.{if◌then◌else◌, IfOk, IfSome, IfNone, option_copied};
 ghost use Rattle.std.specs.FinMap as finmap;
 ghost use Rattle.keymaps.specs.Order.{is_above};
 ghost use Rattle.directory.specs.Entries.{is_match};
-ghost use Rattle.hostfiles.specs.Above.{AllAbove, AllBetween};
+ghost use Rattle.keymaps.specs.Walks.{EachAbove, EachBetween};
 ghost use Rattle.hostfiles.specs.Files.{has, is_listed, gone_entry, shapes};
 ghost use Rattle.hostfiles.specs.FileView.{is_view_there, view_own};
 
+use crate::changes::Changes;
 use crate::file_view::FileView;
 use crate::host::HostFiles;
 use crate::journal::Journal;
+use crate::names::key_if_any;
 use directory::{DirectoryFiles, FileShape, KeyedFile, is_match};
 use filenames::{Key, Name};
 use keymaps::next_of_both;
@@ -83,24 +85,28 @@ impl FileShape for FileView<'_> {
     }
 }
 
-/// Returns the least name above `after`, by key, of a file, or `None` if there is none. Every key is above `None`. Skips
-/// files whose keys are not valid.
-pub fn next_name(host: &HostFiles, journal: &Journal, after: Option<Key>) -> Option<Name>
-    ensures above { IfSome result (λ k. is_above after k ≡ true) }
-    ensures there { IfSome result (λ k. is_listed host.now journal.now.entries k ≡ true) }
-    ensures least { IfSome result (λ k. AllBetween after k
-        (λ x. is_listed host.now journal.now.entries x ≡ false)) }
-    ensures none { IfNone result (AllAbove after (λ x. is_listed host.now journal.now.entries x ≡ false)) }
-{
-    let mut low = after;
-    while let Some(next) = next_of_both(host.files(), &journal.entries, low) {
-        let key = next.key;
-        if let Some(name) = name_of(&FileView::from_search(host, journal, &next)) {
-            return Some(name);
+impl HostFiles {
+    /// Returns the least name above `after`, by key, of a file after these changes, or `None` if there is none. Every name is
+    /// above `None`. Skips files whose keys are not valid. Marks no look.
+    pub fn next_with(&self, changes: &Changes, after: Option<&Name>) -> Option<Name>
+        ensures above { IfSome result (λ k. is_above (option_copied after.entry) k ≡ true) }
+        ensures there { IfSome result (λ k. is_listed self.now changes.now.journal.entries k ≡ true) }
+        ensures least { IfSome result (λ k. EachBetween (option_copied after.entry) k
+            (λ x. is_listed self.now changes.now.journal.entries x ≡ false)) }
+        ensures none { IfNone result (EachAbove (option_copied after.entry)
+            (λ x. is_listed self.now changes.now.journal.entries x ≡ false)) }
+    {
+        let journal = &changes.journal;
+        let mut low = key_if_any(after);
+        while let Some(next) = next_of_both(self.files(), &journal.entries, low) {
+            let key = next.key;
+            if let Some(name) = name_of(&FileView::from_search(self, journal, &next)) {
+                return Some(name);
+            }
+            low = Some(key);
         }
-        low = Some(key);
+        None
     }
-    None
 }
 
 // Returns the name of a file, if the file exists and its key is valid.

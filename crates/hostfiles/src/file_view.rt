@@ -44,7 +44,23 @@ impl<'a> FileView<'a> {
         ensures journal { result.journal ≡ journal.entry }
         ensures key { result.key ≡ key.now }
     {
-        let entry = journal.entries.get(key);
+        FileView::with_entry(host, journal, key, journal.entries.get(key))
+    }
+
+    /// Creates the file with a key for which the journal was already searched. Searches the host files if the file may come
+    /// from one.
+    #[inline(always)]
+    pub(crate) fn with_entry(
+        host: &'a HostFiles,
+        journal: &'a Journal,
+        key: &Key,
+        entry: Option<&'a Entry>,
+    ) -> FileView<'a>
+        requires { option_copied entry ≡ finmap.get journal.now.entries key.now }
+        ensures host { result.host ≡ host.entry }
+        ensures journal { result.journal ≡ journal.entry }
+        ensures key { result.key ≡ key.now }
+    {
         FileView {
             host,
             journal,
@@ -104,7 +120,8 @@ fn beneath<'a>(host: &'a HostFiles, key: &Key, base: Base) -> Option<&'a HostFil
 }
 
 impl FileView<'_> {
-    ghost use Rattle.hostfiles.specs.FileView.{view_own, view_entry, is_view_there, view_length, view_record, view_shape};
+    ghost use Rattle.std.specs.Option.{option_map};
+    ghost use Rattle.hostfiles.specs.FileView.{view_own, view_entry, is_view_there, view_length, view_record, view_shape, view_contents};
 
     /// Returns where the unwritten records of the file come from.
     pub fn base(&self) -> Base
@@ -124,7 +141,7 @@ impl FileView<'_> {
     }
 
     // Returns the record that was written at a number, if one was.
-    fn written(&self, k: u32) -> Option<&Record>
+    pub(crate) fn written(&self, k: u32) -> Option<&Record>
         ensures { option_copied result ≡ finmap.get (view_entry self.now).records k }
     {
         match self.entry {
@@ -150,7 +167,7 @@ impl FileView<'_> {
         ensures { result ≡ view_length self.now }
     {
         if let Some(grown) = self.grown() {
-            return grown.to;
+            return grown.length;
         }
         match self.beneath {
             Some(file) => file.len(),
@@ -160,7 +177,8 @@ impl FileView<'_> {
 
     /// Returns the length of the file in records, holes included, or `None` if there is no file.
     pub fn records(&self) -> Option<u32>
-        ensures { result ≡ records self.now.host.now (view_own self.now) self.now.key }
+        ensures records { result ≡ records self.now.host.now (view_own self.now) self.now.key }
+        ensures contents { result ≡ option_map length (view_contents self.now) }
     {
         if !self.is_there() {
             return None;
@@ -182,13 +200,13 @@ impl FileView<'_> {
     }
 
     /// Returns whether the file has a record with this number.
-    pub fn is_written(&self, place: u64) -> bool
-        ensures { result ≡ get_or (view_shape self.now) place false }
+    pub fn is_written(&self, number: u64) -> bool
+        ensures { result ≡ get_or (view_shape self.now) number false }
     {
-        if place >= self.length() as u64 {
+        if number >= self.length() as u64 {
             return false;
         }
-        self.record(place as u32).is_some()
+        self.record(number as u32).is_some()
     }
 
     /// Returns the greatest index within an extent that has a record, plus one, or 0 if none has.
@@ -250,7 +268,7 @@ impl FileView<'_> {
         ensures { result ≡ not (is_host_part k (view_entry self.now).grown) }
     {
         match self.grown() {
-            Some(grown) => k >= grown.from,
+            Some(grown) => k >= grown.host_end,
             None => false,
         }
     }

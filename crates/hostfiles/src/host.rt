@@ -5,13 +5,12 @@ ghost use Rattle.std.specs.Prelude.{IfOk, OnOk, OnErr, IfSome, IfNone};
 ghost use Rattle.std.specs.Option.{option_map, option_and_then};
 ghost use Rattle.std.specs.FinMap as finmap;
 ghost use Rattle.keymaps.specs.Order.{is_above};
-ghost use Rattle.hostfiles.specs.Above.{AllAbove, AllBetween};
-ghost use Rattle.hostfiles.specs.Files.{file_contents, is_listed};
+ghost use Rattle.keymaps.specs.Walks.{EachAbove, EachBetween};
+ghost use Rattle.hostfiles.specs.Files.{file_contents};
 ghost use Rattle.hostfiles.specs.Hosts.{records_in, record_in, padded_record, refusal_of, has_room, IsHost};
 
 use crate::changes::Changes;
-use crate::contents::{contents_count, contents_record};
-use crate::directory_view::next_name;
+use crate::file_view::FileView;
 use crate::names::key_if_any;
 use filenames::{Key, Name};
 use keymaps::KeyMap;
@@ -61,10 +60,10 @@ impl HostFile {
     }
 
     /// Returns the record with this number, or `None` past the end of the file.
-    pub fn get(&self, place: u32) -> Option<&Record>
-        ensures { option_copied result ≡ slice_get self.now place }
+    pub fn get(&self, number: u32) -> Option<&Record>
+        ensures { option_copied result ≡ slice_get self.now number }
     {
-        self.records.get(place as usize)
+        self.records.get(number as usize)
     }
 
     /// Returns the number of records, at most 65,536.
@@ -256,11 +255,11 @@ impl HostFiles {
     }
 
     /// Returns a record of a file, or `None` if there is no such file or it is too short.
-    pub fn record(&self, name: &Name, place: u32) -> Option<Record>
-        ensures { result ≡ option_and_then (λ file. slice_get file place) (finmap.get self.now name.now) }
+    pub fn record(&self, name: &Name, number: u32) -> Option<Record>
+        ensures { result ≡ option_and_then (λ file. slice_get file number) (finmap.get self.now name.now) }
     {
         match self.files.get(&name.key()) {
-            Some(file) => file.get(place).copied(),
+            Some(file) => file.get(number).copied(),
             None => None,
         }
     }
@@ -269,9 +268,9 @@ impl HostFiles {
     pub fn next(&self, after: Option<&Name>) -> Option<Name>
         ensures above { IfSome result (λ k. is_above (option_copied after.entry) k ≡ true) }
         ensures there { IfSome result (λ k. finmap.contains_key self.now k ≡ true) }
-        ensures least { IfSome result (λ k. AllBetween (option_copied after.entry) k
+        ensures least { IfSome result (λ k. EachBetween (option_copied after.entry) k
             (λ x. finmap.get self.now x ≡ None)) }
-        ensures none { IfNone result (AllAbove (option_copied after.entry)
+        ensures none { IfNone result (EachAbove (option_copied after.entry)
             (λ x. finmap.get self.now x ≡ None)) }
     {
         let Some(key) = self.files.next_key(key_if_any(after)) else {
@@ -287,29 +286,18 @@ impl HostFiles {
     pub fn records_with(&self, changes: &Changes, name: &Name) -> Option<u32>
         ensures { result ≡ option_map length (file_contents self.now changes.now.journal.entries name.now) }
     {
-        contents_count(self, &changes.journal, &name.key())
+        FileView::find(self, &changes.journal, &name.key()).records()
     }
 
     /// Returns a record of a file after these changes, with zeros in a hole, or `None` if there is no such file or it is too
     /// short. Marks no look.
-    pub fn record_with(&self, changes: &Changes, name: &Name, place: u32) -> Option<Record>
+    pub fn record_with(&self, changes: &Changes, name: &Name, number: u32) -> Option<Record>
         ensures { let seen = file_contents self.now changes.now.journal.entries name.now in
-            result ≡ option_and_then (λ records. slice_get records place) seen }
+            result ≡ option_and_then (λ records. slice_get records number) seen }
     {
-        contents_record(self, &changes.journal, &name.key(), place)
-    }
-
-    /// Returns the least name above `after`, by key, of a file after these changes, or `None` if there is none. Every name is
-    /// above `None`. Marks no look.
-    pub fn next_with(&self, changes: &Changes, after: Option<&Name>) -> Option<Name>
-        ensures above { IfSome result (λ k. is_above (option_copied after.entry) k ≡ true) }
-        ensures there { IfSome result (λ k. is_listed self.now changes.now.journal.entries k ≡ true) }
-        ensures least { IfSome result (λ k. AllBetween (option_copied after.entry) k
-            (λ x. is_listed self.now changes.now.journal.entries x ≡ false)) }
-        ensures none { IfNone result (AllAbove (option_copied after.entry)
-            (λ x. is_listed self.now changes.now.journal.entries x ≡ false)) }
-    {
-        next_name(self, &changes.journal, key_if_any(after))
+        FileView::find(self, &changes.journal, &name.key())
+            .contents_record(number)
+            .copied()
     }
 
     /// Returns the file with a key.

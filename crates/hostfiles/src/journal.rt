@@ -27,9 +27,18 @@ pub enum Base {
 #[derive(Clone, Copy)]
 pub struct Growth {
     /// The record number from which on no unwritten record is the host file's.
-    pub from: u32,
+    pub host_end: u32,
     /// The length of the file, in records.
-    pub to: u32,
+    pub length: u32,
+}
+
+/// What the record numbers between the end of a file and a write past it become.
+#[derive(Clone, Copy, Debug, PartialEq, Eq)]
+pub enum Gap {
+    /// Holes.
+    Holes,
+    /// Records of zeros.
+    Zeros,
 }
 
 /// What a run did to one file.
@@ -92,19 +101,22 @@ impl Entry {
     {
         Self {
             base: Base::New,
-            grown: Some(Growth { from: 0, to: 0 }),
+            grown: Some(Growth {
+                host_end: 0,
+                length: 0,
+            }),
             records: Records::new(alloc),
         }
     }
 
-    /// Writes record `k` of a file of length `n`. If `k` is past the end, the record numbers from `n` to `k - 1` become
-    /// holes, or records of zeros if `filled` is set. On `Err`, which means out of memory, nothing changes.
-    pub fn write(&mut self, n: u32, k: u32, bytes: &Record, filled: bool) -> Result<(), AllocError>
+    /// Writes record `k` of a file of length `n`. If `k` is past the end, the record numbers from `n` to `k - 1` become the
+    /// gap. On `Err`, which means out of memory, nothing changes.
+    pub fn write(&mut self, n: u32, k: u32, bytes: &Record, gap: Gap) -> Result<(), AllocError>
         requires { k < 65536 }
-        ensures ok { OnOk result (self.new ≡ entry_after_write filled n k bytes.now self.old) }
+        ensures ok { OnOk result (self.new ≡ entry_after_write gap n k bytes.now self.old) }
         ensures err { OnErr result (self.new ≡ self.old) }
     {
-        if filled && k > n {
+        if gap == Gap::Zeros && k > n {
             let mut records = self.records.with_zeros(n, k)?;
             records.put(k, bytes)?;
             self.records = records;
@@ -121,11 +133,14 @@ impl Entry {
         ensures { self.new ≡ record self.old { grown = growth_after n k self.old.grown } }
     {
         if k >= n {
-            let from = match self.grown {
+            let host_end = match self.grown {
                 None => n,
-                Some(grown) => grown.from,
+                Some(grown) => grown.host_end,
             };
-            self.grown = Some(Growth { from, to: k + 1 });
+            self.grown = Some(Growth {
+                host_end,
+                length: k + 1,
+            });
         }
     }
 
@@ -182,29 +197,29 @@ impl Journal {
         self.entries.insert(*key, Entry::gone(self.alloc))
     }
 
-    /// Writes record `k` of a file of length `n`. If `k` is past the end, the record numbers from `n` to `k - 1` become
-    /// holes, or records of zeros if `filled` is set. On `Err`, which means out of memory, nothing changes.
+    /// Writes record `k` of a file of length `n`. If `k` is past the end, the record numbers from `n` to `k - 1` become the
+    /// gap. On `Err`, which means out of memory, nothing changes.
     pub fn write(
         &mut self,
         key: &Key,
         n: u32,
         k: u32,
         bytes: &Record,
-        filled: bool,
+        gap: Gap,
     ) -> Result<(), AllocError>
         requires { k < 65536 }
         ensures ok { OnOk result
-            (self.new.entries ≡ after_write filled n self.old.entries key.now k bytes.now) }
+            (self.new.entries ≡ after_write gap n self.old.entries key.now k bytes.now) }
         ensures err { OnErr result (self.new.entries ≡ self.old.entries) }
     {
         if let Some(written) = self
             .entries
-            .change(key, |entry| entry.write(n, k, bytes, filled))
+            .change(key, |entry| entry.write(n, k, bytes, gap))
         {
             return written;
         }
         let mut entry = Entry::untouched(self.alloc);
-        entry.write(n, k, bytes, filled)?;
+        entry.write(n, k, bytes, gap)?;
         self.entries.insert(*key, entry)
     }
 

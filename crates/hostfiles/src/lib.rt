@@ -3,10 +3,9 @@
 //! - `host`, `journal`, `looks`, `changes`: host files; what a run did to files; its questions to the host files; both
 //!   together
 //! - `file_view`: `FileView`: the file with a key as a program sees it, found once, and the questions about it
-//! - `lookup`, `directory_view`, `laid`: single questions about a file; the directory; the laws of what was done, laid over host
-//!   files
-//! - `contents`, `changed`, `names`: the contents of a file, with zeros in its holes; whether a file is changed; the changed
-//!   names in order
+//! - `contents`, `changed`: the contents of a file, with zeros in its holes; whether a file is changed
+//! - `directory_view`, `names`: the directory; the changed files in the order of their names
+//! - `laid`: the laws of what was done, laid over host files
 #![tactic(auto)]
 
 pub mod changed;
@@ -18,17 +17,15 @@ pub mod host;
 pub mod journal;
 pub mod laid;
 pub mod looks;
-pub mod lookup;
 pub mod names;
 
-pub use changed::{changed_is_other, is_changed};
+pub use changed::changed_is_other;
 pub use changes::Changes;
-pub use contents::{contents_count, contents_record};
 pub use file_view::FileView;
 pub use filenames::{Fcb, Key, Name, NameError};
 pub use host::{FilesError, HostFile, HostFiles};
-pub use journal::{Base, Entry, Growth, Journal};
+pub use journal::{Base, Entry, Gap, Growth, Journal};
 pub use laid::{files_are_laid, no_record_past_end};
 pub use looks::{Ask, FileLooks};
-pub use names::{changed_names_are_all, next_changed};
-pub use records::{EXTENT_RECORDS, PLACES, RECORD_BYTES, Record, Records};
+pub use names::{ChangedFile, changed_names_are_all, next_changed};
+pub use records::{EXTENT_RECORDS, RECORD_BYTES, RECORD_LIMIT, Record, Records};

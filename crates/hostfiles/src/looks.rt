@@ -161,9 +161,9 @@ impl FileLooks {
         if let Some(key) = self.lengths.pop() {
             return Some(Ask::Length(key));
         }
-        if let Some(place) = self.records.pop() {
-            let key = place.0;
-            return Some(Ask::Rec(key, place.1));
+        if let Some(record) = self.records.pop() {
+            let key = record.0;
+            return Some(Ask::Rec(key, record.1));
         }
         if let Some(drive) = self.directories.pop() {
             return Some(Ask::Directory(drive));

@@ -1,26 +1,51 @@
-// The names of changed files, in order.
+// The changed files, in the order of their names.
 
 ghost use Rattle.std.specs.Prelude.{◌≡◌, true, false, IfSome, IfNone, option_copied};
 ghost use Rattle.keymaps.specs.Order.{is_above};
-ghost use Rattle.hostfiles.specs.Above.{AllAbove, AllBetween};
+ghost use Rattle.keymaps.specs.Walks.{EachAbove, EachBetween};
 ghost use Rattle.hostfiles.specs.Changed.{is_changed_name, AreAllChanged};
+ghost use Rattle.hostfiles.specs.FileView.{view_own};
 
-use crate::changed::is_changed;
+use crate::file_view::FileView;
 use crate::host::HostFiles;
 use crate::journal::Journal;
 use filenames::{Key, Name};
 
-/// Returns the least name above `after`, by key, of a changed file, or `None` if there is none. Every name is above `None`.
-/// Compares only files to which something was done, and skips files whose keys are not valid.
-pub fn next_changed(host: &HostFiles, journal: &Journal, after: Option<&Name>) -> Option<Name>
-    ensures above { IfSome result (λ k. is_above (option_copied after.entry) k ≡ true) }
-    ensures changed { IfSome result (λ k. is_changed_name host.now journal.now.entries k ≡ true) }
-    ensures least { IfSome result (λ k. AllBetween (option_copied after.entry) k
+/// A changed file and its name.
+#[derive(Clone, Copy)]
+pub struct ChangedFile<'a> {
+    /// The name.
+    pub name: Name,
+    /// The file as the run left it.
+    pub file: FileView<'a>,
+    pub ghost named: { file.key ≡ name },
+}
+
+/// Returns the changed file with the least name above `after`, by key, or `None` if there is none. Every name is above `None`.
+/// Compares only files to which something was done, each of which it finds once, and skips files whose keys are not valid.
+pub fn next_changed<'a>(
+    host: &'a HostFiles,
+    journal: &'a Journal,
+    after: Option<&Name>,
+) -> Option<ChangedFile<'a>>
+    ensures host { IfSome result (λ c. c.file.host ≡ host.entry) }
+    ensures journal { IfSome result (λ c. c.file.journal ≡ journal.entry) }
+    ensures above { IfSome result (λ c. is_above (option_copied after.entry) c.name ≡ true) }
+    ensures changed { IfSome result (λ c. is_changed_name host.now journal.now.entries c.name ≡ true) }
+    ensures least { IfSome result (λ c. EachBetween (option_copied after.entry) c.name
         (λ x. is_changed_name host.now journal.now.entries x ≡ false)) }
-    ensures none { IfNone result (AllAbove (option_copied after.entry)
+    ensures none { IfNone result (EachAbove (option_copied after.entry)
         (λ x. is_changed_name host.now journal.now.entries x ≡ false)) }
 {
-    next_above(host, journal, key_if_any(after))
+    let mut low = key_if_any(after);
+    while let Some((key, entry)) = journal.entries.next_key_value(low) {
+        let file = FileView::with_entry(host, journal, key, Some(entry));
+        if let Some(changed) = changed_file(&file) {
+            return Some(changed);
+        }
+        low = Some(*key);
+    }
+    None
 }
 
 // Returns the key of a name, if there is one.
@@ -33,36 +58,19 @@ pub(crate) fn key_if_any(name: Option<&Name>) -> Option<Key>
     }
 }
 
-// Does the same for a key.
-fn next_above(host: &HostFiles, journal: &Journal, after: Option<Key>) -> Option<Name>
-    ensures above { IfSome result (λ k. is_above after k ≡ true) }
-    ensures changed { IfSome result (λ k. is_changed_name host.now journal.now.entries k ≡ true) }
-    ensures least { IfSome result (λ k. AllBetween after k
-        (λ x. is_changed_name host.now journal.now.entries x ≡ false)) }
-    ensures none { IfNone result (AllAbove after
-        (λ x. is_changed_name host.now journal.now.entries x ≡ false)) }
+// Returns a file with its name, if its key is valid and the file is changed.
+fn changed_file<'a>(file: &FileView<'a>) -> Option<ChangedFile<'a>>
+    ensures file { IfSome result (λ c. c.file ≡ file.now) }
+    ensures some { IfSome result (λ c.
+        is_changed_name file.now.host.now (view_own file.now) file.now.key ≡ true) }
+    ensures none { IfNone result
+        (is_changed_name file.now.host.now (view_own file.now) file.now.key ≡ false) }
 {
-    let mut low = after;
-    while let Some(key) = journal.entries.next_key(low) {
-        if let Some(name) = changed_name(host, journal, &key) {
-            return Some(name);
-        }
-        low = Some(key);
-    }
-    None
-}
-
-// Returns the name with this key, if the key is valid and its file is changed.
-fn changed_name(host: &HostFiles, journal: &Journal, key: &Key) -> Option<Name>
-    ensures name { IfSome result (λ name. name ≡ key.now) }
-    ensures some { IfSome result (λ name. is_changed_name host.now journal.now.entries key.now ≡ true) }
-    ensures none { IfNone result (is_changed_name host.now journal.now.entries key.now ≡ false) }
-{
-    let name = Name::from_key(key)?;
-    if !is_changed(host, journal, key) {
+    let name = Name::from_key(&file.key)?;
+    if !file.is_changed() {
         return None;
     }
-    Some(name)
+    Some(ChangedFile { name, file: *file })
 }
 
 /// Each changed name is the name of a file to which something was done.

@@ -76,7 +76,8 @@ pub fewer_past : {X : Type 0} (m : FinMap (slice_cmp nat_cmp) X) (after : Option
 fewer_past m after None above there none = tt
 fewer_past m after (Some e) above there none = fewer m after e.0.now above (ap is_some there) none
 
-all_pass : {X : Type 0} (es : List (Key × X)) → filter (λ e. true) es ≡ es
+-- A test that all pass.
+pub all_pass : {X : Type 0} (es : List (Key × X)) → filter (λ e. true) es ≡ es
 all_pass [] = refl
 all_pass (e ∷ es) = ap (λ fs. e ∷ fs) (all_pass es)
 

@@ -15,7 +15,7 @@ use Rattle.one_run.specs.World.{World}
 use Rattle.machine.specs.ChangedFiles.{changed_keys_in, contents_in}
 use Rattle.machine.specs.Inputs.{Session}
 use Rattle.machine.specs.PlainFiles.{Files}
-use Rattle.replay.specs.PlainRun.{plain_run}
+use Rattle.machine.specs.PlainState.{plain_run}
 use Rattle.report_lines.specs.ChangedLines.{gone_lines}
 use Rattle.report_lines.specs.FirstLines.{cause_text, line}
 use Rattle.report_lines.specs.Streams.{WritesOrFails, WritesPart, WritesWhole}
@@ -40,11 +40,11 @@ stop_line cause = line (codes "stop " ++ cause_text cause)
 
 -- The console text of the run of a session.
 abbrev pub console_text : Session → List ℕ
-console_text s = (plain_run s).machine.core.desk.text
+console_text s = (plain_run s).state.core.desk.text
 
 -- The lines of the stop of a run and of the changed files that are gone.
 abbrev pub stop_text : Session → List ℕ
-stop_text s = stop_line (plain_run s).cause ++ gone_lines s.files (plain_run s).machine.files
+stop_text s = stop_line (plain_run s).cause ++ gone_lines s.files (plain_run s).state.files
 
 -- The folder of a file's drive, if it has one.
 abbrev pub drive_folder : List (Option (Bor (List ℕ))) → Key → Option Path
@@ -81,10 +81,10 @@ FailsToWriteAll folders host files before after f = StopsAt (λ name. FailsToWri
 
 -- The same for the run of a session.
 abbrev pub WritesFiles : List (Option (Bor (List ℕ))) → Session → Option FileBytes → Option FileBytes → Type 0
-WritesFiles folders s before after = WritesAll folders s.files (plain_run s).machine.files before after
+WritesFiles folders s before after = WritesAll folders s.files (plain_run s).state.files before after
 
 abbrev pub FailsToWriteFiles : List (Option (Bor (List ℕ))) → Session → Option FileBytes → Option FileBytes → Failure → Type 0
-FailsToWriteFiles folders s before after f = FailsToWriteAll folders s.files (plain_run s).machine.files before after f
+FailsToWriteFiles folders s before after f = FailsToWriteAll folders s.files (plain_run s).state.files before after f
 
 -- The session was run once: its console text was written, then its changed files, and then its stop, or a prefix of that if
 -- writing failed.

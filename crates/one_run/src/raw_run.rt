@@ -3,19 +3,17 @@
 ghost use Rattle.std.specs.Prelude.{◌≡◌, ◌^◌, ◌<◌, ◌≤◌, ◌++◌, IfOk, IfErr, OnOk, OnErr, string_bytes};
 ghost use Rattle.folders.specs.Failures.{CountsFailures};
 ghost use Rattle.folders.specs.Faults.{reported_failures};
-ghost use Rattle.folders.specs.Folders.{FailsToWrite, LeavesIn, WritesInto};
-ghost use Rattle.folders.specs.ChangedBytes.{bytes_of};
 ghost use Rattle.hostfiles.specs.Files.{files};
 ghost use Rattle.replay.specs.Report.{run_of, session_of};
 ghost use Rattle.report_lines.specs.ChangedLines.{gone_lines};
 ghost use Rattle.report_lines.specs.Streams.{WritesOrFails, WritesText};
 ghost use Rattle.one_run.specs.Faults.{run_failures};
-ghost use Rattle.one_run.specs.RawRun.{BreaksRun, FailsToWriteAll, RunsOnce, WritesAll, drive_folder, stop_line, stop_status};
+ghost use Rattle.one_run.specs.RawRun.{BreaksRun, FailsToWriteAll, RunsOnce, WritesAll, stop_line, stop_status};
 ghost use Rattle.one_run.specs.World.{world};
 
 use crate::fault::RunFault;
-use folders::{ChangedFile, Failure, FileSystem, write_to_drive};
-use hostfiles::{HostFiles, Journal, Name};
+use folders::{Failure, FileSystem, write_to_drive};
+use hostfiles::{HostFiles, Journal, Name, next_changed};
 use machine::{Cause, Meter, Session};
 use replay::{Report, Runner};
 use report_lines::{Failed, FileFilter, Writer, cause_text, write_all, write_changed_files};
@@ -46,53 +44,28 @@ fn stop_line(alloc: Global, cause: Cause) -> Result<String, AllocError>
     format!(in alloc; "stop {cause}\n")
 }
 
-/// Writes a file as the run left it into the folder of its drive, if the drive has one.
-fn write_file<S: FileSystem>(
-    system: &mut S,
-    folders: &[Option<&str>; 4],
-    host: &HostFiles,
-    journal: &Journal,
-    name: &Name,
-) -> Result<(), Failure>
-    requires { (S.files system.old).failures < 2 ^ 63 }
-    ensures written { OnOk result
-        (WritesInto (drive_folder folders.now name.now) (S.files system.old).bytes (S.files system.new).bytes
-        name.now (bytes_of host.now journal.now.entries name.now)) }
-    ensures err { OnErr result (LeavesIn (drive_folder folders.now name.now)
-        (S.files system.old).bytes (S.files system.new).bytes name.now) }
-    ensures fault { IfErr result (FailsToWrite folders.now name.now) }
-    ensures failures { CountsFailures reported_failures result (S.files system.old) (S.files system.new) }
-{
-    let contents = ChangedFile {
-        host,
-        journal,
-        name,
-    };
-    write_to_drive(system, folders, name, &contents)
-}
-
 /// Writes the changed files that are there when the run stops into the folders of their drives, as far as these have folders, in
 /// the order of their names.
 fn write_changed<S: FileSystem>(
     system: &mut S,
     folders: &[Option<&str>; 4],
-    report: &Report<'_>,
+    host: &HostFiles,
+    journal: &Journal,
 ) -> Result<(), Failure>
     requires { (S.files system.old).failures < 2 ^ 63 }
-    ensures written { OnOk result
-        (WritesAll folders.now (session_of report.now).files (run_of report.now).machine.files
+    ensures written { OnOk result (WritesAll folders.now host.now (files host.now journal.now.entries)
         (S.files system.old).bytes (S.files system.new).bytes) }
     ensures fault { IfErr result
-        (FailsToWriteAll folders.now (session_of report.now).files (run_of report.now).machine.files
+        (FailsToWriteAll folders.now host.now (files host.now journal.now.entries)
         (S.files system.old).bytes (S.files system.new).bytes) }
     ensures failures { CountsFailures reported_failures result (S.files system.old) (S.files system.new) }
 {
     let mut after: Option<Name> = None;
-    while let Some(name) = report.next_changed(after.as_ref()) {
-        if report.has(&name) {
-            write_file(system, folders, report.files(), report.journal(), &name)?;
+    while let Some(changed) = next_changed(host, journal, after.as_ref()) {
+        if changed.file.is_there() {
+            write_to_drive(system, folders, &changed.name, &changed.file)?;
         }
-        after = Some(name);
+        after = Some(changed.name);
     }
     Ok(())
 }
@@ -128,7 +101,7 @@ fn report_stop<E: Writer>(alloc: Global, report: &Report<'_>, err: &mut E) -> Re
     ensures told { OnOk result
         (WritesOrFails (E.output err.old) (E.output err.new)
         (stop_line (run_of report.now).cause
-        ++ gone_lines (session_of report.now).files (run_of report.now).machine.files)) }
+        ++ gone_lines (session_of report.now).files (run_of report.now).state.files)) }
     ensures memory { IfErr result (λ f. f ≡ RunFault.OutOfMemory) }
     ensures untold { OnErr result (err.new ≡ err.old) }
 {
@@ -162,7 +135,7 @@ fn report_run<S: FileSystem, O: Writer, E: Writer>(
     let Ok(()) = write_all(out, report.text()) else {
         return Err(RunFault::CannotWrite);
     };
-    write_changed(system, folders, report)?;
+    write_changed(system, folders, report.files(), report.journal())?;
     report_stop(system.alloc(), report, err)?;
     Ok(stop_status(report.cause()))
 }

@@ -163,7 +163,7 @@ fn append(
     at: usize,
     content: &Record,
 ) -> Result<(), AllocError>
-    requires place { at < 128 }
+    requires index { at < 128 }
     requires past { vec_len records.old ≤ at }
     ensures ok { OnOk result (PutsRecord (records_by_marks marks.old records.old.items) at content.now
         (records_by_marks marks.new records.new.items)) }

@@ -6,4 +6,4 @@
 mod extent;
 pub mod records;
 
-pub use records::{EXTENT_RECORDS, PLACES, RECORD_BYTES, Record, Records};
+pub use records::{EXTENT_RECORDS, RECORD_BYTES, RECORD_LIMIT, Record, Records};

@@ -15,7 +15,7 @@ pub const RECORD_BYTES: usize = 128;
 pub const EXTENT_RECORDS: u32 = 128;
 
 /// The maximum number of records in a file: 512 extents.
-pub const PLACES: u32 = 65_536;
+pub const RECORD_LIMIT: u32 = 65_536;
 
 /// A record: 128 bytes of a file [Interface Guide 1979, operating system call conventions].
 pub type Record = [u8; RECORD_BYTES];
@@ -53,28 +53,28 @@ impl Records {
     }
 
     /// Returns the record with this number, or `None` if none was written.
-    pub fn get(&self, place: u32) -> Option<&Record>
-        ensures { option_copied result ≡ finmap.get self.now place }
+    pub fn get(&self, record_number: u32) -> Option<&Record>
+        ensures { option_copied result ≡ finmap.get self.now record_number }
     {
         let extents = &self.extents;
-        if place >= PLACES {
+        if record_number >= RECORD_LIMIT {
             return None;
         }
-        match extent_at(extents, (place / EXTENT_RECORDS) as usize) {
-            Some(extent) => extent.get((place % EXTENT_RECORDS) as usize),
+        match extent_at(extents, (record_number / EXTENT_RECORDS) as usize) {
+            Some(extent) => extent.get((record_number % EXTENT_RECORDS) as usize),
             None => None,
         }
     }
 
     /// Sets the record with a number below 65,536. On `Err`, which means out of memory, nothing changes.
-    pub fn put(&mut self, place: u32, content: &Record) -> Result<(), AllocError>
-        requires { place < 65536 }
-        ensures ok { OnOk result (self.new ≡ finmap.insert self.old place content.now) }
+    pub fn put(&mut self, record_number: u32, content: &Record) -> Result<(), AllocError>
+        requires { record_number < 65536 }
+        ensures ok { OnOk result (self.new ≡ finmap.insert self.old record_number content.now) }
         ensures err { OnErr result (self.new ≡ self.old) }
     {
         let alloc = self.alloc;
-        let at = (place % EXTENT_RECORDS) as usize;
-        let number = (place / EXTENT_RECORDS) as usize;
+        let at = (record_number % EXTENT_RECORDS) as usize;
+        let number = (record_number / EXTENT_RECORDS) as usize;
         if number < self.extents.len() {
             if let Some(extent) = &mut self.extents[number] {
                 return extent.put(alloc, at, content);
@@ -92,8 +92,8 @@ impl Records {
         ensures { IfOk result (λ r. r ≡ zeros_at self.now from (to - from)) }
     {
         let mut records = self.snapshot()?;
-        for place in from..to {
-            records.put(place, &[0; RECORD_BYTES])?;
+        for number in from..to {
+            records.put(number, &[0; RECORD_BYTES])?;
         }
         Ok(records)
     }

@@ -15,7 +15,7 @@ use Rattle.report_lines.specs.FirstLines.{line, text_line}
 use Rattle.hex.specs.Hex.{encode_with, encode_lower, lower_digits}
 use Rattle.filenames.specs.Names.{Key, display_text}
 use Rattle.hostfiles.specs.Hosts.{Record, Host}
-use Rattle.report_lines.specs.ChangedLines.{records_text, file_text, changed_line, line_of_file, lines_of_files}
+use Rattle.report_lines.specs.ChangedLines.{records_text, changed_text, changed_line, line_of_file, lines_of_files}
 use Rattle.report_lines.specs.declared.changed_lines.FileFilter.{FileFilter}
 use Rattle.machine.proofs.ChangedFileLemmas.{told_laid, changed_keys_laid}
 use Rattle.hostfiles.specs.Files.{files}
@@ -142,16 +142,6 @@ name_of_pieces drive name dot kind drive' name' dot' kind' whole d n t k e = cc
 
 -- ---- the contents of a file
 
-record_of : (t : Option (List Record)) (k : ℕ) → option_and_then (λ f. slice_get f k) t ≡ slice_get (unwrap_or t []) k
-record_of None k = sym (slice_get_past [] k zero-le)
-record_of (Some f) k = refl
-
-pub record_here : (t : Option (List Record)) (k : ℕ) (r : Record) → Some r ≡ option_and_then (λ f. slice_get f k) t → slice_get (unwrap_or t []) k ≡ Some r
-record_here t k r h = sym (h ∙ record_of t k)
-
-pub no_record : (t : Option (List Record)) (k : ℕ) → k < length (unwrap_or t []) → None ≡ option_and_then (λ f. slice_get f k) t → ⊥
-no_record t k h none = let some = slice_get-get_or (unwrap_or t []) k [] h in let same = record_of t k in cc
-
 pub gone : (t : Option (List Record)) → None ≡ option_map length t → t ≡ None
 gone None h = refl
 gone (Some f) h = cc
@@ -160,16 +150,16 @@ pub there : (t : Option (List Record)) (n : ℕ) → Some n ≡ option_map lengt
 there None n h = cc
 there (Some f) n h = refl
 
-pub gone_line : (key : Key) (t file_contents : Option (List Record)) → t ≡ file_contents → t ≡ None → (codes "gone " ++ display_text key) ++ 10 ∷ [] ≡ changed_line key file_contents
-gone_line key t file_contents same none = sym (ap (λ t. line (file_text key t)) (sym same ∙ none))
+pub gone_line : (key : Key) (t : Option (List Record)) → t ≡ None → (codes "gone " ++ display_text key) ++ 10 ∷ [] ≡ changed_line key t
+gone_line key t none = sym (ap (λ t. line (changed_text key t)) none)
 
-pub file_line : (key : Key) (t file_contents : Option (List Record)) → t ≡ file_contents → t ≡ Some (unwrap_or t [])
-    → (((codes "file " ++ display_text key) ++ codes " ") ++ records_text (unwrap_or t [])) ++ 10 ∷ [] ≡ changed_line key file_contents
-file_line key t file_contents same some = sym (ap (λ t. line (file_text key t)) (sym same ∙ some))
+pub file_line : (key : Key) (t : Option (List Record)) → t ≡ Some (unwrap_or t [])
+    → (((codes "file " ++ display_text key) ++ codes " ") ++ records_text (unwrap_or t [])) ++ 10 ∷ [] ≡ changed_line key t
+file_line key t some = sym (ap (λ t. line (changed_text key t)) some)
 
 -- Equal files have equal contents.
-pub same_told : {host host' : Host} {own own' : OwnFiles} {key key' : Key} → host ≡ host' → own ≡ own' → key ≡ key' → file_contents host own key ≡ file_contents host' own' key'
-same_told h o k = cc
+pub same_contents : {host host' : Host} {own own' : OwnFiles} {key key' : Key} → host ≡ host' → own ≡ own' → key ≡ key' → file_contents host own key ≡ file_contents host' own' key'
+same_contents h o k = cc
 
 -- ---- a text of all changed files, of which each has a part
 

@@ -16,13 +16,13 @@ records_text [] = codes "-"
 records_text (r ∷ rs) = encode_lower (concat (r ∷ rs))
 
 -- The text of a changed file: all of its records, or that it is gone.
-abbrev pub file_text : Key → Option (List Record) → List ℕ
-file_text key None = codes "gone " ++ display_text key
-file_text key (Some records) = codes "file " ++ display_text key ++ codes " " ++ records_text records
+abbrev pub changed_text : Key → Option (List Record) → List ℕ
+changed_text key None = codes "gone " ++ display_text key
+changed_text key (Some records) = codes "file " ++ display_text key ++ codes " " ++ records_text records
 
 -- The line of a changed file.
 abbrev pub changed_line : Key → Option (List Record) → List ℕ
-changed_line key told = line (file_text key told)
+changed_line key told = line (changed_text key told)
 
 -- The line of a changed file that is gone; nothing for a file that is there.
 abbrev pub gone_line : Key → Option (List Record) → List ℕ

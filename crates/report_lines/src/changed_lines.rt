@@ -2,8 +2,8 @@
 
 ghost use Rattle.std.specs.Prelude.{◌≡◌, ◌^◌, ◌<◌, ◌++◌, [], length, unwrap_or};
 ghost use Rattle.filenames.specs.Names.{display_text};
-ghost use Rattle.hostfiles.specs.Files.{files, file_contents};
-ghost use Rattle.hostfiles.specs.FileView.{view_own};
+ghost use Rattle.hostfiles.specs.Files.{files};
+ghost use Rattle.hostfiles.specs.FileView.{view_contents};
 ghost use Rattle.report_lines.specs.ChangedLines.{records_text, changed_line, gone_line, line_of_file, lines_of_files};
 ghost use Rattle.report_lines.specs.Streams.{WritesText};
 
@@ -11,7 +11,7 @@ use crate::hex_writer::write_hex;
 use crate::streams::{Failed, Writer, write_all};
 use arrayvec::ArrayVec;
 use filenames::Pieces;
-use hostfiles::{FileView, HostFiles, Journal, Name, contents_count, next_changed};
+use hostfiles::{ChangedFile, FileView, HostFiles, Journal, Name, next_changed};
 
 /// Which changed files are reported.
 #[derive(Clone, Copy, Debug, PartialEq, Eq)]
@@ -35,9 +35,9 @@ pub fn write_changed_files<W: Writer>(
         (lines_of_files filter host.now (files host.now journal.now.entries)) result }
 {
     let mut after: Option<Name> = None;
-    while let Some(name) = next_changed(host, journal, after.as_ref()) {
-        write_filtered(writer, filter, host, journal, &name)?;
-        after = Some(name);
+    while let Some(changed) = next_changed(host, journal, after.as_ref()) {
+        write_filtered(writer, filter, &changed)?;
+        after = Some(changed.name);
     }
     Ok(())
 }
@@ -46,56 +46,43 @@ pub fn write_changed_files<W: Writer>(
 fn write_filtered<W: Writer>(
     writer: &mut W,
     filter: FileFilter,
-    host: &HostFiles,
-    journal: &Journal,
-    name: &Name,
+    changed: &ChangedFile<'_>,
 ) -> Result<(), Failed>
     requires { (W.output writer.old).failures < 2 ^ 63 }
     ensures { WritesText (W.output writer.old) (W.output writer.new)
-        (line_of_file filter name.now (file_contents host.now journal.now.entries name.now)) result }
+        (line_of_file filter changed.now.name (view_contents changed.now.file)) result }
 {
     match filter {
-        FileFilter::All => write_changed(writer, host, journal, name),
-        FileFilter::GoneOnly => write_gone(writer, host, journal, name),
+        FileFilter::All => write_changed(writer, changed),
+        FileFilter::GoneOnly => write_gone(writer, changed),
     }
 }
 
 // Writes the line of a file that is gone, and nothing for a file that is there.
-fn write_gone<W: Writer>(
-    writer: &mut W,
-    host: &HostFiles,
-    journal: &Journal,
-    name: &Name,
-) -> Result<(), Failed>
+fn write_gone<W: Writer>(writer: &mut W, changed: &ChangedFile<'_>) -> Result<(), Failed>
     requires { (W.output writer.old).failures < 2 ^ 63 }
     ensures { WritesText (W.output writer.old) (W.output writer.new)
-        (gone_line name.now (file_contents host.now journal.now.entries name.now)) result }
+        (gone_line changed.now.name (view_contents changed.now.file)) result }
 {
-    if contents_count(host, journal, &name.key()).is_some() {
+    if changed.file.records().is_some() {
         return Ok(());
     }
-    write_changed(writer, host, journal, name)
+    write_changed(writer, changed)
 }
 
 // Writes the line of a changed file.
-fn write_changed<W: Writer>(
-    writer: &mut W,
-    host: &HostFiles,
-    journal: &Journal,
-    name: &Name,
-) -> Result<(), Failed>
+fn write_changed<W: Writer>(writer: &mut W, changed: &ChangedFile<'_>) -> Result<(), Failed>
     requires { (W.output writer.old).failures < 2 ^ 63 }
     ensures { WritesText (W.output writer.old) (W.output writer.new)
-        (changed_line name.now (file_contents host.now journal.now.entries name.now)) result }
+        (changed_line changed.now.name (view_contents changed.now.file)) result }
 {
-    let file = FileView::find(host, journal, &name.key());
-    let Some(count) = file.contents_count() else {
-        write_head(writer, b"gone ", name)?;
+    let Some(count) = changed.file.records() else {
+        write_head(writer, b"gone ", &changed.name)?;
         return write_all(writer, b"\n");
     };
-    write_head(writer, b"file ", name)?;
+    write_head(writer, b"file ", &changed.name)?;
     write_all(writer, b" ")?;
-    write_records(writer, &file, count)?;
+    write_records(writer, &changed.file, count)?;
     write_all(writer, b"\n")
 }
 
@@ -129,18 +116,16 @@ fn write_name<W: Writer>(writer: &mut W, name: &Name) -> Result<(), Failed>
 // Writes all records of a file, with zeros in its holes, or `-` if it has none.
 fn write_records<W: Writer>(writer: &mut W, file: &FileView<'_>, count: u32) -> Result<(), Failed>
     requires room { (W.output writer.old).failures < 2 ^ 63 }
-    requires count { count ≡
-        length (unwrap_or (file_contents file.now.host.now (view_own file.now) file.now.key) []) }
+    requires count { count ≡ length (unwrap_or (view_contents file.now) []) }
     ensures { WritesText (W.output writer.old) (W.output writer.new)
-        (records_text (unwrap_or (file_contents file.now.host.now (view_own file.now) file.now.key) []))
-        result }
+        (records_text (unwrap_or (view_contents file.now) [])) result }
 {
     if count == 0 {
         return write_all(writer, b"-");
     }
     let mut block = ArrayVec::<u8, 2048>::new();
-    for place in 0..count {
-        let Some(record) = file.contents_record(place).copied() else {
+    for number in 0..count {
+        let Some(record) = file.contents_record(number).copied() else {
             unreachable!();
         };
         if block.remaining_capacity() < record.len() {

@@ -9,7 +9,7 @@ pub loop-name-init : goal.loop-name-init
 loop-name-init g c = (
   c.new-listing.ensures.drive,
   same_files c.in_ok-names.ensures.unchanged,
-  none_listed_if_told (drive_number c.args.drive) c.args.folder.now _ _ (g.S.FileSystem.files c.args.system.now).bytes c.new-listing.ensures.files c.new-listing.ensures.twice,
+  none_listed_if_told (drive_number c.args.drive) c.args.folder.now _ _ (g.S.FileSystem.files c.args.system.now).bytes c.new-listing.ensures.files c.new-listing.ensures.duplicate,
 )
 
 pub add_file-requires : goal.add_file-requires

@@ -7,4 +7,4 @@ use Rattle.folders.proofs.reading.list.Given as goal
 abbrev pub invariant-loop-name : goal.invariant-loop-name
 invariant-loop-name g l = (l.listing.drive ≡ l.fn.drive)
     × (g.S.FileSystem.files l.system ≡ g.S.FileSystem.files l.fn.system)
-    × IfSome (g.S.FileSystem.files l.fn.system).bytes (λ stored. ListsFolder stored (drive_number l.fn.drive) l.folder (take l.name-index (map string_bytes l.name-items)) l.listing.files l.listing.twice)
+    × IfSome (g.S.FileSystem.files l.fn.system).bytes (λ stored. ListsFolder stored (drive_number l.fn.drive) l.folder (take l.name-index (map string_bytes l.name-items)) l.listing.files l.listing.duplicate)

@@ -9,7 +9,7 @@ returns-clause-read g c =
     let listing = c.in-Ok-list.listing in
     on_ok_weaker c.read_listed.result
     (λ read. folder_read (g.S.FileSystem.files c.args.system.now).bytes ((g.S.FileSystem.files c.args.system.now).names c.args.folder.now) (drive_number c.args.drive) c.args.folder.now
-    listing.files listing.twice c.args.files.now c.read_listed.new.files c.in-Ok-list.ensures.lists c.in_default-twice.is c.requires.none c.read_listed.ensures.others
+    listing.files listing.duplicate c.args.files.now c.read_listed.new.files c.in-Ok-list.ensures.lists c.in_default-duplicate.is c.requires.none c.read_listed.ensures.others
     (rw c.list.ensures.unchanged.bytes at read))
     c.read_listed.ensures.read
 
@@ -17,6 +17,6 @@ pub returns-clause-fault : goal.returns-clause-fault
 returns-clause-fault g c =
     let listing = c.in-Ok-list.listing in
     folder_fails (g.S.FileSystem.files c.args.system.now) (drive_number c.args.drive) c.args.folder.now
-    listing.files listing.twice c.read_listed.new.files c.read_listed.result c.in-Ok-list.ensures.lists c.in_default-twice.is
+    listing.files listing.duplicate c.read_listed.new.files c.read_listed.result c.in-Ok-list.ensures.lists c.in_default-duplicate.is
     (rw c.in-Ok-list.ensures.drive at listing.on_drive)
     (rw c.list.ensures.unchanged.bytes at c.read_listed.ensures.fault)

@@ -1,6 +1,6 @@
 use Rattle.hostfiles.proofs.FileLemmas.{get-files, files-made, files-deleted}
-use Rattle.hostfiles.proofs.LaidLemmas.{files-wrote, files-renamed, files-counted, files-read}
-use Rattle.hostfiles.proofs.FilledLemmas.{files-filled}
+use Rattle.hostfiles.proofs.LaidLemmas.{files-renamed, files-counted, files-read}
+use Rattle.hostfiles.proofs.WriteLemmas.{files-wrote}
 use Rattle.hostfiles.proofs.laid.files_are_laid.Goals as goal
 
 pub returns : goal.returns
@@ -11,6 +11,5 @@ returns c = λ host own. record {
   made_one = files-made host own;
   deleted_one = files-deleted host own;
   written_one = files-wrote host own;
-  filled_one = files-filled host own;
   renamed_one = files-renamed host own;
 }

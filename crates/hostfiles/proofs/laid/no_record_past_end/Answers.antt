@@ -1,4 +1,4 @@
-use Rattle.hostfiles.proofs.EndLemmas.{ends_start, ends_made, ends_deleted, ends_wrote, ends_filled, ends_renamed}
+use Rattle.hostfiles.proofs.EndLemmas.{ends_start, ends_made, ends_deleted, ends_wrote, ends_renamed}
 use Rattle.hostfiles.proofs.laid.no_record_past_end.Goals as goal
 
 pub returns : goal.returns
@@ -7,6 +7,5 @@ returns c = λ host. record {
   made_one = ends_made host;
   deleted_one = ends_deleted host;
   written_one = ends_wrote host;
-  filled_one = ends_filled host;
   renamed_one = ends_renamed host;
 }

@@ -21,7 +21,7 @@ returns-clause-ok c =
     let marks = c.loop-records.marks in
     let before = c.loop-records.records.items in
     let last : c.args.at ≡ length before = omega (arith, c.loop-records.invariant.within, c.loop-records.records.ok.0, c.loop-records-test.false, c.len.ensures) in
-    let room : length before < length marks = omega (arith, c.loop-records.records.ok.0, c.loop-records.invariant.within, c.requires.place) in
+    let room : length before < length marks = omega (arith, c.loop-records.records.ok.0, c.loop-records.invariant.within, c.requires.index) in
     λ q. ap (λ n. get_or (records_by_marks (set marks n true) c.push-2.new.self.items) q None) last
     ∙ marked_push marks before c.push-2.new.self.items c.args.content.now c.in_ok-push-2.ensures.items room q
     ∙ ap (λ n. cond (q == n) (Some c.args.content.now) (get_or (records_by_marks marks before) q None)) (sym last)

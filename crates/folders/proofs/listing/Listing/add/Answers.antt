@@ -11,5 +11,5 @@ invariant_of-self-2 c =
     record {
       names = put_or_not (λ k. is_sayable k ≡ true) _ _ key _ c.insert.result c.insert.ensures.ok c.insert.ensures.err c.key-key.ensures.sayable own.names;
       on_drive = put_or_not (λ k. slice_index k 0 ≡ drive_number own.drive) _ _ key _ c.insert.result c.insert.ensures.ok c.insert.ensures.err (search rules) own.on_drive;
-      twice_there = λ k h. still_there _ _ key _ c.insert.result c.insert.ensures.ok c.insert.ensures.err k (own.twice_there k h);
+      duplicate_there = λ k h. still_there _ _ key _ c.insert.result c.insert.ensures.ok c.insert.ensures.err k (own.duplicate_there k h);
     }

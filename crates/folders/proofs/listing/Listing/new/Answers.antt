@@ -7,5 +7,5 @@ pub invariant_of-result : goal.invariant_of-result
 invariant_of-result c = record {
   names = λ k h. absurd (none_there _ k (ap (λ m. contains_key m k) (sym c.new.ensures) ∙ h));
   on_drive = λ k h. absurd (none_there _ k (ap (λ m. contains_key m k) (sym c.new.ensures) ∙ h));
-  twice_there = λ k h. cc;
+  duplicate_there = λ k h. cc;
 }
