@@ -48,14 +48,14 @@ return_with value r spot to cells change = Return (Completed (at_caller value to
 
 -- The three bytes that hold a sequential record number of at most 65,536.
 abbrev pub place_cells : ℕ → ℕ → List (ℕ × ℕ)
-place_cells at place = (onward at 12, place / 128 % 32) ∷ (onward at 14, place / 4096 % 256) ∷ (onward at 32, place % 128) ∷ []
+place_cells at number = (onward at 12, number / 128 % 32) ∷ (onward at 14, number / 4096 % 256) ∷ (onward at 32, number % 128) ∷ []
 
 -- The three bytes that hold a random record number, the low byte first.
 unfoldable pub random_bytes : ℕ → List ℕ
-random_bytes place = place % 256 ∷ (place / 256 % 256) ∷ (place / 65536 % 256) ∷ []
+random_bytes number = number % 256 ∷ (number / 256 % 256) ∷ (number / 65536 % 256) ∷ []
 
 abbrev pub random_cells : ℕ → ℕ → List (ℕ × ℕ)
-random_cells at place = cells_from (onward at 33) (random_bytes place)
+random_cells at number = cells_from (onward at 33) (random_bytes number)
 
 -- The bytes 13 to 31 of a control block that is opened at an extent with this record count, and of one whose file is made.
 unfoldable pub opened_bytes : ℕ → List ℕ
@@ -80,7 +80,7 @@ call_with_finding (finding.Make key) r spot to = return_with 0 r spot to (cells_
 call_with_finding (finding.Rename old new) r spot to = return_with 0 r spot to [] (Renamed old new)
 call_with_finding (finding.Length n) r spot to = return_with 0 r spot to (random_cells (word r.e r.d) n) Unchanged
 call_with_finding finding.NoLength r spot to = return_with 0xff r spot to (random_cells (word r.e r.d) 0) Unchanged
-call_with_finding (finding.RandomPlace place) r spot to = return_with 0 r spot to (random_cells (word r.e r.d) place) Unchanged
+call_with_finding (finding.RandomPlace number) r spot to = return_with 0 r spot to (random_cells (word r.e r.d) number) Unchanged
 
 -- A call with a control block reads the drive byte first; if that names no drive, the call stops. Then it reads the rest of the
 -- control block, and then the return address.

@@ -3,7 +3,6 @@ use Rattle.std.specs.Prelude.{ℕ, Bool, true, false, List, is_some}
 use Rattle.i8080.specs.declared.registers.Regs.{Regs}
 use Rattle.i8080.specs.Registers.{word}
 use Rattle.console_calls.specs.declared.desk.Spot.{Spot}
-use Rattle.console_calls.specs.Functions.{function_of}
 use Rattle.console_calls.specs.Growth as console
 use Rattle.file_calls.specs.declared.finding.Finding.{Finding}
 use Rattle.file_calls.specs.declared.finding.Finding.TheVariants as finding
@@ -21,7 +20,7 @@ abbrev pub may_grow : SystemFunction → Regs → Spot → (ℕ → ℕ) → Lis
 may_grow (OfFile f) r spot byte script = names_drive r spot byte
 may_grow SearchNext r spot byte script = is_some spot.search
 may_grow DeleteFile r spot byte script = names_drive r spot byte
-may_grow OfDesk r spot byte script = console.may_grow (function_of r.c) r spot script
+may_grow OfDesk r spot byte script = console.may_grow r spot script
 
 -- Whether a finding makes the call write or do something.
 abbrev pub is_done : Finding → Bool

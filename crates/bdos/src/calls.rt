@@ -2,16 +2,19 @@ ghost use Rattle.std.specs.Prelude.{◌≡◌, ◌≤◌, List, ℕ, true, is_so
 ghost use Rattle.file_calls.specs.TableView.{table_view};
 ghost use Rattle.i8080.specs.Memory.{bytes};
 ghost use Rattle.i8080.specs.Performs.{Reads};
-ghost use Rattle.bdos.specs.FileCalls.{file_call, delete_call, search_next_call, drive_of_byte, block_reading};
+ghost use Rattle.bdos.specs.FileCalls.{file_call, delete_call, search_next_call, drive_of_byte};
+ghost use Rattle.bdos.specs.FileCalls.{block_reading};
+ghost use Rattle.bdos.specs.BlockParts.{byte_count};
+ghost use Rattle.file_calls.specs.Findings.{block_length};
 ghost use Rattle.bdos.specs.SystemCalls.{call, system_function};
 ghost use Rattle.bdos.specs.Growth.{may_grow, names_drive};
-ghost use Rattle.bdos.specs.PerformsSystemCall.{Serves};
-ghost use Rattle.bdos.specs.PerformsSystemCall.{PerformsSystemCall, scene};
+ghost use Rattle.bdos.specs.PerformsSystemCall.{MakesSystemCall};
+ghost use Rattle.console_calls.specs.PerformsCall.{scene};
 
 use crate::cells::fetch_cells;
 use crate::findings::apply_finding;
 use crate::function::SystemFunction;
-use console_calls::{Cause, Desk, Served, give_back};
+use console_calls::{Cause, Desk, Served, console_call, return_to};
 use cpmfiles::Table;
 use file_calls::{Block, FileFunction, delete_files, search_next};
 use filenames::{Drive, Fcb};
@@ -35,9 +38,9 @@ pub fn call<B: Bus>(
     desk: &mut Desk,
     script: &[u8],
 ) -> Result<Served, AllocError>
-    ensures serves { (n : ℕ) → length script.now ≤ n → Serves n script.now
-        (scene regs.old (B.memory bus.old) desk.old (table_view table.old)) result
-        (scene regs.new (B.memory bus.new) desk.new (table_view table.new)) }
+    ensures makes { (n : ℕ) → length script.now ≤ n → MakesSystemCall (call n) script.now
+        (scene regs.old (B.memory bus.old) desk.old) (table_view table.old) result
+        (scene regs.new (B.memory bus.new) desk.new) (table_view table.new) }
     ensures grows { OnErr result (may_grow (system_function regs.old.c) regs.old desk.old.desk.spot
         (bytes (B.memory bus.old)) script.now ≡ true) }
 {
@@ -45,7 +48,7 @@ pub fn call<B: Bus>(
         SystemFunction::OfFile(function) => file_call(regs, bus, table, desk, function),
         SystemFunction::SearchNext => search_next_call(regs, bus, table, desk),
         SystemFunction::DeleteFile => delete_call(regs, bus, table, desk),
-        SystemFunction::OfDesk => console_calls::call(regs, bus, desk, script),
+        SystemFunction::OfDesk => console_call(regs, bus, desk, script),
     }
 }
 
@@ -58,10 +61,9 @@ fn file_call<B: Bus>(
     desk: &mut Desk,
     function: FileFunction,
 ) -> Result<Served, AllocError>
-    ensures fulfils { (script : List ℕ)
-        → PerformsSystemCall (file_call function regs.old desk.old.desk.spot) script
-        (scene regs.old (B.memory bus.old) desk.old (table_view table.old)) result
-        (scene regs.new (B.memory bus.new) desk.new (table_view table.new)) }
+    ensures makes { (script : List ℕ) → MakesSystemCall (file_call function) script
+        (scene regs.old (B.memory bus.old) desk.old) (table_view table.old) result
+        (scene regs.new (B.memory bus.new) desk.new) (table_view table.new) }
     ensures grows { OnErr result
         (names_drive regs.old desk.old.desk.spot (bytes (B.memory bus.old)) ≡ true) }
 {
@@ -70,7 +72,7 @@ fn file_call<B: Bus>(
     let Some(drive) = drive_of_byte(desk.drive(), dr) else {
         return Ok(Served::Stop(Cause::BadDrive(dr)));
     };
-    let block = fetch_block(bus, at, drive, dr, function.has_random_place());
+    let block = fetch_block(bus, at, drive, dr, block_length(function));
     let to = fetch_word(bus, regs.sp);
     match &function.inquire(table.host, table.changes, &block) {
         Ok(finding) => apply_finding(finding, regs, bus, table, desk, to),
@@ -86,9 +88,9 @@ fn delete_call<B: Bus>(
     table: &mut Table<'_>,
     desk: &Desk,
 ) -> Result<Served, AllocError>
-    ensures fulfils { (script : List ℕ) → PerformsSystemCall (delete_call regs.old desk.now.desk.spot) script
-        (scene regs.old (B.memory bus.old) desk.now (table_view table.old)) result
-        (scene regs.new (B.memory bus.new) desk.now (table_view table.new)) }
+    ensures makes { (script : List ℕ) → MakesSystemCall delete_call script
+        (scene regs.old (B.memory bus.old) desk.now) (table_view table.old) result
+        (scene regs.new (B.memory bus.new) desk.now) (table_view table.new) }
     ensures grows { OnErr result
         (names_drive regs.old desk.now.desk.spot (bytes (B.memory bus.old)) ≡ true) }
 {
@@ -97,10 +99,10 @@ fn delete_call<B: Bus>(
     let Some(drive) = drive_of_byte(desk.drive(), dr) else {
         return Ok(Served::Stop(Cause::BadDrive(dr)));
     };
-    let block = fetch_block(bus, at, drive, dr, false);
+    let block = fetch_block(bus, at, drive, dr, BlockLength::Sequential);
     let to = fetch_word(bus, regs.sp);
     let value = deletion_value(delete_files(table, &block)?);
-    give_back(regs, value, to);
+    return_to(regs, value, to);
     Ok(Served::Went)
 }
 
@@ -119,10 +121,9 @@ fn search_next_call<B: Bus>(
     table: &mut Table<'_>,
     desk: &mut Desk,
 ) -> Result<Served, AllocError>
-    ensures fulfils { (script : List ℕ)
-        → PerformsSystemCall (search_next_call regs.old desk.old.desk.spot) script
-        (scene regs.old (B.memory bus.old) desk.old (table_view table.old)) result
-        (scene regs.new (B.memory bus.new) desk.new (table_view table.new)) }
+    ensures makes { (script : List ℕ) → MakesSystemCall search_next_call script
+        (scene regs.old (B.memory bus.old) desk.old) (table_view table.old) result
+        (scene regs.new (B.memory bus.new) desk.new) (table_view table.new) }
     ensures grows { OnErr result (is_some desk.old.desk.spot.search ≡ true) }
 {
     let to = fetch_word(bus, regs.sp);
@@ -140,21 +141,36 @@ fn drive_of_byte(current: Drive, dr: u8) -> Option<Drive>
     }
 }
 
-// Reads the control block at an address, whose drive byte was already read: 36 bytes, or 33 bytes followed by zeros.
-fn fetch_block<B: Bus>(bus: &mut B, at: u16, drive: Drive, dr: u8, whole: bool) -> Block
-    ensures { let length = if whole then 36 else 33 in
-        Reads (block_reading drive dr length at) (B.memory bus.old) result (B.memory bus.new) }
+/// The part of a control block that a call reads.
+#[derive(Clone, Copy)]
+pub(crate) enum BlockLength {
+    /// 33 bytes: all but the random record number.
+    Sequential,
+    /// 36 bytes.
+    Random,
+}
+
+// Returns the part of a control block that a call reads.
+fn block_length(function: FileFunction) -> BlockLength
+    ensures { byte_count result ≡ block_length function }
+{
+    if function.has_random_place() {
+        return BlockLength::Random;
+    }
+    BlockLength::Sequential
+}
+
+// Reads the control block at an address, whose drive byte was already read. Bytes that are not read are zeros.
+fn fetch_block<B: Bus>(bus: &mut B, at: u16, drive: Drive, dr: u8, length: BlockLength) -> Block
+    ensures { Reads (block_reading drive dr (byte_count length) at)
+        (B.memory bus.old) result (B.memory bus.new) }
 {
     let mut bytes = [0; 36];
     bytes[0] = dr;
-    if whole {
-        fetch_cells(bus, at.wrapping_add(1), &mut bytes[1..]);
-        return Block {
-            drive,
-            fcb: Fcb::from_bytes(&bytes),
-        };
+    match length {
+        BlockLength::Sequential => fetch_cells(bus, at.wrapping_add(1), &mut bytes[1..33]),
+        BlockLength::Random => fetch_cells(bus, at.wrapping_add(1), &mut bytes[1..]),
     }
-    fetch_cells(bus, at.wrapping_add(1), &mut bytes[1..33]);
     Block {
         drive,
         fcb: Fcb::from_bytes(&bytes),

@@ -62,18 +62,18 @@ pub fn ready_place<B: Bus>(bus: &mut B, at: u16) -> Result<(), AllocError>
 }
 
 /// Writes the sequential record number of a control block, whose three bytes are ready.
-pub fn write_place<B: Bus>(bus: &mut B, at: u16, place: u32)
+pub fn write_place<B: Bus>(bus: &mut B, at: u16, record_number: u32)
     requires extent { IsTrue (B.is_ready bus.old (onward at 12)) }
     requires high { IsTrue (B.is_ready bus.old (onward at 14)) }
     requires low { IsTrue (B.is_ready bus.old (onward at 32)) }
-    ensures own { (B.memory bus.new).own ≡ write_all (B.memory bus.old).own (place_cells at place) }
+    ensures own { (B.memory bus.new).own ≡ write_all (B.memory bus.old).own (place_cells at record_number) }
     ensures looks { (B.memory bus.new).looks ≡ (B.memory bus.old).looks }
     ensures beneath { (B.memory bus.new).beneath ≡ (B.memory bus.old).beneath }
     ensures lender { (B.memory bus.new).lender ≡ (B.memory bus.old).lender }
 {
-    bus.write(at.wrapping_add(12), (place / 128 % 32) as u8);
-    bus.write(at.wrapping_add(14), (place / 4096 % 256) as u8);
-    bus.write(at.wrapping_add(32), (place % 128) as u8);
+    bus.write(at.wrapping_add(12), (record_number / 128 % 32) as u8);
+    bus.write(at.wrapping_add(14), (record_number / 4096 % 256) as u8);
+    bus.write(at.wrapping_add(32), (record_number % 128) as u8);
 }
 
 /// Writes a record into the buffer, and then the sequential record number of a control block, after all cells are
@@ -84,15 +84,15 @@ pub fn put_record<B: Bus>(
     buffer: u16,
     bytes: &[u8],
     at: u16,
-    place: u32,
+    record_number: u32,
 ) -> Result<(), AllocError>
     requires bytes { length bytes.now ≤ 128 }
-    ensures { Writes (cells_from buffer bytes.now ++ place_cells at place)
+    ensures { Writes (cells_from buffer bytes.now ++ place_cells at record_number)
         (B.memory bus.old) result (B.memory bus.new) }
 {
     bus.ready_cells(buffer, bytes.len() as u16)?;
     ready_place(bus, at)?;
     bus.write_cells(buffer, bytes);
-    write_place(bus, at, place);
+    write_place(bus, at, record_number);
     Ok(())
 }

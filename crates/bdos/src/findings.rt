@@ -11,11 +11,12 @@ ghost use Rattle.i8080.specs.End.{cells_from};
 ghost use Rattle.i8080.specs.Registers.{word};
 ghost use Rattle.bdos.specs.FileCalls.{call_with_finding, return_with, directory_record, random_cells};
 ghost use Rattle.bdos.specs.FileCalls.{random_bytes, opened_bytes, made_bytes};
-ghost use Rattle.bdos.specs.PerformsSystemCall.{PerformsSystemCall, scene};
+ghost use Rattle.bdos.specs.PerformsSystemCall.{MakesSystemCall};
+ghost use Rattle.console_calls.specs.PerformsCall.{scene};
 ghost use Rattle.bdos.specs.Growth.{is_done};
 
 use crate::cells::{fetch_cells, put_cells, put_record, ready_place, write_place};
-use console_calls::{Desk, Served, give_back};
+use console_calls::{Desk, Served, return_to};
 use cpmfiles::{Key, RECORD_BYTES, Record, Table};
 use directory::Search;
 use file_calls::{Finding, Write};
@@ -38,42 +39,42 @@ pub fn apply_finding<B: Bus>(
     to: u16,
 ) -> Result<Served, AllocError>
     requires { HasDistinctKeys finding.now }
-    ensures fulfils { (script : List ℕ) →
-        PerformsSystemCall (call_with_finding finding.now regs.old desk.old.desk.spot to) script
-        (scene regs.old (B.memory bus.old) desk.old (table_view table.old)) result
-        (scene regs.new (B.memory bus.new) desk.new (table_view table.new)) }
+    ensures makes { (script : List ℕ) →
+        MakesSystemCall (λ r spot. call_with_finding finding.now r spot to) script
+        (scene regs.old (B.memory bus.old) desk.old) (table_view table.old) result
+        (scene regs.new (B.memory bus.new) desk.new) (table_view table.new) }
     ensures grows { OnErr result (is_done finding.now ≡ true) }
 {
     match finding {
-        Finding::Value(value) => Ok(give_nothing(regs, bus, desk, *value, to)),
-        Finding::Opened(count) => give_count(regs, bus, desk, *count, to),
-        Finding::FirstEntry(search) => give_entry(regs, bus, desk, search, to),
-        Finding::NoEntry => Ok(give_no_entry(regs, bus, desk, to)),
-        Finding::Found(bytes, next) => give_record(regs, bus, desk, bytes, *next, to),
+        Finding::Value(value) => Ok(return_value(regs, bus, desk, *value, to)),
+        Finding::Opened(count) => return_count(regs, bus, desk, *count, to),
+        Finding::FirstEntry(search) => return_entry(regs, bus, desk, search, to),
+        Finding::NoEntry => Ok(return_no_entry(regs, bus, desk, to)),
+        Finding::Found(bytes, next) => return_record(regs, bus, desk, bytes, *next, to),
         Finding::Write(write) => store(regs, bus, table, desk, write, to),
         Finding::Make(key) => make(regs, bus, table, desk, key, to),
         Finding::Rename(old, new) => rename(regs, bus, table, desk, (*old, *new), to),
-        Finding::Length(places) => give_place(regs, bus, desk, *places, 0, to),
-        Finding::NoLength => give_place(regs, bus, desk, 0, 0xff, to),
-        Finding::RandomPlace(place) => give_place(regs, bus, desk, *place, 0, to),
+        Finding::Length(length) => return_place(regs, bus, desk, *length, 0, to),
+        Finding::NoLength => return_place(regs, bus, desk, 0, 0xff, to),
+        Finding::RandomPlace(number) => return_place(regs, bus, desk, *number, 0, to),
     }
 }
 
 // Completes a call with a value and does nothing else.
 #[tactic(auto, using(crate::proofs::Parts::still_looked_at))]
-fn give_nothing<B: Bus>(regs: &mut Regs, bus: &B, desk: &Desk, value: u8, to: u16) -> Served
+fn return_value<B: Bus>(regs: &mut Regs, bus: &B, desk: &Desk, value: u8, to: u16) -> Served
     ensures { (script : List ℕ) (v : TableView) →
-        PerformsSystemCall (call_with_finding (finding.Value value) regs.old desk.now.desk.spot to) script
-        (scene regs.old (B.memory bus.now) desk.now v) (Ok result)
-        (scene regs.new (B.memory bus.now) desk.now v) }
+        MakesSystemCall (λ r spot. call_with_finding (finding.Value value) r spot to) script
+        (scene regs.old (B.memory bus.now) desk.now) v (Ok result)
+        (scene regs.new (B.memory bus.now) desk.now) v }
 {
-    give_back(regs, value as u16, to);
+    return_to(regs, value as u16, to);
     Served::Went
 }
 
 // Clears the bytes 13 to 31 of the control block, except byte 15, which gets the record count of the opened extent.
 #[tactic(auto, using(crate::proofs::Parts::still_looked_at))]
-fn give_count<B: Bus>(
+fn return_count<B: Bus>(
     regs: &mut Regs,
     bus: &mut B,
     desk: &Desk,
@@ -81,50 +82,50 @@ fn give_count<B: Bus>(
     to: u16,
 ) -> Result<Served, AllocError>
     ensures { (script : List ℕ) (v : TableView) →
-        PerformsSystemCall (call_with_finding (finding.Opened count) regs.old desk.now.desk.spot to) script
-        (scene regs.old (B.memory bus.old) desk.now v) result
-        (scene regs.new (B.memory bus.new) desk.now v) }
+        MakesSystemCall (λ r spot. call_with_finding (finding.Opened count) r spot to) script
+        (scene regs.old (B.memory bus.old) desk.now) v result
+        (scene regs.new (B.memory bus.new) desk.now) v }
 {
     let at = word_of(regs.e, regs.d).wrapping_add(13);
-    give_cells(regs, bus, at, &opened_bytes(count), 0, to)
+    return_cells(regs, bus, at, &opened_bytes(count), 0, to)
 }
 
 // Writes a random record number into the bytes 33 to 35 of the control block, and completes the call with a value.
 #[tactic(auto, using(crate::proofs::Parts::still_looked_at))]
-fn give_place<B: Bus>(
+fn return_place<B: Bus>(
     regs: &mut Regs,
     bus: &mut B,
     desk: &Desk,
-    place: u32,
+    record_number: u32,
     value: u8,
     to: u16,
 ) -> Result<Served, AllocError>
     ensures { (script : List ℕ) (v : TableView) →
-        let cells = random_cells (word regs.old.e regs.old.d) place in
-        PerformsSystemCall (return_with value regs.old desk.now.desk.spot to cells Unchanged) script
-        (scene regs.old (B.memory bus.old) desk.now v) result
-        (scene regs.new (B.memory bus.new) desk.now v) }
+        let cells = random_cells (word regs.old.e regs.old.d) record_number in
+        MakesSystemCall (λ r spot. return_with value r spot to cells Unchanged) script
+        (scene regs.old (B.memory bus.old) desk.now) v result
+        (scene regs.new (B.memory bus.new) desk.now) v }
 {
     let at = word_of(regs.e, regs.d).wrapping_add(33);
-    give_cells(regs, bus, at, &random_bytes(place), value, to)
+    return_cells(regs, bus, at, &random_bytes(record_number), value, to)
 }
 
 // Completes a call whose search matches no entry, which ends the search.
 #[tactic(auto, using(crate::proofs::Parts::still_looked_at))]
-fn give_no_entry<B: Bus>(regs: &mut Regs, bus: &B, desk: &mut Desk, to: u16) -> Served
+fn return_no_entry<B: Bus>(regs: &mut Regs, bus: &B, desk: &mut Desk, to: u16) -> Served
     ensures { (script : List ℕ) (v : TableView) →
-        PerformsSystemCall (call_with_finding finding.NoEntry regs.old desk.old.desk.spot to) script
-        (scene regs.old (B.memory bus.now) desk.old v) (Ok result)
-        (scene regs.new (B.memory bus.now) desk.new v) }
+        MakesSystemCall (λ r spot. call_with_finding finding.NoEntry r spot to) script
+        (scene regs.old (B.memory bus.now) desk.old) v (Ok result)
+        (scene regs.new (B.memory bus.now) desk.new) v }
 {
     desk.set_search(None);
-    give_back(regs, 0xff, to);
+    return_to(regs, 0xff, to);
     Served::Went
 }
 
 // Writes bytes into the cells from an address on, and completes the call with a value.
 #[tactic(auto, using(crate::proofs::Parts::still_looked_at))]
-fn give_cells<B: Bus>(
+fn return_cells<B: Bus>(
     regs: &mut Regs,
     bus: &mut B,
     at: u16,
@@ -134,19 +135,18 @@ fn give_cells<B: Bus>(
 ) -> Result<Served, AllocError>
     requires { length bytes.now ≤ 128 }
     ensures { (script : List ℕ) (d : DeskLooks) (v : TableView) →
-        PerformsSystemCall
-        (return_with value regs.old d.desk.spot to (cells_from at bytes.now) Unchanged) script
-        (scene regs.old (B.memory bus.old) d v) result
-        (scene regs.new (B.memory bus.new) d v) }
+        MakesSystemCall (λ r spot. return_with value r spot to (cells_from at bytes.now) Unchanged) script
+        (scene regs.old (B.memory bus.old) d) v result
+        (scene regs.new (B.memory bus.new) d) v }
 {
     put_cells(bus, at, bytes)?;
-    give_back(regs, value as u16, to);
+    return_to(regs, value as u16, to);
     Ok(Served::Went)
 }
 
 // Writes the entry that a search found into the buffer, as a directory record, and sets where the search continues.
 #[tactic(auto, using(crate::proofs::Parts::still_looked_at))]
-fn give_entry<B: Bus>(
+fn return_entry<B: Bus>(
     regs: &mut Regs,
     bus: &mut B,
     desk: &mut Desk,
@@ -154,14 +154,13 @@ fn give_entry<B: Bus>(
     to: u16,
 ) -> Result<Served, AllocError>
     ensures { (script : List ℕ) (v : TableView) →
-        PerformsSystemCall
-        (call_with_finding (finding.FirstEntry search.now) regs.old desk.old.desk.spot to) script
-        (scene regs.old (B.memory bus.old) desk.old v) result
-        (scene regs.new (B.memory bus.new) desk.new v) }
+        MakesSystemCall (λ r spot. call_with_finding (finding.FirstEntry search.now) r spot to) script
+        (scene regs.old (B.memory bus.old) desk.old) v result
+        (scene regs.new (B.memory bus.new) desk.new) v }
 {
     put_cells(bus, desk.buffer(), &directory_record(&search.last))?;
     desk.set_search(Some(*search));
-    give_back(regs, 0, to);
+    return_to(regs, 0, to);
     Ok(Served::Went)
 }
 
@@ -176,7 +175,7 @@ fn directory_record(entry: &[u8; 32]) -> Record
 
 // Writes the record that was read into the buffer, and a sequential record number into the control block.
 #[tactic(auto, using(crate::proofs::Parts::still_looked_at))]
-fn give_record<B: Bus>(
+fn return_record<B: Bus>(
     regs: &mut Regs,
     bus: &mut B,
     desk: &Desk,
@@ -185,14 +184,13 @@ fn give_record<B: Bus>(
     to: u16,
 ) -> Result<Served, AllocError>
     ensures { (script : List ℕ) (v : TableView) →
-        PerformsSystemCall
-        (call_with_finding (finding.Found bytes.now next) regs.old desk.now.desk.spot to) script
-        (scene regs.old (B.memory bus.old) desk.now v) result
-        (scene regs.new (B.memory bus.new) desk.now v) }
+        MakesSystemCall (λ r spot. call_with_finding (finding.Found bytes.now next) r spot to) script
+        (scene regs.old (B.memory bus.old) desk.now) v result
+        (scene regs.new (B.memory bus.new) desk.now) v }
 {
     let block = word_of(regs.e, regs.d);
     put_record(bus, desk.buffer(), bytes, block, next)?;
-    give_back(regs, 0, to);
+    return_to(regs, 0, to);
     Ok(Served::Went)
 }
 
@@ -206,9 +204,9 @@ fn store<B: Bus>(
     to: u16,
 ) -> Result<Served, AllocError>
     ensures { (script : List ℕ) →
-        PerformsSystemCall (call_with_finding (finding.Write write.now) regs.old desk.now.desk.spot to) script
-        (scene regs.old (B.memory bus.old) desk.now (table_view table.old)) result
-        (scene regs.new (B.memory bus.new) desk.now (table_view table.new)) }
+        MakesSystemCall (λ r spot. call_with_finding (finding.Write write.now) r spot to) script
+        (scene regs.old (B.memory bus.old) desk.now) (table_view table.old) result
+        (scene regs.new (B.memory bus.new) desk.now) (table_view table.new) }
 {
     let mut bytes = [0; RECORD_BYTES];
     fetch_cells(bus, desk.buffer(), &mut bytes);
@@ -216,7 +214,7 @@ fn store<B: Bus>(
     ready_place(bus, block)?;
     write_record(table, write, &bytes)?;
     write_place(bus, block, write.next);
-    give_back(regs, 0, to);
+    return_to(regs, 0, to);
     Ok(Served::Went)
 }
 
@@ -231,7 +229,7 @@ fn write_record(table: &mut Table<'_>, write: &Write, bytes: &Record) -> Result<
 {
     let journal = &mut table.changes.journal;
     let place = write.place as u32;
-    journal.write(&write.key, write.length, place, bytes, write.filled)
+    journal.write(&write.key, write.length, place, bytes, write.gap)
 }
 
 // Makes an empty file, and clears the bytes 13 to 31 of the control block.
@@ -244,15 +242,15 @@ fn make<B: Bus>(
     to: u16,
 ) -> Result<Served, AllocError>
     ensures { (script : List ℕ) →
-        PerformsSystemCall (call_with_finding (finding.Make key.now) regs.old desk.now.desk.spot to) script
-        (scene regs.old (B.memory bus.old) desk.now (table_view table.old)) result
-        (scene regs.new (B.memory bus.new) desk.now (table_view table.new)) }
+        MakesSystemCall (λ r spot. call_with_finding (finding.Make key.now) r spot to) script
+        (scene regs.old (B.memory bus.old) desk.now) (table_view table.old) result
+        (scene regs.new (B.memory bus.new) desk.now) (table_view table.new) }
 {
     let at = word_of(regs.e, regs.d).wrapping_add(13);
     bus.ready_cells(at, 19)?;
     table.changes.journal.make(key)?;
     bus.write_cells(at, &made_bytes());
-    give_back(regs, 0, to);
+    return_to(regs, 0, to);
     Ok(Served::Went)
 }
 
@@ -267,14 +265,13 @@ fn rename<B: Bus>(
 ) -> Result<Served, AllocError>
     requires { keys.0 ≢ keys.1 }
     ensures { (script : List ℕ) →
-        PerformsSystemCall
-        (call_with_finding (finding.Rename keys.0 keys.1) regs.old desk.now.desk.spot to) script
-        (scene regs.old (B.memory bus.now) desk.now (table_view table.old)) result
-        (scene regs.new (B.memory bus.now) desk.now (table_view table.new)) }
+        MakesSystemCall (λ r spot. call_with_finding (finding.Rename keys.0 keys.1) r spot to) script
+        (scene regs.old (B.memory bus.now) desk.now) (table_view table.old) result
+        (scene regs.new (B.memory bus.now) desk.now) (table_view table.new) }
 {
     let (old, new) = keys;
     table.changes.journal.rename(&old, &new)?;
-    give_back(regs, 0, to);
+    return_to(regs, 0, to);
     Ok(Served::Went)
 }
 
@@ -298,12 +295,12 @@ fn made_bytes() -> [u8; 19]
 
 // Returns the three bytes of a random record number, the low byte first.
 #[tactic(auto, unfolding(crate::specs::FileCalls::random_bytes))]
-fn random_bytes(place: u32) -> [u8; 3]
-    ensures { result ≡ random_bytes place }
+fn random_bytes(record_number: u32) -> [u8; 3]
+    ensures { result ≡ random_bytes record_number }
 {
     [
-        (place % 256) as u8,
-        (place / 256 % 256) as u8,
-        (place / 65_536 % 256) as u8,
+        (record_number % 256) as u8,
+        (record_number / 256 % 256) as u8,
+        (record_number / 65_536 % 256) as u8,
     ]
 }

@@ -1,8 +1,7 @@
 pub mod Scanning
 mod Looking
 pub mod Trees
-pub mod Parts
-mod Carried
+pub mod Carried
 mod Strings
 mod Numbers
 mod Leaves

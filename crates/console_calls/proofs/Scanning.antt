@@ -7,8 +7,9 @@ use Rattle.i8080.specs.Memory.{Memory, Own, Looks, Extends, bytes, look, look_al
 use Rattle.i8080.specs.Reading.{Reading, Done, Cell, end_of, asked}
 use Rattle.i8080.specs.Registers.{onward}
 use Rattle.i8080.specs.Performs.{Reads}
-use Rattle.i8080.proofs.BoundLemmas.{bound_all}
-use Rattle.console_calls.proofs.Looking.{one_more, some_more, here}
+use Rattle.i8080.proofs.LookLemmas.{extends_twice}
+use Rattle.i8080.proofs.BoundLemmas.{bound_here, bound_all}
+use Rattle.console_calls.proofs.Looking.{one_more}
 use Rattle.console_calls.specs.Desk.{Desk, ConsoleText, printed_byte, printed_bytes}
 use Rattle.console_calls.specs.DeskAfter.{desk_showing, desk_printing}
 use Rattle.console_calls.specs.Strings.{ending, string_at}
@@ -129,4 +130,4 @@ bound_at byte own looks new whole n i a h e bound =
     subst (λ (l : Looks). Extends new l) (sym (rw (one_less n i h) (ap (λ (at : List ℕ). look_all own at looks) first.1)) ∙ e) (bound_all own first.0 new (look own looks a) bound)
 
 -- The rules for a string that is read cell by cell.
-pub ruleset byte_by_byte = (one_more, some_more, here, bound_at)
+pub ruleset byte_by_byte = (one_more, extends_twice, bound_here, bound_at)

@@ -1,54 +1,57 @@
 -- Function 9, from its parts.
-use Rattle.std.proofs.Common.{◌≡◌, ℕ, Bool, true, false, List, Option, Some, None, is_some, Ok, refl, ap, sym, subst, ◌∙◌}
-use Rattle.interaction_trees.specs.Tree.{Return, questions_of}
-use Rattle.i8080.specs.declared.registers.Regs.{Regs}
-use Rattle.i8080.specs.Memory.{Memory, Looks, Extends, bytes, look_all}
-use Rattle.i8080.specs.Reading.{Done}
-use Rattle.i8080.specs.Performs.{looks_after}
+use Rattle.std.proofs.Common.{◌≡◌, ℕ, Bool, true, false, List, [], Option, Some, None, is_some, Result, Ok, Err, refl, ap, sym, subst, ◌∙◌}
+use Rattle.std.specs.declared.alloc.AllocError.{AllocError}
+use Rattle.interaction_trees.specs.Tree.{Return}
+use Rattle.i8080.specs.Memory.{Memory, Extends, bytes}
+use Rattle.i8080.specs.Reading.{Done, asked}
+use Rattle.i8080.specs.Performs.{Reads}
 use Rattle.i8080.specs.Registers.{word}
 use Rattle.i8080.specs.Instruction.{word_at}
-use Rattle.i8080.specs.Performs.{Reads}
-use Rattle.console_calls.specs.declared.desk.Spot.{Spot}
 use Rattle.console_calls.specs.declared.served.Served.{Served}
 use Rattle.console_calls.specs.declared.served.Served.TheVariants as served
 use Rattle.console_calls.specs.declared.cause.Cause.TheVariants.{NoDollar}
-use Rattle.console_calls.specs.Desk.{Desk}
-use Rattle.console_calls.specs.StateQuestions.{bind_reading, answers, addresses}
+use Rattle.console_calls.specs.StateQuestions.{StateTree, bind_reading, answers}
 use Rattle.console_calls.specs.Strings.{string_at}
 use Rattle.console_calls.specs.Printing.{Prints, string_in, desk_after_string}
-use Rattle.console_calls.specs.ConsoleCalls.{at_caller, string_output, print_call}
-use Rattle.console_calls.proofs.Parts.{FulfilsBy}
-use Rattle.console_calls.proofs.Carried.{after_reading, after_read, bound_rest, bound_first}
-use Rattle.console_calls.proofs.Trees.{or_false}
+use Rattle.console_calls.specs.ConsoleCalls.{CallEnd, at_caller, string_output, print_call}
+use Rattle.console_calls.specs.PerformsCall.{Scene, PerformsCall, path_by}
+use Rattle.console_calls.proofs.Carried.{along, executes, stops, fails, after_reading, after_read}
+use Rattle.console_calls.proofs.Trees.{look_all-append, path-reads}
 
 -- The end of the call, if no string was found, and if one was.
-stop_leaf : {script : List ℕ} {r : Regs} {m : Memory} {d d' : Desk} {was is : ℕ → Bool} → ((j : ℕ) → is j ≡ was j) → (to : ℕ) (string : Option (List ℕ)) → false ≡ is_some string → d' ≡ desk_after_string d string
-    → FulfilsBy (Return (print_call r d.spot to string)) script r m d was (Ok (served.Stop NoDollar)) r m d' is
-stop_leaf {was = was} same to None h e = record { served = refl; regs = refl; desk = e; own = refl; looks = refl; places = λ j. same j ∙ or_false (was j); err_looks = tt; err_bound = tt; err_regs = tt; err_desk = tt; err_own = tt; err_places = tt; beneath = refl; lender = refl }
-stop_leaf same to (Some s) h e = cc
+module _ (old new : Scene) (same : (j : ℕ) → new.looked j ≡ old.looked j) (to : ℕ) where
+  stop_leaf : (string : Option (List ℕ)) → false ≡ is_some string → new.regs ≡ old.regs → new.desk ≡ desk_after_string old.desk string
+      → PerformsCall (record { end = print_call old.regs old.desk.spot to string; cells = []; offsets = [] }) (record old { memory = new.memory }) (Ok (served.Stop NoDollar)) new
+  stop_leaf None found regs desk = stops NoDollar regs refl desk same
+  stop_leaf (Some string) found regs desk = cc
 
-went_leaf : {script : List ℕ} {r r' : Regs} {m : Memory} {d d' : Desk} {was is : ℕ → Bool} → ((j : ℕ) → is j ≡ was j) → (to : ℕ) (string : Option (List ℕ)) → true ≡ is_some string → d' ≡ desk_after_string d string → r' ≡ at_caller 0 to r
-    → FulfilsBy (Return (print_call r d.spot to string)) script r m d was (Ok served.Went) r' m d' is
-went_leaf same to None h e back = cc
-went_leaf {was = was} same to (Some s) h e back = record { served = refl; regs = back; desk = e; own = refl; looks = refl; places = λ j. same j ∙ or_false (was j); err_looks = tt; err_bound = tt; err_regs = tt; err_desk = tt; err_own = tt; err_places = tt; beneath = refl; lender = refl }
+  went_leaf : (string : Option (List ℕ)) → true ≡ is_some string → new.regs ≡ at_caller 0 to old.regs → new.desk ≡ desk_after_string old.desk string
+      → PerformsCall (record { end = print_call old.regs old.desk.spot to string; cells = []; offsets = [] }) (record old { memory = new.memory }) (Ok served.Went) new
+  went_leaf None found regs desk = cc
+  went_leaf (Some string) found regs desk = executes (print_call old.regs old.desk.spot to (Some string)) refl regs desk refl refl refl refl same
 
-module _ (script : List ℕ) (r : Regs) (d d' : Desk) (m m1 m2 : Memory) (to place : ℕ) (found : Bool)
-    (address : Reads (word_at r.sp Done) m to m1) (prints : Prints place m1 d (Ok found) m2 d') (de : place ≡ word r.e r.d)
-    {was is : ℕ → Bool} (same : (j : ℕ) → is j ≡ was j) where
-  read_then : {s : Served} {r' : Regs} → FulfilsBy (Return (print_call r d.spot to (string_in place m1))) script r m2 d was (Ok s) r' m2 d' is → FulfilsBy (string_output r d.spot) script r m d was (Ok s) r' m2 d' is
-  read_then w = after_read (word_at r.sp Done) (λ to. bind_reading (string_at 65536 (word r.e r.d)) (λ string. Return (print_call r d.spot to string))) to address
-      (after_reading (string_at 65536 (word r.e r.d)) (λ string. Return (print_call r d.spot to string)) (string_in place m1) (ap (λ a. string_in a m1) de)
-      (prints.looks ∙ ap (λ a. looks_after (string_at 65536 a) m1) de) prints.own prints.beneath prints.lender w)
+module _ (script : List ℕ) (old new : Scene) {m1 : Memory} {to place : ℕ} (address : Reads (word_at old.regs.sp Done) old.memory to m1) (de : place ≡ word old.regs.e old.regs.d) (same : (j : ℕ) → new.looked j ≡ old.looked j) where
+  abbrev next : ℕ → Option (List ℕ) → StateTree CallEnd
+  next to string = Return (print_call old.regs old.desk.spot to string)
 
-  pub string_stops : found ≡ false → FulfilsBy (string_output r d.spot) script r m d was (Ok (served.Stop NoDollar)) r m2 d' is
-  string_stops h = read_then (stop_leaf same to _ (sym h ∙ prints.found) prints.desk)
+  after_address : {result : Result Served AllocError} → PerformsCall (path_by (answers (bytes m1) script) (bind_reading (string_at 65536 place) (next to))) (record old { memory = m1 }) result new
+      → PerformsCall (path_by (answers (bytes old.memory) script) (string_output old.regs old.desk.spot)) old result new
+  after_address w = after_read script (word_at old.regs.sp Done) (λ to. bind_reading (string_at 65536 (word old.regs.e old.regs.d)) (next to)) to address
+      (along (ap (λ a. path_by (answers (bytes m1) script) (bind_reading (string_at 65536 a) (next to))) de) w)
 
-  pub string_goes : (r' : Regs) → found ≡ true → r' ≡ at_caller 0 to r → FulfilsBy (string_output r d.spot) script r m d was (Ok served.Went) r' m2 d' is
-  string_goes r' h back = read_then (went_leaf same to _ (sym h ∙ prints.found) prints.desk back)
+  module _ {found : Bool} (prints : Prints place m1 old.desk (Ok found) new.memory new.desk) where
+    after_string : {s : Served} → PerformsCall (path_by (answers (bytes new.memory) script) (next to (string_in place m1))) (record old { memory = new.memory }) (Ok s) new
+        → PerformsCall (path_by (answers (bytes old.memory) script) (string_output old.regs old.desk.spot)) old (Ok s) new
+    after_string w = after_address (after_reading script (string_at 65536 place) (next to) (string_in place m1) refl prints.reads.looks prints.reads.own prints.reads.beneath prints.reads.lender w)
 
--- An error while the string is printed.
-pub string_bound : (script : List ℕ) (r : Regs) (spot : Spot) {m m1 : Memory} {to place : ℕ} {new : Looks} → Reads (word_at r.sp Done) m to m1 → place ≡ word r.e r.d
-    → Extends new (looks_after (string_at 65536 place) m1) → Extends new (look_all m.own (addresses (questions_of (answers (bytes m) script) (string_output r spot))) m.looks)
-string_bound script r spot {m = m} {m1 = m1} {to = to} {new = new} address de h =
-    bound_rest script m m1 (word_at r.sp Done) (λ to. bind_reading (string_at 65536 (word r.e r.d)) (λ string. Return (print_call r spot to string))) to address.value address.looks address.own address.beneath
-    (bound_first script m1 (string_at 65536 (word r.e r.d)) (λ string. Return (print_call r spot to string)) (subst (λ a. Extends new (looks_after (string_at 65536 a) m1)) de h))
+    pub string_stops : found ≡ false → new.regs ≡ old.regs → PerformsCall (path_by (answers (bytes old.memory) script) (string_output old.regs old.desk.spot)) old (Ok (served.Stop NoDollar)) new
+    string_stops h regs = after_string (stop_leaf old new same to _ (sym h ∙ prints.reads.found) regs prints.desk)
+
+    pub string_goes : found ≡ true → new.regs ≡ at_caller 0 to old.regs → PerformsCall (path_by (answers (bytes old.memory) script) (string_output old.regs old.desk.spot)) old (Ok served.Went) new
+    string_goes h regs = after_string (went_leaf old new same to _ (sym h ∙ prints.reads.found) regs prints.desk)
+
+  -- Out of memory while the string is printed.
+  pub string_fails : {e : AllocError} → Prints place m1 old.desk (Err e) new.memory new.desk → new.regs ≡ old.regs
+      → PerformsCall (path_by (answers (bytes old.memory) script) (string_output old.regs old.desk.spot)) old (Err e) new
+  string_fails p regs = after_address (along (sym (path-reads (answers (bytes m1) script) (next to) (string_at 65536 place)))
+      (fails p.reads.err_looks (subst (Extends new.memory.looks) (sym (look_all-append m1.own (asked (string_at 65536 place) (bytes m1)) [] m1.looks)) p.reads.err_bound) regs p.err_desk p.reads.own same p.reads.beneath p.reads.lender))

@@ -1,5 +1,6 @@
 -- A line that is taken byte by byte, and the tree that asks for its bytes.
 use Rattle.std.proofs.Common.{◌≡◌, ℕ, zero, suc, cond, ◌+◌, ◌-◌, ◌<◌, ◌≤◌, ◌||◌, ◌==◌, Bool, true, false, nat_lt, List, [], ◌∷◌, length, get_or, Option, Some, None, slice_get, refl, ap, sym, ◌∙◌, arith}
+use Rattle.std.proofs.Math.Bool.{or_assoc, or-false}
 use Rattle.std.proofs.lemmas.Bool.Decides.{nat_tests}
 use Rattle.std.proofs.lemmas.Option.{slice_get-get_or, slice_get_past}
 use Rattle.interaction_trees.specs.Tree.{Return, Query, result_of, questions_of}
@@ -9,7 +10,6 @@ use Rattle.console_calls.specs.ScriptLooks.{is_ahead}
 use Rattle.console_calls.specs.StateQuestions.{Input, answers, addresses, script_offsets}
 use Rattle.console_calls.specs.Line.{Line, LineStep, Goes, Ends, Boots, LineEnd, Ended, Booted, Short, no_line, line_tree, line_after_answer, line_after_step, type_byte}
 use Rattle.console_calls.specs.Types.{Types}
-use Rattle.console_calls.proofs.Trees.{or_assoc, or_false}
 
 below : (n m : ℕ) → n < m → nat_lt n m ≡ true
 below n m h = grind (arith, nat_tests)
@@ -45,22 +45,22 @@ module _ (byte : ℕ → ℕ) (script : List ℕ) (n m k : ℕ) (l : Line) where
   unfolding line_tree
   asks_result h = rw (below (length l.stored) m h) refl
 
-  asks_places : length l.stored < m → script_offsets (questions_of (answers byte script) (line_tree (suc n) m k l)) ≡ k ∷ script_offsets (questions_of (answers byte script) (line_after_answer (line_tree n m (k + 1)) k l (slice_get script k)))
+  asks_offsets : length l.stored < m → script_offsets (questions_of (answers byte script) (line_tree (suc n) m k l)) ≡ k ∷ script_offsets (questions_of (answers byte script) (line_after_answer (line_tree n m (k + 1)) k l (slice_get script k)))
   unfolding line_tree
-  asks_places h = rw (below (length l.stored) m h) refl
+  asks_offsets h = rw (below (length l.stored) m h) refl
 
   full_result : m ≤ length l.stored → result_of (answers byte script) (line_tree (suc n) m k l) ≡ Ended l k
   unfolding line_tree
   full_result h = rw (above (length l.stored) m h) refl
 
-  full_places : m ≤ length l.stored → script_offsets (questions_of (answers byte script) (line_tree (suc n) m k l)) ≡ []
+  full_offsets : m ≤ length l.stored → script_offsets (questions_of (answers byte script) (line_tree (suc n) m k l)) ≡ []
   unfolding line_tree
-  full_places h = rw (above (length l.stored) m h) refl
+  full_offsets h = rw (above (length l.stored) m h) refl
 
 -- The first i bytes were taken and make this line.
 pub record IsTyped (script : List ℕ) (m k i : ℕ) (l : Line) : Type 0 where
   pub ends : (byte : ℕ → ℕ) (fuel : ℕ) → result_of (answers byte script) (line_tree (i + fuel) m k no_line) ≡ result_of (answers byte script) (line_tree fuel m (k + i) l)
-  pub places : (byte : ℕ → ℕ) (fuel j : ℕ) → is_among j (script_offsets (questions_of (answers byte script) (line_tree (i + fuel) m k no_line))) ≡ (is_ahead k i j || is_among j (script_offsets (questions_of (answers byte script) (line_tree fuel m (k + i) l))))
+  pub offsets : (byte : ℕ → ℕ) (fuel j : ℕ) → is_among j (script_offsets (questions_of (answers byte script) (line_tree (i + fuel) m k no_line))) ≡ (is_ahead k i j || is_among j (script_offsets (questions_of (answers byte script) (line_tree fuel m (k + i) l))))
 
 nothing_ahead : (k j : ℕ) → is_ahead k 0 j ≡ false
 nothing_ahead k j = grind (arith, nat_tests)
@@ -74,7 +74,7 @@ more_zero n = omega arith
 pub nothing_typed : (script : List ℕ) (m k : ℕ) → IsTyped script m k 0 no_line
 nothing_typed script m k = record {
   ends = λ byte fuel. rw (zero_more fuel, more_zero k) refl;
-  places = λ byte fuel j.
+  offsets = λ byte fuel j.
       ap (λ (n : ℕ). is_among j (script_offsets (questions_of (answers byte script) (line_tree n m k no_line)))) (zero_more fuel)
       ∙ ap (λ (at : ℕ). is_among j (script_offsets (questions_of (answers byte script) (line_tree fuel m at no_line)))) (sym (more_zero k))
       ∙ ap (λ (b : Bool). b || is_among j (script_offsets (questions_of (answers byte script) (line_tree fuel m (k + 0) no_line)))) (sym (nothing_ahead k j));
@@ -97,12 +97,12 @@ module _ {script : List ℕ} {m k i : ℕ} {l l' : Line} (t : IsTyped script m k
         ∙ ap (λ (a : Option ℕ). result_of (answers byte script) (line_after_answer (line_tree fuel m (k + i + 1)) (k + i) l a)) is
         ∙ ap (λ (x : LineStep). result_of (answers byte script) (line_after_step (line_tree fuel m (k + i + 1)) (k + i) x)) (sym e)
         ∙ ap (λ (at : ℕ). result_of (answers byte script) (line_tree fuel m at l')) (one_on k i);
-    places = λ byte fuel j.
+    offsets = λ byte fuel j.
         let rest : List ℕ = script_offsets (questions_of (answers byte script) (line_tree fuel m (k + (i + 1)) l')) in
         ap (λ (n : ℕ). is_among j (script_offsets (questions_of (answers byte script) (line_tree n m k no_line)))) (one_later i fuel)
-        ∙ t.places byte (suc fuel) j
+        ∙ t.offsets byte (suc fuel) j
         ∙ ap (λ (ks : List ℕ). is_ahead k i j || is_among j ks)
-        (asks_places byte script fuel m (k + i) l room
+        (asks_offsets byte script fuel m (k + i) l room
         ∙ ap (λ (a : Option ℕ). (k + i) ∷ script_offsets (questions_of (answers byte script) (line_after_answer (line_tree fuel m (k + i + 1)) (k + i) l a))) is
         ∙ ap (λ (x : LineStep). (k + i) ∷ script_offsets (questions_of (answers byte script) (line_after_step (line_tree fuel m (k + i + 1)) (k + i) x))) (sym e)
         ∙ ap (λ (at : ℕ). (k + i) ∷ script_offsets (questions_of (answers byte script) (line_tree fuel m at l'))) (one_on k i))
@@ -121,17 +121,17 @@ module _ {script : List ℕ} {m k i : ℕ} {l : Line} (t : IsTyped script m k i 
 
   asks_as : (ks : List ℕ) → script_offsets (questions_of (answers byte script) (line_tree (suc (n - i)) m (k + i) l)) ≡ ks
       → (j : ℕ) → is_among j (script_offsets (questions_of (answers byte script) (line_tree (suc n) m k no_line))) ≡ (is_ahead k i j || is_among j ks)
-  asks_as ks h j = ap (λ (x : ℕ). is_among j (script_offsets (questions_of (answers byte script) (line_tree x m k no_line)))) (left i n within) ∙ t.places byte (suc (n - i)) j
+  asks_as ks h j = ap (λ (x : ℕ). is_among j (script_offsets (questions_of (answers byte script) (line_tree x m k no_line)))) (left i n within) ∙ t.offsets byte (suc (n - i)) j
       ∙ ap (λ (x : List ℕ). is_ahead k i j || is_among j x) h
 
-  one_place : (j : ℕ) → (is_ahead k i j || is_among j ((k + i) ∷ [])) ≡ is_ahead k (i + 1) j
-  one_place j = sym (or_assoc (is_ahead k i j) (j == k + i) false) ∙ sym (or_false (is_ahead k i j || j == k + i)) ∙ ahead_next k i j
+  one_offset : (j : ℕ) → (is_ahead k i j || is_among j ((k + i) ∷ [])) ≡ is_ahead k (i + 1) j
+  one_offset j = sym (or_assoc (is_ahead k i j) (j == k + i) false) ∙ or-false (is_ahead k i j || j == k + i) ∙ ahead_next k i j
 
   -- The line is full.
   pub full_types : m ≤ length l.stored → Types script m k (code.Ended l i) byte n
   full_types h = record {
     ends = ends_as (Ended l (k + i)) (full_result byte script (n - i) m (k + i) l h);
-    places = λ j. asks_as [] (full_places byte script (n - i) m (k + i) l h) j ∙ sym (or_false (is_ahead k i j));
+    offsets = λ j. asks_as [] (full_offsets byte script (n - i) m (k + i) l h) j ∙ or-false (is_ahead k i j);
   }
 
   -- A byte ends it.
@@ -143,11 +143,11 @@ module _ {script : List ℕ} {m k i : ℕ} {l : Line} (t : IsTyped script m k i 
           ∙ ap (λ (a : Option ℕ). result_of (answers byte script) (line_after_answer (line_tree (n - i) m (k + i + 1)) (k + i) l a)) is
           ∙ ap (λ (x : LineStep). result_of (answers byte script) (line_after_step (line_tree (n - i) m (k + i + 1)) (k + i) x)) (sym e)
           ∙ ap (λ (at : ℕ). Ended l' at) (one_on k i));
-      places = λ j. asks_as ((k + i) ∷ [])
-          (asks_places byte script (n - i) m (k + i) l room
+      offsets = λ j. asks_as ((k + i) ∷ [])
+          (asks_offsets byte script (n - i) m (k + i) l room
           ∙ ap (λ (a : Option ℕ). (k + i) ∷ script_offsets (questions_of (answers byte script) (line_after_answer (line_tree (n - i) m (k + i + 1)) (k + i) l a))) is
           ∙ ap (λ (x : LineStep). (k + i) ∷ script_offsets (questions_of (answers byte script) (line_after_step (line_tree (n - i) m (k + i + 1)) (k + i) x))) (sym e)) j
-          ∙ one_place j;
+          ∙ one_offset j;
     }
 
     pub boots_types : Boots ≡ type_byte l b → Types script m k (code.Booted (i + 1)) byte n
@@ -156,11 +156,11 @@ module _ {script : List ℕ} {m k i : ℕ} {l : Line} (t : IsTyped script m k i 
           (asks_result byte script (n - i) m (k + i) l room
           ∙ ap (λ (a : Option ℕ). result_of (answers byte script) (line_after_answer (line_tree (n - i) m (k + i + 1)) (k + i) l a)) is
           ∙ ap (λ (x : LineStep). result_of (answers byte script) (line_after_step (line_tree (n - i) m (k + i + 1)) (k + i) x)) (sym e));
-      places = λ j. asks_as ((k + i) ∷ [])
-          (asks_places byte script (n - i) m (k + i) l room
+      offsets = λ j. asks_as ((k + i) ∷ [])
+          (asks_offsets byte script (n - i) m (k + i) l room
           ∙ ap (λ (a : Option ℕ). (k + i) ∷ script_offsets (questions_of (answers byte script) (line_after_answer (line_tree (n - i) m (k + i + 1)) (k + i) l a))) is
           ∙ ap (λ (x : LineStep). (k + i) ∷ script_offsets (questions_of (answers byte script) (line_after_step (line_tree (n - i) m (k + i + 1)) (k + i) x))) (sym e)) j
-          ∙ one_place j;
+          ∙ one_offset j;
     }
 
   -- The script ends first.
@@ -169,15 +169,15 @@ module _ {script : List ℕ} {m k i : ℕ} {l : Line} (t : IsTyped script m k i 
     ends = ends_as Short
         (asks_result byte script (n - i) m (k + i) l room
         ∙ ap (λ (a : Option ℕ). result_of (answers byte script) (line_after_answer (line_tree (n - i) m (k + i + 1)) (k + i) l a)) is);
-    places = λ j. asks_as ((k + i) ∷ [])
-        (asks_places byte script (n - i) m (k + i) l room
+    offsets = λ j. asks_as ((k + i) ∷ [])
+        (asks_offsets byte script (n - i) m (k + i) l room
         ∙ ap (λ (a : Option ℕ). (k + i) ∷ script_offsets (questions_of (answers byte script) (line_after_answer (line_tree (n - i) m (k + i + 1)) (k + i) l a))) is) j
-        ∙ one_place j;
+        ∙ one_offset j;
   }
 
 -- The byte at an offset of the script.
-pub byte_is : (script : List ℕ) (place k i : ℕ) → place ≡ k + i → place < length script → slice_get script (k + i) ≡ Some (get_or script place 0)
-byte_is script place k i e h = ap (slice_get script) (sym e) ∙ slice_get-get_or script place 0 h
+pub byte_is : (script : List ℕ) (offset k i : ℕ) → offset ≡ k + i → offset < length script → slice_get script (k + i) ≡ Some (get_or script offset 0)
+byte_is script offset k i e h = ap (slice_get script) (sym e) ∙ slice_get-get_or script offset 0 h
 
 pub no_byte : (script : List ℕ) (k i : ℕ) → length script ≤ k + i → slice_get script (k + i) ≡ None
 no_byte script k i h = slice_get_past script (k + i) h

@@ -14,9 +14,6 @@ use Rattle.filenames.specs.declared.drive.Drive.TheVariants.{A}
 use Rattle.console_calls.specs.declared.cause.Cause.{Cause}
 use Rattle.console_calls.specs.declared.cause.Cause.TheVariants.{WarmBoot, ConsoleExhausted, NoDollar, Unsupported, BadDrive}
 use Rattle.console_calls.specs.declared.desk.Spot.{Spot}
-use Rattle.console_calls.specs.declared.function.Function.{Function}
-use Rattle.console_calls.specs.declared.function.Function.TheVariants.{SystemReset, ConsoleInput, ConsoleOutput, DirectConsole, GetIoByte, SetIoByte, PrintString, ReadConsoleBuffer, ConsoleStatus, VersionNumber, ResetDisks, SelectDisk, LoginVector, CurrentDisk, SetBufferAddress}
-use Rattle.console_calls.specs.Functions.{function_of}
 use Rattle.console_calls.specs.Desk.{printed_byte, echoed_byte, printed_bytes, spot_showing, column_after_all}
 use Rattle.console_calls.specs.StateQuestions.{Input, StateTree, bind_reading, bind_tree}
 use Rattle.console_calls.specs.Strings.{string_at}
@@ -138,29 +135,27 @@ current_disk r spot = completion (drive_number spot.drive) r spot [] no_writes
 abbrev pub set_buffer_address : Regs → Spot → StateTree CallEnd
 set_buffer_address r spot = completion 0 r (record spot { buffer = word r.e r.d }) [] no_writes
 
--- A supported function, over a script of at most n bytes.
-abbrev pub call_of_function : ℕ → Function → Regs → Spot → StateTree CallEnd
-call_of_function n SystemReset r spot = Return (Stopped WarmBoot)
-call_of_function n ConsoleInput r spot = console_input r spot
-call_of_function n ConsoleOutput r spot = console_output r spot
-call_of_function n DirectConsole r spot = direct_console r spot
-call_of_function n GetIoByte r spot = get_io_byte r spot
-call_of_function n SetIoByte r spot = set_io_byte r spot
-call_of_function n PrintString r spot = string_output r spot
-call_of_function n ReadConsoleBuffer r spot = line_input n r spot
-call_of_function n ConsoleStatus r spot = console_status r spot
-call_of_function n VersionNumber r spot = version_number r spot
-call_of_function n ResetDisks r spot = reset_disks r spot
-call_of_function n SelectDisk r spot = select_disk r spot
-call_of_function n LoginVector r spot = login_vector r spot
-call_of_function n CurrentDisk r spot = current_disk r spot
-call_of_function n SetBufferAddress r spot = set_buffer_address r spot
+-- The call with a number, over a script of at most n bytes; any other number stops.
+-- ([Interface Guide 1979, system function summary]; which of its calls are there: this project's profile)
+abbrev pub call_of_number : ℕ → ℕ → Regs → Spot → StateTree CallEnd
+call_of_number n number r spot =
+    if number == 0 then Return (Stopped WarmBoot)
+    else if number == 1 then console_input r spot
+    else if number == 2 then console_output r spot
+    else if number == 6 then direct_console r spot
+    else if number == 7 then get_io_byte r spot
+    else if number == 8 then set_io_byte r spot
+    else if number == 9 then string_output r spot
+    else if number == 10 then line_input n r spot
+    else if number == 11 then console_status r spot
+    else if number == 12 then version_number r spot
+    else if number == 13 then reset_disks r spot
+    else if number == 14 then select_disk r spot
+    else if number == 24 then login_vector r spot
+    else if number == 25 then current_disk r spot
+    else if number == 26 then set_buffer_address r spot
+    else Return (Stopped (Unsupported number))
 
-abbrev pub call_of_number : ℕ → Option Function → Regs → Spot → StateTree CallEnd
-call_of_number n None r spot = Return (Stopped (Unsupported r.c))
-call_of_number n (Some f) r spot = call_of_function n f r spot
-
--- The call whose number is in C, over a script of at most n bytes; any other number stops.
--- [Interface Guide 1979, system function summary]
+-- The call whose number is in C.
 unfoldable pub console_call : ℕ → Regs → Spot → StateTree CallEnd
-console_call n r spot = call_of_number n (function_of r.c) r spot
+console_call n r spot = call_of_number n r.c r spot

@@ -6,7 +6,6 @@ pub mod Strings
 pub mod Line
 pub mod Types
 pub mod Printing
-pub mod Functions
 pub mod ConsoleCalls
 pub mod PerformsCall
 pub mod Growth

@@ -1,5 +1,5 @@
 -- The effect of a function that executes a call. (This project's own.)
-use Rattle.std.specs.Prelude.{◌≡◌, ℕ, ◌+◌, ◌||◌, Bool, List, ◌++◌, IfOk, OnOk, OnErr}
+use Rattle.std.specs.Prelude.{◌≡◌, ℕ, ◌||◌, Bool, List, ◌++◌, IfOk, OnOk, OnErr}
 use Rattle.std.specs.declared.result.Result.{Result}
 use Rattle.std.specs.declared.alloc.AllocError.{AllocError}
 use Rattle.interaction_trees.specs.Tree.{result_of, questions_of}
@@ -10,7 +10,7 @@ use Rattle.console_calls.specs.declared.served.Served.TheVariants as served
 use Rattle.console_calls.specs.declared.desk.Spot.{Spot}
 use Rattle.console_calls.specs.Desk.{Desk}
 use Rattle.console_calls.specs.ScriptLooks.{DeskLooks, is_within}
-use Rattle.console_calls.specs.StateQuestions.{StateTree, answers, addresses, script_offsets}
+use Rattle.console_calls.specs.StateQuestions.{StateAnswers, StateTree, answers, addresses, script_offsets}
 use Rattle.console_calls.specs.ConsoleCalls.{CallEnd, Completed, Stopped}
 
 abbrev pub served_of : CallEnd → Served
@@ -30,49 +30,50 @@ own_after (Completed r spot bytes written) own = write_all own written.cells
 own_after (Stopped cause) own = own
 
 -- The state of a call: registers, memory, desk, and for each script offset whether it was looked at.
-pub record ConsoleScene : Type 0 where
+pub record Scene : Type 0 where
   pub regs : Regs
   pub memory : Memory
   pub desk : Desk
   pub looked : ℕ → Bool
 
--- The end of a tree of questions, by the answers of a memory and a script.
-abbrev pub end_in : StateTree CallEnd → Memory → List ℕ → CallEnd
-end_in t m script = result_of (answers (bytes m) script) t
+abbrev pub scene : Regs → Memory → DeskLooks → Scene
+scene r m d = record { regs = r; memory = m; desk = d.desk; looked = is_within d.looks }
 
--- The cells and the script offsets that are asked for on the way to the end.
-abbrev pub cells_in : StateTree CallEnd → Memory → List ℕ → List ℕ
-cells_in t m script = addresses (questions_of (answers (bytes m) script) t)
+-- The end of a call, and the cells and the script offsets that it asks for on the way.
+pub record CallPath : Type 0 where
+  pub end : CallEnd
+  pub cells : List ℕ
+  pub offsets : List ℕ
 
-abbrev pub places_in : StateTree CallEnd → Memory → List ℕ → List ℕ
-places_in t m script = script_offsets (questions_of (answers (bytes m) script) t)
+-- The path through a tree of questions.
+abbrev pub path_by : StateAnswers → StateTree CallEnd → CallPath
+path_by f t = record { end = result_of f t; cells = addresses (questions_of f t); offsets = script_offsets (questions_of f t) }
 
--- The effect of a function that asks a tree of questions and executes its end.
-pub record PerformsCall (t : StateTree CallEnd) (script : List ℕ) (old : ConsoleScene) (result : Result Served AllocError) (new : ConsoleScene) : Type 0 where
-  pub served : IfOk result (λ s. s ≡ served_of (end_in t old.memory script))
-  pub regs : OnOk result (new.regs ≡ regs_after (end_in t old.memory script) old.regs)
-  pub desk : OnOk result (new.desk ≡ desk_after (end_in t old.memory script) old.desk)
-  pub own : OnOk result (new.memory.own ≡ own_after (end_in t old.memory script) old.memory.own)
-  pub looks : OnOk result (new.memory.looks ≡ look_all old.memory.own (cells_in t old.memory script) old.memory.looks)
-  -- The offsets that were looked at are the old ones and the ones that were asked for.
-  pub places : OnOk result ((k : ℕ) → new.looked k ≡ (old.looked k || is_among k (places_in t old.memory script)))
-  -- After an error the looks are the old ones and some of the looks of the whole call.
-  pub err_looks : OnErr result (Extends old.memory.looks new.memory.looks)
-  pub err_bound : OnErr result (Extends new.memory.looks (look_all old.memory.own (cells_in t old.memory script) old.memory.looks))
-  pub err_regs : OnErr result (new.regs ≡ old.regs)
-  pub err_desk : OnErr result (new.desk ≡ old.desk)
-  pub err_own : OnErr result (new.memory.own ≡ old.memory.own)
-  pub err_places : OnErr result ((k : ℕ) → new.looked k ≡ old.looked k)
+-- A call that was executed: what its end says was done, and exactly what it asked for was looked at.
+pub record ExecutesCall (p : CallPath) (old new : Scene) : Type 0 where
+  pub regs : new.regs ≡ regs_after p.end old.regs
+  pub desk : new.desk ≡ desk_after p.end old.desk
+  pub own : new.memory.own ≡ own_after p.end old.memory.own
+  pub looks : new.memory.looks ≡ look_all old.memory.own p.cells old.memory.looks
+  pub looked : (k : ℕ) → new.looked k ≡ (old.looked k || is_among k p.offsets)
+
+-- A call that ran out of memory: nothing was changed, and some of the cells that the whole call asks for were looked at.
+pub record AddsOnlyLooks (cells : List ℕ) (old new : Scene) : Type 0 where
+  pub regs : new.regs ≡ old.regs
+  pub desk : new.desk ≡ old.desk
+  pub own : new.memory.own ≡ old.memory.own
+  pub looked : (k : ℕ) → new.looked k ≡ old.looked k
+  pub looks : Extends old.memory.looks new.memory.looks
+  pub bound : Extends new.memory.looks (look_all old.memory.own cells old.memory.looks)
+
+-- The effect of a function that executes the call of a path.
+pub record PerformsCall (p : CallPath) (old : Scene) (result : Result Served AllocError) (new : Scene) : Type 0 where
+  pub served : IfOk result (λ s. s ≡ served_of p.end)
+  pub executed : OnOk result (ExecutesCall p old new)
+  pub failed : OnErr result (AddsOnlyLooks p.cells old new)
   pub beneath : new.memory.beneath ≡ old.memory.beneath
   pub lender : new.memory.lender ≡ old.memory.lender
 
--- Registers, memory, and a desk with the script offsets that were looked at.
-abbrev pub CallState : Type 0
-CallState = Regs × Memory × DeskLooks
-
-abbrev pub console_scene : CallState → ConsoleScene
-console_scene s = record { regs = s.0; memory = s.1; desk = s.2.desk; looked = is_within s.2.places }
-
--- The effect of a function that executes a call over a script: a state, the result, and the state after it.
-abbrev pub MakesCall : (Regs → Spot → StateTree CallEnd) → List ℕ → CallState → Result Served AllocError → CallState → Type 0
-MakesCall call script old result new = PerformsCall (call old.0 old.2.desk.spot) script (console_scene old) result (console_scene new)
+-- The effect of a function that executes a call over a script.
+abbrev pub MakesCall : (Regs → Spot → StateTree CallEnd) → List ℕ → Scene → Result Served AllocError → Scene → Type 0
+MakesCall call script old result new = PerformsCall (path_by (answers (bytes old.memory) script) (call old.regs old.desk.spot)) old result new

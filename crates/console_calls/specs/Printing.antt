@@ -25,26 +25,24 @@ pub record GrowsText (d d' : Desk) : Type 0 where
   pub since : take (length d.text) d'.text ≡ d.text
   pub cursor : d'.spot.cursor ≡ d.spot.cursor
 
--- The effect of a function that prints byte by byte: without a `$`, and on an error, some bytes stay printed.
-pub record Scans (at : ℕ) (m : Memory) (d : Desk) (result : Result Bool AllocError) (m' : Memory) (d' : Desk) : Type 0 where
+-- The effect of a function that reads the string: whether there is one, and the looks. After an error there are some of these looks.
+pub record ReadsString (at : ℕ) (m : Memory) (result : Result Bool AllocError) (m' : Memory) : Type 0 where
   pub found : IfOk result (λ b. b ≡ is_some (string_in at m))
-  pub printed : IfOk result (λ b. b ≡ true → d' ≡ desk_after_string d (string_in at m))
   pub looks : OnOk result (m'.looks ≡ looks_after (string_at 65536 at) m)
   pub err_looks : OnErr result (Extends m.looks m'.looks)
   pub err_bound : OnErr result (Extends m'.looks (looks_after (string_at 65536 at) m))
-  pub grown : GrowsText d d'
   pub own : m'.own ≡ m.own
   pub beneath : m'.beneath ≡ m.beneath
   pub lender : m'.lender ≡ m.lender
 
+-- The effect of a function that prints byte by byte: without a `$`, and on an error, some bytes stay printed.
+pub record Scans (at : ℕ) (m : Memory) (d : Desk) (result : Result Bool AllocError) (m' : Memory) (d' : Desk) : Type 0 where
+  pub reads : ReadsString at m result m'
+  pub printed : IfOk result (λ b. b ≡ true → d' ≡ desk_after_string d (string_in at m))
+  pub grown : GrowsText d d'
+
 -- The effect of a function that prints the whole string or nothing.
 pub record Prints (at : ℕ) (m : Memory) (d : Desk) (result : Result Bool AllocError) (m' : Memory) (d' : Desk) : Type 0 where
-  pub found : IfOk result (λ b. b ≡ is_some (string_in at m))
+  pub reads : ReadsString at m result m'
   pub desk : OnOk result (d' ≡ desk_after_string d (string_in at m))
   pub err_desk : OnErr result (d' ≡ d)
-  pub looks : OnOk result (m'.looks ≡ looks_after (string_at 65536 at) m)
-  pub err_looks : OnErr result (Extends m.looks m'.looks)
-  pub err_bound : OnErr result (Extends m'.looks (looks_after (string_at 65536 at) m))
-  pub own : m'.own ≡ m.own
-  pub beneath : m'.beneath ≡ m.beneath
-  pub lender : m'.lender ≡ m.lender

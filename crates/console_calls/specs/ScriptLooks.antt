@@ -18,12 +18,12 @@ LooksAhead old cursor count new = (k : ℕ) → is_within new k ≡ (is_within o
 
 -- One offset is removed from the offsets that were looked at.
 abbrev pub LeavesOut : ScriptLooks → ℕ → ScriptLooks → Type 0
-LeavesOut old place new = (k : ℕ) → is_within new k ≡ (is_within old k && not (k == place))
+LeavesOut old offset new = (k : ℕ) → is_within new k ≡ (is_within old k && not (k == offset))
 
 -- A desk, and the script offsets that were looked at.
 pub record DeskLooks : Type 0 where
   pub desk : Desk
-  pub places : ScriptLooks
+  pub looks : ScriptLooks
 
 -- A spot that fits a text of this length.
 pub record IsSpotOf (spot : Spot) (length : ℕ) : Type 0 where

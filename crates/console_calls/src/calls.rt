@@ -6,15 +6,13 @@ ghost use Rattle.i8080.specs.Registers.{onward};
 ghost use Rattle.console_calls.specs.ConsoleCalls as calls;
 ghost use Rattle.console_calls.specs.ConsoleCalls.{at_caller, line_cells};
 ghost use Rattle.console_calls.specs.Desk.{is_echoed};
-ghost use Rattle.console_calls.specs.Functions.{function_of};
 ghost use Rattle.console_calls.specs.Growth.{may_grow};
-ghost use Rattle.console_calls.specs.PerformsCall.{MakesCall};
+ghost use Rattle.console_calls.specs.PerformsCall.{MakesCall, scene};
 ghost use Rattle.console_calls.specs.Printing.{Prints, Scans};
 
 use crate::cause::Cause;
 use crate::desk::Desk;
 use crate::disks::{current_disk, login_vector, reset_disks, select_disk, set_buffer_address};
-use crate::function::Function;
 use crate::line::{LineEnd, take_line};
 use crate::served::Served;
 use i8080::{Bus, Regs, fetch, fetch_word, word_of};
@@ -35,36 +33,34 @@ const VERSION: u16 = 0x0022;
 ///
 /// `Err` means out of memory. A call that neither writes memory nor sends bytes is never an `Err`.
 #[tactic(auto, unfolding(crate::specs::ConsoleCalls::console_call))]
-pub fn call<B: Bus>(
+pub fn console_call<B: Bus>(
     regs: &mut Regs,
     bus: &mut B,
     desk: &mut Desk,
     script: &[u8],
 ) -> Result<Served, AllocError>
-    ensures carries { (n : ℕ) → length script.now ≤ n → MakesCall (calls.console_call n) script.now
-        (regs.old, B.memory bus.old, desk.old) result (regs.new, B.memory bus.new, desk.new) }
+    ensures makes { (n : ℕ) → length script.now ≤ n → MakesCall (calls.console_call n) script.now
+        (scene regs.old (B.memory bus.old) desk.old) result (scene regs.new (B.memory bus.new) desk.new) }
     ensures grows { OnErr result
-        (may_grow (function_of regs.old.c) regs.old desk.old.desk.spot script.now ≡ true) }
+        (may_grow regs.old desk.old.desk.spot script.now ≡ true) }
 {
-    let Some(function) = Function::decode(regs.c) else {
-        return Ok(Served::Stop(Cause::Unsupported(regs.c)));
-    };
-    match function {
-        Function::SystemReset => Ok(Served::Stop(Cause::WarmBoot)),
-        Function::ConsoleInput => console_input(regs, bus, desk, script),
-        Function::ConsoleOutput => console_output(regs, bus, desk),
-        Function::DirectConsole => direct_console(regs, bus, desk, script),
-        Function::GetIoByte => Ok(get_io_byte(regs, bus, desk)),
-        Function::SetIoByte => set_io_byte(regs, bus, desk),
-        Function::PrintString => string_output(regs, bus, desk),
-        Function::ReadConsoleBuffer => line_input(regs, bus, desk, script),
-        Function::ConsoleStatus => Ok(console_status(regs, bus, desk, script)),
-        Function::VersionNumber => Ok(version_number(regs, bus, desk)),
-        Function::ResetDisks => Ok(reset_disks(regs, bus, desk)),
-        Function::SelectDisk => Ok(select_disk(regs, bus, desk)),
-        Function::LoginVector => Ok(login_vector(regs, bus, desk)),
-        Function::CurrentDisk => Ok(current_disk(regs, bus, desk)),
-        Function::SetBufferAddress => Ok(set_buffer_address(regs, bus, desk)),
+    match regs.c {
+        0 => Ok(Served::Stop(Cause::WarmBoot)),
+        1 => console_input(regs, bus, desk, script),
+        2 => console_output(regs, bus, desk),
+        6 => direct_console(regs, bus, desk, script),
+        7 => Ok(get_io_byte(regs, bus, desk)),
+        8 => set_io_byte(regs, bus, desk),
+        9 => string_output(regs, bus, desk),
+        10 => line_input(regs, bus, desk, script),
+        11 => Ok(console_status(regs, bus, desk, script)),
+        12 => Ok(version_number(regs, bus, desk)),
+        13 => Ok(reset_disks(regs, bus, desk)),
+        14 => Ok(select_disk(regs, bus, desk)),
+        24 => Ok(login_vector(regs, bus, desk)),
+        25 => Ok(current_disk(regs, bus, desk)),
+        26 => Ok(set_buffer_address(regs, bus, desk)),
+        number => Ok(Served::Stop(Cause::Unsupported(number))),
     }
 }
 
@@ -76,8 +72,8 @@ fn console_input<B: Bus>(
     desk: &mut Desk,
     script: &[u8],
 ) -> Result<Served, AllocError>
-    ensures carries { MakesCall calls.console_input script.now
-        (regs.old, B.memory bus.old, desk.old) result (regs.new, B.memory bus.new, desk.new) }
+    ensures makes { MakesCall calls.console_input script.now
+        (scene regs.old (B.memory bus.old) desk.old) result (scene regs.new (B.memory bus.new) desk.new) }
     ensures grows { OnErr result
         (option_map_or is_echoed (slice_get script.now desk.old.desk.spot.cursor) false ≡ true) }
 {
@@ -88,7 +84,7 @@ fn console_input<B: Bus>(
     let to = fetch_word(bus, regs.sp);
     desk.echo(byte)?;
     desk.take(1);
-    give_back(regs, byte as u16, to);
+    return_to(regs, byte as u16, to);
     Ok(Served::Went)
 }
 
@@ -99,8 +95,8 @@ fn direct_console<B: Bus>(
     desk: &mut Desk,
     script: &[u8],
 ) -> Result<Served, AllocError>
-    ensures carries { MakesCall calls.direct_console script.now
-        (regs.old, B.memory bus.old, desk.old) result (regs.new, B.memory bus.new, desk.new) }
+    ensures makes { MakesCall calls.direct_console script.now
+        (scene regs.old (B.memory bus.old) desk.old) result (scene regs.new (B.memory bus.new) desk.new) }
     ensures grows { OnErr result (not (regs.old.e == 0xff) ≡ true) }
 {
     if regs.e == 0xff {
@@ -112,16 +108,17 @@ fn direct_console<B: Bus>(
 // Executes function 6 with 0FFH in E, which takes a byte of the script, or returns 0 if none is left.
 fn direct_input<B: Bus>(regs: &mut Regs, bus: &mut B, desk: &mut Desk, script: &[u8]) -> Served
     ensures { MakesCall calls.direct_input script.now
-        (regs.old, B.memory bus.old, desk.old) (Ok result) (regs.new, B.memory bus.new, desk.new) }
+        (scene regs.old (B.memory bus.old) desk.old) (Ok result)
+        (scene regs.new (B.memory bus.new) desk.new) }
 {
     let to = fetch_word(bus, regs.sp);
     let Some(byte) = byte_at(script, desk.cursor()) else {
         desk.look(1);
-        give_back(regs, 0, to);
+        return_to(regs, 0, to);
         return Served::Went;
     };
     desk.take(1);
-    give_back(regs, byte as u16, to);
+    return_to(regs, byte as u16, to);
     Served::Went
 }
 
@@ -133,23 +130,24 @@ fn direct_output<B: Bus>(
     desk: &mut Desk,
 ) -> Result<Served, AllocError>
     ensures { (script : List ℕ) → MakesCall calls.direct_output script
-        (regs.old, B.memory bus.old, desk.old) result (regs.new, B.memory bus.new, desk.new) }
+        (scene regs.old (B.memory bus.old) desk.old) result (scene regs.new (B.memory bus.new) desk.new) }
 {
     let to = fetch_word(bus, regs.sp);
     desk.append(regs.e)?;
-    give_back(regs, 0, to);
+    return_to(regs, 0, to);
     Ok(Served::Went)
 }
 
 // Executes function 11, which returns whether a byte of the script is left.
 fn console_status<B: Bus>(regs: &mut Regs, bus: &mut B, desk: &mut Desk, script: &[u8]) -> Served
     ensures { MakesCall calls.console_status script.now
-        (regs.old, B.memory bus.old, desk.old) (Ok result) (regs.new, B.memory bus.new, desk.new) }
+        (scene regs.old (B.memory bus.old) desk.old) (Ok result)
+        (scene regs.new (B.memory bus.new) desk.new) }
 {
     let to = fetch_word(bus, regs.sp);
     let status = console_state(script, desk.cursor());
     desk.look(1);
-    give_back(regs, status, to);
+    return_to(regs, status, to);
     Served::Went
 }
 
@@ -161,11 +159,11 @@ fn console_output<B: Bus>(
     desk: &mut Desk,
 ) -> Result<Served, AllocError>
     ensures { (script : List ℕ) → MakesCall calls.console_output script
-        (regs.old, B.memory bus.old, desk.old) result (regs.new, B.memory bus.new, desk.new) }
+        (scene regs.old (B.memory bus.old) desk.old) result (scene regs.new (B.memory bus.new) desk.new) }
 {
     let to = fetch_word(bus, regs.sp);
     desk.print(regs.e)?;
-    give_back(regs, 0, to);
+    return_to(regs, 0, to);
     Ok(Served::Went)
 }
 
@@ -173,11 +171,12 @@ fn console_output<B: Bus>(
 #[tactic(auto, using(crate::proofs::Looking::until_it_failed))]
 fn get_io_byte<B: Bus>(regs: &mut Regs, bus: &mut B, desk: &Desk) -> Served
     ensures { (script : List ℕ) → MakesCall calls.get_io_byte script
-        (regs.old, B.memory bus.old, desk.now) (Ok result) (regs.new, B.memory bus.new, desk.now) }
+        (scene regs.old (B.memory bus.old) desk.now) (Ok result)
+        (scene regs.new (B.memory bus.new) desk.now) }
 {
     let byte = fetch(bus, IO_BYTE);
     let to = fetch_word(bus, regs.sp);
-    give_back(regs, u16::from(byte), to);
+    return_to(regs, u16::from(byte), to);
     Served::Went
 }
 
@@ -185,22 +184,23 @@ fn get_io_byte<B: Bus>(regs: &mut Regs, bus: &mut B, desk: &Desk) -> Served
 #[tactic(auto, using(crate::proofs::Looking::until_it_failed))]
 fn set_io_byte<B: Bus>(regs: &mut Regs, bus: &mut B, desk: &Desk) -> Result<Served, AllocError>
     ensures { (script : List ℕ) → MakesCall calls.set_io_byte script
-        (regs.old, B.memory bus.old, desk.now) result (regs.new, B.memory bus.new, desk.now) }
+        (scene regs.old (B.memory bus.old) desk.now) result (scene regs.new (B.memory bus.new) desk.now) }
 {
     let to = fetch_word(bus, regs.sp);
     bus.ready(IO_BYTE)?;
     bus.write(IO_BYTE, regs.e);
-    give_back(regs, 0, to);
+    return_to(regs, 0, to);
     Ok(Served::Went)
 }
 
 // Executes function 12, which returns the version.
 fn version_number<B: Bus>(regs: &mut Regs, bus: &mut B, desk: &Desk) -> Served
     ensures { (script : List ℕ) → MakesCall calls.version_number script
-        (regs.old, B.memory bus.old, desk.now) (Ok result) (regs.new, B.memory bus.new, desk.now) }
+        (scene regs.old (B.memory bus.old) desk.now) (Ok result)
+        (scene regs.new (B.memory bus.new) desk.now) }
 {
     let to = fetch_word(bus, regs.sp);
-    give_back(regs, VERSION, to);
+    return_to(regs, VERSION, to);
     Served::Went
 }
 
@@ -212,29 +212,29 @@ fn string_output<B: Bus>(
     desk: &mut Desk,
 ) -> Result<Served, AllocError>
     ensures { (script : List ℕ) → MakesCall calls.string_output script
-        (regs.old, B.memory bus.old, desk.old) result (regs.new, B.memory bus.new, desk.new) }
+        (scene regs.old (B.memory bus.old) desk.old) result (scene regs.new (B.memory bus.new) desk.new) }
 {
     let to = fetch_word(bus, regs.sp);
     if !print_string(bus, desk, word_of(regs.e, regs.d))? {
         return Ok(Served::Stop(Cause::NoDollar));
     }
-    give_back(regs, 0, to);
+    return_to(regs, 0, to);
     Ok(Served::Went)
 }
 
 // Returns the script byte at an offset; `None` if the script ends before it.
-fn byte_at(script: &[u8], place: usize) -> Option<u8>
-    ensures byte { result ≡ slice_get script.now place }
-    ensures within { IsSome result → place < length script.now }
+fn byte_at(script: &[u8], offset: usize) -> Option<u8>
+    ensures byte { result ≡ slice_get script.now offset }
+    ensures within { IsSome result → offset < length script.now }
 {
-    script.get(place).copied()
+    script.get(offset).copied()
 }
 
 // Returns the status for function 11 with the cursor at an offset: 0FFH if the script has a byte there, else 0.
-fn console_state(script: &[u8], place: usize) -> u16
-    ensures { result ≡ (if is_some (slice_get script.now place) then 0xff else 0) }
+fn console_state(script: &[u8], offset: usize) -> u16
+    ensures { result ≡ (if is_some (slice_get script.now offset) then 0xff else 0) }
 {
-    if byte_at(script, place).is_some() {
+    if byte_at(script, offset).is_some() {
         0xff
     } else {
         0
@@ -250,7 +250,7 @@ fn line_input<B: Bus>(
     script: &[u8],
 ) -> Result<Served, AllocError>
     ensures { (n : ℕ) → length script.now ≤ n → MakesCall (calls.line_input n) script.now
-        (regs.old, B.memory bus.old, desk.old) result (regs.new, B.memory bus.new, desk.new) }
+        (scene regs.old (B.memory bus.old) desk.old) result (scene regs.new (B.memory bus.new) desk.new) }
 {
     let at = word_of(regs.e, regs.d);
     let capacity = fetch(bus, at);
@@ -270,7 +270,7 @@ fn line_input<B: Bus>(
     desk.send_all(line.sends())?;
     desk.take(taken);
     store_line(bus, at, line.text());
-    give_back(regs, 0, to);
+    return_to(regs, 0, to);
     Ok(Served::Went)
 }
 
@@ -302,7 +302,7 @@ fn store_line<B: Bus>(bus: &mut B, at: u16, text: &[u8])
 
 /// Sets the registers for the return to the caller at `to`: HL gets the value, A is L and B is H, and the return
 /// address is popped. [Interface Guide 1979, operating system call conventions]
-pub fn give_back(regs: &mut Regs, value: u16, to: u16)
+pub fn return_to(regs: &mut Regs, value: u16, to: u16)
     ensures { regs.new ≡ at_caller value to regs.old }
 {
     let low = (value % 256) as u8;
@@ -319,12 +319,12 @@ pub fn give_back(regs: &mut Regs, value: u16, to: u16)
 // `Err`, the desk is unchanged.
 fn print_string<B: Bus>(bus: &mut B, desk: &mut Desk, at: u16) -> Result<bool, AllocError>
     ensures prints { Prints at (B.memory bus.old) desk.old.desk result (B.memory bus.new) desk.new.desk }
-    ensures places { desk.new.places ≡ desk.old.places }
+    ensures looks { desk.new.looks ≡ desk.old.looks }
 {
-    let mark = desk.mark();
+    let savepoint = desk.savepoint();
     let found = print_until_dollar(bus, desk, at);
     if found != Ok(true) {
-        desk.undo(mark);
+        desk.roll_back(savepoint);
     }
     found
 }
@@ -334,7 +334,7 @@ fn print_string<B: Bus>(bus: &mut B, desk: &mut Desk, at: u16) -> Result<bool, A
 #[tactic(auto, using(crate::proofs::Scanning::byte_by_byte))]
 fn print_until_dollar<B: Bus>(bus: &mut B, desk: &mut Desk, at: u16) -> Result<bool, AllocError>
     ensures scans { Scans at (B.memory bus.old) desk.old.desk result (B.memory bus.new) desk.new.desk }
-    ensures places { desk.new.places ≡ desk.old.places }
+    ensures looks { desk.new.looks ≡ desk.old.looks }
 {
     let mut address = at;
     for _cell in 0..65_536u32 {

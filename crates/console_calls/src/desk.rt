@@ -1,7 +1,7 @@
 ghost use Rattle.std.specs.Prelude.{◌≡◌, ◌≤◌, ◌<◌, ◌+◌, ℕ, true, false, length, Ok, IfOk, OnOk, OnErr, IfSome, IfNone};
 ghost use Rattle.console_calls.specs.Desk as desk;
 ghost use Rattle.console_calls.specs.Desk.{first_desk, printed_byte, tab_blanks, sent_byte, echoed_byte, is_echoed};
-ghost use Rattle.console_calls.specs.DeskAfter.{Shows, sent_bytes, at_spot, desk_taking, desk_appending, desk_back};
+ghost use Rattle.console_calls.specs.DeskAfter.{SendsText, sent_bytes, unmoved_byte, at_spot, desk_taking, desk_back};
 ghost use Rattle.console_calls.specs.ScriptLooks.{IsSpotOf, LeavesOut, LooksAhead, is_within};
 
 use crate::script_looks::ScriptLooks;
@@ -37,7 +37,7 @@ impl Spot {
 pub struct Desk {
     spot: Spot,
     text: Vec<u8>,
-    places: ScriptLooks,
+    looks: ScriptLooks,
 }
 
 impl Model for Desk {
@@ -48,21 +48,21 @@ impl Model for Desk {
 
     ghost view = { λ d. record {
       desk = record { spot = d.spot; text = d.text.items };
-      places = d.places;
+      looks = d.looks;
     } };
 
     ghost invariant = { λ d. record {
       column : d.spot.column ≤ length d.text.items;
       cursor : d.spot.cursor < 9223372036854775808;
-      from : d.places.from ≤ d.spot.cursor;
-      to : d.spot.cursor ≤ d.places.to;
-      bound : d.places.to ≤ 9223372036854775808;
+      from : d.looks.from ≤ d.spot.cursor;
+      to : d.spot.cursor ≤ d.looks.to;
+      bound : d.looks.to ≤ 9223372036854775808;
     } };
 }
 
 /// A state to roll back to, with the length of the text in place of the text.
 #[derive(Clone, Copy)]
-pub(crate) struct Mark {
+pub(crate) struct Savepoint {
     spot: Spot,
     length: usize,
 }
@@ -72,7 +72,7 @@ impl Desk {
     /// nothing.
     pub fn new(alloc: Global) -> Desk
         ensures desk { result.desk ≡ first_desk }
-        ensures places { (k : ℕ) → is_within result.places k ≡ false }
+        ensures looks { (k : ℕ) → is_within result.looks k ≡ false }
     {
         let spot = Spot {
             cursor: 0,
@@ -84,7 +84,7 @@ impl Desk {
         Desk {
             spot,
             text: Vec::new(alloc),
-            places: ScriptLooks { from: 0, to: 0 },
+            looks: ScriptLooks { from: 0, to: 0 },
         }
     }
 
@@ -92,13 +92,13 @@ impl Desk {
     pub fn from_parts(spot: Spot, text: Vec<u8>) -> Desk
         requires { IsSpotOf spot (length text.items) }
         ensures desk { result.desk ≡ record { spot = spot; text = text.items } }
-        ensures places { (k : ℕ) → is_within result.places k ≡ false }
+        ensures looks { (k : ℕ) → is_within result.looks k ≡ false }
     {
-        let places = ScriptLooks {
+        let looks = ScriptLooks {
             from: spot.cursor,
             to: spot.cursor,
         };
-        Desk { spot, text, places }
+        Desk { spot, text, looks }
     }
 
     /// Returns all of the desk except its text.
@@ -109,7 +109,7 @@ impl Desk {
         let Desk {
             spot,
             text: _,
-            places: _,
+            looks: _,
         } = self;
         *spot
     }
@@ -118,20 +118,13 @@ impl Desk {
     pub fn into_text(self) -> Vec<u8>
         ensures { result.items ≡ self.desk.text }
     {
-        let Desk {
-            spot: _,
-            text,
-            places: _,
-        } = self;
-        text
+        self.text
     }
 
     /// Prints a byte on the console. A tab becomes blanks up to the next column that is a multiple of 8. An `Err` means out
     /// of memory and changes nothing.
     pub fn print(&mut self, byte: u8) -> Result<(), AllocError>
-        ensures ok { OnOk result (Shows self.old.desk self.new.desk (λ column. printed_byte column byte)) }
-        ensures places { self.new.places ≡ self.old.places }
-        ensures err { OnErr result (self.new ≡ self.old) }
+        ensures { SendsText self.old (λ column. printed_byte column byte) result self.new }
     {
         if byte == b'\t' {
             return self.tab();
@@ -151,57 +144,57 @@ impl Desk {
         ensures { IfOk result (λ d. d ≡ self.now) }
     {
         let spot = self.spot;
-        let places = self.places;
+        let looks = self.looks;
         let mut text = Vec::new(*self.text.allocator());
         text.extend_from_slice(&self.text)?;
-        Ok(Desk { spot, text, places })
+        Ok(Desk { spot, text, looks })
     }
 
     /// Returns whether the run looked at an offset of the script: at its byte, or that there is none.
     pub fn looked(&self, at: u64) -> bool
-        ensures { result ≡ is_within self.now.places at }
+        ensures { result ≡ is_within self.now.looks at }
     {
-        self.places.from as u64 <= at && at < self.places.to as u64
+        self.looks.from as u64 <= at && at < self.looks.to as u64
     }
 
     /// Returns the script offsets that were looked at.
     pub fn script_looks(&self) -> ScriptLooks
-        ensures { result ≡ self.now.places }
+        ensures { result ≡ self.now.looks }
     {
         let Desk {
             spot: _,
             text: _,
-            places,
+            looks,
         } = self;
-        *places
+        *looks
     }
 
     /// Forgets which script offsets were looked at.
     pub fn forget_looks(&mut self)
         ensures desk { self.new.desk ≡ self.old.desk }
-        ensures places { (k : ℕ) → is_within self.new.places k ≡ false }
+        ensures looks { (k : ℕ) → is_within self.new.looks k ≡ false }
     {
-        self.places.from = self.spot.cursor;
-        self.places.to = self.spot.cursor;
+        self.looks.from = self.spot.cursor;
+        self.looks.to = self.spot.cursor;
     }
 
     /// Removes and returns one of the script offsets that were looked at; `None` if there is none.
     pub fn take_look(&mut self) -> Option<u64>
         ensures desk { self.new.desk ≡ self.old.desk }
-        ensures one { IfSome result (λ k. is_within self.old.places k ≡ true) }
-        ensures taken { IfSome result (λ k. LeavesOut self.old.places k self.new.places) }
-        ensures none { IfNone result ((j : ℕ) → is_within self.old.places j ≡ false) }
+        ensures one { IfSome result (λ k. is_within self.old.looks k ≡ true) }
+        ensures taken { IfSome result (λ k. LeavesOut self.old.looks k self.new.looks) }
+        ensures none { IfNone result ((j : ℕ) → is_within self.old.looks j ≡ false) }
         ensures same { IfNone result (self.new ≡ self.old) }
     {
-        let ScriptLooks { from, to } = self.places;
+        let ScriptLooks { from, to } = self.looks;
         if from < self.spot.cursor {
-            self.places.from = from + 1;
+            self.looks.from = from + 1;
             return Some(from as u64);
         }
         if from == to {
             return None;
         }
-        self.places.to = to - 1;
+        self.looks.to = to - 1;
         Some((to - 1) as u64)
     }
 
@@ -216,7 +209,7 @@ impl Desk {
     pub fn set_buffer(&mut self, buffer: u16)
         ensures desk { self.new.desk
             ≡ at_spot self.old.desk (record self.old.desk.spot { buffer = buffer }) }
-        ensures places { self.new.places ≡ self.old.places }
+        ensures looks { self.new.looks ≡ self.old.looks }
     {
         self.spot.buffer = buffer;
     }
@@ -231,7 +224,7 @@ impl Desk {
     /// Sets the current drive.
     pub fn set_drive(&mut self, drive: Drive)
         ensures desk { self.new.desk ≡ at_spot self.old.desk (record self.old.desk.spot { drive = drive }) }
-        ensures places { self.new.places ≡ self.old.places }
+        ensures looks { self.new.looks ≡ self.old.looks }
     {
         self.spot.drive = drive;
     }
@@ -247,7 +240,7 @@ impl Desk {
     pub fn set_search(&mut self, search: Option<Search>)
         ensures desk { self.new.desk
             ≡ at_spot self.old.desk (record self.old.desk.spot { search = search }) }
-        ensures places { self.new.places ≡ self.old.places }
+        ensures looks { self.new.looks ≡ self.old.looks }
     {
         self.spot.search = search;
     }
@@ -269,11 +262,11 @@ impl Desk {
     pub(crate) fn look(&mut self, count: usize)
         requires { self.old.desk.spot.cursor + count ≤ 9223372036854775808 }
         ensures desk { self.new.desk ≡ self.old.desk }
-        ensures places { LooksAhead self.old.places self.old.desk.spot.cursor count self.new.places }
+        ensures looks { LooksAhead self.old.looks self.old.desk.spot.cursor count self.new.looks }
     {
         let to = self.spot.cursor + count;
-        if self.places.to < to {
-            self.places.to = to;
+        if self.looks.to < to {
+            self.looks.to = to;
         }
     }
 
@@ -281,43 +274,41 @@ impl Desk {
     pub(crate) fn take(&mut self, count: usize)
         requires { self.old.desk.spot.cursor + count < 9223372036854775808 }
         ensures desk { self.new.desk ≡ desk_taking self.old.desk count }
-        ensures places { LooksAhead self.old.places self.old.desk.spot.cursor count self.new.places }
+        ensures looks { LooksAhead self.old.looks self.old.desk.spot.cursor count self.new.looks }
     {
         let cursor = self.spot.cursor + count;
-        if self.places.to < cursor {
-            self.places.to = cursor;
+        if self.looks.to < cursor {
+            self.looks.to = cursor;
         }
         self.spot.cursor = cursor;
     }
 
-    /// Returns the current state, to roll back to with `undo`.
-    pub(crate) fn mark(&self) -> Mark
+    /// Returns the current state, to roll back to.
+    pub(crate) fn savepoint(&self) -> Savepoint
         ensures spot { result.spot ≡ self.now.desk.spot }
         ensures length { result.length ≡ length self.now.desk.text }
         ensures within { result.spot.column ≤ result.length }
     {
-        Mark {
+        Savepoint {
             spot: self.spot,
             length: self.text.len(),
         }
     }
 
-    /// Removes what was sent since the mark.
-    pub(crate) fn undo(&mut self, mark: Mark)
-        requires within { mark.spot.column ≤ mark.length }
-        requires earlier { mark.length ≤ length self.old.desk.text }
-        requires cursor { mark.spot.cursor ≡ self.old.desk.spot.cursor }
-        ensures desk { self.new.desk ≡ desk_back mark.spot mark.length self.old.desk }
-        ensures places { self.new.places ≡ self.old.places }
+    /// Removes what was sent since the savepoint.
+    pub(crate) fn roll_back(&mut self, savepoint: Savepoint)
+        requires within { savepoint.spot.column ≤ savepoint.length }
+        requires earlier { savepoint.length ≤ length self.old.desk.text }
+        requires cursor { savepoint.spot.cursor ≡ self.old.desk.spot.cursor }
+        ensures desk { self.new.desk ≡ desk_back savepoint.spot savepoint.length self.old.desk }
+        ensures looks { self.new.looks ≡ self.old.looks }
     {
-        self.text.truncate(mark.length);
-        self.spot = mark.spot;
+        self.text.truncate(savepoint.length);
+        self.spot = savepoint.spot;
     }
 
     fn send(&mut self, byte: u8) -> Result<(), AllocError>
-        ensures ok { OnOk result (Shows self.old.desk self.new.desk (λ column. sent_byte column byte)) }
-        ensures places { self.new.places ≡ self.old.places }
-        ensures err { OnErr result (self.new ≡ self.old) }
+        ensures { SendsText self.old (λ column. sent_byte column byte) result self.new }
     {
         self.text.push(byte)?;
         self.spot.column = column_after(self.spot.column, byte);
@@ -326,9 +317,7 @@ impl Desk {
 
     /// Appends a byte to the text and leaves the column unchanged. An `Err` means out of memory and changes nothing.
     pub(crate) fn append(&mut self, byte: u8) -> Result<(), AllocError>
-        ensures ok { OnOk result (self.new.desk ≡ desk_appending self.old.desk byte) }
-        ensures places { self.new.places ≡ self.old.places }
-        ensures err { OnErr result (self.new ≡ self.old) }
+        ensures { SendsText self.old (λ column. unmoved_byte column byte) result self.new }
     {
         self.text.push(byte)?;
         Ok(())
@@ -336,9 +325,7 @@ impl Desk {
 
     /// Sends bytes without expanding tabs. An `Err` means out of memory and changes nothing.
     pub(crate) fn send_all(&mut self, bytes: &[u8]) -> Result<(), AllocError>
-        ensures ok { OnOk result (Shows self.old.desk self.new.desk (λ column. sent_bytes column bytes.now)) }
-        ensures places { self.new.places ≡ self.old.places }
-        ensures err { OnErr result (self.new ≡ self.old) }
+        ensures { SendsText self.old (λ column. sent_bytes column bytes.now) result self.new }
     {
         self.text.extend_from_slice(bytes)?;
         self.spot.column = column_after_all(self.spot.column, bytes);
@@ -346,9 +333,7 @@ impl Desk {
     }
 
     fn tab(&mut self) -> Result<(), AllocError>
-        ensures ok { OnOk result (Shows self.old.desk self.new.desk tab_blanks) }
-        ensures places { self.new.places ≡ self.old.places }
-        ensures err { OnErr result (self.new ≡ self.old) }
+        ensures { SendsText self.old tab_blanks result self.new }
     {
         let blanks = 8 - self.spot.column % 8;
         self.text.extend_from_slice(&[b' '; 8][..blanks])?;
@@ -359,9 +344,7 @@ impl Desk {
     /// Prints a byte of the script if function 1 echoes it: a byte from 20H on, a backspace, a tab, a line feed or a
     /// carriage return. An `Err` means out of memory and changes nothing.
     pub(crate) fn echo(&mut self, byte: u8) -> Result<(), AllocError>
-        ensures ok { OnOk result (Shows self.old.desk self.new.desk (λ column. echoed_byte column byte)) }
-        ensures places { self.new.places ≡ self.old.places }
-        ensures err { OnErr result (self.new ≡ self.old) }
+        ensures sends { SendsText self.old (λ column. echoed_byte column byte) result self.new }
         ensures grows { OnErr result (is_echoed byte ≡ true) }
     {
         if matches!(byte, 0x20..|0x08| 0x09 | 0x0a | 0x0d) {

@@ -2,9 +2,9 @@
 
 ghost use Rattle.std.specs.Prelude.{List, ℕ, Ok};
 ghost use Rattle.console_calls.specs.ConsoleCalls as calls;
-ghost use Rattle.console_calls.specs.PerformsCall.{MakesCall};
+ghost use Rattle.console_calls.specs.PerformsCall.{MakesCall, scene};
 
-use crate::calls::give_back;
+use crate::calls::return_to;
 use crate::cause::Cause;
 use crate::desk::Desk;
 use crate::served::Served;
@@ -20,56 +20,61 @@ const DRIVES: u16 = 0x000f;
 /// Executes function 13, which selects drive A and the buffer in page zero.
 pub fn reset_disks<B: Bus>(regs: &mut Regs, bus: &mut B, desk: &mut Desk) -> Served
     ensures { (script : List ℕ) → MakesCall calls.reset_disks script
-        (regs.old, B.memory bus.old, desk.old) (Ok result) (regs.new, B.memory bus.new, desk.new) }
+        (scene regs.old (B.memory bus.old) desk.old) (Ok result)
+        (scene regs.new (B.memory bus.new) desk.new) }
 {
     let to = fetch_word(bus, regs.sp);
     desk.set_buffer(FIRST_BUFFER);
     desk.set_drive(Drive::A);
-    give_back(regs, 0, to);
+    return_to(regs, 0, to);
     Served::Went
 }
 
 /// Executes function 14, which sets the current drive. Stops if there is no such drive.
 pub fn select_disk<B: Bus>(regs: &mut Regs, bus: &mut B, desk: &mut Desk) -> Served
     ensures { (script : List ℕ) → MakesCall calls.select_disk script
-        (regs.old, B.memory bus.old, desk.old) (Ok result) (regs.new, B.memory bus.new, desk.new) }
+        (scene regs.old (B.memory bus.old) desk.old) (Ok result)
+        (scene regs.new (B.memory bus.new) desk.new) }
 {
     let Some(drive) = Drive::from_number(regs.e) else {
         return Served::Stop(Cause::BadDrive(regs.e));
     };
     let to = fetch_word(bus, regs.sp);
     desk.set_drive(drive);
-    give_back(regs, 0, to);
+    return_to(regs, 0, to);
     Served::Went
 }
 
 /// Executes function 24, which returns a bit for each drive.
 pub fn login_vector<B: Bus>(regs: &mut Regs, bus: &mut B, desk: &Desk) -> Served
     ensures { (script : List ℕ) → MakesCall calls.login_vector script
-        (regs.old, B.memory bus.old, desk.now) (Ok result) (regs.new, B.memory bus.new, desk.now) }
+        (scene regs.old (B.memory bus.old) desk.now) (Ok result)
+        (scene regs.new (B.memory bus.new) desk.now) }
 {
     let to = fetch_word(bus, regs.sp);
-    give_back(regs, DRIVES, to);
+    return_to(regs, DRIVES, to);
     Served::Went
 }
 
 /// Executes function 25, which returns the current drive.
 pub fn current_disk<B: Bus>(regs: &mut Regs, bus: &mut B, desk: &Desk) -> Served
     ensures { (script : List ℕ) → MakesCall calls.current_disk script
-        (regs.old, B.memory bus.old, desk.now) (Ok result) (regs.new, B.memory bus.new, desk.now) }
+        (scene regs.old (B.memory bus.old) desk.now) (Ok result)
+        (scene regs.new (B.memory bus.new) desk.now) }
 {
     let to = fetch_word(bus, regs.sp);
-    give_back(regs, desk.drive().number() as u16, to);
+    return_to(regs, desk.drive().number() as u16, to);
     Served::Went
 }
 
 /// Executes function 26, which sets the buffer address.
 pub fn set_buffer_address<B: Bus>(regs: &mut Regs, bus: &mut B, desk: &mut Desk) -> Served
     ensures { (script : List ℕ) → MakesCall calls.set_buffer_address script
-        (regs.old, B.memory bus.old, desk.old) (Ok result) (regs.new, B.memory bus.new, desk.new) }
+        (scene regs.old (B.memory bus.old) desk.old) (Ok result)
+        (scene regs.new (B.memory bus.new) desk.new) }
 {
     let to = fetch_word(bus, regs.sp);
     desk.set_buffer(word_of(regs.e, regs.d));
-    give_back(regs, 0, to);
+    return_to(regs, 0, to);
     Served::Went
 }

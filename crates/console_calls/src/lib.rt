@@ -1,6 +1,6 @@
 //! The calls of the BDOS of CP/M 2.2 that need no files, over any memory.
 //!
-//! - `function`, `calls`: the calls by their numbers; `call`, with one function for each
+//! - `calls`: `console_call`, and one function for each call
 //! - `disks`: the calls for drives and the buffer address
 //! - `desk`, `script_looks`: the desk, which sends and prints and takes bytes of the script; the script offsets that were
 //!   looked at
@@ -12,14 +12,12 @@ mod calls;
 mod cause;
 mod desk;
 mod disks;
-mod function;
 mod line;
 mod script_looks;
 mod served;
 
-pub use calls::{call, give_back};
+pub use calls::{console_call, return_to};
 pub use cause::Cause;
 pub use desk::{Desk, Spot};
-pub use function::Function;
 pub use script_looks::ScriptLooks;
 pub use served::Served;

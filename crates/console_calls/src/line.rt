@@ -82,23 +82,23 @@ impl Line {
                 self.sends.push(b'\r')?;
                 return Ok(LineStep::Ends);
             }
-            0x08 => self.take_back()?,
+            0x08 => self.backspace()?,
             0x7f => self.rub_out()?,
             0x03 if self.stored.is_empty() => return Ok(LineStep::Boots),
-            _ => self.keep(byte)?,
+            _ => self.store(byte)?,
         }
         Ok(LineStep::Goes)
     }
 
-    fn keep(&mut self, byte: u8) -> Result<(), AllocError>
+    fn store(&mut self, byte: u8) -> Result<(), AllocError>
         ensures ok { OnOk result (self.new ≡ line_with_byte byte self.old) }
         ensures longer { length self.new.stored ≤ length self.old.stored + 1 }
     {
         self.stored.push(byte)?;
-        self.show(byte)
+        self.echo(byte)
     }
 
-    fn take_back(&mut self) -> Result<(), AllocError>
+    fn backspace(&mut self) -> Result<(), AllocError>
         ensures ok { OnOk result (self.new ≡ line_after_backspace self.old.stored self.old) }
         ensures longer { length self.new.stored ≤ length self.old.stored }
     {
@@ -115,11 +115,11 @@ impl Line {
         let Some(last) = self.stored.pop() else {
             return Ok(());
         };
-        self.show(last)
+        self.echo(last)
     }
 
     // Sends a stored byte, a control byte as `^` and a letter.
-    fn show(&mut self, byte: u8) -> Result<(), AllocError>
+    fn echo(&mut self, byte: u8) -> Result<(), AllocError>
         ensures ok { OnOk result (self.new ≡ record self.old { sends = self.old.sends ++ echo_of byte }) }
         ensures stored { self.new.stored ≡ self.old.stored }
     {
@@ -146,11 +146,11 @@ pub(crate) fn take_line(
 {
     let mut line = Line::new(alloc);
     let mut taken = 0;
-    for place in cursor..script.len() {
+    for offset in cursor..script.len() {
         if line.len() >= capacity as usize {
             return Ok(LineEnd::Ended(line, taken));
         }
-        match line.take(script[place])? {
+        match line.take(script[offset])? {
             LineStep::Goes => taken += 1,
             LineStep::Ends => return Ok(LineEnd::Ended(line, taken + 1)),
             LineStep::Boots => return Ok(LineEnd::Booted(taken + 1)),

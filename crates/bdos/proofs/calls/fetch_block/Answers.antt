@@ -1,9 +1,10 @@
-use Rattle.std.proofs.Common.{refl}
+use Rattle.std.proofs.Common.{refl, ◌∙◌}
 use Rattle.bdos.proofs.Runs.{block_of}
+use Rattle.bdos.proofs.calls.fetch_block.Goals.{in-Sequential, in-Random}
 use Rattle.bdos.proofs.calls.fetch_block.Goals as goal
 
-pub returns-then-whole : goal.returns-then-whole
-returns-then-whole g c = rw c.if-whole.true (block_of 36 _ _ _ _ refl c.fetch_cells.ensures.reads c.from_bytes.ensures)
-
 pub returns : goal.returns
-returns g c = rw c.if-whole.false (block_of 33 _ _ _ _ refl c.fetch_cells-2.ensures.reads c.from_bytes-2.ensures)
+returns g c = elim c.match-length.branch [
+  | in-Sequential w ↦ rw (w.in-Sequential.is, w.bus-is) (block_of 33 _ _ _ _ refl w.fetch_cells.ensures.reads (c.from_bytes.ensures ∙ w.bytes-is))
+  | in-Random w ↦ rw (w.in-Random.is, w.bus-is) (block_of 36 _ _ _ _ refl w.fetch_cells-in-Random.ensures.reads (c.from_bytes.ensures ∙ w.bytes-is))
+]

@@ -1,18 +1,18 @@
-use Rattle.std.proofs.Common.{rules, refl, ap}
+use Rattle.std.proofs.Common.{rules, refl, sym, ap}
 use Rattle.file_calls.specs.Findings.{finding_of}
 use Rattle.bdos.specs.SystemQuestions.{bind_files}
 use Rattle.bdos.specs.FileCalls.{call_with_finding}
 use Rattle.bdos.proofs.Chains.{heads, after_files, fails_asking, answered_as}
 use Rattle.bdos.proofs.calls.file_call.Goals as goal
 
-pub returns-in-Ok-clause-fulfils : goal.returns-in-Ok-clause-fulfils
-returns-in-Ok-clause-fulfils g c script =
-    heads _ _ c.args.desk.now.desk.spot (λ b to. bind_files (finding_of c.args.function b) (λ x. call_with_finding x c.args.regs.now c.args.desk.now.desk.spot to)) c.has_random_place.ensures c.word_of-at.ensures c.drive.ensures c.fetch-dr.ensures (search rules) c.fetch_block-block.ensures c.fetch_word-to.ensures
-    (after_files _ (λ x. call_with_finding x c.args.regs.now c.args.desk.now.desk.spot c.fetch_word-to.result) _ (answered_as (finding_of c.args.function c.fetch_block-block.result) c.args.table.now.host.now c.in-Ok.is c.inquire.ensures.asks) (c.apply_finding.ensures.fulfils script))
+pub returns-in-Ok-clause-makes : goal.returns-in-Ok-clause-makes
+returns-in-Ok-clause-makes g c script =
+    heads script _ _ (λ b to. bind_files (finding_of c.args.function b) (λ x. call_with_finding x c.args.regs.now c.args.desk.now.desk.spot to)) (sym c.block_length.ensures) c.word_of-at.ensures c.drive.ensures c.fetch-dr.ensures (search rules) c.fetch_block-block.ensures c.fetch_word-to.ensures
+    (after_files script _ (λ x. call_with_finding x c.args.regs.now c.args.desk.now.desk.spot c.fetch_word-to.result) _ (answered_as (finding_of c.args.function c.fetch_block-block.result) c.args.table.now.host.now c.in-Ok.is c.inquire.ensures.asks) (c.apply_finding.ensures.makes script))
 
-pub returns-in-Err-clause-fulfils : goal.returns-in-Err-clause-fulfils
-returns-in-Err-clause-fulfils g c script =
+pub returns-in-Err-clause-makes : goal.returns-in-Err-clause-makes
+returns-in-Err-clause-makes g c script =
     let h = c.inquire.ensures.asks in
     let bound = answered_as (finding_of c.args.function c.fetch_block-block.result) c.args.table.now.host.now c.in-Err.is h in
-    heads _ _ c.args.desk.now.desk.spot (λ b to. bind_files (finding_of c.args.function b) (λ x. call_with_finding x c.args.regs.now c.args.desk.now.desk.spot to)) c.has_random_place.ensures c.word_of-at.ensures c.drive.ensures c.fetch-dr.ensures (search rules) c.fetch_block-block.ensures c.fetch_word-to.ensures
-    (fails_asking (finding_of c.args.function c.fetch_block-block.result) (λ x. call_with_finding x c.args.regs.now c.args.desk.now.desk.spot c.fetch_word-to.result) refl refl refl (ap (λ j. j.entries) h.stays) h.extends bound.bound refl refl (λ j. refl))
+    heads script _ _ (λ b to. bind_files (finding_of c.args.function b) (λ x. call_with_finding x c.args.regs.now c.args.desk.now.desk.spot to)) (sym c.block_length.ensures) c.word_of-at.ensures c.drive.ensures c.fetch-dr.ensures (search rules) c.fetch_block-block.ensures c.fetch_word-to.ensures
+    (fails_asking script (finding_of c.args.function c.fetch_block-block.result) (λ x. call_with_finding x c.args.regs.now c.args.desk.now.desk.spot c.fetch_word-to.result) refl refl refl (ap (λ j. j.entries) h.stays) h.extends bound.bound refl refl (λ j. refl))

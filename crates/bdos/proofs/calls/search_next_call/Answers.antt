@@ -5,6 +5,6 @@ use Rattle.bdos.specs.FileCalls.{call_with_finding}
 use Rattle.bdos.proofs.Chains.{after_read, after_files, asked_as}
 use Rattle.bdos.proofs.calls.search_next_call.Goals as goal
 
-pub returns-clause-fulfils : goal.returns-clause-fulfils
-returns-clause-fulfils g c script =
-    after_read _ (λ to. bind_files (search_next c.args.desk.now.desk.spot.search) (λ x. call_with_finding x c.args.regs.now c.args.desk.now.desk.spot to)) _ c.fetch_word-to.ensures (after_files (search_next c.args.desk.now.desk.spot.search) (λ x. call_with_finding x c.args.regs.now c.args.desk.now.desk.spot c.fetch_word-to.result) c.search_next-finding.result (asked_as c.args.table.now.host.now (ap search_next c.search.ensures) c.search_next-finding.ensures.asks) (c.apply_finding.ensures.fulfils script))
+pub returns-clause-makes : goal.returns-clause-makes
+returns-clause-makes g c script =
+    after_read script _ (λ to. bind_files (search_next c.args.desk.now.desk.spot.search) (λ x. call_with_finding x c.args.regs.now c.args.desk.now.desk.spot to)) _ c.fetch_word-to.ensures (after_files script (search_next c.args.desk.now.desk.spot.search) (λ x. call_with_finding x c.args.regs.now c.args.desk.now.desk.spot c.fetch_word-to.result) c.search_next-finding.result (asked_as c.args.table.now.host.now (ap search_next c.search.ensures) c.search_next-finding.ensures.asks) (c.apply_finding.ensures.makes script))

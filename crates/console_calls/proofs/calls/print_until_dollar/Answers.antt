@@ -14,7 +14,7 @@ loop-cell-preserved g c =
       looks = looks_on _ _ _ _ 65536 c.loop-cell._cell _ _ (omega arith) value (omega arith) looked ∙ i.looks;
       extends = one_more _ _ _ _ _ i.extends looked;
       grown = subst (GrowsText c.args.desk.now.desk) (sym c.in_ok-print.ensures.ok) (grown_on _ _ _ i.grown);
-      places = search rules;
+      desk_looks = search rules;
       own = search rules;
       beneath = search rules;
       lender = search rules;
@@ -27,28 +27,32 @@ returns-then-byte-eq36-clause-scans g c =
     let looked = looked_at (g.B.Bus.memory c.args.bus.now) _ _ _ _ c.fetch-byte.ensures i.own i.beneath in
     let whole = sym (desk_here _ 65536 c.loop-cell._cell _ _ c.loop-cell.desk.desk (omega arith) value c.if-byte-eq36.true) ∙ i.desk in
     record {
-      found = found_some _ _ _ whole;
+      reads = record {
+        found = found_some _ _ _ whole;
+        looks = looked ∙ sym (looks_here _ _ _ 65536 c.loop-cell._cell _ _ (omega arith) value c.if-byte-eq36.true) ∙ i.looks;
+        err_looks = tt;
+        err_bound = tt;
+        own = search rules;
+        beneath = search rules;
+        lender = search rules;
+      };
       printed = λ _. desk_is _ _ _ whole;
-      looks = looked ∙ sym (looks_here _ _ _ 65536 c.loop-cell._cell _ _ (omega arith) value c.if-byte-eq36.true) ∙ i.looks;
-      err_looks = tt;
-      err_bound = tt;
       grown = i.grown;
-      own = search rules;
-      beneath = search rules;
-      lender = search rules;
     }
 
 pub returns-clause-scans : goal.returns-clause-scans
 returns-clause-scans g c =
     let i = c.loop-cell.invariant in
     record {
-      found = found_none _ _ (sym (desk_end _ 65536 c.loop-cell._cell _ c.loop-cell.desk.desk (omega arith)) ∙ i.desk);
+      reads = record {
+        found = found_none _ _ (sym (desk_end _ 65536 c.loop-cell._cell _ c.loop-cell.desk.desk (omega arith)) ∙ i.desk);
+        looks = sym (looks_end _ _ _ 65536 c.loop-cell._cell _ (omega arith)) ∙ i.looks;
+        err_looks = tt;
+        err_bound = tt;
+        own = i.own;
+        beneath = i.beneath;
+        lender = i.lender;
+      };
       printed = λ no. cc;
-      looks = sym (looks_end _ _ _ 65536 c.loop-cell._cell _ (omega arith)) ∙ i.looks;
-      err_looks = tt;
-      err_bound = tt;
       grown = i.grown;
-      own = i.own;
-      beneath = i.beneath;
-      lender = i.lender;
     }

@@ -13,7 +13,7 @@ invariant-loop-cell g l = let first = g.B.Bus.memory l.fn.bus in let now = g.B.B
   looks : look_all first.own (asked (string_at (65536 - l._cell) l.address) (bytes first)) now.looks ≡ look_all first.own (asked (string_at 65536 l.at) (bytes first)) first.looks;
   extends : Extends first.looks now.looks;
   grown : GrowsText l.fn.desk.desk l.desk.desk;
-  places : l.desk.places ≡ l.fn.desk.places;
+  desk_looks : l.desk.looks ≡ l.fn.desk.looks;
   own : now.own ≡ first.own;
   beneath : now.beneath ≡ first.beneath;
   lender : now.lender ≡ first.lender;
