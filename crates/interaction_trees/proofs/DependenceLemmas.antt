@@ -1,8 +1,10 @@
 -- On any machine, what no step looks at has no influence.
-use Rattle.std.proofs.Common.{◌≡◌, ℕ, zero, suc, ◌<◌, List, [], ◌∷◌, ◌++◌, refl, ap, sym, ◌∙◌, arith, Option, Some, None}
+use Rattle.std.proofs.Common.{◌≡◌, ℕ, zero, suc, ◌<◌, List, [], ◌∷◌, ◌++◌, refl, ap, sym, arith, Option, Some, None}
 use Rattle.interaction_trees.specs.Tree.{Tree, Return, Query, result_of, questions_of, AgreeOn, map_result}
 use Rattle.interaction_trees.specs.Outcome.{Outcome}
-use Rattle.interaction_trees.specs.Dependence.{state_of, laid, session_questions}
+use Rattle.interaction_trees.specs.Steps.{state_of}
+use Rattle.interaction_trees.specs.Steps as steps
+use Rattle.interaction_trees.specs.Dependence.{laid, session_questions}
 use Rattle.interaction_trees.specs.Dependence as dependence
 
 module _ {S : Type 0} {B : S → Type 0} where
@@ -37,47 +39,47 @@ module _ {S : Type 0} {B : S → Type 0} where
   agree_right f g [] ys h = h
   agree_right f g (x ∷ xs) ys h = agree_right f g xs ys h.1
 
-module _ {S : Type 0} {B : S → Type 0} {Q : Type 0} {A : Q → Type 0} {W : Type 0} (part : W → (q : Q) → Tree S B (A q)) where
+module _ {S : Type 0} {B : S → Type 0} {Q : Type 0} {A : Q → Type 0} {W : Type 0} (answer_tree : W → (q : Q) → Tree S B (A q)) where
   -- If two sessions agree on the questions that reach them, the states agree.
-  pub laid_agree : (w : W) (f g : (s : S) → B s) (qs : List Q) → AgreeOn (session_questions part w f qs) f g → AgreeOn qs (laid part w f) (laid part w g)
+  pub laid_agree : (w : W) (f g : (s : S) → B s) (qs : List Q) → AgreeOn (session_questions answer_tree w f qs) f g → AgreeOn qs (laid answer_tree w f) (laid answer_tree w g)
   laid_agree w f g [] h = tt
   laid_agree w f g (q ∷ qs) h =
-      (sym (same_result f g (part w q) (agree_left f g _ _ h)), laid_agree w f g qs (agree_right f g _ _ h))
+      (sym (same_result f g (answer_tree w q) (agree_left f g _ _ h)), laid_agree w f g qs (agree_right f g _ _ h))
 
-  pub same_passed : (w : W) (f g : (s : S) → B s) (qs : List Q) → AgreeOn (session_questions part w f qs) f g → session_questions part w g qs ≡ session_questions part w f qs
+  pub same_passed : (w : W) (f g : (s : S) → B s) (qs : List Q) → AgreeOn (session_questions answer_tree w f qs) f g → session_questions answer_tree w g qs ≡ session_questions answer_tree w f qs
   same_passed w f g [] h = refl
   same_passed w f g (q ∷ qs) h =
-      rw (same_asked f g (part w q) (agree_left f g _ _ h)) (ap (λ qs. questions_of f (part w q) ++ qs) (same_passed w f g qs (agree_right f g _ _ h)))
+      rw (same_asked f g (answer_tree w q) (agree_left f g _ _ h)) (ap (λ qs. questions_of f (answer_tree w q) ++ qs) (same_passed w f g qs (agree_right f g _ _ h)))
 
 module _ {S : Type 0} {B : S → Type 0} {Q : Type 0} {A : Q → Type 0} {W St R X : Type 0}
-    (part : W → (q : Q) → Tree S B (A q)) (own : St → W) (next : St → Tree Q A R) (made : St → R → Outcome St X) (start : St) where
+    (answer_tree : W → (q : Q) → Tree S B (A q)) (own : St → W) (next : St → Tree Q A R) (finish : St → R → Outcome St X) (start : St) where
   abbrev outcome : ((s : S) → B s) → St → Outcome St X
-  outcome = dependence.outcome part own next made start
+  outcome = dependence.outcome answer_tree own next finish start
 
   abbrev looks_at : ((s : S) → B s) → St → List S
-  looks_at = dependence.looks_at part own next made start
+  looks_at = dependence.looks_at answer_tree own next finish start
 
   abbrev then_step : ((s : S) → B s) → Option St → Option St
-  then_step = dependence.next_state part own next made start
+  then_step f = steps.next_state (outcome f)
 
   abbrev after : ((s : S) → B s) → ℕ → Option St
-  after = dependence.after part own next made start
+  after = dependence.after answer_tree own next finish start
 
   abbrev looks_of : ((s : S) → B s) → Option St → List S
-  looks_of = dependence.looks_if_any part own next made start
+  looks_of = dependence.looks_if_any answer_tree own next finish start
 
   abbrev looks : ((s : S) → B s) → ℕ → List S
-  looks = dependence.looks part own next made start
+  looks = dependence.looks answer_tree own next finish start
 
   pub same_outcome : (f g : (s : S) → B s) (st : St) → AgreeOn (looks_at f st) f g → outcome g st ≡ outcome f st
   unfolding dependence.outcome dependence.looks_at
   same_outcome f g st h =
-      ap (made st) (same_result (laid part (own st) f) (laid part (own st) g) (next st) (laid_agree part (own st) f g _ h))
+      ap (finish st) (same_result (laid answer_tree (own st) f) (laid answer_tree (own st) g) (next st) (laid_agree answer_tree (own st) f g _ h))
 
   pub same_looks_at : (f g : (s : S) → B s) (st : St) → AgreeOn (looks_at f st) f g → looks_at g st ≡ looks_at f st
   unfolding dependence.looks_at
   same_looks_at f g st h =
-      rw (same_asked (laid part (own st) f) (laid part (own st) g) (next st) (laid_agree part (own st) f g _ h)) (same_passed part (own st) f g _ h)
+      rw (same_asked (laid answer_tree (own st) f) (laid answer_tree (own st) g) (next st) (laid_agree answer_tree (own st) f g _ h)) (same_passed answer_tree (own st) f g _ h)
 
   same_then : (f g : (s : S) → B s) (o : Option St) → AgreeOn (looks_of f o) f g → then_step g o ≡ then_step f o
   same_then f g None h = refl
@@ -88,7 +90,7 @@ module _ {S : Type 0} {B : S → Type 0} {Q : Type 0} {A : Q → Type 0} {W St R
   same_looks_of f g (Some st) h = same_looks_at f g st h
 
   pub same_after : (f g : (s : S) → B s) (n : ℕ) → ((i : ℕ) → i < n → AgreeOn (looks f i) f g) → after g n ≡ after f n
-  unfolding dependence.after dependence.looks
+  unfolding steps.after dependence.looks
   same_after f g zero h = refl
   same_after f g (suc n) h = rw (same_after f g n (λ i k. h i (omega arith))) (same_then f g (after f n) (h n (omega arith)))
 
@@ -97,6 +99,6 @@ module _ {S : Type 0} {B : S → Type 0} {Q : Type 0} {A : Q → Type 0} {W St R
   same_looks f g n h k = rw (same_after f g n h) (same_looks_of f g (after f n) k)
 
   -- The theorem.
-  pub prefix_dependence : dependence.PrefixDependence part own next made start
+  pub prefix_dependence : dependence.PrefixDependence answer_tree own next finish start
   prefix_dependence f g n h =
       (same_after f g n h, λ i k. same_looks f g i (λ j m. h j (omega arith)) (h i k))

@@ -3,44 +3,36 @@
 --
 -- S, B: the session's questions and their answers. Q, A: the state's questions and their answers. W: what a run wrote. St: a
 -- state. R: the result of a step's tree of questions. X: the cause of a stop.
-use Rattle.std.specs.Prelude.{◌≡◌, ℕ, zero, suc, ◌<◌, List, [], ◌∷◌, ◌++◌, Option, Some, None}
-use Rattle.interaction_trees.specs.Outcome.{Outcome, Step, Stop}
+use Rattle.std.specs.Prelude.{◌≡◌, ℕ, ◌<◌, List, [], ◌∷◌, ◌++◌, Option, Some, None}
+use Rattle.interaction_trees.specs.Outcome.{Outcome}
+use Rattle.interaction_trees.specs.Steps as steps
 use Rattle.interaction_trees.specs.Tree.{Tree, result_of, questions_of, AgreeOn}
 
 -- The state answers each question by a small tree over the session. About what the run wrote itself it asks the session
 -- nothing.
-module _ {S : Type 0} {B : S → Type 0} {Q : Type 0} {A : Q → Type 0} {W : Type 0} (part : W → (q : Q) → Tree S B (A q)) where
+module _ {S : Type 0} {B : S → Type 0} {Q : Type 0} {A : Q → Type 0} {W : Type 0} (answer_tree : W → (q : Q) → Tree S B (A q)) where
   -- The answers of a state with own w, over a session that answers by f.
   abbrev pub laid : W → ((s : S) → B s) → (q : Q) → A q
-  laid w f q = result_of f (part w q)
+  laid w f q = result_of f (answer_tree w q)
 
   -- The questions that the session is asked in order to answer these questions of the state.
   abbrev pub session_questions : W → ((s : S) → B s) → List Q → List S
   session_questions w f [] = []
-  session_questions w f (q ∷ qs) = questions_of f (part w q) ++ session_questions w f qs
-
-abbrev pub state_of : {St X : Type 0} → Outcome St X → Option St
-state_of (Step st) = Some st
-state_of (Stop x) = None
+  session_questions w f (q ∷ qs) = questions_of f (answer_tree w q) ++ session_questions w f qs
 
 module _ {S : Type 0} {B : S → Type 0} {Q : Type 0} {A : Q → Type 0} {W St R X : Type 0}
-    (part : W → (q : Q) → Tree S B (A q)) (own : St → W) (next : St → Tree Q A R) (made : St → R → Outcome St X) (start : St) where
+    (answer_tree : W → (q : Q) → Tree S B (A q)) (own : St → W) (next : St → Tree Q A R) (finish : St → R → Outcome St X) (start : St) where
   -- The outcome at a state.
   unfoldable pub outcome : ((s : S) → B s) → St → Outcome St X
-  outcome f st = made st (result_of (laid part (own st) f) (next st))
+  outcome f st = finish st (result_of (laid answer_tree (own st) f) (next st))
 
   -- The questions that the session is asked at a state, also if the outcome is a stop.
   unfoldable pub looks_at : ((s : S) → B s) → St → List S
-  looks_at f st = session_questions part (own st) f (questions_of (laid part (own st) f) (next st))
-
-  abbrev pub next_state : ((s : S) → B s) → Option St → Option St
-  next_state f None = None
-  next_state f (Some st) = state_of (outcome f st)
+  looks_at f st = session_questions answer_tree (own st) f (questions_of (laid answer_tree (own st) f) (next st))
 
   -- The state after n steps, or none if the run stops earlier.
-  unfoldable pub after : ((s : S) → B s) → ℕ → Option St
-  after f zero = Some start
-  after f (suc n) = next_state f (after f n)
+  abbrev pub after : ((s : S) → B s) → ℕ → Option St
+  after f n = steps.after (outcome f) start n
 
   abbrev pub looks_if_any : ((s : S) → B s) → Option St → List S
   looks_if_any f None = []

@@ -1,15 +1,13 @@
 -- The reports of the plain machine's files are the reports of what was done to the host files.
 use Rattle.std.proofs.Common.{◌≡◌, Bool, true, false, not, cond, is_some, List, [], ◌∷◌, ◌++◌, ◌||◌, ◌&&◌, T, map, Option, Some, None, refl, sym, ap, subst, ◌∙◌}
 use Rattle.std.proofs.lemmas.Simd.{map-map}
-use Rattle.std.specs.declared.cmp.Ordering.TheVariants.{Less}
 use Rattle.std.specs.List.{list_any}
 use Rattle.std.specs.Option.{option_map}
 use Rattle.std.specs.Ordering.{nat_cmp, eq_by_cmp}
 use Rattle.std.specs.Cmp.Lexicographic.{slice_cmp, nat_list_cmp_total}
 use Rattle.std.specs.FinMap.{FinMap, get, keys, entries, entries_sorted, get-entries, get-from_entries, get-retain_keys, contains_key-keys}
 use Rattle.std.specs.FinMap.Entries.{find, same_entries}
-use Rattle.hostfiles.specs.Order.{is_above}
-use Rattle.hostfiles.proofs.Views.{same_key, absent_of}
+use Rattle.hostfiles.proofs.Views.{same_key}
 use Rattle.hostfiles.specs.Names.{is_sayable}
 use Rattle.hostfiles.specs.Hosts.{Key, Record, Host}
 use Rattle.hostfiles.specs.Files.{OwnFiles, file_contents}
@@ -17,8 +15,8 @@ use Rattle.hostfiles.specs.File.{File, contents_of}
 use Rattle.hostfiles.specs.Files as files
 use Rattle.hostfiles.specs.Changed.{is_changed, is_changed_name, changed_names, changed_keys}
 use Rattle.hostfiles.specs.File.{is_same}
-use Rattle.hostfiles.proofs.FileLemmas.{get-files}
-use Rattle.hostfiles.proofs.ChangedWalk.{all_changed, keys_above, keys_above_least, keys_above_end}
+use Rattle.hostfiles.proofs.FileLemmas.{any_append, get-files}
+use Rattle.hostfiles.proofs.ChangedWalk.{all_changed}
 use Rattle.file_calls.proofs.Names.{find-mapped}
 use Rattle.machine.specs.PlainFiles.{Files}
 use Rattle.machine.specs.ChangedFiles.{contents_in, is_changed_in, is_changed_name_in, keys_of_both, changed_in, changed_keys_in}
@@ -48,14 +46,6 @@ found q [] = refl
 found q (k ∷ ks) =
     elim (eq_by_cmp (slice_cmp nat_cmp) q k) as (λ b. is_some (cond b (Some (nothing k)) (find (slice_cmp nat_cmp) q (map marked ks))) ≡ (b || list_any (eq_by_cmp (slice_cmp nat_cmp) q) ks))
     [ true ↦ refl | false ↦ found q ks ]
-
-grouped : (a b c d : Bool) → b ≡ (c || d) → (a || b) ≡ ((a || c) || d)
-grouped true b c d h = refl
-grouped false b c d h = h
-
-any_append : (p : Key → Bool) (xs ys : List Key) → list_any p (xs ++ ys) ≡ (list_any p xs || list_any p ys)
-any_append p [] ys = refl
-any_append p (x ∷ xs) ys = grouped (p x) (list_any p (xs ++ ys)) (list_any p xs) (list_any p ys) (any_append p xs ys)
 
 in_both : (host : Host) (fs : Files) (q : Key) → is_some (get (keys_of_both host fs) q) ≡ (is_some (get host q) || is_some (get fs q))
 in_both host fs q =
@@ -111,19 +101,3 @@ same_keys m n same =
 pub changed_keys_laid : (host : Host) (own : OwnFiles) → changed_keys_in host (files.files host own) ≡ changed_keys host own
 changed_keys_laid host own = same_keys (changed_in host (files.files host own)) (changed_names host own)
     (λ q. all_changed_in host (files.files host own) q ∙ changed_name_laid host own q ∙ sym (all_changed host own q))
-
--- ---- a walk over the changed names
-
-lacks : (host : Host) (fs : Files) (q : Key) → is_changed_name_in host fs q ≡ false → get (changed_in host fs) q ≡ None
-lacks host fs q h = absent_of (get (changed_in host fs) q) (all_changed_in host fs q ∙ h)
-
--- The changed keys above a bound begin with the least changed name there.
-pub changed_next_in : (host : Host) (fs : Files) (after : Option Key) (k : Key) → is_above after k ≡ true → is_changed_name_in host fs k ≡ true
-    → ((x : Key) → is_above after x ≡ true → slice_cmp nat_cmp x k ≡ Less → is_changed_name_in host fs x ≡ false)
-    → keys_above (changed_in host fs) after ≡ k ∷ keys_above (changed_in host fs) (Some k)
-changed_next_in host fs after k up here none =
-    keys_above_least (changed_in host fs) after k up (all_changed_in host fs k ∙ here) (λ x a l. lacks host fs x (none x a l))
-
-pub changed_none_in : (host : Host) (fs : Files) (after : Option Key) → ((x : Key) → is_above after x ≡ true → is_changed_name_in host fs x ≡ false)
-    → keys_above (changed_in host fs) after ≡ []
-changed_none_in host fs after none = keys_above_end (changed_in host fs) after (λ x a. lacks host fs x (none x a))

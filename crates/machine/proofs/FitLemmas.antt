@@ -1,8 +1,8 @@
 -- What a step does to the files fits them: a file that is written or renamed is there, a write knows the length, and a rename stays on
 -- its drive. So what was done stays sound along a run.
-use Rattle.std.proofs.Common.{◌≡◌, ℕ, zero, suc, ◌+◌, ◌==◌, ◌&&◌, not, Bool, true, false, cond, [], length, Option, Some, None, slice_index, nat_le, nat_lt, refl, sym, ap, subst, ◌∙◌}
+use Rattle.std.proofs.Common.{◌≡◌, ℕ, ◌+◌, ◌==◌, ◌&&◌, not, Bool, true, false, cond, [], length, Option, Some, None, slice_index, nat_le, nat_lt, refl, sym, ap, subst, ◌∙◌}
 use Rattle.interaction_trees.specs.Tree.{Return, Query, result_of, map_result}
-use Rattle.interaction_trees.specs.Outcome.{Outcome, Step, Stop}
+use Rattle.interaction_trees.specs.Outcome.{Step}
 use Rattle.interaction_trees.specs.Dependence as dependence
 use Rattle.interaction_trees.proofs.DependenceLemmas.{same_everywhere, result_of-returning}
 use Rattle.i8080.specs.declared.registers.Regs.{Regs}
@@ -20,6 +20,8 @@ use Rattle.hostfiles.specs.ControlBlock.{place_of, random_place_of}
 use Rattle.hostfiles.specs.Entries.{count_at, next_among}
 use Rattle.hostfiles.specs.Search.{Search}
 use Rattle.hostfiles.specs.Hosts.{Key, Host}
+use Rattle.hostfiles.specs.declared.journal.Gap.{Gap}
+use Rattle.hostfiles.specs.declared.journal.Gap.TheVariants.{Holes, Zeros}
 use Rattle.hostfiles.specs.Files.{OwnFiles, has, length_at}
 use Rattle.cpmfiles.specs.Renaming.{is_rename}
 use Rattle.file_calls.specs.declared.block.Block.{Block}
@@ -46,8 +48,8 @@ use Rattle.file_calls.proofs.Soundness.{starts_sound, stays_sound}
 use Rattle.machine.specs.Inputs.{Session, Core}
 use Rattle.machine.specs.StateView.{PartialState}
 use Rattle.machine.specs.Step.{StepEnd, Went, Stopped, step_end_of, step_end_with, step_end_of_call, script_limit, next, desk_with}
-use Rattle.machine.specs.Machine.{session_answers, laid, with_cells, outcome_with, start, after, IsReached}
-use Rattle.machine.proofs.AfterLemmas.{step_before}
+use Rattle.machine.specs.Machine.{session_answers, laid, with_cells, outcome_with, start, after, IsReached, outcome}
+use Rattle.interaction_trees.proofs.RunLemmas.{holds_after}
 use Rattle.machine.proofs.HostLemmas.{result_of-asking_host}
 
 module _ (host : Host) (own : OwnFiles) where
@@ -106,8 +108,8 @@ module _ (host : Host) (own : OwnFiles) where
       by true e = k e
       by false e = tt
 
-    written : (b : Block) (place next : ℕ) (filled : Bool) → has host own (key_of b) ≡ true → FitsFinding (result_of g (write_finding b place next filled))
-    written b place next filled e = (ap length (h (ShapeOf (key_of b))) ∙ sym (places host own (key_of b)), e)
+    written : (b : Block) (place next : ℕ) (gap : Gap) → has host own (key_of b) ≡ true → FitsFinding (result_of g (write_finding b place next gap))
+    written b place next gap e = (ap length (h (ShapeOf (key_of b))) ∙ sym (places host own (key_of b)), e)
 
     entry_fits : (pattern : Key) (ex : ℕ) (o : Option _) → FitsFinding (entry_finding pattern ex o)
     entry_fits pattern ex None = tt
@@ -121,8 +123,8 @@ module _ (host : Host) (own : OwnFiles) where
     read_fits key place next value true other = record_fits next value (g (Content key place))
     read_fits key place next value false other = tt
 
-    sequential_fits : (b : Block) (c : Bool) → has host own (key_of b) ≡ true → FitsFinding (result_of g (cond c (write_finding b (place_of b.fcb) (place_of b.fcb + 1) false) (Return (finding.Value 2))))
-    sequential_fits b true e = written b (place_of b.fcb) (place_of b.fcb + 1) false e
+    sequential_fits : (b : Block) (c : Bool) → has host own (key_of b) ≡ true → FitsFinding (result_of g (cond c (write_finding b (place_of b.fcb) (place_of b.fcb + 1) Holes) (Return (finding.Value 2))))
+    sequential_fits b true e = written b (place_of b.fcb) (place_of b.fcb + 1) Holes e
     sequential_fits b false e = tt
 
     made_fits : (b : Block) (c : Bool) → FitsFinding (result_of g (cond c (Query (IsThere (key_of b)) (λ there. Return (cond there absent_value (finding.Make (key_of b))))) (Return absent_value)))
@@ -152,16 +154,16 @@ module _ (host : Host) (own : OwnFiles) where
         there (key_of b) (Query (ShapeOf (key_of b)) (λ s. cond (nat_lt (place_of b.fcb) (length s)) (Query (Content (key_of b) (place_of b.fcb)) (λ r. Return (record_finding (place_of b.fcb + 1) 1 r))) (Return (finding.Value 1))))
         (λ e. read_fits (key_of b) (place_of b.fcb) (place_of b.fcb + 1) 1 (nat_lt (place_of b.fcb) (length (g (ShapeOf (key_of b))))) 1)
     found_fits WriteSequential b =
-        there (key_of b) (cond (nat_lt (place_of b.fcb) 65536) (write_finding b (place_of b.fcb) (place_of b.fcb + 1) false) (Return (finding.Value 2))) (sequential_fits b (nat_lt (place_of b.fcb) 65536))
+        there (key_of b) (cond (nat_lt (place_of b.fcb) 65536) (write_finding b (place_of b.fcb) (place_of b.fcb + 1) Holes) (Return (finding.Value 2))) (sequential_fits b (nat_lt (place_of b.fcb) 65536))
     found_fits Make b = made_fits b (is_sayable (key_of b))
     found_fits Rename b = renamed_fits b (is_rename (key_of b) (new_key_of b))
     found_fits ReadRandom b =
         in_range b (Query (ShapeOf (key_of b)) (λ s. cond (nat_lt (random_place_of b.fcb) (length s)) (Query (Content (key_of b) (random_place_of b.fcb)) (λ r. Return (record_finding (random_place_of b.fcb) (missing_value s (random_place_of b.fcb)) r))) (Return (finding.Value (missing_value s (random_place_of b.fcb))))))
         (λ e. read_fits (key_of b) (random_place_of b.fcb) (random_place_of b.fcb) (missing_value (g (ShapeOf (key_of b))) (random_place_of b.fcb)) (nat_lt (random_place_of b.fcb) (length (g (ShapeOf (key_of b))))) (missing_value (g (ShapeOf (key_of b))) (random_place_of b.fcb)))
-    found_fits WriteRandom b = in_range b (write_finding b (random_place_of b.fcb) (random_place_of b.fcb) false) (written b (random_place_of b.fcb) (random_place_of b.fcb) false)
+    found_fits WriteRandom b = in_range b (write_finding b (random_place_of b.fcb) (random_place_of b.fcb) Holes) (written b (random_place_of b.fcb) (random_place_of b.fcb) Holes)
     found_fits FileSize b = size_fits b (g (IsThere (key_of b)))
     found_fits SetRandomRecord b = tt
-    found_fits WriteRandomZeroFill b = in_range b (write_finding b (random_place_of b.fcb) (random_place_of b.fcb) true) (written b (random_place_of b.fcb) (random_place_of b.fcb) true)
+    found_fits WriteRandomZeroFill b = in_range b (write_finding b (random_place_of b.fcb) (random_place_of b.fcb) Zeros) (written b (random_place_of b.fcb) (random_place_of b.fcb) Zeros)
 
     next_found_fits : (o : Option Search) → FitsFinding (result_of g (search_next o))
     next_found_fits None = tt
@@ -256,12 +258,10 @@ step_sound s st onward (Stopped cause) sound fits e = absurd (cc)
 
 -- What was done to the files is sound at each state of a run.
 pub sound_after : (s : Session) (n : ℕ) (st : PartialState) → after (session_answers s) n ≡ Some st → AreSoundOwnFiles s.files st.own.files
-unfolding dependence.after dependence.outcome
-sound_after s zero st e = let same : start ≡ st = cc in subst (λ (x : PartialState). AreSoundOwnFiles s.files x.own.files) same (starts_sound s.files)
-sound_after s (suc n) st e =
-    let (b, before, went) = step_before (session_answers s) (after (session_answers s) n) st e in
-    let sound = sound_after s n b before in
-    step_sound s b st (result_of (laid b.own (session_answers s)) (next b.core)) sound (reached_fits s b sound) went
+unfolding dependence.outcome
+sound_after s =
+    holds_after (outcome (session_answers s)) start (λ (st : PartialState). AreSoundOwnFiles s.files st.own.files) (starts_sound s.files)
+    (λ n b st at sound went. step_sound s b st (result_of (laid b.own (session_answers s)) (next b.core)) sound (reached_fits s b sound) went)
 
 pub sound_reached : (s : Session) (st : PartialState) → IsReached (session_answers s) st → AreSoundOwnFiles s.files st.own.files
 sound_reached s st r = sound_after s r.0 st r.1

@@ -23,7 +23,9 @@ use Rattle.file_calls.specs.FileQuestions.{FileQuestion, IsThere, ShapeOf, Conte
 use Rattle.file_calls.specs.TableView.{look_for}
 use Rattle.file_calls.specs.HostTrees.{HostAnswer, HostTree, there_tree, shape_tree, host_record_tree, record_tree}
 use Rattle.file_calls.specs.HostTrees as passing
-use Rattle.machine.specs.Machine.{Cell, Script, OfHost, Answers, is_in, host_tree_of}
+use Rattle.first_looks.specs.declared.question.Question.TheVariants.{Cell, Script, Host as OfHost}
+use Rattle.first_looks.specs.Questions.{is_in}
+use Rattle.machine.specs.Machine.{Answers, host_tree_of}
 
 -- ---- the host files' trees over a session
 

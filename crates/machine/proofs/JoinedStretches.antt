@@ -1,6 +1,6 @@
 -- A stretch that continues after steps that looked at nothing new.
 use Rattle.std.proofs.Common.{inl, inr, ◌≡◌, ℕ, ◌<◌, ◌≤◌, ◌+◌, ◌-◌, ◌||◌, Bool, true, false, Option, Some, None, Ok, Err, refl, sym, ◌∙◌, ap, subst, arith, List, IfOk, IfNone}
-use Rattle.std.proofs.lemmas.Bool.{cases_lt, or_cases}
+use Rattle.std.proofs.lemmas.Bool.{cases_lt}
 use Rattle.std.proofs.Math.Bool.{or-false}
 use Rattle.std.specs.declared.result.Result.{Result}
 use Rattle.std.specs.declared.alloc.AllocError.{AllocError}
@@ -15,13 +15,16 @@ use Rattle.hostfiles.proofs.LookLemmas.{extends_trans}
 use Rattle.i8080.proofs.WriteLookLemmas.{extends_itself}
 use Rattle.machine.specs.Inputs.{Session}
 use Rattle.machine.specs.StateView.{AllLooks, StateView}
-use Rattle.machine.specs.Machine.{Question, Cell, Script, OfHost, session_answers, after, looks, is_looked_at, is_in, AddsLooks, KeepsLooks}
+use Rattle.first_looks.specs.declared.question.Question.{Question}
+use Rattle.first_looks.specs.declared.question.Question.TheVariants.{Cell, Script, Host as OfHost}
+use Rattle.first_looks.specs.Questions.{is_in}
+use Rattle.machine.specs.Machine.{session_answers, after, looks, is_looked_at, AddsLooks, KeepsLooks}
 use Rattle.machine.specs.Stretch.{LooksAtNothingNew, RunsStretch}
 
 -- The same was looked at, with the same cells and offsets in the same order.
 pub record LooksAlike (was is : AllLooks) : Type 0 where
   pub cells : is.cells ≡ was.cells
-  pub places : is.places ≡ was.places
+  pub offsets : is.offsets ≡ was.offsets
   pub files : file_looks.KeepsAsks was.files is.files
   pub asks : (a : Ask) → is_looked is.files a ≡ true → is_looked was.files a ≡ true
 
@@ -32,7 +35,7 @@ both false false up down = refl
 
 pub alike : (was is : AllLooks) → LooksAlike was is → (q : Question) → is_looked_at is q ≡ is_looked_at was q
 alike was is l (Cell a) = ap (is_among a) l.cells
-alike was is l (Script k) = ap (λ p. is_within p k) l.places
+alike was is l (Script k) = ap (λ p. is_within p k) l.offsets
 alike was is l (OfHost a) = both (is_looked was.files a) (is_looked is.files a) (l.files.kept a) (l.asks a)
 
 module _ (s : Session) (from end n k : ℕ) (looked : AllLooks) (old new : StateView) (low : from ≤ n) (high : n < end)
@@ -50,7 +53,7 @@ module _ (s : Session) (from end n k : ℕ) (looked : AllLooks) (old new : State
   extends_on : KeepsLooks old.looked new.looked → KeepsLooks looked new.looked
   extends_on w = record {
     cells = subst (λ (c : List ℕ). memory.Extends c new.looked.cells) same.cells w.cells;
-    places = λ j h. w.places j (ap (λ p. is_within p j) same.places ∙ h);
+    offsets = λ j h. w.offsets j (ap (λ p. is_within p j) same.offsets ∙ h);
     files = extends_trans looked.files old.looked.files new.looked.files same.files w.files;
   }
 
@@ -121,7 +124,7 @@ ends_alike s from end n looked running low high same at quiet = record {
   at_stop = tt;
   extends = record {
     cells = subst (λ (c : List ℕ). memory.Extends looked.cells c) (sym same.cells) (extends_itself looked.cells);
-    places = λ j h. ap (λ p. is_within p j) same.places ∙ h;
+    offsets = λ j h. ap (λ p. is_within p j) same.offsets ∙ h;
     files = same.files;
   };
   bounded = tt;
@@ -145,10 +148,10 @@ quiet_to s from end n looked new past w same i l h q e = elim (cases_lt i (n - 1
   at_last h = second (is_looked_at looked q) (is_in q (looks (session_answers s) (n - 1))) (is_looked_at new.looked q) (w.last past q) h (alike looked new.looked same q)
 
 -- The same cells and offsets, and no question to the host files.
-pub looks_alike : (was is : AllLooks) → KeepsLooks was is → is.cells ≡ was.cells → is.places ≡ was.places → ((a : Ask) → is_looked is.files a ≡ false) → LooksAlike was is
-looks_alike was is e cells places none = record {
+pub looks_alike : (was is : AllLooks) → KeepsLooks was is → is.cells ≡ was.cells → is.offsets ≡ was.offsets → ((a : Ask) → is_looked is.files a ≡ false) → LooksAlike was is
+looks_alike was is e cells offsets none = record {
   cells = cells;
-  places = places;
+  offsets = offsets;
   files = e.files;
   asks = λ a h. absurd (let no : false ≡ true = sym (none a) ∙ h in cc);
 }

@@ -1,6 +1,6 @@
-pub mod AfterLemmas
 pub mod WrittenCellLemmas
 pub mod HostLemmas
+pub mod TakeLemmas
 pub mod FitLemmas
 pub mod StepLemmas
 pub mod StretchLemmas
@@ -12,4 +12,5 @@ pub mod WholeLemmas
 pub mod TextLemmas
 pub mod SpliceLemmas
 pub use Rattle.i8080.proofs.LookLemmas
+pub use Rattle.interaction_trees.proofs.RunLemmas
 pub use Rattle.interaction_trees.proofs.DependenceLemmas

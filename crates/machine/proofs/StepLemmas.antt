@@ -38,6 +38,7 @@ use Rattle.console_calls.specs.ScriptLooks.{DeskLooks, is_within}
 use Rattle.console_calls.specs.StateQuestions.{Byte, Input, addresses, script_offsets}
 use Rattle.console_calls.specs.ConsoleCalls as calls
 use Rattle.console_calls.specs.PerformsCall as calls_left
+use Rattle.console_calls.specs.PerformsCall.{scene}
 use Rattle.hostfiles.specs.Files as files
 use Rattle.hostfiles.specs.Hosts.{Host}
 use Rattle.hostfiles.specs.FileLooks.{is_looked}
@@ -50,12 +51,10 @@ use Rattle.file_calls.specs.Deletes.{own_after_change}
 use Rattle.file_calls.specs.TableView.{TableView, look_for, look_for_all}
 use Rattle.file_calls.proofs.Extending.{within_all}
 use Rattle.bdos.specs.SystemQuestions.{SystemQuestion, OfState, OfFiles, SystemAnswers, SystemTree, bind_reading}
-use Rattle.bdos.specs.PerformsSystemCall.{system_answers, state_questions, file_questions}
+use Rattle.bdos.specs.PerformsSystemCall.{system_answers, state_questions, file_questions, SystemPath, PerformsSystemCall, MakesSystemCall}
 use Rattle.bdos.specs.FileCalls.{SystemEnd}
 use Rattle.bdos.specs.SystemCalls.{call}
-use Rattle.bdos.specs.PerformsSystemCall.{Serves}
-use Rattle.bdos.specs.PerformsSystemCall.{scene}
-use Rattle.bdos.proofs.Trees.{result-reading, cells-reading, script_looks-reading, files-reading}
+use Rattle.bdos.proofs.Trees.{path-reading}
 use Rattle.file_calls.specs.HostTrees.{AreSoundOwnFiles}
 use Rattle.file_calls.specs.HostTrees as passing
 use Rattle.file_calls.proofs.Answering.{answers_are}
@@ -64,7 +63,10 @@ use Rattle.machine.specs.StateView.{Own, AllLooks, StateView}
 use Rattle.machine.specs.declared.session.TheConstants.{SCRIPT_LIMIT}
 use Rattle.machine.specs.Session.{image_of}
 use Rattle.machine.specs.Step.{StepEnd, Went, Stopped, step_end_of, step_end_of_call, script_limit, script_limit-is, next, desk_with}
-use Rattle.machine.specs.Machine.{Question, Cell, Script, OfHost, Answers, session_answers, same_question, is_in, own_or_ask, host_tree_of, session_tree, laid, outcome_with, outcome, looks_at, is_looked_at, AddsNoOtherLooks}
+use Rattle.first_looks.specs.declared.question.Question.{Question}
+use Rattle.first_looks.specs.declared.question.Question.TheVariants.{Cell, Script, Host as OfHost}
+use Rattle.first_looks.specs.Questions.{same_question, is_in}
+use Rattle.machine.specs.Machine.{Answers, session_answers, own_or_ask, host_tree_of, session_tree, laid, outcome_with, outcome, looks_at, is_looked_at, AddsNoOtherLooks}
 use Rattle.machine.specs.WrittenCells.{written_cells, DeskAndFiles, devices_of, state_with}
 use Rattle.machine.specs.Stops.{stop_of_instruction, stop_of_call}
 use Rattle.machine.specs.TakesStep.{outcome_from, memory_over_image, drives_in, looks_in, view_with, TakesStep}
@@ -222,30 +224,30 @@ module _ (s : Session) (r : Regs) (d : DeskAndFiles) (own : ℕ → Option ℕ) 
   -- The looks after it.
   looked_of : (t : SystemTree StepEnd) → next (record { regs = r; desk = d.desk }) ≡ t → (old new : AllLooks)
       → new.cells ≡ look_all own (addresses (state_questions (questions_of (memory_answers s own d.files) t))) old.cells
-      → ((k : ℕ) → is_within new.places k ≡ (is_within old.places k || is_among k (script_offsets (state_questions (questions_of (memory_answers s own d.files) t)))))
+      → ((k : ℕ) → is_within new.offsets k ≡ (is_within old.offsets k || is_among k (script_offsets (state_questions (questions_of (memory_answers s own d.files) t)))))
       → new.files ≡ look_for_all d.files (file_questions (questions_of (memory_answers s own d.files) t)) old.files
       → (q : Question) → is_looked_at new q ≡ (is_looked_at old q || is_in q (looks_at (session_answers s) (state_with r d own)))
-  looked_of t e old new cells places asks (Cell q) =
+  looked_of t e old new cells offsets asks (Cell q) =
       ap (is_among q) cells
       ∙ looks_of_cell (session_answers s) own d.files h (questions_of (memory_answers s own d.files) t) old.cells q
       ∙ ap (λ qs. is_among q old.cells || is_in (Cell q) qs) (sym (looks_are t e))
-  looked_of t e old new cells places asks (Script k) =
-      places k ∙ ap (λ b. is_within old.places k || b) (sym (ap (is_in (Script k)) (looks_are t e) ∙ looks_of_script (session_answers s) (own_written own d.files) (questions_of (memory_answers s own d.files) t) k))
-  looked_of t e old new cells places asks (OfHost a) =
+  looked_of t e old new cells offsets asks (Script k) =
+      offsets k ∙ ap (λ b. is_within old.offsets k || b) (sym (ap (is_in (Script k)) (looks_are t e) ∙ looks_of_script (session_answers s) (own_written own d.files) (questions_of (memory_answers s own d.files) t) k))
+  looked_of t e old new cells offsets asks (OfHost a) =
       ap (λ l. is_looked l a) asks
       ∙ looks_of_host (session_answers s) (own_written own d.files) a (questions_of (memory_answers s own d.files) t) old.files
       ∙ ap (λ qs. is_looked old.files a || is_in (OfHost a) qs) (sym (looks_are t e))
 
   -- Some of the looks after it.
   bounded_of : (t : SystemTree StepEnd) → next (record { regs = r; desk = d.desk }) ≡ t → (old new : AllLooks)
-      → memory.Extends new.cells (look_all own (addresses (state_questions (questions_of (memory_answers s own d.files) t))) old.cells) → ((k : ℕ) → is_within new.places k ≡ is_within old.places k)
+      → memory.Extends new.cells (look_all own (addresses (state_questions (questions_of (memory_answers s own d.files) t))) old.cells) → ((k : ℕ) → is_within new.offsets k ≡ is_within old.offsets k)
       → file_looks.KeepsAsks new.files (look_for_all d.files (file_questions (questions_of (memory_answers s own d.files) t)) old.files)
       → AddsNoOtherLooks old (looks_at (session_answers s) (state_with r d own)) new
-  bounded_of t e old new cells places asks (Cell q) among =
+  bounded_of t e old new cells offsets asks (Cell q) among =
       sym (looks_of_cell (session_answers s) own d.files h (questions_of (memory_answers s own d.files) t) old.cells q ∙ ap (λ qs. is_among q old.cells || is_in (Cell q) qs) (sym (looks_are t e)))
       ∙ among_further q new.cells _ cells among
-  bounded_of t e old new cells places asks (Script k) within = ap (λ b. b || is_in (Script k) (looks_at (session_answers s) (state_with r d own))) (sym (places k) ∙ within)
-  bounded_of t e old new cells places asks (OfHost a) marked =
+  bounded_of t e old new cells offsets asks (Script k) within = ap (λ b. b || is_in (Script k) (looks_at (session_answers s) (state_with r d own))) (sym (offsets k) ∙ within)
+  bounded_of t e old new cells offsets asks (OfHost a) marked =
       sym (looks_of_host (session_answers s) (own_written own d.files) a (questions_of (memory_answers s own d.files) t) old.files
       ∙ ap (λ qs. is_looked old.files a || is_in (OfHost a) qs) (sym (looks_are t e)))
       ∙ asks.kept a marked
@@ -279,7 +281,7 @@ pub record Carried (s : Session) (t : SystemTree StepEnd) (r : Regs) (d : DeskAn
   pub at : next (record { regs = r; desk = d.desk }) ≡ t
   pub leaves : Leaves (result_of (memory_answers s (own_of o) d.files) t) r d (own_of o) r' d' (own_of o')
   pub cells : looks_of o' ≡ look_all (own_of o) (addresses (state_questions (questions_of (memory_answers s (own_of o) d.files) t))) (looks_of o)
-  pub places : (k : ℕ) → is_within d'.places k ≡ (is_within d.places k || is_among k (script_offsets (state_questions (questions_of (memory_answers s (own_of o) d.files) t))))
+  pub offsets : (k : ℕ) → is_within d'.offsets k ≡ (is_within d.offsets k || is_among k (script_offsets (state_questions (questions_of (memory_answers s (own_of o) d.files) t))))
   pub asks : d'.asks ≡ look_for_all d.files (file_questions (questions_of (memory_answers s (own_of o) d.files) t)) d.asks
   pub extends : file_looks.KeepsAsks d.asks d'.asks
 
@@ -289,10 +291,10 @@ carried s r r' d d' o o' t sound w = record {
   outcome = outcome_of s r d (own_of o) (within o) sound t w.at ∙ made_told r r' d d' (own_of o) (own_of o') (within o) (within o') (result_of (memory_answers s (own_of o) d.files) t) w.leaves;
   stays = made_stays r r' d d' (own_of o) (own_of o') (within o) (within o') (result_of (memory_answers s (own_of o) d.files) t) w.leaves;
   failed = tt;
-  looked = looked_of s r d (own_of o) (within o) sound t w.at (looks_in o d) (looks_in o' d') w.cells w.places w.asks;
+  looked = looked_of s r d (own_of o) (within o) sound t w.at (looks_in o d) (looks_in o' d') w.cells w.offsets w.asks;
   extends = record {
     cells = extends_by (own_of o) (addresses (state_questions (questions_of (memory_answers s (own_of o) d.files) t))) (looks_of o) (looks_of o') w.cells;
-    places = λ k h. w.places k ∙ ap (λ b. b || is_among k (script_offsets (state_questions (questions_of (memory_answers s (own_of o) d.files) t)))) h;
+    offsets = λ k h. w.offsets k ∙ ap (λ b. b || is_among k (script_offsets (state_questions (questions_of (memory_answers s (own_of o) d.files) t)))) h;
     files = w.extends;
   };
   bounded = tt;
@@ -302,16 +304,16 @@ carried s r r' d d' o o' t sound w = record {
 broken_off : (s : Session) (r r' : Regs) (d d' : DeskAndFiles) (o o' : Overlay) (t : SystemTree StepEnd) (e : AllocError) → AreSoundOwnFiles s.files d.files → next (record { regs = r; desk = d.desk }) ≡ t
     → r' ≡ r → d'.desk ≡ d.desk → own_of o' ≡ own_of o → d'.files ≡ d.files → memory.Extends (looks_of o) (looks_of o')
     → memory.Extends (looks_of o') (look_all (own_of o) (addresses (state_questions (questions_of (memory_answers s (own_of o) d.files) t))) (looks_of o))
-    → ((k : ℕ) → is_within d'.places k ≡ is_within d.places k) → file_looks.KeepsAsks d.asks d'.asks
+    → ((k : ℕ) → is_within d'.offsets k ≡ is_within d.offsets k) → file_looks.KeepsAsks d.asks d'.asks
     → file_looks.KeepsAsks d'.asks (look_for_all d.files (file_questions (questions_of (memory_answers s (own_of o) d.files) t)) d.asks)
     → Takes s r d o (Err e) r' d' o'
-broken_off s r r' d d' o o' t e sound at regs desk own done extends bound places asks bound_asks = record {
+broken_off s r r' d d' o o' t e sound at regs desk own done extends bound offsets asks bound_asks = record {
   outcome = tt;
   stays = tt;
   failed = λ i. record { core = record { regs = regs i; desk = desk i }; own = record { cells = written_cells (own i); files = done i } };
   looked = tt;
-  extends = record { cells = extends; places = λ k h. places k ∙ h; files = asks };
-  bounded = bounded_of s r d (own_of o) (within o) sound t at (looks_in o d) (looks_in o' d') bound places bound_asks;
+  extends = record { cells = extends; offsets = λ k h. offsets k ∙ h; files = asks };
+  bounded = bounded_of s r d (own_of o) (within o) sound t at (looks_in o d) (looks_in o' d') bound offsets bound_asks;
 }
 
 -- ---- an instruction
@@ -343,15 +345,15 @@ module _ (s : Session) (r r' : Regs) (d : DeskAndFiles) (o o' : Overlay) (sound 
   pub instructed : (did : Did) → end_left.Performs (instruction r) r (memory_over_image s o) (Ok did) r' (memory_over_image s o') → Takes s r d o (Ok (stop_of_instruction did)) r' d o'
   instructed did p =
       let t = bind_reading (instruction r) ends_with in
-      let ends : result_of answers_here t ≡ step_end_of d.desk.spot (reading.end_of (instruction r) (over (own_of o) (image_of s))) = result-reading answers_here ends_with (instruction r) in
-      let asks : addresses (state_questions (questions_of answers_here t)) ≡ reading.asked (instruction r) (over (own_of o) (image_of s)) = cells-reading answers_here ends_with (instruction r) ∙ append-nil _ in
-      let places : script_offsets (state_questions (questions_of answers_here t)) ≡ [] = script_looks-reading answers_here ends_with (instruction r) in
-      let files : file_questions (questions_of answers_here t) ≡ [] = files-reading answers_here ends_with (instruction r) in
+      let ends : result_of answers_here t ≡ step_end_of d.desk.spot (reading.end_of (instruction r) (over (own_of o) (image_of s))) = ap (λ (p : SystemPath StepEnd). p.end) (path-reading answers_here ends_with (instruction r)) in
+      let asks : addresses (state_questions (questions_of answers_here t)) ≡ reading.asked (instruction r) (over (own_of o) (image_of s)) = ap (λ (p : SystemPath StepEnd). p.cells) (path-reading answers_here ends_with (instruction r)) ∙ append-nil _ in
+      let offsets : script_offsets (state_questions (questions_of answers_here t)) ≡ [] = ap (λ (p : SystemPath StepEnd). p.offsets) (path-reading answers_here ends_with (instruction r)) in
+      let files : file_questions (questions_of answers_here t) ≡ [] = ap (λ (p : SystemPath StepEnd). p.asks) (path-reading answers_here ends_with (instruction r)) in
       let all = carried s r r' d d o o' t sound (record {
         at = at_instruction r d.desk low;
         leaves = subst (λ (x : StepEnd). Leaves x r d (own_of o) r' d (own_of o')) (sym ends) (end_leaves r r' d (own_of o) (own_of o') _ p.regs p.own);
         cells = p.looks ∙ ap (λ at. look_all (own_of o) at (looks_of o)) (sym asks);
-        places = λ j. sym (or-false (is_within d.places j)) ∙ ap (λ ks. is_within d.places j || is_among j ks) (sym places);
+        offsets = λ j. sym (or-false (is_within d.offsets j)) ∙ ap (λ ks. is_within d.offsets j || is_among j ks) (sym offsets);
         asks = ap (λ qs. look_for_all d.files qs d.asks) (sym files);
         extends = extends_same d.asks d.asks refl;
       }) in
@@ -360,8 +362,8 @@ module _ (s : Session) (r r' : Regs) (d : DeskAndFiles) (o o' : Overlay) (sound 
   pub instruction_fails : (e : AllocError) → end_left.Performs (instruction r) r (memory_over_image s o) (Err e) r' (memory_over_image s o') → Takes s r d o (Err e) r' d o'
   instruction_fails e p =
       let t = bind_reading (instruction r) ends_with in
-      let asks : addresses (state_questions (questions_of answers_here t)) ≡ reading.asked (instruction r) (over (own_of o) (image_of s)) = cells-reading answers_here ends_with (instruction r) ∙ append-nil _ in
-      let files : file_questions (questions_of answers_here t) ≡ [] = files-reading answers_here ends_with (instruction r) in
+      let asks : addresses (state_questions (questions_of answers_here t)) ≡ reading.asked (instruction r) (over (own_of o) (image_of s)) = ap (λ (p : SystemPath StepEnd). p.cells) (path-reading answers_here ends_with (instruction r)) ∙ append-nil _ in
+      let files : file_questions (questions_of answers_here t) ≡ [] = ap (λ (p : SystemPath StepEnd). p.asks) (path-reading answers_here ends_with (instruction r)) in
       broken_off s r r' d d o o' t e sound (at_instruction r d.desk low) p.err_regs refl p.err_own refl
       (extends_by (own_of o) (reading.asked (instruction r) (over (own_of o) (image_of s))) (looks_of o) (looks_of o') p.looks)
       (subst (λ (at : List ℕ). memory.Extends (looks_of o') (look_all (own_of o) at (looks_of o))) (sym asks) (bound_here (looks_of o') _ p.looks)) (λ j. refl) (extends_same d.asks d.asks refl)
@@ -390,29 +392,29 @@ module _ (s : Session) (r r' : Regs) (d d' : DeskLooks) (c c' : Changes) (o o' :
   tree = call script_limit r d.desk.spot
 
   pub called : (served : Served)
-      → Serves script_limit s.script (scene r (memory_over_image s o) d (drives_in s c g)) (Ok served) (scene r' (memory_over_image s o') d' (drives_in s c' g)) → Takes s r (devices_of d c) o (Ok (stop_of_call served)) r' (devices_of d' c') o'
+      → MakesSystemCall (call script_limit) s.script (scene r (memory_over_image s o) d) (drives_in s c g) (Ok served) (scene r' (memory_over_image s o') d') (drives_in s c' g) → Takes s r (devices_of d c) o (Ok (stop_of_call served)) r' (devices_of d' c') o'
   called served p =
       let ends : result_of answers_called (map_result step_end_of_call tree) ≡ step_end_of_call (result_of answers_called tree) = result_of-returning answers_called step_end_of_call tree in
       let asks : questions_of answers_called (map_result step_end_of_call tree) ≡ questions_of answers_called tree = asked-returning answers_called step_end_of_call tree in
       let all = carried s r r' (devices_of d c) (devices_of d' c') o o' (map_result step_end_of_call tree) sound (record {
         at = at_call r d.desk at;
         leaves = subst (λ (x : StepEnd). Leaves x r (devices_of d c) (own_of o) r' (devices_of d' c') (own_of o')) (sym ends)
-            (call_leaves s.files c.journal.entries r r' (devices_of d c) (devices_of d' c') (own_of o) (own_of o') _ p.regs p.desk p.own p.files (call_fits s.files c.journal.entries answers_called (λ q. refl) script_limit r d.desk.spot).1);
-        cells = p.looks ∙ ap (λ qs. look_all (own_of o) (addresses (state_questions qs)) (looks_of o)) (sym asks);
-        places = λ k. p.places k ∙ ap (λ qs. is_within d.places k || is_among k (script_offsets (state_questions qs))) (sym asks);
-        asks = p.asks ∙ ap (λ qs. look_for_all c.journal.entries (file_questions qs) c.looks) (sym asks);
+            (call_leaves s.files c.journal.entries r r' (devices_of d c) (devices_of d' c') (own_of o) (own_of o') _ p.call.executed.regs p.call.executed.desk p.call.executed.own p.executed.own (call_fits s.files c.journal.entries answers_called (λ q. refl) script_limit r d.desk.spot).1);
+        cells = p.call.executed.looks ∙ ap (λ qs. look_all (own_of o) (addresses (state_questions qs)) (looks_of o)) (sym asks);
+        offsets = λ k. p.call.executed.looked k ∙ ap (λ qs. is_within d.looks k || is_among k (script_offsets (state_questions qs))) (sym asks);
+        asks = p.executed.looks ∙ ap (λ qs. look_for_all c.journal.entries (file_questions qs) c.looks) (sym asks);
         extends = p.extends;
       }) in
-      subst (λ (x : Option Cause). Takes s r (devices_of d c) o (Ok x) r' (devices_of d' c') o') (ap stop_of ends ∙ call_stops _ ∙ ap stop_of_call (sym p.served)) all
+      subst (λ (x : Option Cause). Takes s r (devices_of d c) o (Ok x) r' (devices_of d' c') o') (ap stop_of ends ∙ call_stops _ ∙ ap stop_of_call (sym p.call.served)) all
 
   pub call_fails : (e : AllocError)
-      → Serves script_limit s.script (scene r (memory_over_image s o) d (drives_in s c g)) (Err e) (scene r' (memory_over_image s o') d' (drives_in s c' g)) → Takes s r (devices_of d c) o (Err e) r' (devices_of d' c') o'
+      → MakesSystemCall (call script_limit) s.script (scene r (memory_over_image s o) d) (drives_in s c g) (Err e) (scene r' (memory_over_image s o') d') (drives_in s c' g) → Takes s r (devices_of d c) o (Err e) r' (devices_of d' c') o'
   call_fails e p =
       let asks : questions_of answers_called (map_result step_end_of_call tree) ≡ questions_of answers_called tree = asked-returning answers_called step_end_of_call tree in
       broken_off s r r' (devices_of d c) (devices_of d' c') o o' (map_result step_end_of_call tree) e sound (at_call r d.desk at)
-      p.err_regs p.err_desk p.err_own p.err_files p.err_looks
-      (subst (λ (qs : List SystemQuestion). memory.Extends (looks_of o') (look_all (own_of o) (addresses (state_questions qs)) (looks_of o))) (sym asks) p.err_bound) p.err_places p.extends
-      (subst (λ (qs : List SystemQuestion). file_looks.KeepsAsks c'.looks (look_for_all c.journal.entries (file_questions qs) c.looks)) (sym asks) p.err_asks_bound)
+      p.call.failed.regs p.call.failed.desk p.call.failed.own p.failed.own p.call.failed.looks
+      (subst (λ (qs : List SystemQuestion). memory.Extends (looks_of o') (look_all (own_of o) (addresses (state_questions qs)) (looks_of o))) (sym asks) p.call.failed.bound) p.call.failed.looked p.extends
+      (subst (λ (qs : List SystemQuestion). file_looks.KeepsAsks c'.looks (look_for_all c.journal.entries (file_questions qs) c.looks)) (sym asks) p.failed.bound)
 
 -- ---- a stop that asks nothing
 
@@ -421,7 +423,7 @@ stopped s r d o cause sound e = carried s r r d d o o (Return (Stopped cause)) s
   at = e;
   leaves = (refl, refl, refl, refl);
   cells = refl;
-  places = λ k. sym (or-false (is_within d.places k));
+  offsets = λ k. sym (or-false (is_within d.offsets k));
   asks = refl;
   extends = extends_same d.asks d.asks refl;
 })
@@ -452,40 +454,44 @@ pub record AreDrivesAs (m v : TableView) : Type 0 where
   pub own : m.own ≡ v.own
   pub looks : m.looks ≡ v.looks
 
-pub at_limit : (d d' : DeskLooks) {script other : List ℕ} {r r' : Regs} {m m' v v' : Memory} {f f' w w' : TableView} {result : Result Served AllocError}
-    → script ≡ other → length script ≤ SCRIPT_LIMIT → ((n : ℕ) → length script ≤ n → Serves n script (scene r m d f) result (scene r' m' d' f'))
-    → IsSeenAs m v → IsSeenAs m' v' → v'.lender ≡ v.lender → AreDrivesAs f w → AreDrivesAs f' w' → w'.lender ≡ w.lender
-    → Serves script_limit other (scene r v d w) result (scene r' v' d' w')
-at_limit d d' {script = script} {other = other} {r = r} {r' = r'} {m = m} {m' = m'} {v = v} {v' = v'} {f = f} {f' = f'} {w = w} {w' = w'} {result = result} same short h memory_over_image seen' lender drives drives' lends =
-    let before : m ≡ record v { lender = m.lender } = λ i. record { own = memory_over_image.own i; beneath = memory_over_image.beneath i; looks = memory_over_image.looks i; lender = m.lender } in
-    let after : m' ≡ record v' { lender = m'.lender } = λ i. record { own = seen'.own i; beneath = seen'.beneath i; looks = seen'.looks i; lender = m'.lender } in
-    let files : f ≡ record w { lender = f.lender } = λ i. record { host = drives.host i; own = drives.own i; looks = drives.looks i; lender = f.lender } in
-    let files' : f' ≡ record w' { lender = f'.lender } = λ i. record { host = drives'.host i; own = drives'.own i; looks = drives'.looks i; lender = f'.lender } in
-    let p = subst (λ (x : TableView). Serves script_limit other (scene r (record v { lender = m.lender }) d (record w { lender = f.lender })) result (scene r' (record v' { lender = m'.lender }) d' x)) files'
-    (subst (λ (x : TableView). Serves script_limit other (scene r (record v { lender = m.lender }) d x) result (scene r' (record v' { lender = m'.lender }) d' f')) files
-    (subst (λ (x : Memory). Serves script_limit other (scene r (record v { lender = m.lender }) d f) result (scene r' x d' f')) after
-    (subst (λ (x : Memory). Serves script_limit other (scene r x d f) result (scene r' m' d' f')) before
-    (subst (λ (l : List ℕ). Serves script_limit l (scene r m d f) result (scene r' m' d' f')) same (h script_limit (rw script_limit-is short)))))) in
+-- The references that lend memory and files do not matter.
+relent : {p : SystemPath SystemEnd} (d d' : DeskLooks) (m m' : Memory) (f f' : TableView) {r r' : Regs} {v v' : Memory} {w w' : TableView} (result : Result Served AllocError)
+    → PerformsSystemCall p (scene r (record v { lender = m.lender }) d) (record w { lender = f.lender }) result (scene r' (record v' { lender = m'.lender }) d') (record w' { lender = f'.lender })
+    → v'.lender ≡ v.lender → w'.lender ≡ w.lender → PerformsSystemCall p (scene r v d) w result (scene r' v' d') w'
+relent d d' m m' f f' (Ok s) p lender lends =
+    let c = p.call.executed in
     record {
-      served = p.served;
-      regs = p.regs;
-      desk = p.desk;
-      own = p.own;
-      files = p.files;
-      looks = p.looks;
-      places = p.places;
-      asks = p.asks;
-      err_looks = p.err_looks;
-      err_bound = p.err_bound;
-      err_asks_bound = p.err_asks_bound;
-      err_regs = p.err_regs;
-      err_desk = p.err_desk;
-      err_own = p.err_own;
-      err_files = p.err_files;
-      err_places = p.err_places;
+      call = record { served = p.call.served; executed = record { regs = c.regs; desk = c.desk; own = c.own; looks = c.looks; looked = c.looked }; failed = tt; beneath = p.call.beneath; lender = lender };
+      executed = record { own = p.executed.own; looks = p.executed.looks };
+      failed = tt;
       extends = p.extends;
       host = p.host;
       lends = lends;
-      beneath = p.beneath;
-      lender = lender;
     }
+relent d d' m m' f f' (Err e) p lender lends =
+    let c = p.call.failed in
+    record {
+      call = record { served = tt; executed = tt; failed = record { regs = c.regs; desk = c.desk; own = c.own; looked = c.looked; looks = c.looks; bound = c.bound }; beneath = p.call.beneath; lender = lender };
+      executed = tt;
+      failed = record { own = p.failed.own; bound = p.failed.bound };
+      extends = p.extends;
+      host = p.host;
+      lends = lends;
+    }
+
+pub at_limit : (d d' : DeskLooks) {script other : List ℕ} {r r' : Regs} {m m' v v' : Memory} {f f' w w' : TableView} {result : Result Served AllocError}
+    → script ≡ other → length script ≤ SCRIPT_LIMIT → ((n : ℕ) → length script ≤ n → MakesSystemCall (call n) script (scene r m d) f result (scene r' m' d') f')
+    → IsSeenAs m v → IsSeenAs m' v' → v'.lender ≡ v.lender → AreDrivesAs f w → AreDrivesAs f' w' → w'.lender ≡ w.lender
+    → MakesSystemCall (call script_limit) other (scene r v d) w result (scene r' v' d') w'
+at_limit d d' {script = script} {other = other} {r = r} {r' = r'} {m = m} {m' = m'} {v = v} {v' = v'} {f = f} {f' = f'} {w = w} {w' = w'} {result = result} same short h seen seen' lender drives drives' lends =
+    let before : m ≡ record v { lender = m.lender } = λ i. record { own = seen.own i; beneath = seen.beneath i; looks = seen.looks i; lender = m.lender } in
+    let after : m' ≡ record v' { lender = m'.lender } = λ i. record { own = seen'.own i; beneath = seen'.beneath i; looks = seen'.looks i; lender = m'.lender } in
+    let files : f ≡ record w { lender = f.lender } = λ i. record { host = drives.host i; own = drives.own i; looks = drives.looks i; lender = f.lender } in
+    let files' : f' ≡ record w' { lender = f'.lender } = λ i. record { host = drives'.host i; own = drives'.own i; looks = drives'.looks i; lender = f'.lender } in
+    relent d d' m m' f f' result
+    (subst (λ (x : TableView). MakesSystemCall (call script_limit) other (scene r (record v { lender = m.lender }) d) (record w { lender = f.lender }) result (scene r' (record v' { lender = m'.lender }) d') x) files'
+    (subst (λ (x : TableView). MakesSystemCall (call script_limit) other (scene r (record v { lender = m.lender }) d) x result (scene r' (record v' { lender = m'.lender }) d') f') files
+    (subst (λ (x : Memory). MakesSystemCall (call script_limit) other (scene r (record v { lender = m.lender }) d) f result (scene r' x d') f') after
+    (subst (λ (x : Memory). MakesSystemCall (call script_limit) other (scene r x d) f result (scene r' m' d') f') before
+    (subst (λ (l : List ℕ). MakesSystemCall (call script_limit) l (scene r m d) f result (scene r' m' d') f') same (h script_limit (rw script_limit-is short)))))))
+    lender lends

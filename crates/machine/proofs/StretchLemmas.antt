@@ -5,7 +5,7 @@ use Rattle.std.proofs.Math.Bool.{or-false}
 use Rattle.std.proofs.lemmas.List.{take_all}
 use Rattle.std.specs.declared.alloc.AllocError.{AllocError}
 use Rattle.std.specs.Result.{IsErr}
-use Rattle.interaction_trees.specs.Outcome.{Stop}
+use Rattle.interaction_trees.specs.Steps as steps
 use Rattle.interaction_trees.specs.Dependence as dependence
 use Rattle.i8080.specs.declared.registers.Regs.{Regs}
 use Rattle.i8080.specs.Reading.{asked}
@@ -27,11 +27,13 @@ use Rattle.machine.specs.Session.{image_of}
 use Rattle.machine.specs.Stops.{stop_of_instruction}
 use Rattle.machine.proofs.StepLemmas.{Takes, instructed, instruction_fails}
 use Rattle.machine.specs.Step.{next}
-use Rattle.machine.specs.Machine.{Question, Answers, session_answers, session_tree, outcome_with, start, after, outcome, looks, looks_at, is_looked_at, is_in, AddsLooks, KeepsLooks, AddsNoOtherLooks}
+use Rattle.first_looks.specs.declared.question.Question.{Question}
+use Rattle.first_looks.specs.Questions.{is_in}
+use Rattle.machine.specs.Machine.{Answers, session_answers, session_tree, outcome_with, start, after, outcome, looks, looks_at, is_looked_at, AddsLooks, KeepsLooks, AddsNoOtherLooks}
 use Rattle.machine.specs.WrittenCells.{DeskAndFiles, state_with}
 use Rattle.machine.specs.TakesStep.{memory_over_image, looks_in, TakesStep}
 use Rattle.machine.specs.Stretch.{LooksAtNothingNew, RunsStretch, ended_of, RunsTo}
-use Rattle.machine.proofs.AfterLemmas.{then_step, step_before, after_step}
+use Rattle.interaction_trees.proofs.RunLemmas.{step_before, after_step}
 
 -- The looks at the state that was reached.
 looks_here : (f : Answers) (n : ℕ) (st : PartialState) → after f n ≡ Some st → looks f n ≡ looks_at f st
@@ -65,7 +67,7 @@ module _ (s : Session) (from end n : ℕ) (old new : StateView) (looked : AllLoo
   pub ends_by_step : n < end → TakesStep s old (Ok None) new → RunsStretch s from end looked (n + 1) (Ok None) new
   ends_by_step high w = record {
     within = (omega arith, omega arith);
-    at = after_step (session_answers s) n old.state _ at w.outcome;
+    at = after_step (outcome (session_answers s)) start n old.state _ at w.outcome;
     stopped = tt;
     failed = tt;
     before_last = λ i l h q. quiet i l (omega arith) q;
@@ -135,7 +137,7 @@ module _ (s : Session) (from end n : ℕ) (old new : StateView) (looked : AllLoo
     last = λ past q. ap (λ (l : AllLooks). is_looked_at l q) same ∙ looked_before q (is_in q (looks (session_answers s) (n - 1))) (quiet (n - 1) (omega arith) (omega arith) q);
     none = λ _ q. ap (λ (l : AllLooks). is_looked_at l q) same ∙ sym (or-false (is_looked_at looked q));
     at_stop = tt;
-    extends = subst (λ (l : AllLooks). KeepsLooks l old.looked) same (record { cells = extends_itself old.looked.cells; places = λ k h. h; files = extends_same old.looked.files old.looked.files refl });
+    extends = subst (λ (l : AllLooks). KeepsLooks l old.looked) same (record { cells = extends_itself old.looked.cells; offsets = λ k h. h; files = extends_same old.looked.files old.looked.files refl });
     bounded = tt;
   }
 
@@ -144,15 +146,15 @@ module _ (s : Session) (from end n : ℕ) (old new : StateView) (looked : AllLoo
 one_state : (f : Answers) (n : ℕ) (st st' : PartialState) → after f n ≡ Some st → after f n ≡ Some st' → st' ≡ st
 one_state f n st st' e e' = let same : Some st' ≡ Some st = sym e' ∙ e in cc
 
-then_after : (f : Answers) (k : ℕ) (st : PartialState) → after f (k + 1) ≡ Some st → then_step f (after f k) ≡ Some st
-unfolding dependence.after
-then_after f k st e = ap (then_step f) refl ∙ (let same : after f (k + 1) ≡ then_step f (after f k) = rw add-one refl in sym same ∙ e)
+then_after : (f : Answers) (k : ℕ) (st : PartialState) → after f (k + 1) ≡ Some st → steps.next_state (outcome f) (after f k) ≡ Some st
+unfolding steps.after
+then_after f k st e = let same : after f (k + 1) ≡ steps.next_state (outcome f) (after f k) = rw add-one refl in sym same ∙ e
 
 module _ (s : Session) (n : ℕ) (old new : StateView) (at : after (session_answers s) n ≡ Some old.state) where
   went_one : (m : ℕ) → n < m → RunsStretch s n (n + 1) old.looked m (Ok None) new → TakesStep s old (Ok None) new
   went_one m more w =
       let to : m ≡ n + 1 = omega (arith, w.within) in
-      let b = step_before (session_answers s) (after (session_answers s) n) new.state (then_after (session_answers s) n new.state (ap (after (session_answers s)) (sym to) ∙ w.at)) in
+      let b = step_before (outcome (session_answers s)) (after (session_answers s) n) new.state (then_after (session_answers s) n new.state (ap (after (session_answers s)) (sym to) ∙ w.at)) in
       let here : b.0 ≡ old.state = one_state (session_answers s) n old.state b.0 at b.1 in
       record {
         outcome = ap (outcome (session_answers s)) (sym here) ∙ b.2;
@@ -227,12 +229,12 @@ same_looks o o' d e count = same_cells (looks_of o) (looks_of o') e.cells count
 module _ (s : Session) (from n : ℕ) (r r' : Regs) (o o' : Overlay) (d : DeskAndFiles) (looked : AllLooks) (same : looks_in o d ≡ looked)
     (at : after (session_answers s) n ≡ Some (state_with r d (own_of o))) (w : Takes s r d o (Ok None) r' d o') where
   pub goes_to : after (session_answers s) (n + 1) ≡ Some (state_with r' d (own_of o'))
-  goes_to = after_step (session_answers s) n (state_with r d (own_of o)) _ at w.outcome
+  goes_to = after_step (outcome (session_answers s)) start n (state_with r d (own_of o)) _ at w.outcome
 
   pub nothing_new : length (looks_of o') ≡ length (looks_of o) → LooksAtNothingNew (session_answers s) looked from n → LooksAtNothingNew (session_answers s) looked from (n + 1)
   nothing_new count quiet = nothing_new_more (session_answers s) looked from n quiet (λ q h.
       ap (λ (l : AllLooks). is_looked_at l q) (sym same)
-      ∙ ap (λ (c : List ℕ). is_looked_at (record { cells = c; places = d.places; files = d.asks }) q) (sym (same_looks o o' d w.extends count))
+      ∙ ap (λ (c : List ℕ). is_looked_at (record { cells = c; offsets = d.offsets; files = d.asks }) q) (sym (same_looks o o' d w.extends count))
       ∙ or_second (is_looked_at (looks_in o d) q) (is_in q (looks_at (session_answers s) (state_with r d (own_of o)))) (is_looked_at (looks_in o' d) q) (w.looked q)
       (subst (λ (qs : List Question). is_in q qs ≡ true) (looks_here (session_answers s) n (state_with r d (own_of o)) at) h))
 

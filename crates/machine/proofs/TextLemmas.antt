@@ -5,12 +5,13 @@ use Rattle.std.proofs.lemmas.List.{append-nil}
 use Rattle.std.proofs.Math.Seq.{take-append_seam}
 use Rattle.interaction_trees.specs.Tree.{result_of}
 use Rattle.interaction_trees.specs.Outcome.{Step}
+use Rattle.interaction_trees.specs.Steps as steps
 use Rattle.interaction_trees.specs.Dependence as dependence
 use Rattle.file_calls.specs.Deletes.{own_after_change}
 use Rattle.machine.specs.StateView.{PartialState}
 use Rattle.machine.specs.Step.{StepEnd, Went, Stopped, desk_with, next}
 use Rattle.machine.specs.Machine.{Answers, laid, with_cells, outcome_with, outcome, after}
-use Rattle.machine.proofs.AfterLemmas.{step_before}
+use Rattle.interaction_trees.proofs.RunLemmas.{step_before}
 
 abbrev Longer : List ℕ → List ℕ → Type 0
 Longer old new = (more : List ℕ) × (new ≡ old ++ more)
@@ -39,12 +40,12 @@ some_is : {a b : PartialState} → Some a ≡ Some b → a ≡ b
 some_is e = cc
 
 text_grows : (f : Answers) (n k : ℕ) (a b : PartialState) → after f n ≡ Some a → after f (k + n) ≡ Some b → Longer a.core.desk.text b.core.desk.text
-unfolding dependence.after
+unfolding steps.after
 text_grows f n zero a b first last =
     let same : a ≡ b = some_is (sym first ∙ rw zero-add at last) in
     subst (λ (x : PartialState). Longer a.core.desk.text x.core.desk.text) same (longer_itself a.core.desk.text)
 text_grows f n (suc k) a b first last =
-    let (before, at, went) = step_before f (after f (k + n)) b (rw suc-add at last) in
+    let (before, at, went) = step_before (outcome f) (after f (k + n)) b (rw suc-add at last) in
     longer_further _ _ _ (text_grows f n k a before first at) (step_grows f before b went)
 
 -- The text of an earlier state is a prefix of a later one's.

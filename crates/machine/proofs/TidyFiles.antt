@@ -1,5 +1,5 @@
 -- Along a run no record is past the end of a file, and a file that is not there has length 0.
-use Rattle.std.proofs.Common.{◌≡◌, ℕ, zero, suc, Bool, true, false, cond, List, [], ◌∷◌, length, Option, Some, None, is_some, unwrap_or, refl, sym, subst}
+use Rattle.std.proofs.Common.{◌≡◌, ℕ, Bool, true, false, cond, List, [], ◌∷◌, length, Option, Some, None, is_some, unwrap_or, refl, sym, subst}
 use Rattle.std.specs.Ordering.{nat_cmp, eq_by_cmp}
 use Rattle.std.specs.Cmp.Lexicographic.{slice_cmp, nat_list_cmp_total}
 use Rattle.std.specs.FinMap.{get, insert, empty, get-empty, get-insert}
@@ -8,20 +8,23 @@ use Rattle.interaction_trees.specs.Outcome.{Step}
 use Rattle.interaction_trees.specs.Dependence as dependence
 use Rattle.hostfiles.proofs.Views.{same_key, key_of}
 use Rattle.hostfiles.specs.Hosts.{Key, Record, Host}
-use Rattle.hostfiles.specs.Files.{OwnFiles, entry_at, untouched_entry, new_entry, gone_entry, renamed_from, base_renamed_from, is_there, length_of, length_at, has, after_delete, after_write_with_holes, after_write_with_zeros, entry_with_holes, entry_with_zeros}
+use Rattle.hostfiles.specs.Files.{OwnFiles, entry_at, untouched_entry, new_entry, gone_entry, renamed_from, base_renamed_from, is_there, length_of, length_at, has, after_delete, after_write, entry_after_write}
 use Rattle.hostfiles.specs.Laid.{HasNoRecordPastEnd}
 use Rattle.hostfiles.specs.declared.journal.Base.{Base}
 use Rattle.hostfiles.specs.declared.journal.Base.TheVariants.{Same, Gone, New, Moved}
 use Rattle.hostfiles.specs.declared.journal.Entry.{Entry}
-use Rattle.hostfiles.proofs.EndLemmas.{ends_start, ends_made, ends_deleted, ends_wrote, ends_filled, ends_renamed}
+use Rattle.hostfiles.specs.declared.journal.Gap.{Gap}
+use Rattle.hostfiles.proofs.JournalLemmas.{each_untouched, each_with}
+use Rattle.hostfiles.proofs.LaidLemmas.{there_moved}
+use Rattle.hostfiles.proofs.EndLemmas.{ends_start, ends_made, ends_deleted, ends_wrote, ends_renamed}
 use Rattle.file_calls.specs.Changes.{FileChange, Unchanged, Made, Deleted, Renamed, Stored}
 use Rattle.file_calls.specs.Deletes.{own_after_change}
 use Rattle.file_calls.specs.Deletes.{own_without}
 use Rattle.machine.specs.Inputs.{Session}
 use Rattle.machine.specs.StateView.{PartialState}
 use Rattle.machine.specs.Step.{StepEnd, Went, Stopped, next, desk_with}
-use Rattle.machine.specs.Machine.{session_answers, laid, with_cells, outcome_with, start, after}
-use Rattle.machine.proofs.AfterLemmas.{step_before}
+use Rattle.machine.specs.Machine.{session_answers, laid, with_cells, outcome_with, start, after, outcome}
+use Rattle.interaction_trees.proofs.RunLemmas.{holds_after}
 use Rattle.machine.proofs.FitLemmas.{IsFit, FitsReached, reached_fits, sound_after}
 
 -- No record is past the end of a file, and a file that is not there has length 0.
@@ -47,27 +50,17 @@ there_absent host q e there h = absurd (cc)
 nothing_absent : (host : Host) (q : Key) → IsEmptyIfAbsent host q gone_entry
 nothing_absent host q h = refl
 
-moved_there : (host : Host) (old new : Key) (b : Base) → is_there host old b ≡ true → is_there host new (base_renamed_from old b) ≡ true
-moved_there host old new Same h = refl
-moved_there host old new Gone h = h
-moved_there host old new New h = refl
-moved_there host old new (Moved x) h = refl
-
 -- One more entry.
-module _ (host : Host) (own : OwnFiles) (all : (q : Key) → has host own q ≡ false → length_at host own q ≡ 0) (key : Key) (e : Entry) (here : IsEmptyIfAbsent host key e) where
-  at_key : (q : Key) (b : Bool) → eq_by_cmp (slice_cmp nat_cmp) q key ≡ b → IsEmptyIfAbsent host q (unwrap_or (cond b (Some e) (get own q)) untouched_entry)
-  at_key q true is = subst (λ (x : Key). IsEmptyIfAbsent host x e) (sym (key_of same_key q key is)) here
-  at_key q false is = all q
-
-  insert_absent : (q : Key) → has host (insert own key e) q ≡ false → length_at host (insert own key e) q ≡ 0
-  insert_absent q = subst (λ (o : Option Entry). IsEmptyIfAbsent host q (unwrap_or o untouched_entry)) (sym (get-insert nat_list_cmp_total own key e q)) (at_key q (eq_by_cmp (slice_cmp nat_cmp) q key) refl)
+insert_absent : (host : Host) (own : OwnFiles) → ((q : Key) → has host own q ≡ false → length_at host own q ≡ 0) → (key : Key) (e : Entry) → IsEmptyIfAbsent host key e
+    → (q : Key) → has host (insert own key e) q ≡ false → length_at host (insert own key e) q ≡ 0
+insert_absent host own all key e = each_with (IsEmptyIfAbsent host) own key e all
 
 -- ---- a change
 
 starts_tidy : (host : Host) → IsTidy host empty
 starts_tidy host = record {
   ends = ends_start host;
-  absent = λ q. subst (λ (o : Option Entry). IsEmptyIfAbsent host q (unwrap_or o untouched_entry)) (sym (get-empty (slice_cmp nat_cmp) q)) (untouched_absent host q);
+  absent = each_untouched (IsEmptyIfAbsent host) (untouched_absent host);
 }
 
 module _ (host : Host) where
@@ -78,15 +71,10 @@ module _ (host : Host) where
   without_tidy own [] t = t
   without_tidy own (key ∷ keys) t = without_tidy (after_delete own key) keys (deleted_tidy own key t)
 
-  stored_tidy : (own : OwnFiles) (filled : Bool) (key : Key) (k : ℕ) (r : Record) → has host own key ≡ true → IsTidy host own
-      → IsTidy host (cond filled (after_write_with_zeros (length_at host own key) own key k r) (after_write_with_holes (length_at host own key) own key k r))
-  stored_tidy own true key k r there t = record {
-    ends = ends_filled host own t.ends key k r;
-    absent = insert_absent host own t.absent key (entry_with_zeros (length_at host own key) k r (entry_at own key)) (there_absent host key (entry_with_zeros (length_at host own key) k r (entry_at own key)) there);
-  }
-  stored_tidy own false key k r there t = record {
-    ends = ends_wrote host own t.ends key k r;
-    absent = insert_absent host own t.absent key (entry_with_holes (length_at host own key) k r (entry_at own key)) (there_absent host key (entry_with_holes (length_at host own key) k r (entry_at own key)) there);
+  stored_tidy : (own : OwnFiles) (gap : Gap) (key : Key) (k : ℕ) (r : Record) → has host own key ≡ true → IsTidy host own → IsTidy host (after_write gap (length_at host own key) own key k r)
+  stored_tidy own gap key k r there t = record {
+    ends = ends_wrote host own t.ends gap key k r;
+    absent = insert_absent host own t.absent key (entry_after_write gap (length_at host own key) k r (entry_at own key)) (there_absent host key (entry_after_write gap (length_at host own key) k r (entry_at own key)) there);
   }
 
   stays_tidy : (own : OwnFiles) (change : FileChange) → IsFit host own change → IsTidy host own → IsTidy host (own_after_change change own)
@@ -96,21 +84,20 @@ module _ (host : Host) where
   stays_tidy own (Renamed old new) fits t = record {
     ends = ends_renamed host own t.ends old new;
     absent = insert_absent host (after_delete own old) (deleted_tidy own old t).absent new (renamed_from old (entry_at own old))
-        (there_absent host new (renamed_from old (entry_at own old)) (moved_there host old new (entry_at own old).base fits.1));
+        (there_absent host new (renamed_from old (entry_at own old)) (there_moved host old new (entry_at own old).base fits.1));
   }
-  stays_tidy own (Stored w r) fits t = subst (λ n. IsTidy host (cond w.filled (after_write_with_zeros n own w.key w.place r) (after_write_with_holes n own w.key w.place r))) (sym fits.0) (stored_tidy own w.filled w.key w.place r fits.1 t)
+  stays_tidy own (Stored w r) fits t = subst (λ n. IsTidy host (after_write w.gap n own w.key w.place r)) (sym fits.0) (stored_tidy own w.gap w.key w.place r fits.1 t)
 
 -- ---- a run
 
 step_tidy : (s : Session) (st onward : PartialState) (e : StepEnd) → IsTidy s.files st.own.files → FitsReached s.files st.own.files e → outcome_with st e ≡ Step onward → IsTidy s.files onward.own.files
-step_tidy s st onward (Went r spot bytes after_write_with_holes change) tidy fits e =
-    let same : record { core = record { regs = r; desk = desk_with st.core.desk spot bytes }; own = record { cells = with_cells st.own.cells after_write_with_holes.cells; files = own_after_change change st.own.files } } ≡ onward = cc in
+step_tidy s st onward (Went r spot bytes wrote change) tidy fits e =
+    let same : record { core = record { regs = r; desk = desk_with st.core.desk spot bytes }; own = record { cells = with_cells st.own.cells wrote.cells; files = own_after_change change st.own.files } } ≡ onward = cc in
     subst (λ (x : PartialState). IsTidy s.files x.own.files) same (stays_tidy s.files st.own.files change fits tidy)
 step_tidy s st onward (Stopped cause) tidy fits e = absurd (cc)
 
 pub tidy_after : (s : Session) (n : ℕ) (st : PartialState) → after (session_answers s) n ≡ Some st → IsTidy s.files st.own.files
-unfolding dependence.after dependence.outcome
-tidy_after s zero st e = let same : start ≡ st = cc in subst (λ (x : PartialState). IsTidy s.files x.own.files) same (starts_tidy s.files)
-tidy_after s (suc n) st e =
-    let (b, before, went) = step_before (session_answers s) (after (session_answers s) n) st e in
-    step_tidy s b st (result_of (laid b.own (session_answers s)) (next b.core)) (tidy_after s n b before) (reached_fits s b (sound_after s n b before)) went
+unfolding dependence.outcome
+tidy_after s =
+    holds_after (outcome (session_answers s)) start (λ (st : PartialState). IsTidy s.files st.own.files) (starts_tidy s.files)
+    (λ n b st at tidy went. step_tidy s b st (result_of (laid b.own (session_answers s)) (next b.core)) tidy (reached_fits s b (sound_after s n b at)) went)

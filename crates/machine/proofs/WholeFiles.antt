@@ -8,16 +8,15 @@ use Rattle.std.specs.List.{range_with_len, filter}
 use Rattle.std.specs.Option.{option_map}
 use Rattle.std.specs.Ordering.{nat_cmp, is_lt}
 use Rattle.std.specs.Cmp.Lexicographic.{slice_cmp, nat_list_cmp_total}
-use Rattle.std.specs.FinMap.{get, insert, empty, entries, entries_sorted, get-entries, get-empty, get-from_entries, same_map}
+use Rattle.std.specs.FinMap.{get, empty, entries, entries_sorted, get-entries, get-empty, get-from_entries, same_map}
 use Rattle.std.specs.FinMap.Entries.{below_all, is_sorted, find-where_key, is_sorted-where_key, same_entries}
 use Rattle.hostfiles.proofs.Views.{same_key}
 use Rattle.hostfiles.specs.Hosts.{Key, Record, Host}
-use Rattle.hostfiles.specs.Files.{OwnFiles, has, entry_at, length_at, record_within, record_by, record_of, file_of, file_at, shapes, files, after_delete, after_write_with_holes, after_write_with_zeros}
+use Rattle.hostfiles.specs.Files.{OwnFiles, has, entry_at, length_at, record_within, record_by, record_of, file_of, file_at, shapes, files, after_delete, after_write}
 use Rattle.hostfiles.specs.File.{File, shape_of}
-use Rattle.hostfiles.specs.File.{written, written_filled}
 use Rattle.hostfiles.proofs.FileLemmas.{get-files, get-shapes, files-made, files-deleted}
-use Rattle.hostfiles.proofs.LaidLemmas.{below, not_below, entry_file, files-wrote, files-renamed, files-read}
-use Rattle.hostfiles.proofs.FilledLemmas.{files-filled}
+use Rattle.hostfiles.proofs.LaidLemmas.{below, not_below, entry_file, files-renamed, files-read}
+use Rattle.hostfiles.proofs.WriteLemmas.{files-wrote}
 use Rattle.file_calls.specs.FileQuestions.{FileQuestion, IsThere, ShapeOf, Content, FilesOn, is_on, files_on}
 use Rattle.file_calls.specs.TableView.{file_answers, shape_of_key}
 use Rattle.file_calls.specs.Changes.{FileChange, Unchanged, Made, Deleted, Renamed, Stored}
@@ -117,17 +116,11 @@ module _ (host : Host) where
   removed_is own [] = refl
   removed_is own (key ∷ keys) = ap (λ m. without_keys m keys) (sym (files-deleted host own key)) ∙ removed_is (after_delete own key) keys
 
-  stored_is : (own : OwnFiles) (filled : Bool) (key : Key) (k : ℕ) (r : Record) → IsTidy host own → has host own key ≡ true
-      → insert (files host own) key (cond filled (written_filled k r (file_in (files host own) key)) (written k r (file_in (files host own) key)))
-      ≡ files host (cond filled (after_write_with_zeros (length_at host own key) own key k r) (after_write_with_holes (length_at host own key) own key k r))
-  stored_is own true key k r tidy h = sym (files-filled host own key k r (file_in (files host own) key) (there own key h))
-  stored_is own false key k r tidy h = sym (files-wrote host own key k r (file_in (files host own) key) (tidy.ends key) (there own key h))
-
   pub changed_is : (own : OwnFiles) (change : FileChange) → IsTidy host own → IsFit host own change → files_after change (files host own) ≡ files host (own_after_change change own)
   changed_is own Unchanged tidy fits = refl
   changed_is own (Made key) tidy fits = sym (files-made host own key)
   changed_is own (Deleted keys) tidy fits = removed_is own keys
   changed_is own (Renamed old new) tidy fits = sym (files-renamed host own old new (file_in (files host own) old) (there own old fits.1))
   changed_is own (Stored w r) tidy fits =
-      stored_is own w.filled w.key w.place r tidy fits.1
-      ∙ ap (λ n. files host (cond w.filled (after_write_with_zeros n own w.key w.place r) (after_write_with_holes n own w.key w.place r))) (sym fits.0)
+      sym (files-wrote host own w.gap w.key w.place r (file_in (files host own) w.key) (λ _. tidy.ends w.key) (there own w.key fits.1))
+      ∙ ap (λ n. files host (after_write w.gap n own w.key w.place r)) (sym fits.0)

@@ -1,18 +1,20 @@
 -- The plain machine makes the same steps.
-use Rattle.std.proofs.Common.{rules, inl, inr, ◌≡◌, ℕ, zero, suc, ◌+◌, ◌<◌, ◌≤◌, Option, Some, None, List, [], ◌∷◌, length, get_or, unwrap_or, refl, sym, ◌∙◌, ap, arith, cond, eqb, get_or-set_same, get_or-set_other, length-set, nat_lt, Bool, true, false, subst}
+use Rattle.std.proofs.Common.{rules, inl, inr, ◌≡◌, ℕ, ◌+◌, ◌<◌, ◌≤◌, Option, Some, None, List, [], ◌∷◌, length, get_or, unwrap_or, refl, sym, ◌∙◌, ap, arith, cond, eqb, get_or-set_same, get_or-set_other, length-set, nat_lt, Bool, true, false, subst}
 use Rattle.std.specs.Prelude.{slice_index, slice_set}
-use Rattle.std.specs.Option.{option_map}
 use Rattle.std.specs.Ordering.{nat_cmp}
 use Rattle.std.specs.FinMap as finmap
 use Rattle.std.proofs.lemmas.Bool.Decides.{eqb_tells, leb_tells}
 use Rattle.std.proofs.lemmas.List.{get_or_past}
 use Rattle.std.proofs.lemmas.List.FromFn.{get_or-map-range_with_len, length-map-range_with_len, fill_by_all}
 use Rattle.interaction_trees.specs.Tree.{result_of}
-use Rattle.interaction_trees.specs.Outcome.{Outcome, Step, Stop}
-use Rattle.interaction_trees.specs.Dependence.{state_of}
+use Rattle.interaction_trees.specs.Outcome.{Step}
+use Rattle.interaction_trees.specs.Run.{run_to_limit}
+use Rattle.interaction_trees.specs.Steps.{map_outcome}
+use Rattle.interaction_trees.specs.Steps as steps
 use Rattle.interaction_trees.specs.Dependence as dependence
 use Rattle.interaction_trees.proofs.DependenceLemmas.{same_everywhere}
-use Rattle.console_calls.specs.declared.cause.Cause.{Cause}
+use Rattle.interaction_trees.proofs.RunLemmas.{holds_after, after_mapped, run_mapped}
+use Rattle.console_calls.specs.declared.cause.Cause.TheVariants.{Limit}
 use Rattle.console_calls.specs.StateQuestions.{Byte, Input}
 use Rattle.hostfiles.specs.Files as files
 use Rattle.file_calls.specs.HostTrees.{AreSoundOwnFiles}
@@ -24,12 +26,11 @@ use Rattle.machine.specs.Inputs.{Session}
 use Rattle.machine.specs.StateView.{OwnCells, PartialState}
 use Rattle.machine.specs.Session.{image_of, IsSession}
 use Rattle.machine.specs.Step.{StepEnd, Went, Stopped, desk_with, next}
-use Rattle.machine.specs.Machine.{Answers, session_answers, session_tree, laid, cell_at, with_cell, with_cells, outcome_with, start, outcome, after}
+use Rattle.machine.specs.Machine.{Answers, session_answers, laid, cell_at, with_cell, with_cells, outcome_with, start, outcome, after, cold_run}
 use Rattle.machine.specs.CellCount.{cell_count, cell_count-is}
-use Rattle.machine.specs.PlainState.{PlainState, memory_of, plain_answers, with_writes, plain_outcome_with, plain_outcome}
-use Rattle.machine.specs.PlainLaid.{next_plain, plain_after, laid_state, laid_outcome, PlainMachineIsLaid}
+use Rattle.machine.specs.PlainState.{PlainState, memory_of, plain_answers, with_writes, plain_outcome_with, plain_outcome, loaded_machine, plain_run}
+use Rattle.machine.specs.PlainLaid.{laid_state, PlainRunIsCold, PlainMachineIsLaid}
 use Rattle.machine.proofs.WrittenCellLemmas.{get_stored, stored_past}
-use Rattle.machine.proofs.AfterLemmas.{step_before}
 use Rattle.machine.proofs.StepLemmas.{answered}
 use Rattle.machine.proofs.HostLemmas.{result_of-asking_host}
 use Rattle.machine.proofs.FitLemmas.{FitsReached, reached_fits, sound_after}
@@ -112,7 +113,7 @@ inside_all (w ∷ ws) m h = inside_all ws (with_cell m w.0 w.1) (λ q over. stor
 
 -- ---- a step, and a run
 
-made_whole : (s : Session) (st : PartialState) (e : StepEnd) → IsTidy s.files st.own.files → FitsReached s.files st.own.files e → plain_outcome_with (laid_state s st) e ≡ laid_outcome s (outcome_with st e)
+made_whole : (s : Session) (st : PartialState) (e : StepEnd) → IsTidy s.files st.own.files → FitsReached s.files st.own.files e → plain_outcome_with (laid_state s st) e ≡ map_outcome (laid_state s) (outcome_with st e)
 made_whole s st (Went r spot bytes wrote change) tidy fits =
     λ i. Step (record {
       core = record { regs = r; desk = desk_with st.core.desk spot bytes };
@@ -121,7 +122,7 @@ made_whole s st (Went r spot bytes wrote change) tidy fits =
     })
 made_whole s st (Stopped cause) tidy fits = refl
 
-same_outcome : (s : Session) (st : PartialState) → IsSession s → Inside st.own.cells → AreSoundOwnFiles s.files st.own.files → IsTidy s.files st.own.files → plain_outcome s (laid_state s st) ≡ laid_outcome s (outcome (session_answers s) st)
+same_outcome : (s : Session) (st : PartialState) → IsSession s → Inside st.own.cells → AreSoundOwnFiles s.files st.own.files → IsTidy s.files st.own.files → plain_outcome s (laid_state s st) ≡ map_outcome (laid_state s) (outcome (session_answers s) st)
 unfolding plain_outcome dependence.outcome
 same_outcome s st limits inside sound tidy =
     ap (plain_outcome_with (laid_state s st)) (same_everywhere (plain_answers (memory_of (cell_of s st.own.cells)) s.script (files.files s.files st.own.files)) (laid st.own (session_answers s)) (next st.core) (same_tell s st.own.cells st.own.files limits inside sound tidy))
@@ -135,35 +136,33 @@ step_inside st next (Stopped cause) h e = absurd (cc)
 
 -- No cell past the last one was written.
 after_inside : (f : Answers) (n : ℕ) (st : PartialState) → after f n ≡ Some st → Inside st.own.cells
-unfolding dependence.after dependence.outcome
-after_inside f zero st e = let same : start ≡ st = cc in rw (← same) (λ q h. finmap.get-empty nat_cmp q)
-after_inside f (suc n) st e =
-    let (b, before, went) = step_before f (after f n) st e in
-    step_inside b st (result_of (laid b.own f) (next b.core)) (after_inside f n b before) went
+unfolding dependence.outcome
+after_inside f =
+    holds_after (outcome f) start (λ (st : PartialState). Inside st.own.cells) (λ q h. finmap.get-empty nat_cmp q)
+    (λ n b st at inside went. step_inside b st (result_of (laid b.own f) (next b.core)) inside went)
 
-went_on : (s : Session) (w : Outcome PlainState Cause) (o : Outcome PartialState Cause) → w ≡ laid_outcome s o
-    → elim w as (λ _. Option PlainState) [ Step next ↦ Some next | Stop cause ↦ None ] ≡ option_map (laid_state s) (state_of o)
-went_on s w (Step st) e = rw e refl
-went_on s w (Stop cause) e = rw e refl
+outcomes_laid : (s : Session) → IsSession s → (n : ℕ) (st : PartialState) → after (session_answers s) n ≡ Some st → plain_outcome s (laid_state s st) ≡ map_outcome (laid_state s) (outcome (session_answers s) st)
+outcomes_laid s limits n st at = same_outcome s st limits (after_inside (session_answers s) n st at) (sound_after s n st at) (tidy_after s n st at)
 
-one_more : (s : Session) → IsSession s → (o : Option PartialState) → ((st : PartialState) → o ≡ Some st → Inside st.own.cells) → ((st : PartialState) → o ≡ Some st → AreSoundOwnFiles s.files st.own.files)
-    → ((st : PartialState) → o ≡ Some st → IsTidy s.files st.own.files)
-    → next_plain s (option_map (laid_state s) o) ≡ option_map (laid_state s) (dependence.next_state session_tree (λ (st : PartialState). st.own) (λ (st : PartialState). next st.core) outcome_with start (session_answers s) o)
-one_more s limits None inside sound tidy = refl
-one_more s limits (Some st) inside sound tidy = went_on s _ (outcome (session_answers s) st) (same_outcome s st limits (inside st refl) (sound st refl) (tidy st refl))
-
-same_after : (s : Session) → IsSession s → (n : ℕ) → plain_after s n ≡ option_map (laid_state s) (after (session_answers s) n)
-unfolding plain_after dependence.after
-same_after s limits zero = λ i. Some (record {
+loaded_is_laid : (s : Session) → loaded_machine s ≡ laid_state s start
+loaded_is_laid s = λ i. record {
   core = start.core;
   memory = memory_of (λ a. unwrap_or (sym (finmap.get-empty nat_cmp a) i) (image_of s a));
   files = loaded_is s.files i;
-})
-same_after s limits (suc n) = ap (next_plain s) (same_after s limits n) ∙ one_more s limits (after (session_answers s) n) (after_inside (session_answers s) n) (sound_after s n) (tidy_after s n)
+}
+
+same_run : PlainRunIsCold
+unfolding plain_run cold_run
+same_run s limits =
+    ap (run_to_limit (plain_outcome s) Limit s.limit) (loaded_is_laid s)
+    ∙ run_mapped (outcome (session_answers s)) (plain_outcome s) (laid_state s) start (outcomes_laid s limits) Limit s.limit
 
 -- The law of the plain machine.
-pub whole_goes_as_laid : PlainMachineIsLaid
-whole_goes_as_laid = record {
-  states = same_after;
-  outcomes = λ s limits n st e. same_outcome s st limits (after_inside (session_answers s) n st e) (sound_after s n st e) (tidy_after s n st e);
+pub plain_machine_is_laid : PlainMachineIsLaid
+plain_machine_is_laid = record {
+  states = λ s limits n.
+      ap (λ (w : PlainState). steps.after (plain_outcome s) w n) (loaded_is_laid s)
+      ∙ after_mapped (outcome (session_answers s)) (plain_outcome s) (laid_state s) start (outcomes_laid s limits) n;
+  outcomes = outcomes_laid;
+  runs = same_run;
 }

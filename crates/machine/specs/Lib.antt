@@ -5,6 +5,7 @@ pub mod Session
 pub mod SessionError
 pub mod Step
 pub mod Machine
+pub mod TakesQuestion
 pub mod SavedState
 pub mod TakesStep
 pub mod Stretch
@@ -21,6 +22,8 @@ pub use Rattle.pagemem.specs.Image
 pub use Rattle.i8080.specs.Memory
 pub use Rattle.interaction_trees.specs.Outcome
 pub use Rattle.interaction_trees.specs.Tree
+pub use Rattle.interaction_trees.specs.Run
+pub use Rattle.interaction_trees.specs.Steps
 pub use Rattle.interaction_trees.specs.Dependence
 pub use Rattle.command_tail.specs.PageZero
 pub use Rattle.i8080.specs.Flags

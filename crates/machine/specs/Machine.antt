@@ -1,18 +1,24 @@
 -- The machine that separates what a run wrote from what its session has: which of a step's questions reach the session.
 -- (What is looked at: this project's profile.)
-use Rattle.std.specs.Prelude.{◌≡◌, ℕ, ◌==◌, ◌||◌, nat_lt, if◌then◌else◌, Bool, true, false, List, [], ◌∷◌, Option, Some, None, slice_get}
+use Rattle.std.specs.Prelude.{◌≡◌, ℕ, ◌||◌, nat_lt, if◌then◌else◌, Bool, true, false, List, [], ◌∷◌, Option, Some, None, slice_get, drop}
 use Rattle.std.specs.FinMap as map
 use Rattle.interaction_trees.specs.Tree.{Tree, Return, Query}
 use Rattle.interaction_trees.specs.Outcome.{Outcome, Step, Stop}
+use Rattle.interaction_trees.specs.Run.{RunResult, run_to_limit}
+use Rattle.interaction_trees.specs.Steps as steps
 use Rattle.interaction_trees.specs.Dependence as dependence
 use Rattle.i8080.specs.Memory.{is_among}
 use Rattle.i8080.specs.Memory as memory
 use Rattle.console_calls.specs.declared.cause.Cause.{Cause}
+use Rattle.console_calls.specs.declared.cause.Cause.TheVariants.{Limit}
 use Rattle.console_calls.specs.ScriptLooks.{is_within}
 use Rattle.console_calls.specs.StateQuestions.{Byte, Input}
-use Rattle.hostfiles.specs.FileLooks.{is_looked, is_same_ask}
+use Rattle.hostfiles.specs.FileLooks.{is_looked}
 use Rattle.hostfiles.specs.FileLooks as file_looks
 use Rattle.hostfiles.specs.declared.looks.Ask.{Ask}
+use Rattle.first_looks.specs.declared.question.Question.{Question}
+use Rattle.first_looks.specs.declared.question.Question.TheVariants.{Cell, Script, Host as OfHost}
+use Rattle.first_looks.specs.Questions.{is_in}
 use Rattle.file_calls.specs.Deletes.{own_after_change}
 use Rattle.bdos.specs.SystemQuestions.{SystemQuestion, OfState, OfFiles, SystemAnswer, SystemAnswers}
 use Rattle.file_calls.specs.HostTrees.{HostAnswer, HostTree, host_answers}
@@ -23,12 +29,6 @@ use Rattle.machine.specs.Session.{image_of}
 use Rattle.machine.specs.Step.{StepEnd, Went, Stopped, first_core, desk_with, next}
 
 -- ---- questions to the session
-
--- The byte of a cell of the loaded image; the script byte at an offset, or that there is none; a question to the host files.
-pub data Question : Type 0 where
-  Cell : ℕ → Question
-  Script : ℕ → Question
-  OfHost : Ask → Question
 
 abbrev pub Answer : Question → Type 0
 Answer (Cell a) = ℕ
@@ -43,16 +43,6 @@ abbrev pub session_answers : Session → Answers
 session_answers s (Cell a) = image_of s a
 session_answers s (Script k) = slice_get s.script k
 session_answers s (OfHost a) = host_answers s.files a
-
-abbrev pub same_question : Question → Question → Bool
-same_question (Cell a) (Cell b) = a == b
-same_question (Script k) (Script j) = k == j
-same_question (OfHost a) (OfHost b) = is_same_ask a b
-same_question q x = false
-
-abbrev pub is_in : Question → List Question → Bool
-is_in q [] = false
-is_in q (x ∷ xs) = same_question q x || is_in q xs
 
 -- ---- what is own, and what the session is asked instead
 
@@ -111,7 +101,11 @@ looks_at = dependence.looks_at session_tree (λ (st : PartialState). st.own) (λ
 
 -- The state after n steps; `None` if a stop comes before.
 abbrev pub after : Answers → ℕ → Option PartialState
-after = dependence.after session_tree (λ (st : PartialState). st.own) (λ (st : PartialState). next st.core) outcome_with start
+after f n = steps.after (outcome f) start n
+
+-- The run of a session up to its limit.
+unfoldable pub cold_run : Session → RunResult PartialState Cause
+cold_run s = run_to_limit (outcome (session_answers s)) Limit s.limit start
 
 -- The questions that reach the session at the state after n steps.
 abbrev pub looks : Answers → ℕ → List Question
@@ -126,14 +120,22 @@ IsReached f st = (n : ℕ) × (after f n ≡ Some st)
 -- Whether a question was looked at.
 abbrev pub is_looked_at : AllLooks → Question → Bool
 is_looked_at looked (Cell a) = is_among a looked.cells
-is_looked_at looked (Script k) = is_within looked.places k
+is_looked_at looked (Script k) = is_within looked.offsets k
 is_looked_at looked (OfHost a) = is_looked looked.files a
+
+-- Neither a script offset was looked at, nor the host files.
+pub record HasNoQuestions (looked : AllLooks) : Type 0 where
+  pub offsets : (k : ℕ) → is_looked_at looked (Script k) ≡ false
+  pub files : (a : Ask) → is_looked_at looked (OfHost a) ≡ false
 
 -- Nothing was looked at.
 pub record HasNoLooks (looked : AllLooks) : Type 0 where
   pub cells : looked.cells ≡ []
-  pub places : (k : ℕ) → is_within looked.places k ≡ false
-  pub files : (a : Ask) → is_looked looked.files a ≡ false
+  pub questions : HasNoQuestions looked
+
+-- The looks without the first n cells.
+abbrev pub looks_from : ℕ → AllLooks → AllLooks
+looks_from n looked = record looked { cells = drop n looked.cells }
 
 -- Exactly these questions were looked at, as well as the earlier ones.
 abbrev pub AddsLooks : AllLooks → List Question → AllLooks → Type 0
@@ -146,5 +148,5 @@ AddsNoOtherLooks old qs new = (q : Question) → is_looked_at new q ≡ true →
 -- More was looked at: more cells after the earlier ones, and all earlier offsets and questions.
 pub record KeepsLooks (old new : AllLooks) : Type 0 where
   pub cells : memory.Extends old.cells new.cells
-  pub places : (k : ℕ) → is_within old.places k ≡ true → is_within new.places k ≡ true
+  pub offsets : (k : ℕ) → is_within old.offsets k ≡ true → is_within new.offsets k ≡ true
   pub files : file_looks.KeepsAsks old.files new.files

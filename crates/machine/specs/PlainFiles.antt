@@ -1,13 +1,11 @@
 -- The files of a machine as one map, whoever wrote them. (This project's profile.)
-use Rattle.std.specs.Prelude.{List, [], ◌∷◌, map, filter, Some, None, unwrap_or, get_or, if◌then◌else◌}
+use Rattle.std.specs.Prelude.{List, [], ◌∷◌, map, filter, Some, None, unwrap_or, get_or}
 use Rattle.std.specs.Option.{option_and_then}
 use Rattle.std.specs.Ordering.{nat_cmp}
 use Rattle.std.specs.Cmp.Lexicographic.{slice_cmp}
 use Rattle.std.specs.FinMap.{FinMap, get, insert, remove, contains_key, entries, from_entries}
 use Rattle.hostfiles.specs.Hosts.{Key, Record, Host}
-use Rattle.hostfiles.specs.File.{File, shape_of}
-use Rattle.hostfiles.specs.File.{written, written_filled}
-use Rattle.file_calls.specs.declared.finding.Write.{Write}
+use Rattle.hostfiles.specs.File.{File, shape_of, with_record}
 use Rattle.file_calls.specs.FileQuestions.{FileAnswers, IsThere, ShapeOf, Content, FilesOn, is_on}
 use Rattle.file_calls.specs.Changes.{FileChange, Unchanged, Made, Deleted, Renamed, Stored}
 
@@ -39,14 +37,10 @@ abbrev pub without_keys : Files → List Key → Files
 without_keys files [] = files
 without_keys files (key ∷ keys) = without_keys (remove files key) keys
 
--- A file with a record stored as the call asks: the gap before it becomes zeros or holes.
-abbrev pub file_after_write : Write → Record → File → File
-file_after_write w r f = if w.filled then written_filled w.place r f else written w.place r f
-
 -- The files after the change of a call.
 abbrev pub files_after : FileChange → Files → Files
 files_after Unchanged files = files
 files_after (Made key) files = insert files key []
 files_after (Deleted keys) files = without_keys files keys
 files_after (Renamed old new) files = insert (remove files old) new (file_in files old)
-files_after (Stored w r) files = insert files w.key (file_after_write w r (file_in files w.key))
+files_after (Stored w r) files = insert files w.key (with_record w.gap w.place r (file_in files w.key))

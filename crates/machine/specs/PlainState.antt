@@ -4,14 +4,16 @@ use Rattle.std.specs.Prelude.{ℕ, List, [], ◌∷◌, map, slice_index, slice_
 use Rattle.std.specs.List.{range_with_len}
 use Rattle.interaction_trees.specs.Tree.{result_of}
 use Rattle.interaction_trees.specs.Outcome.{Outcome, Step, Stop}
+use Rattle.interaction_trees.specs.Run.{RunResult, run_to_limit}
 use Rattle.console_calls.specs.declared.cause.Cause.{Cause}
+use Rattle.console_calls.specs.declared.cause.Cause.TheVariants.{Limit}
 use Rattle.console_calls.specs.StateQuestions.{answers}
 use Rattle.bdos.specs.SystemQuestions.{SystemAnswers, OfState, OfFiles}
 use Rattle.machine.specs.Inputs.{Session, Core}
 use Rattle.machine.specs.CellCount.{cell_count}
 use Rattle.machine.specs.Session.{image_of}
-use Rattle.machine.specs.Step.{StepEnd, Went, Stopped, desk_with, next}
-use Rattle.machine.specs.PlainFiles.{Files, answers_of, files_after}
+use Rattle.machine.specs.Step.{StepEnd, Went, Stopped, first_core, desk_with, next}
+use Rattle.machine.specs.PlainFiles.{Files, loaded_files, answers_of, files_after}
 
 -- The registers and the desk, the byte of each cell, and all files.
 pub record PlainState : Type 0 where
@@ -45,3 +47,14 @@ plain_outcome_with w (Stopped cause) = Stop cause
 -- The outcome that follows a machine: a step to another, or a stop.
 unfoldable pub plain_outcome : Session → PlainState → Outcome PlainState Cause
 plain_outcome s w = plain_outcome_with w (result_of (plain_answers w.memory s.script w.files) (next w.core))
+
+-- The plain machine before the first step.
+abbrev pub loaded_machine : Session → PlainState
+loaded_machine s = record { core = first_core; memory = loaded_memory s; files = loaded_files s.files }
+
+-- The run of a session on the plain machine, up to the limit.
+abbrev pub PlainRun : Type 0
+PlainRun = RunResult PlainState Cause
+
+unfoldable pub plain_run : Session → PlainRun
+plain_run s = run_to_limit (plain_outcome s) Limit s.limit (loaded_machine s)

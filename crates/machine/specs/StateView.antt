@@ -41,7 +41,7 @@ abbrev base_code : Coded Base
 base_code = code_by (Option (Option (Option (List ℕ)))) (coded_option (coded_option (coded_option (coded_list coded_ℕ)))) cases based base_cases
 
 abbrev grown_code : Coded Growth
-grown_code = code_by (ℕ × ℕ) (coded× coded_ℕ coded_ℕ) (λ g. (g.from, g.to)) (λ p. record { from = p.0; to = p.1 }) (λ _. refl)
+grown_code = code_by (ℕ × ℕ) (coded× coded_ℕ coded_ℕ) (λ g. (g.host_end, g.length)) (λ p. record { host_end = p.0; length = p.1 }) (λ _. refl)
 
 abbrev entry_code : Coded Entry
 entry_code = code_by (Base × (Option Growth × FinMap nat_cmp (List ℕ))) (coded× base_code (coded× (coded_option grown_code) (code coded_ℕ (coded_list coded_ℕ))))
@@ -74,7 +74,7 @@ pub record PartialState : Type 0 where
 -- The looks of a run: cells in the order of their first looks, offsets of the script, and questions to the host files.
 pub record AllLooks : Type 0 where
   pub cells : List ℕ
-  pub places : ScriptLooks
+  pub offsets : ScriptLooks
   pub files : FileLooks
 
 -- A state and its looks.

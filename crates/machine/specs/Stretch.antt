@@ -13,7 +13,9 @@ use Rattle.machine.specs.StateView.{AllLooks, StateView}
 use Rattle.machine.specs.Session.{image_of}
 use Rattle.machine.specs.WrittenCells.{DeskAndFiles}
 use Rattle.machine.specs.TakesStep.{view_with}
-use Rattle.machine.specs.Machine.{Question, Answers, session_answers, after, outcome, looks, is_looked_at, is_in, AddsLooks, KeepsLooks, AddsNoOtherLooks}
+use Rattle.first_looks.specs.declared.question.Question.{Question}
+use Rattle.first_looks.specs.Questions.{is_in}
+use Rattle.machine.specs.Machine.{Answers, session_answers, after, outcome, looks, is_looked_at, AddsLooks, KeepsLooks, AddsNoOtherLooks}
 
 -- Each step from `from` on and below `upto` looks only at what these looks contain.
 abbrev pub LooksAtNothingNew : Answers → AllLooks → ℕ → ℕ → Type 0

@@ -32,7 +32,7 @@ outcome_from (Some cause) st = Stop cause
 
 -- The looks of an overlay and devices.
 abbrev pub looks_in : Overlay → DeskAndFiles → AllLooks
-looks_in o d = record { cells = looks_of o; places = d.places; files = d.asks }
+looks_in o d = record { cells = looks_of o; offsets = d.offsets; files = d.asks }
 
 -- The state with its looks of registers, devices and an overlay.
 abbrev pub view_with : Regs → DeskAndFiles → Overlay → StateView

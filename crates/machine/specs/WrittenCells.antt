@@ -28,12 +28,12 @@ written_cells own = written_below cell_count own
 -- host files.
 pub record DeskAndFiles : Type 0 where
   pub desk : Desk
-  pub places : ScriptLooks
+  pub offsets : ScriptLooks
   pub files : files.OwnFiles
   pub asks : FileLooks
 
 abbrev pub devices_of : DeskLooks → Changes → DeskAndFiles
-devices_of d c = record { desk = d.desk; places = d.places; files = c.journal.entries; asks = c.looks }
+devices_of d c = record { desk = d.desk; offsets = d.looks; files = c.journal.entries; asks = c.looks }
 
 -- The state with these registers and these devices, which wrote this.
 abbrev pub state_with : Regs → DeskAndFiles → (ℕ → Option ℕ) → PartialState

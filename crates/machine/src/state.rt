@@ -1,11 +1,14 @@
-ghost use Rattle.std.specs.Prelude.{◌≡◌, ◌<◌, ◌&&◌, ◌==◌, ℕ, true, false, not, IfOk, IfSome, IfNone, length, slice_index};
-ghost use Rattle.console_calls.specs.ScriptLooks.{is_within};
-ghost use Rattle.hostfiles.specs.FileLooks.{is_looked, asks_nothing, without_ask};
-ghost use Rattle.machine.specs.Machine.{start, HasNoLooks};
+ghost use Rattle.std.specs.Prelude.{◌≡◌, ◌<◌, ◌≤◌, ℕ, true, false, IfOk, OnOk, OnErr, length, slice_index};
+ghost use Rattle.hostfiles.specs.FileLooks.{is_looked};
+ghost use Rattle.hostfiles.specs.declared.looks.Ask.{Ask};
+ghost use Rattle.first_looks.specs.FirstLooks.{NotesLooks, SameBelow};
+ghost use Rattle.machine.specs.Machine.{start, HasNoLooks, HasNoQuestions, is_looked_at, looks_from};
+ghost use Rattle.machine.specs.TakesQuestion.{TakesQuestion};
 
-use crate::session::Session;
+use crate::session::{STEP_LIMIT, Session};
 use console_calls::{Desk, ScriptLooks};
-use hostfiles::{Ask, Changes};
+use first_looks::{FirstLooks, Question};
+use hostfiles::Changes;
 use i8080::{Flags, Regs};
 use pagemem::{BlankMarks, Cells, Overlay};
 use std::alloc::{AllocError, Global};
@@ -106,42 +109,76 @@ impl State {
     /// Returns the script offsets that were looked at.
     #[inline(always)]
     pub(crate) fn script_looks(&self) -> ScriptLooks
-        ensures { result ≡ self.now.looked.places }
+        ensures { result ≡ self.now.looked.offsets }
     {
         self.desk.script_looks()
     }
 
     /// Returns whether `cells` cells and these script offsets were looked at, and no question was asked of the host files.
     #[inline(always)]
-    pub(crate) fn looks_at_no_more(&self, cells: usize, places: ScriptLooks) -> bool
+    pub(crate) fn looks_at_no_more(&self, cells: usize, offsets: ScriptLooks) -> bool
         ensures cells { result ≡ true → length self.now.looked.cells ≡ cells }
-        ensures places { result ≡ true → self.now.looked.places ≡ places }
+        ensures offsets { result ≡ true → self.now.looked.offsets ≡ offsets }
         ensures files { result ≡ true → (ask : Ask) → is_looked self.now.looked.files ask ≡ false }
     {
         // The start of the offsets is compared last and by itself: one load of both numbers would wait until both are stored.
         self.look_count() == cells
-            && self.script_looks().has_end_of(places)
-            && self.asks_nothing()
-            && self.script_looks().has_start_of(places)
+            && self.script_looks().has_end_of(offsets)
+            && self.changes.asks_nothing()
+            && self.script_looks().has_start_of(offsets)
     }
 
-    /// Removes and returns one script offset that was looked at; `None` if there is none. The state and its other looks
-    /// are unchanged.
-    #[inline(always)]
-    pub fn take_place(&mut self) -> Option<usize>
+    /// Removes and returns one of the new looks: the cell that was looked at after `next` others, with `next` then one more;
+    /// or else a script offset or a question to the host files; `None` if there are none. The state and its cells stay.
+    pub fn take_question(&mut self, next: &mut usize) -> Option<Question>
+        requires { next.old ≤ length self.old.looked.cells }
+        ensures taken { TakesQuestion next.old self.old.looked result next.new self.new.looked }
         ensures state { self.new.state ≡ self.old.state }
-        ensures cells { self.new.looked.cells ≡ self.old.looked.cells }
-        ensures files { self.new.looked.files ≡ self.old.looked.files }
-        ensures one { IfSome result (λ k. is_within self.old.looked.places k ≡ true) }
-        ensures taken { IfSome result (λ k. (j : ℕ) → is_within self.new.looked.places j
-            ≡ (is_within self.old.looked.places j && not (j == k))) }
-        ensures none { IfNone result ((j : ℕ) → is_within self.old.looked.places j ≡ false) }
-        ensures same { IfNone result (self.new ≡ self.old) }
     {
-        match self.desk.take_look() {
-            Some(place) => Some(place as usize),
+        if *next < self.look_count() {
+            let cell = self.nth_look(*next);
+            *next += 1;
+            return Some(Question::Cell(cell));
+        }
+        if let Some(offset) = self.desk.take_look() {
+            return Some(Question::Script(offset as usize));
+        }
+        // This is the usual case, and it moves no question.
+        if self.changes.asks_nothing() {
+            return None;
+        }
+        match self.changes.take_look() {
+            Some(ask) => Some(Question::Host(ask)),
             None => None,
         }
+    }
+
+    /// Notes each new look as a look of the step that `first_looks` has not seen yet: the cells from index `from` on, and the
+    /// script offsets and the questions to the host files, which are removed. The state and its cells stay.
+    ///
+    /// # Errors
+    ///
+    /// `Err` means out of memory. The noted steps below that step are then unchanged.
+    #[inline(never)]
+    pub fn note_looks(
+        &mut self,
+        from: usize,
+        first_looks: &mut FirstLooks,
+    ) -> Result<(), AllocError>
+        requires few { from ≤ length self.old.looked.cells }
+        requires seen { first_looks.old.seen ≤ STEP_LIMIT }
+        ensures ok { OnOk result (HasNoQuestions self.new.looked
+            × NotesLooks first_looks.old first_looks.new (is_looked_at (looks_from from self.old.looked))) }
+        ensures err { OnErr result (SameBelow first_looks.old first_looks.new) }
+        ensures seen { first_looks.new.seen ≡ first_looks.old.seen }
+        ensures state { self.new.state ≡ self.old.state }
+        ensures cells { self.new.looked.cells ≡ self.old.looked.cells }
+    {
+        let mut next = from;
+        while let Some(question) = self.take_question(&mut next) {
+            first_looks.note(&question)?;
+        }
+        Ok(())
     }
 
     /// Forgets the script offsets that were looked at, and the questions to the host files. The state and the cells that
@@ -150,38 +187,9 @@ impl State {
     pub fn forget_questions(&mut self)
         ensures state { self.new.state ≡ self.old.state }
         ensures cells { self.new.looked.cells ≡ self.old.looked.cells }
-        ensures places { (j : ℕ) → is_within self.new.looked.places j ≡ false }
-        ensures files { (ask : Ask) → is_looked self.new.looked.files ask ≡ false }
+        ensures none { HasNoQuestions self.new.looked }
     {
         self.changes.forget_looks();
         self.desk.forget_looks();
-    }
-
-    /// Returns whether no question was asked of the host files.
-    #[inline(always)]
-    pub fn asks_nothing(&self) -> bool
-        ensures value { result ≡ asks_nothing self.now.looked.files }
-        ensures none { result ≡ true → (ask : Ask) → is_looked self.now.looked.files ask ≡ false }
-    {
-        self.changes.asks_nothing()
-    }
-
-    /// Removes and returns one question that was asked of the host files; `None` if there is none. The state and its other
-    /// looks are unchanged.
-    #[inline(always)]
-    pub fn take_ask(&mut self) -> Option<Ask>
-        ensures state { self.new.state ≡ self.old.state }
-        ensures cells { self.new.looked.cells ≡ self.old.looked.cells }
-        ensures places { self.new.looked.places ≡ self.old.looked.places }
-        ensures one { IfSome result (λ ask. is_looked self.old.looked.files ask ≡ true) }
-        ensures taken { IfSome result (λ ask. self.new.looked.files ≡ without_ask ask self.old.looked.files) }
-        ensures none { IfNone result ((ask : Ask) → is_looked self.old.looked.files ask ≡ false) }
-        ensures same { IfNone result (self.new ≡ self.old) }
-    {
-        // This is the usual case, and it moves no question.
-        if self.changes.asks_nothing() {
-            return None;
-        }
-        self.changes.take_look()
     }
 }

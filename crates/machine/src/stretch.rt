@@ -113,7 +113,7 @@ pub fn run_from(
     ensures progress { IfOk result (λ r. IfNone r.1 (from < r.0)) }
 {
     let cells = running.look_count();
-    let places = running.script_looks();
+    let offsets = running.script_looks();
     let mut n = from;
     while n < end {
         let (steps, stop) = run_some(running, session, end - n);
@@ -122,7 +122,7 @@ pub fn run_from(
         if let Some(cause) = stop? {
             return Ok((n, Some(cause)));
         }
-        if !running.looks_at_no_more(cells, places) {
+        if !running.looks_at_no_more(cells, offsets) {
             return Ok((n, None));
         }
     }

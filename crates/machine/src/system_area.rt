@@ -3,8 +3,9 @@
 ghost use Rattle.std.specs.Prelude.{◌≡◌, ◌≤◌};
 ghost use Rattle.std.specs.Borrow.{GName};
 ghost use Rattle.file_calls.specs.HostTrees.{AreSoundOwnFiles};
-ghost use Rattle.bdos.specs.PerformsSystemCall.{Serves};
-ghost use Rattle.bdos.specs.PerformsSystemCall.{scene};
+ghost use Rattle.console_calls.specs.PerformsCall.{scene};
+ghost use Rattle.bdos.specs.PerformsSystemCall.{MakesSystemCall};
+ghost use Rattle.bdos.specs.SystemCalls as system_calls;
 ghost use Rattle.machine.specs.Step.{script_limit};
 ghost use Rattle.machine.specs.TakesStep.{memory_over_image, drives_in, TakesStep};
 ghost use Rattle.machine.specs.Stops.{stop_of_call};
@@ -36,11 +37,11 @@ fn serve(
     changes: &mut Changes,
     session: &Session,
 ) -> Result<Served, AllocError>
-    ensures { (g : GName) → Serves script_limit session.now.script
-        (scene regs.old (memory_over_image session.now overlay.old) desk.old
-        (drives_in session.now changes.old g)) result
-        (scene regs.new (memory_over_image session.now overlay.new) desk.new
-        (drives_in session.now changes.new g)) }
+    ensures { (g : GName) → MakesSystemCall (system_calls.call script_limit) session.now.script
+        (scene regs.old (memory_over_image session.now overlay.old) desk.old)
+        (drives_in session.now changes.old g) result
+        (scene regs.new (memory_over_image session.now overlay.new) desk.new)
+        (drives_in session.now changes.new g) }
 {
     let mut view = View::new(session.image(), overlay);
     let mut table = Table::new(session.files(), changes);

@@ -1,12 +1,14 @@
 -- The questions whose answer changes with a host file.
 use Rattle.std.proofs.Common.{◌≡◌, ℕ, ◌<◌, List, Option, Some, inl, inr, refl, subst}
 use Rattle.hostfiles.specs.Hosts.{Key, Record, Host}
-use Rattle.file_steps.specs.declared.file_steps.FileSteps.{FileSteps}
-use Rattle.file_steps.specs.Touch.{IsFileTouch}
-use Rattle.file_steps.specs.Setting.{with_file}
+use Rattle.first_looks.specs.declared.file_steps.FileSteps.{FileSteps}
+use Rattle.first_looks.specs.Touch.{IsFileTouch}
+use Rattle.first_looks.specs.Setting.{with_file}
 use Rattle.machine.specs.Inputs.{Session}
-use Rattle.machine.specs.Machine.{Question, Cell, Script, OfHost, session_answers}
-use Rattle.replay.specs.FirstLooks.{FirstLooksView, step_of}
+use Rattle.first_looks.specs.declared.question.Question.{Question}
+use Rattle.first_looks.specs.declared.question.Question.TheVariants.{Cell, Script, Host as OfHost}
+use Rattle.machine.specs.Machine.{session_answers}
+use Rattle.first_looks.specs.FirstLooks.{FirstLooksView, step_of}
 use Rattle.replay.specs.Edits.{with_host_file}
 use Rattle.replay.specs.Touch.{IsNotedTouch}
 

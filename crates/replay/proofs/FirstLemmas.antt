@@ -3,14 +3,16 @@ use Rattle.std.proofs.Common.{ap, sym, ◌≡◌, ℕ, zero, suc, ◌<◌, ◌�
 use Rattle.std.proofs.lemmas.Bool.{lt-ltb}
 use Rattle.std.proofs.lemmas.Bool.Decides.{nat_tests}
 use Rattle.std.proofs.Math.Nat.{eq-or-lt_of_le}
-use Rattle.machine.specs.Machine.{Question}
+use Rattle.first_looks.specs.declared.question.Question.{Question}
 use Rattle.machine.specs.Tree.{AgreeOn}
 use Rattle.machine.specs.Dependence as dependence
 use Rattle.machine.proofs.DependenceLemmas as lemmas
 use Rattle.machine.specs.StateView.{PartialState}
 use Rattle.machine.specs.Step.{next}
-use Rattle.machine.specs.Machine.{Answers, is_in, session_tree, outcome_with, start, looks_at, looks, after}
-use Rattle.replay.specs.FirstLooks.{FirstLooksView, or_else, step_if, first, step_below, step_of, IsFirstLooks}
+use Rattle.first_looks.specs.Questions.{is_in}
+use Rattle.machine.specs.Machine.{Answers, session_tree, outcome_with, start, looks_at, looks, after}
+use Rattle.first_looks.specs.FirstLooks.{FirstLooksView, or_else, step_if, step_below, step_of}
+use Rattle.replay.specs.FirstLooks.{first_look, IsFirstLooks}
 
 -- A step in an entry is below n.
 abbrev pub IsBelow : ℕ → Option ℕ → Type 0
@@ -24,10 +26,10 @@ below_or : (n : ℕ) (a b : Option ℕ) → IsBelow n a → IsBelow (suc n) b �
 below_or n None b h k = k
 below_or n (Some x) b h k = λ m e. let l : m < n = h m e in omega arith
 
-pub first_below : (f : Answers) (q : Question) (n : ℕ) → IsBelow n (first f q n)
-unfolding first
+pub first_below : (f : Answers) (q : Question) (n : ℕ) → IsBelow n (first_look f q n)
+unfolding first_look
 first_below f q zero = λ m e. cc
-first_below f q (suc n) = below_or n (first f q n) (step_if (is_in q (looks f n)) n) (first_below f q n) (below_mark n (is_in q (looks f n)))
+first_below f q (suc n) = below_or n (first_look f q n) (step_if (is_in q (looks f n)) n) (first_below f q n) (below_mark n (is_in q (looks f n)))
 
 erased_below : (t : ℕ) (o : Option ℕ) → IsBelow t o → step_below t o ≡ o
 erased_below t None h = refl
@@ -41,20 +43,20 @@ erased_or : (t n : ℕ) (a : Option ℕ) (b : Bool) → t ≤ n → step_below t
 erased_or t n None b h = erased_mark t n b h
 erased_or t n (Some m) b h = refl
 
-pub erased_same : (f : Answers) (q : Question) (n : ℕ) → step_below n (first f q n) ≡ first f q n
-erased_same f q n = erased_below n (first f q n) (first_below f q n)
+pub erased_same : (f : Answers) (q : Question) (n : ℕ) → step_below n (first_look f q n) ≡ first_look f q n
+erased_same f q n = erased_below n (first_look f q n) (first_below f q n)
 
-pub erased_first : (f : Answers) (q : Question) (t n : ℕ) → t ≤ n → step_below t (first f q n) ≡ first f q t
-unfolding first
+pub erased_first : (f : Answers) (q : Question) (t n : ℕ) → t ≤ n → step_below t (first_look f q n) ≡ first_look f q t
+unfolding first_look
 erased_first f q t zero h = let e : t ≡ zero = omega arith in rw e refl
 erased_first f q t (suc n) h =
     elim (eq-or-lt_of_le {n = t} {m = suc n} h) [
       | inl e ↦ rw e (erased_same f q (suc n))
-      | inr l ↦ let k : t ≤ n = omega arith in erased_or t n (first f q n) (is_in q (looks f n)) k ∙ erased_first f q t n k
+      | inr l ↦ let k : t ≤ n = omega arith in erased_or t n (first_look f q n) (is_in q (looks f n)) k ∙ erased_first f q t n k
     ]
 
-pub first-suc : (f : Answers) (q : Question) (n : ℕ) → first f q (suc n) ≡ or_else (first f q n) (step_if (is_in q (looks f n)) n)
-unfolding first
+pub first-suc : (f : Answers) (q : Question) (n : ℕ) → first_look f q (suc n) ≡ or_else (first_look f q n) (step_if (is_in q (looks f n)) n)
+unfolding first_look
 first-suc f q n = refl
 
 pub same_after : (f g : Answers) (n : ℕ) → ((i : ℕ) → i < n → AgreeOn (looks f i) f g) → after g n ≡ after f n
@@ -64,8 +66,8 @@ pub same_looks : (f g : Answers) (n : ℕ) → ((i : ℕ) → i < n → AgreeOn 
 same_looks = lemmas.same_looks session_tree (λ (st : PartialState). st.own) (λ (st : PartialState). next st.core) outcome_with start
 
 -- If two sessions agree on the looks of the steps below n, they have the same first looks below n.
-pub same_first : (f g : Answers) (q : Question) (n : ℕ) → ((i : ℕ) → i < n → AgreeOn (looks f i) f g) → first g q n ≡ first f q n
-unfolding first
+pub same_first : (f g : Answers) (q : Question) (n : ℕ) → ((i : ℕ) → i < n → AgreeOn (looks f i) f g) → first_look g q n ≡ first_look f q n
+unfolding first_look
 same_first f g q zero h = refl
 same_first f g q (suc n) h =
     rw (same_first f g q n (λ i k. h i (omega arith)), same_looks f g n (λ i k. h i (omega arith)) (h n (omega arith))) refl

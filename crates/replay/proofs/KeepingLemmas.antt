@@ -1,5 +1,5 @@
 -- What is kept of a state that a run reached, and the text that belongs to it.
-use Rattle.std.proofs.Common.{◌≡◌, ℕ, ◌<◌, ◌≤◌, Bool, true, false, List, [], ◌∷◌, length, take, Some, ◌⊎◌, inl, inr, refl, ap, sym, ◌∙◌, arith, nat_lt}
+use Rattle.std.proofs.Common.{◌≡◌, ℕ, ◌<◌, ◌≤◌, Bool, true, false, List, [], ◌∷◌, length, take, Some, ◌⊎◌, inl, inr, refl, ap, sym, ◌∙◌, arith, cond, nat_lt}
 use Rattle.std.proofs.lemmas.Bool.Decides.{nat_tests}
 use Rattle.circular_buffer.specs.Buffer.{Buffer}
 use Rattle.std.proofs.lemmas.List.{take_all, length-take-le, take-take}
@@ -8,6 +8,8 @@ use Rattle.machine.specs.Machine.{Answers, after}
 use Rattle.machine.specs.SavedState.{state_with_text, saved_state_of}
 use Rattle.machine.proofs.TextLemmas.{text_begins, text_length}
 use Rattle.replay.specs.declared.ring.Checkpoint.{Checkpoint}
+use Rattle.replay.specs.declared.rerun.TextUse.{TextUse}
+use Rattle.replay.specs.declared.rerun.TextUse.TheVariants.{Copy, Move}
 use Rattle.replay.specs.Ring.{Each, IsValid, IsValidFor, SomeStep, start_step}
 
 pub new_valid : (f : Answers) (n : ℕ) (st : PartialState) → 1 ≤ n → after f n ≡ Some st → IsValid f (record { step = n; state = saved_state_of st })
@@ -79,18 +81,19 @@ module _ (f : Answers) (limit newest from l : ℕ) (st : PartialState) (old new 
   pub left : Each (IsValidFor f first) old.items → (newest ≡ 0) ⊎ SomeStep old.items newest → l ≡ limit → from ≡ start_step limit old.items
       → ((n : ℕ) × (after f n ≡ Some st) × (n ≤ limit) × (newest ≤ from → Each (λ c. c.step ≤ n) new.items))
       → (limit < newest → new ≡ old) → Each (IsValid f) new.items
-      → (nat_lt l newest ≡ true → begun ≡ first) → (nat_lt l newest ≡ false → last ≡ st.core.desk.text) → (nat_lt l newest ≡ true → last ≡ begun)
+      → (chosen : TextUse) → chosen ≡ cond (nat_lt l newest) Copy Move
+      → (chosen ≡ Copy → begun ≡ first) → (chosen ≡ Move → last ≡ st.core.desk.text) → (chosen ≡ Copy → last ≡ begun)
       → Left f st last new.items
-  left stands there is start at same valid needed own stays = by_need (nat_lt l newest) refl
+  left stands there is start at same valid chosen is_chosen needed own stays = by_need (nat_lt l newest) refl is_chosen
     where
-      by_need : (b : Bool) → nat_lt l newest ≡ b → Left f st last new.items
-      by_need true e =
+      by_need : (b : Bool) → nat_lt l newest ≡ b → chosen ≡ cond b Copy Move → Left f st last new.items
+      by_need true e copied =
           let past : limit < newest = grind (arith, nat_tests) in
-          rw (stays e ∙ needed e, same past) (left_before stands there at.0 at.1 at.2 past)
-      by_need false e =
+          rw (stays copied ∙ needed copied, same past) (left_before stands there at.0 at.1 at.2 past)
+      by_need false e moved =
           let low : newest ≤ limit = grind (arith, nat_tests) in
           let reached : newest ≤ from = omega (arith, newest_within there low) in
-          rw (own e) (record {
+          rw (own moved) (record {
             stands = all_later_stand f at.0 st new.items at.1 (at.3 reached) valid;
             begins = take_all (length st.core.desk.text) st.core.desk.text (omega arith);
             fits = omega arith;

@@ -1,9 +1,10 @@
 -- The touch of an edit, question by question: the first step among the changed questions done so far.
 use Rattle.std.proofs.Common.{◌≡◌, ℕ, ◌<◌, ◌≤◌, Bool, true, false, cond, Option, Some, None, ◌⊎◌, inl, inr, refl, sym, ◌∙◌, subst, arith}
 use Rattle.std.proofs.lemmas.Bool.{lt-ltb, le-ltb, cases_lt}
-use Rattle.machine.specs.Machine.{Question, Answers}
-use Rattle.replay.specs.FirstLooks.{FirstLooksView, step_of}
-use Rattle.file_steps.specs.FileSteps.{lesser_step}
+use Rattle.first_looks.specs.declared.question.Question.{Question}
+use Rattle.machine.specs.Machine.{Answers}
+use Rattle.first_looks.specs.FirstLooks.{FirstLooksView, step_of}
+use Rattle.first_looks.specs.FileSteps.{lesser_step}
 use Rattle.replay.specs.Touch.{IsNotedTouch}
 
 -- The noted touch, for the questions done so far.

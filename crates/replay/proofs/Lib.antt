@@ -1,5 +1,4 @@
 pub mod ColdLemmas
-pub mod PlainLemmas
 pub mod ReportLemmas
 pub mod FirstLemmas
 pub mod RingLemmas
@@ -16,7 +15,4 @@ pub mod KeepingLemmas
 pub mod StepsLemmas
 pub mod CompleteLemmas
 pub mod RefusalLemmas
-pub mod PlaceLemmas
-pub mod AskLemmas
-pub mod NewLooks
 pub mod FileTouch

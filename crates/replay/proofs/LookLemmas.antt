@@ -7,8 +7,12 @@ use Rattle.machine.specs.Memory.{is_among}
 use Rattle.machine.specs.ScriptLooks.{is_within}
 use Rattle.hostfiles.specs.FileLooks.{is_looked}
 use Rattle.machine.specs.StateView.{PartialState, AllLooks}
-use Rattle.machine.specs.Machine.{Question, Cell, Script, OfHost, Answers, is_in, is_looked_at, HasNoLooks, KeepsLooks, after, looks_at}
-use Rattle.replay.specs.FirstLooks.{FirstLooksView, step_of, or_else, step_if, first, IsFirstLooks, looks_from, AllNoted, HasNoScriptLooks, HasNoAsks, NotesSeenStep, ForgetsSeenStep}
+use Rattle.first_looks.specs.declared.question.Question.{Question}
+use Rattle.first_looks.specs.declared.question.Question.TheVariants.{Cell, Script, Host as OfHost}
+use Rattle.first_looks.specs.Questions.{is_in}
+use Rattle.machine.specs.Machine.{Answers, is_looked_at, HasNoLooks, HasNoQuestions, looks_from, KeepsLooks, after, looks_at}
+use Rattle.first_looks.specs.FirstLooks.{FirstLooksView, step_of, or_else, step_if}
+use Rattle.replay.specs.FirstLooks.{first_look, IsFirstLooks, AllNoted, NotesSeenStep, ForgetsSeenStep}
 use Rattle.replay.proofs.FirstLemmas.{first-suc, looks_here, erased_known}
 use Rattle.replay.proofs.TouchLemmas.{noted_by}
 
@@ -28,8 +32,8 @@ has_entry None false false all n known e h none = cc
 -- If nothing was looked at, there is nothing to note.
 pub none_looked : (noted : FirstLooksView) (looked : AllLooks) → HasNoLooks looked → AllNoted noted looked
 none_looked noted looked none (Cell a) asked o = let no : is_among a looked.cells ≡ false = rw none.cells refl in absurd (let both : false ≡ true = sym no ∙ asked in cc)
-none_looked noted looked none (Script k) asked o = let no : is_within looked.places k ≡ false = none.places k in absurd (let both : false ≡ true = sym no ∙ asked in cc)
-none_looked noted looked none (OfHost a) asked o = let no : is_looked looked.files a ≡ false = none.files a in absurd (let both : false ≡ true = sym no ∙ asked in cc)
+none_looked noted looked none (Script k) asked o = absurd (let both : false ≡ true = sym (none.questions.offsets k) ∙ asked in cc)
+none_looked noted looked none (OfHost a) asked o = absurd (let both : false ≡ true = sym (none.questions.files a) ∙ asked in cc)
 
 -- The first looks after a step.
 pub record Notes (f : Answers) (old new : FirstLooksView) (n : ℕ) (looked : AllLooks) (refused refuses : ℕ) : Type 0 where
@@ -52,20 +56,20 @@ module _ (f : Answers) (old new : FirstLooksView) (n refused refuses : ℕ) (st 
       ap (is_among a) (sym (take-append-drop (length looked.cells) after_step.cells))
       ∙ is_among-append a (take (length looked.cells) after_step.cells) (drop (length looked.cells) after_step.cells)
       ∙ ap (λ cells. is_among a cells || is_among a (drop (length looked.cells) after_step.cells)) extends.cells
-  more_looked (Script k) = or_both (is_within looked.places k) (is_within after_step.places k) (extends.places k)
+  more_looked (Script k) = or_both (is_within looked.offsets k) (is_within after_step.offsets k) (extends.offsets k)
   more_looked (OfHost a) = or_both (is_looked looked.files a) (is_looked after_step.files a) (extends.files.kept a)
 
   -- If no offset and no question is left, the looks that are left are among the looks of the step.
-  left_looked : HasNoScriptLooks left.places → HasNoAsks left.files → (q : Question) → is_looked_at left q ≡ true → is_looked_at after_step q ≡ true
-  left_looked none drained (Cell a) e = ap (is_among a) (sym same_cells) ∙ e
-  left_looked none drained (Script k) e = let no : is_within left.places k ≡ false = none k in absurd (let both : false ≡ true = sym no ∙ e in cc)
-  left_looked none drained (OfHost a) e = let no : is_looked left.files a ≡ false = drained a in absurd (let both : false ≡ true = sym no ∙ e in cc)
+  left_looked : HasNoQuestions left → (q : Question) → is_looked_at left q ≡ true → is_looked_at after_step q ≡ true
+  left_looked none (Cell a) e = ap (is_among a) (sym same_cells) ∙ e
+  left_looked none (Script k) e = absurd (let both : false ≡ true = sym (none.offsets k) ∙ e in cc)
+  left_looked none (OfHost a) e = absurd (let both : false ≡ true = sym (none.files a) ∙ e in cc)
 
   -- The first looks stay the same.
-  stays : new ≡ old → refuses ≡ refused → HasNoScriptLooks left.places → HasNoAsks left.files → (n ≡ old.seen → ⊥) → (n + 1 ≤ old.seen → AllNoted old after_step) → Notes f old new n left refused refuses
-  stays same none drained answered apart noted_all = record {
+  stays : new ≡ old → refuses ≡ refused → HasNoQuestions left → (n ≡ old.seen → ⊥) → (n + 1 ≤ old.seen → AllNoted old after_step) → Notes f old new n left refused refuses
+  stays same none drained apart noted_all = record {
     noted = subst (λ (t : FirstLooksView). IsFirstLooks f t) (sym same) known;
-    looks = subst (λ (t : FirstLooksView). n + 1 ≤ t.seen → AllNoted t left) (sym same) (λ past q asked. noted_all past q (left_looked drained answered q asked));
+    looks = subst (λ (t : FirstLooksView). n + 1 ≤ t.seen → AllNoted t left) (sym same) (λ past q asked. noted_all past q (left_looked drained q asked));
     grows = let e : new.seen ≡ old.seen = ap (λ (t : FirstLooksView). t.seen) same in omega arith;
     within = inl (ap (λ (t : FirstLooksView). t.seen) same);
     counted = omega (arith, none);
@@ -85,10 +89,10 @@ module _ (f : Answers) (old new : FirstLooksView) (n refused refuses : ℕ) (st 
           let e : Some m ≡ None = sym there ∙ sym (known.entry q) ∙ none in cc
 
   -- The step is noted now.
-  seen_now : n ≡ old.seen → NotesSeenStep old new (looks_from (length looked.cells) after_step) → refuses ≡ refused → HasNoScriptLooks left.places → HasNoAsks left.files → Notes f old new n left refused refuses
-  seen_now here now none drained answered = record {
-    noted = record { entry = λ q. entry q ∙ sym (ap (first f q) now.seen ∙ ap (first f q) (add-one old.seen)) };
-    looks = λ _ q asked none. has_entry (step_of old q) (is_looked_at looked q) (is_looked_at (looks_from (length looked.cells) after_step) q) (is_looked_at after_step q) old.seen (λ e o. before q e o) (more_looked q) (left_looked drained answered q asked) (sym (entered q) ∙ none);
+  seen_now : n ≡ old.seen → NotesSeenStep old new (looks_from (length looked.cells) after_step) → refuses ≡ refused → HasNoQuestions left → Notes f old new n left refused refuses
+  seen_now here now none drained = record {
+    noted = record { entry = λ q. entry q ∙ sym (ap (first_look f q) now.seen ∙ ap (first_look f q) (add-one old.seen)) };
+    looks = λ _ q asked none. has_entry (step_of old q) (is_looked_at looked q) (is_looked_at (looks_from (length looked.cells) after_step) q) (is_looked_at after_step q) old.seen (λ e o. before q e o) (more_looked q) (left_looked drained q asked) (sym (entered q) ∙ none);
     grows = omega (arith, now.seen);
     within = inr (let next = now.seen in let e : new.seen ≡ n + 1 = omega (arith, next, here) in e);
     counted = omega (arith, none);
@@ -100,12 +104,12 @@ module _ (f : Answers) (old new : FirstLooksView) (n refused refuses : ℕ) (st 
     entered : (q : Question) → step_of new q ≡ or_else (step_of old q) (step_if (is_looked_at (looks_from (length looked.cells) after_step) q) old.seen)
     entered q = now.entries q
 
-    entry : (q : Question) → step_of new q ≡ first f q (suc old.seen)
+    entry : (q : Question) → step_of new q ≡ first_look f q (suc old.seen)
     entry q =
         entered q
         ∙ same_mark (step_of old q) (is_looked_at looked q) (is_looked_at (looks_from (length looked.cells) after_step) q) (is_looked_at after_step q) (is_in q (looks_at f st)) old.seen (λ e o. before q e o) (more_looked q) (asks q)
         ∙ ap (λ o. or_else o (step_if (is_in q (looks_at f st)) old.seen)) (known.entry q)
-        ∙ ap (λ qs. or_else (first f q old.seen) (step_if (is_in q qs) old.seen)) (sym (looks_here f old.seen st (ap (after f) (sym here) ∙ at)))
+        ∙ ap (λ qs. or_else (first_look f q old.seen) (step_if (is_in q qs) old.seen)) (sym (looks_here f old.seen st (ap (after f) (sym here) ∙ at)))
         ∙ sym (first-suc f q old.seen)
 
   -- An allocation for noting the step failed.
@@ -119,17 +123,17 @@ module _ (f : Answers) (old new : FirstLooksView) (n refused refuses : ℕ) (st 
     all = λ none _. absurd (omega (arith, none, one));
   }
 
-  pub looks_kept : ((n ≡ old.seen → ⊥) → (new ≡ old) × (refuses ≡ refused) × HasNoScriptLooks left.places × HasNoAsks left.files)
-      → (n ≡ old.seen → (NotesSeenStep old new (looks_from (length looked.cells) after_step) × (refuses ≡ refused) × HasNoScriptLooks left.places × HasNoAsks left.files) ⊎ (ForgetsSeenStep old new × (refuses ≡ refused + 1)))
+  pub looks_kept : ((n ≡ old.seen → ⊥) → (new ≡ old) × (refuses ≡ refused) × HasNoQuestions left)
+      → (n ≡ old.seen → (NotesSeenStep old new (looks_from (length looked.cells) after_step) × (refuses ≡ refused) × HasNoQuestions left) ⊎ (ForgetsSeenStep old new × (refuses ≡ refused + 1)))
       → Notes f old new n left refused refuses
   looks_kept other here = by_order (cases_lt n old.seen)
     where
-      at_seen : n ≡ old.seen → (NotesSeenStep old new (looks_from (length looked.cells) after_step) × (refuses ≡ refused) × HasNoScriptLooks left.places × HasNoAsks left.files) ⊎ (ForgetsSeenStep old new × (refuses ≡ refused + 1)) → Notes f old new n left refused refuses
-      at_seen e (inl now) = seen_now e now.0 now.1 now.2 now.3
+      at_seen : n ≡ old.seen → (NotesSeenStep old new (looks_from (length looked.cells) after_step) × (refuses ≡ refused) × HasNoQuestions left) ⊎ (ForgetsSeenStep old new × (refuses ≡ refused + 1)) → Notes f old new n left refused refuses
+      at_seen e (inl now) = seen_now e now.0 now.1 now.2
       at_seen e (inr behind) = left_behind e behind.0 behind.1
 
       apart : (n ≡ old.seen → ⊥) → (n + 1 ≤ old.seen → AllNoted old after_step) → Notes f old new n left refused refuses
-      apart ne noted_all = let same = other ne in stays same.0 same.1 same.2 same.3 ne noted_all
+      apart ne noted_all = let same = other ne in stays same.0 same.1 same.2 ne noted_all
 
       from_seen : old.seen ≤ n → (old.seen ≡ n) ⊎ (old.seen < n) → Notes f old new n left refused refuses
       from_seen high (inl e) = at_seen (sym e) (here (sym e))

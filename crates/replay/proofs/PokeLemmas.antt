@@ -8,8 +8,10 @@ use Rattle.machine.specs.Image.{image_at}
 use Rattle.machine.specs.Inputs.{Session}
 use Rattle.machine.specs.PageZero.{page_zero}
 use Rattle.machine.specs.Session.{written_over}
-use Rattle.machine.specs.Machine.{Question, Cell, Script, OfHost, session_answers}
-use Rattle.replay.specs.FirstLooks.{FirstLooksView}
+use Rattle.first_looks.specs.declared.question.Question.{Question}
+use Rattle.first_looks.specs.declared.question.Question.TheVariants.{Cell, Script, Host as OfHost}
+use Rattle.machine.specs.Machine.{session_answers}
+use Rattle.first_looks.specs.FirstLooks.{FirstLooksView}
 use Rattle.replay.specs.Edits.{with_poke}
 use Rattle.replay.specs.Touch.{IsNotedTouch}
 use Rattle.replay.proofs.LeastLemmas.{IsLeast, least_of_all}

@@ -1,10 +1,11 @@
--- How the count of refusals grows in a run.
+-- How the count of failed allocations grows in a run.
 use Rattle.std.proofs.Common.{◌≡◌, ℕ, ◌+◌, ◌-◌, ◌*◌, ◌/◌, ◌%◌, ◌<◌, ◌≤◌, ◌⊎◌, inl, inr, arith, lt_of_mul-lt-mul_right, div-mul-le_self, div-add-mod'}
 use Rattle.std.proofs.lemmas.Nat.{le-div}
 use Rattle.std.proofs.lemmas.Bool.{cases_lt}
 use Rattle.std.proofs.lemmas.Bool.Decides.{eqb_tells}
 use Rattle.machine.specs.StateView.{AllLooks}
-use Rattle.replay.specs.FirstLooks.{FirstLooksView, with_seen, NotesSeenStep, ForgetsSeenStep}
+use Rattle.first_looks.specs.FirstLooks.{FirstLooksView, with_seen}
+use Rattle.replay.specs.FirstLooks.{NotesSeenStep, ForgetsSeenStep}
 use Rattle.replay.specs.AllocFailures.{CountsThisRun, FailsLooksOnce}
 
 -- None is counted yet.
@@ -13,13 +14,13 @@ none_counted seen from count = record { once = omega arith; caught_up = λ h. om
 
 module _ (seen from count n m : ℕ) (old : FirstLooksView) (refused : ℕ) (before : FailsLooksOnce seen from count old.seen n refused) (low : from ≤ n) where
   -- After a stretch from step n to step m, whose last looks were noted or not.
-  pub once_on : (new : FirstLooksView) (refuses : ℕ) (looked : AllLooks) (P Q : Type 0) → n < m
+  pub once_on : (new : FirstLooksView) (refuses : ℕ) (looked : AllLooks) (P : Type 0) → n < m
       → ((n ≡ old.seen → ⊥) → (new ≡ old) × (refuses ≡ refused))
-      → (n ≡ old.seen → (NotesSeenStep (with_seen old (m - 1)) new looked × (refuses ≡ refused) × P × Q) ⊎ (ForgetsSeenStep (with_seen old (m - 1)) new × (refuses ≡ refused + 1)))
+      → (n ≡ old.seen → (NotesSeenStep (with_seen old (m - 1)) new looked × (refuses ≡ refused) × P) ⊎ (ForgetsSeenStep (with_seen old (m - 1)) new × (refuses ≡ refused + 1)))
       → FailsLooksOnce seen from count new.seen m refuses
-  once_on new refuses looked P Q more other here = elim (eqb_tells n old.seen) [ inl e ↦ noted e.1 (here e.1) | inr ne ↦ apart (other ne.1) ]
+  once_on new refuses looked P more other here = elim (eqb_tells n old.seen) [ inl e ↦ noted e.1 (here e.1) | inr ne ↦ apart (other ne.1) ]
     where
-      noted : n ≡ old.seen → (NotesSeenStep (with_seen old (m - 1)) new looked × (refuses ≡ refused) × P × Q) ⊎ (ForgetsSeenStep (with_seen old (m - 1)) new × (refuses ≡ refused + 1))
+      noted : n ≡ old.seen → (NotesSeenStep (with_seen old (m - 1)) new looked × (refuses ≡ refused) × P) ⊎ (ForgetsSeenStep (with_seen old (m - 1)) new × (refuses ≡ refused + 1))
           → FailsLooksOnce seen from count new.seen m refuses
       noted e (inl h) =
           let same : refused ≡ count = before.caught_up (omega (arith, e)) in record {

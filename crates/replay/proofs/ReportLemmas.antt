@@ -23,17 +23,5 @@ module _ (host : Host) (own : OwnFiles) (all : Files) (is : files host own ≡ a
   pub told_is : (key : Key) → file_contents host own key ≡ contents_in all key
   told_is key = sym (told_laid host own key) ∙ ap (λ (m : Files). contents_in m key) is
 
-  pub changed_is : is_changed_name host own ≡ is_changed_name_in host all
-  changed_is = λ i key. (sym (changed_name_laid host own key) ∙ ap (λ (m : Files). is_changed_name_in host m key) is) i
-
--- The same for a test that is equal.
-module _ (t u : Key → Bool) (is : t ≡ u) where
-  pub some_is : (found : Option Key) → IfSome found (λ k. t k ≡ true) → IfSome found (λ k. u k ≡ true)
-  some_is found h = subst (λ (p : Key → Bool). IfSome found (λ k. p k ≡ true)) is h
-
-  pub least_is : (found after : Option Key) → IfSome found (λ k. (x : Key) → is_above after x ≡ true → slice_cmp nat_cmp x k ≡ Less → t x ≡ false)
-      → IfSome found (λ k. (x : Key) → is_above after x ≡ true → slice_cmp nat_cmp x k ≡ Less → u x ≡ false)
-  least_is found after h = subst (λ (p : Key → Bool). IfSome found (λ k. (x : Key) → is_above after x ≡ true → slice_cmp nat_cmp x k ≡ Less → p x ≡ false)) is h
-
-  pub none_is : (found after : Option Key) → IfNone found ((x : Key) → is_above after x ≡ true → t x ≡ false) → IfNone found ((x : Key) → is_above after x ≡ true → u x ≡ false)
-  none_is found after h = subst (λ (p : Key → Bool). IfNone found ((x : Key) → is_above after x ≡ true → p x ≡ false)) is h
+  pub changed_is : (key : Key) → is_changed_name_in host all key ≡ is_changed_name host own key
+  changed_is key = ap (λ (m : Files). is_changed_name_in host m key) (sym is) ∙ changed_name_laid host own key

@@ -4,7 +4,7 @@ use Rattle.std.specs.Prelude.{slice_get, Result, Ok, Err, OnErr}
 use Rattle.std.proofs.lemmas.Bool.{cases_lt}
 use Rattle.std.proofs.lemmas.List.{drop-append-le, drop-drop, append-nil}
 use Rattle.circular_buffer.specs.Buffer.{Buffer, keep_last, last_item}
-use Rattle.file_steps.proofs.OrderLemmas.{taken_last}
+use Rattle.first_looks.proofs.OrderLemmas.{taken_last}
 use Rattle.replay.specs.declared.ring.Checkpoint.{Checkpoint}
 use Rattle.replay.specs.Ring.{Each, Rising, IsDue, Adds, PushesIfAbove, SomeStep, DropsPast}
 

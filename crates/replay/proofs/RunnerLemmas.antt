@@ -5,11 +5,14 @@ use Rattle.std.proofs.lemmas.Bool.{eqb-false, ltb-false}
 use Rattle.circular_buffer.specs.Buffer.{Buffer, buffer, keep_last}
 use Rattle.machine.specs.Inputs.{Session}
 use Rattle.hostfiles.specs.declared.looks.Ask.{Ask}
-use Rattle.file_steps.specs.FileSteps.{step_of_ask}
-use Rattle.machine.specs.Machine.{Question, Cell, Script, OfHost, Answers, session_answers, looks}
+use Rattle.first_looks.specs.FileSteps.{step_of_ask}
+use Rattle.first_looks.specs.declared.question.Question.{Question}
+use Rattle.first_looks.specs.declared.question.Question.TheVariants.{Cell, Script, Host as OfHost}
+use Rattle.machine.specs.Machine.{Answers, session_answers, looks}
 use Rattle.replay.specs.declared.ring.Checkpoint.{Checkpoint as KeptCheckpoint}
 use Rattle.replay.specs.declared.ring.Checkpoints.{Checkpoints}
-use Rattle.replay.specs.FirstLooks.{FirstLooksView, step_of, first, step_below, IsFirstLooks}
+use Rattle.first_looks.specs.FirstLooks.{FirstLooksView, step_of, step_below}
+use Rattle.replay.specs.FirstLooks.{first_look, IsFirstLooks}
 use Rattle.replay.specs.declared.options.Options.{Options}
 use Rattle.replay.specs.Options.{refusal_of}
 use Rattle.replay.specs.Ring.{Each, IsValidFor, DropsPast}
@@ -26,17 +29,17 @@ all_stand f text (x ∷ xs) h = (record { later = h.0.later; state = h.0.state }
 -- Nothing is noted, and no step is seen.
 pub record IsEmpty (looks : FirstLooksView) : Type 0 where
   pub cells : looks.cells ≡ []
-  pub places : looks.places ≡ []
+  pub offsets : looks.offsets ≡ []
   pub files : (a : Ask) → step_of_ask looks.files a ≡ None
   pub seen : looks.seen ≡ 0
 
 nothing_noted : (f : Answers) (looks : FirstLooksView) → IsEmpty looks → IsFirstLooks f looks
-unfolding first
-nothing_noted f looks e = record { entry = λ q. empty q ∙ ap (first f q) (sym e.seen) }
+unfolding first_look
+nothing_noted f looks e = record { entry = λ q. empty q ∙ ap (first_look f q) (sym e.seen) }
   where
     empty : (q : Question) → step_of looks q ≡ None
     empty (Cell a) = ap (λ (steps : List (Option ℕ)). slice_index_or steps a None) e.cells
-    empty (Script k) = ap (λ (steps : List (Option ℕ)). slice_index_or steps k None) e.places
+    empty (Script k) = ap (λ (steps : List (Option ℕ)). slice_index_or steps k None) e.offsets
     empty (OfHost a) = e.files a
 
 -- Options that are not refused have a spacing within its range.
@@ -54,7 +57,7 @@ spacing_within o h =
 
 pub sound_start : (s : Session) (text : List ℕ) (made : Checkpoints) → made.ring.items ≡ [] → IsEmpty made.notes.looks → (0 < made.spacing) × (made.spacing ≤ 1000000000) → IsSoundRunner s text made
 sound_start s text made e k within = record {
-  stands = rw e tt;
+  valid = rw e tt;
   rising = rw e tt;
   below = rw e tt;
   noted = nothing_noted (session_answers s) made.notes.looks k;
@@ -67,7 +70,7 @@ pub sound_edit : (s s' : Session) (text : List ℕ) (t : ℕ) (old new : Checkpo
     → IsNotedTouch (session_answers s) (session_answers s') old.notes.looks t → DropsPast t old.ring.items new.ring.items
     → ((q : Question) → step_of new.notes.looks q ≡ step_below t (step_of old.notes.looks q)) → new.notes.looks.seen ≡ t → new.spacing ≡ old.spacing → IsSoundRunner s' text new
 sound_edit s s' text t old new sound touch kept steps seen spacing = record {
-  stands = still_stand (session_answers s) (session_answers s') text t new.ring.items (untouched (session_answers s) (session_answers s') old.notes.looks t sound.noted touch) kept.left (Each-left _ new.ring.items kept.gone (rw kept.parts at sound.stands));
+  valid = still_stand (session_answers s) (session_answers s') text t new.ring.items (untouched (session_answers s) (session_answers s') old.notes.looks t sound.noted touch) kept.left (Each-left _ new.ring.items kept.gone (rw kept.parts at sound.valid));
   rising = Rising-left new.ring.items kept.gone (rw kept.parts at sound.rising);
   below = rw seen kept.left;
   noted = edited_known (session_answers s) (session_answers s') old.notes.looks new.notes.looks t sound.noted touch steps seen;
@@ -85,7 +88,7 @@ keeps_edit s s' text t old ring sound touch kept =
 pub sound_last : (s : Session) (text : List ℕ) (n : ℕ) (old : Checkpoints) (ring : Buffer KeptCheckpoint) (slots : ℕ) → IsSoundRunner s text old → ring ≡ buffer (keep_last n old.ring.items) slots
     → IsSoundRunner s text (record old { ring = ring })
 sound_last s text n old ring slots sound e = record {
-  stands = rw e (Each-keep_last _ n old.ring.items sound.stands);
+  valid = rw e (Each-keep_last _ n old.ring.items sound.valid);
   rising = rw e (Rising-drop (length old.ring.items - n) old.ring.items sound.rising);
   below = rw e (Each-keep_last _ n old.ring.items sound.below);
   noted = sound.noted;

@@ -5,13 +5,16 @@ use Rattle.std.proofs.lemmas.Bool.{cases_lt, cases_Bool, lt-ltb, le-ltb}
 use Rattle.std.proofs.lemmas.Grind.{common_steps}
 use Rattle.std.proofs.lemmas.List.{get_or_past}
 use Rattle.std.proofs.lemmas.Option.{gets}
-use Rattle.file_steps.specs.FileSteps.{lesser_step}
+use Rattle.first_looks.specs.FileSteps.{lesser_step}
 use Rattle.machine.specs.Inputs.{Session}
-use Rattle.machine.specs.Machine.{Question, Cell, Script, OfHost, session_answers}
+use Rattle.first_looks.specs.declared.question.Question.{Question}
+use Rattle.first_looks.specs.declared.question.Question.TheVariants.{Cell, Script, Host as OfHost}
+use Rattle.machine.specs.Machine.{session_answers}
 use Rattle.machine.specs.Session.{splice}
-use Rattle.replay.specs.FirstLooks.{IsFirstLooks, FirstLooksView, step_of}
-use Rattle.file_steps.specs.FirstSteps.{step_in}
-use Rattle.file_steps.specs.SequentialSteps.{IsEarliestFrom}
+use Rattle.first_looks.specs.FirstLooks.{FirstLooksView, step_of}
+use Rattle.replay.specs.FirstLooks.{IsFirstLooks}
+use Rattle.first_looks.specs.FirstSteps.{step_in}
+use Rattle.first_looks.specs.SequentialSteps.{IsEarliestFrom}
 use Rattle.replay.specs.Edits.{with_splice}
 use Rattle.replay.specs.Touch.{IsNotedTouch}
 use Rattle.replay.proofs.FirstLemmas.{noted_below}
@@ -43,21 +46,21 @@ no_entry entries k m past there = let none : slice_index_or entries k None ≡ N
 
 -- From n on, an offset with a step before t keeps its byte.
 abbrev pub IsRestLater : Session → ℕ → ℕ → List ℕ → FirstLooksView → ℕ → ℕ → Type 0
-IsRestLater s at removed bytes k n t = (j m : ℕ) → n ≤ j → step_in k.places j ≡ Some m → m < t → slice_get s.script j ≡ slice_get (splice s.script at removed bytes) j
+IsRestLater s at removed bytes k n t = (j m : ℕ) → n ≤ j → step_in k.offsets j ≡ Some m → m < t → slice_get s.script j ≡ slice_get (splice s.script at removed bytes) j
 
 module _ (s : Session) (at removed : ℕ) (bytes : List ℕ) (inside : at + removed ≤ length s.script) (k : FirstLooksView) (n t : ℕ) where
   -- From the end of the changes on, an offset keeps its byte or was looked at by no step.
-  pub rest_unchanged : cond (removed == length bytes) (min (length k.places) (at + removed)) (length k.places) ≤ n → IsRestLater s at removed bytes k n t
+  pub rest_unchanged : cond (removed == length bytes) (min (length k.offsets) (at + removed)) (length k.offsets) ≤ n → IsRestLater s at removed bytes k n t
   rest_unchanged all j m past there low = elim (cases_Bool (removed == length bytes)) [
     | inl same ↦
-        let end : min (length k.places) (at + removed) ≤ n = rw same at all in
-        elim (cases_lt j (length k.places)) [
+        let end : min (length k.offsets) (at + removed) ≤ n = rw same at all in
+        elim (cases_lt j (length k.offsets)) [
           | inl looked ↦ stays_behind s.script bytes at removed inside (eqb-true removed (length bytes) same) j (omega arith)
-          | inr beyond ↦ absurd (no_entry k.places j m beyond there)
+          | inr beyond ↦ absurd (no_entry k.offsets j m beyond there)
         ]
     | inr other ↦
-        let end : length k.places ≤ n = rw other at all in
-        absurd (no_entry k.places j m (omega arith) there)
+        let end : length k.offsets ≤ n = rw other at all in
+        absurd (no_entry k.offsets j m (omega arith) there)
   ]
 
   -- An offset before the splice keeps its byte, and no other question has another answer.
@@ -86,14 +89,14 @@ module _ (s : Session) (at removed : ℕ) (bytes : List ℕ) (k : FirstLooksView
 
   -- One more offset, with another byte.
   pub changed_place : IsFirstLooks (session_answers s) k → (session_answers s (Script i) ≡ session_answers (with_splice s at removed bytes) (Script i) → ⊥)
-      → IsLeast (IsPlace at (i + 1)) (session_answers s) (session_answers (with_splice s at removed bytes)) k (lesser_step (step_in k.places i) t)
+      → IsLeast (IsPlace at (i + 1)) (session_answers s) (session_answers (with_splice s at removed bytes)) k (lesser_step (step_in k.offsets i) t)
   changed_place noted differs =
-      more_changed (IsPlace at i) (IsPlace at (i + 1)) (session_answers s) (session_answers (with_splice s at removed bytes)) k (Script i) (one_more_place at i) t least differs (step_in k.places i) refl (noted_below (session_answers s) k noted (Script i))
+      more_changed (IsPlace at i) (IsPlace at (i + 1)) (session_answers s) (session_answers (with_splice s at removed bytes)) k (Script i) (one_more_place at i) t least differs (step_in k.offsets i) refl (noted_below (session_answers s) k noted (Script i))
 
 lesser_low : (o : Option ℕ) (m t : ℕ) → o ≡ Some m → lesser_step o t ≤ m
 lesser_low o m t e = rw e (elim (cases_lt m t) [ inl low ↦ rw (lt-ltb m t low) (omega arith) | inr high ↦ rw (le-ltb m t high) high ])
 
 -- No offset past one whose byte changes has an earlier step, if the looks were in order.
-pub rest_later : (s : Session) (at removed : ℕ) (bytes : List ℕ) (k : FirstLooksView) (place t : ℕ) → IsEarliestFrom k.places place → IsRestLater s at removed bytes k (place + 1) (lesser_step (step_in k.places place) t)
+pub rest_later : (s : Session) (at removed : ℕ) (bytes : List ℕ) (k : FirstLooksView) (place t : ℕ) → IsEarliestFrom k.offsets place → IsRestLater s at removed bytes k (place + 1) (lesser_step (step_in k.offsets place) t)
 rest_later s at removed bytes k place t (m, here, later) j n behind there low =
-    absurd (omega (arith, lesser_low (step_in k.places place) m t here, later j n (omega arith) there, low))
+    absurd (omega (arith, lesser_low (step_in k.offsets place) m t here, later j n (omega arith) there, low))

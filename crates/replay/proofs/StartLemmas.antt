@@ -4,11 +4,11 @@ use Rattle.std.specs.Prelude.{slice_get}
 use Rattle.std.proofs.lemmas.Bool.{cases_lt}
 use Rattle.std.proofs.lemmas.Bool.Decides.{nat_tests}
 use Rattle.machine.specs.StateView.{PartialState}
-use Rattle.machine.specs.Machine.{Answers, start, after}
+use Rattle.machine.specs.Machine.{Answers, start, outcome, after}
 use Rattle.machine.specs.SavedState.{state_with_text}
 use Rattle.replay.specs.declared.ring.Checkpoint.{Checkpoint}
 use Rattle.replay.specs.Ring.{Each, Rising, IsValidFor, SomeStep, start_step, HasCheckpoint}
-use Rattle.replay.proofs.ColdLemmas.{after_none}
+use Rattle.machine.proofs.RunLemmas.{after_zero}
 
 pub each_get : (P : Checkpoint → Type 0) (xs : List Checkpoint) (i : ℕ) (c : Checkpoint) → slice_get xs i ≡ Some c → Each P xs → P c
 each_get P [] i c e h = cc
@@ -63,7 +63,7 @@ none_get (x ∷ xs) (suc i) e = let r = none_get xs i e in omega arith
 
 -- A rerun begins at a step that the run reaches.
 pub start_reached : (f : Answers) (limit : ℕ) (text : List ℕ) (xs : List Checkpoint) → Each (IsValidFor f text) xs → (st : PartialState) × (after f (start_step limit xs) ≡ Some st)
-start_reached f limit text [] h = (start, after_none f start refl)
+start_reached f limit text [] h = (start, after_zero (outcome f) start start refl)
 start_reached f limit text (x ∷ xs) h = elim (cases_lt limit x.step) [
   | inl past ↦
       let (st, at) = start_reached f limit text xs h.1 in

@@ -2,13 +2,16 @@
 use Rattle.std.proofs.Common.{◌≡◌, ℕ, zero, suc, ◌+◌, ◌-◌, ◌<◌, ◌≤◌, Bool, true, false, ◌||◌, List, length, Option, Some, None, Ok, ◌⊎◌, inl, inr, refl, ap, sym, ◌∙◌, subst, arith}
 use Rattle.std.proofs.lemmas.Bool.{cases_lt}
 use Rattle.std.proofs.Math.Nat.{eq-or-lt_of_le}
-use Rattle.machine.specs.Dependence as dependence
+use Rattle.machine.specs.Steps as steps
 use Rattle.machine.specs.Inputs.{Session}
 use Rattle.machine.specs.StateView.{PartialState, AllLooks}
-use Rattle.machine.specs.Machine.{Question, Answers, session_answers, after, is_in, is_looked_at, looks, looks_at}
+use Rattle.first_looks.specs.declared.question.Question.{Question}
+use Rattle.first_looks.specs.Questions.{is_in}
+use Rattle.machine.specs.Machine.{Answers, session_answers, outcome, after, is_looked_at, looks, looks_at, looks_from, HasNoQuestions}
 use Rattle.machine.specs.Stretch.{LooksAtNothingNew, RunsStretch}
-use Rattle.machine.proofs.AfterLemmas.{step_before}
-use Rattle.replay.specs.FirstLooks.{FirstLooksView, or_else, step_if, first, IsFirstLooks, looks_from, with_seen, AllNoted, HasNoScriptLooks, HasNoAsks, NotesSeenStep, ForgetsSeenStep}
+use Rattle.machine.proofs.RunLemmas.{step_before}
+use Rattle.first_looks.specs.FirstLooks.{FirstLooksView, or_else, step_if, with_seen}
+use Rattle.replay.specs.FirstLooks.{first_look, IsFirstLooks, AllNoted, NotesSeenStep, ForgetsSeenStep}
 use Rattle.replay.proofs.FirstLemmas.{first-suc, looks_here}
 use Rattle.replay.proofs.LookLemmas.{Notes, looks_kept}
 
@@ -18,13 +21,13 @@ kept_by None true n h = absurd (h refl refl)
 kept_by None false n h = refl
 
 -- Steps that look at nothing new have no first look.
-same_first_looks : (f : Answers) (t : FirstLooksView) (looked : AllLooks) (q : Question) → IsFirstLooks f t → AllNoted t looked → (k : ℕ) → LooksAtNothingNew f looked t.seen (t.seen + k) → first f q (t.seen + k) ≡ first f q t.seen
-same_first_looks f t looked q known all zero quiet = ap (first f q) (omega arith)
+same_first_looks : (f : Answers) (t : FirstLooksView) (looked : AllLooks) (q : Question) → IsFirstLooks f t → AllNoted t looked → (k : ℕ) → LooksAtNothingNew f looked t.seen (t.seen + k) → first_look f q (t.seen + k) ≡ first_look f q t.seen
+same_first_looks f t looked q known all zero quiet = ap (first_look f q) (omega arith)
 same_first_looks f t looked q known all (suc k) quiet =
-    let rest : first f q (t.seen + k) ≡ first f q t.seen = same_first_looks f t looked q known all k (λ i low high. quiet i low (omega arith)) in
-    ap (first f q) (let e : t.seen + suc k ≡ suc (t.seen + k) = omega arith in e)
+    let rest : first_look f q (t.seen + k) ≡ first_look f q t.seen = same_first_looks f t looked q known all k (λ i low high. quiet i low (omega arith)) in
+    ap (first_look f q) (let e : t.seen + suc k ≡ suc (t.seen + k) = omega arith in e)
     ∙ first-suc f q (t.seen + k)
-    ∙ kept_by (first f q (t.seen + k)) (is_in q (looks f (t.seen + k))) (t.seen + k) (λ asked none. all q (quiet (t.seen + k) (omega arith) (omega arith) q asked) (known.entry q ∙ sym rest ∙ none))
+    ∙ kept_by (first_look f q (t.seen + k)) (is_in q (looks f (t.seen + k))) (t.seen + k) (λ asked none. all q (quiet (t.seen + k) (omega arith) (omega arith) q asked) (known.entry q ∙ sym rest ∙ none))
     ∙ rest
 
 module _ (f : Answers) (t : FirstLooksView) (looked : AllLooks) (known : IsFirstLooks f t) (all : AllNoted t looked) (upto : ℕ) (high : t.seen ≤ upto) (quiet : LooksAtNothingNew f looked t.seen upto) where
@@ -32,15 +35,15 @@ module _ (f : Answers) (t : FirstLooksView) (looked : AllLooks) (known : IsFirst
   passed = record {
     entry = λ q.
         let e : t.seen + (upto - t.seen) ≡ upto = omega arith in
-        known.entry q ∙ sym (same_first_looks f t looked q known all (upto - t.seen) (subst (λ (k : ℕ). LooksAtNothingNew f looked t.seen k) (sym e) quiet)) ∙ ap (first f q) e;
+        known.entry q ∙ sym (same_first_looks f t looked q known all (upto - t.seen) (subst (λ (k : ℕ). LooksAtNothingNew f looked t.seen k) (sym e) quiet)) ∙ ap (first_look f q) e;
   }
 
   pub all_passed : AllNoted (with_seen t upto) looked
   all_passed = all
 
 before_step : (f : Answers) (k : ℕ) (st : PartialState) → after f (suc k) ≡ Some st → (b : PartialState) × (after f k ≡ Some b)
-unfolding dependence.after
-before_step f k st at = let (b, there, went) = step_before f (after f k) st at in (b, there)
+unfolding steps.after
+before_step f k st at = let (b, there, went) = step_before (outcome f) (after f k) st at in (b, there)
 
 -- The first looks after a stretch from step n to step m.
 pub record NotesStretch (f : Answers) (old new : FirstLooksView) (n m : ℕ) (looked : AllLooks) (refused refuses : ℕ) : Type 0 where
@@ -61,14 +64,14 @@ module _ (s : Session) (end n m : ℕ) (old new : FirstLooksView) (refused refus
   asks q = stretch.last more q ∙ ap (λ (qs : List Question). is_looked_at looked q || is_in q qs) (looks_here (session_answers s) (m - 1) before_last_step.0 before_last_step.1)
 
   by_last_step : (t : FirstLooksView) → IsFirstLooks (session_answers s) t → (m - 1 ≤ t.seen → AllNoted t looked)
-      → ((m - 1 ≡ t.seen → ⊥) → (new ≡ t) × (refuses ≡ refused) × HasNoScriptLooks left.places × HasNoAsks left.files)
-      → (m - 1 ≡ t.seen → (NotesSeenStep t new (looks_from (length looked.cells) after_step) × (refuses ≡ refused) × HasNoScriptLooks left.places × HasNoAsks left.files) ⊎ (ForgetsSeenStep t new × (refuses ≡ refused + 1)))
+      → ((m - 1 ≡ t.seen → ⊥) → (new ≡ t) × (refuses ≡ refused) × HasNoQuestions left)
+      → (m - 1 ≡ t.seen → (NotesSeenStep t new (looks_from (length looked.cells) after_step) × (refuses ≡ refused) × HasNoQuestions left) ⊎ (ForgetsSeenStep t new × (refuses ≡ refused + 1)))
       → Notes (session_answers s) t new (m - 1) left refused refuses
   by_last_step t is_known is_all other here =
       looks_kept (session_answers s) t new (m - 1) refused refuses before_last_step.0 looked after_step left is_known is_all before_last_step.1 stretch.extends asks same_cells other here
 
-  pub stretch_kept : ((n ≡ old.seen → ⊥) → (new ≡ old) × (refuses ≡ refused) × HasNoScriptLooks left.places × HasNoAsks left.files)
-      → (n ≡ old.seen → (NotesSeenStep (with_seen old (m - 1)) new (looks_from (length looked.cells) after_step) × (refuses ≡ refused) × HasNoScriptLooks left.places × HasNoAsks left.files) ⊎ (ForgetsSeenStep (with_seen old (m - 1)) new × (refuses ≡ refused + 1)))
+  pub stretch_kept : ((n ≡ old.seen → ⊥) → (new ≡ old) × (refuses ≡ refused) × HasNoQuestions left)
+      → (n ≡ old.seen → (NotesSeenStep (with_seen old (m - 1)) new (looks_from (length looked.cells) after_step) × (refuses ≡ refused) × HasNoQuestions left) ⊎ (ForgetsSeenStep (with_seen old (m - 1)) new × (refuses ≡ refused + 1)))
       → NotesStretch (session_answers s) old new n m left refused refuses
   stretch_kept other here = by_order (cases_lt n old.seen)
     where

@@ -4,8 +4,8 @@ use Rattle.std.proofs.Math.Nat.{eq-or-lt_of_le}
 use Rattle.std.proofs.Common.{eq-eqb, eqb-true}
 use Rattle.std.proofs.lemmas.Bool.{or_cases, or_right}
 use Rattle.std.proofs.lemmas.List.{map-append}
-use Rattle.machine.specs.Machine.{Question}
-use Rattle.machine.specs.Machine.{Cell, Script, OfHost}
+use Rattle.first_looks.specs.declared.question.Question.{Question}
+use Rattle.first_looks.specs.declared.question.Question.TheVariants.{Cell, Script, Host as OfHost}
 use Rattle.std.specs.Ordering.{nat_cmp, eq_by_cmp}
 use Rattle.std.specs.Cmp.{eq_by_cmp_equiv}
 use Rattle.std.specs.Cmp.Lexicographic.{slice_cmp, nat_list_cmp_total}
@@ -16,8 +16,10 @@ use Rattle.hostfiles.specs.declared.looks.Ask.{Ask}
 use Rattle.hostfiles.specs.declared.looks.Ask.TheVariants.{Has, Length, Rec, Directory}
 use Rattle.replay.specs.declared.ring.Checkpoint.{Checkpoint}
 use Rattle.machine.specs.Tree.{AgreeOn}
-use Rattle.machine.specs.Machine.{Answers, looks, is_in, same_question}
-use Rattle.replay.specs.FirstLooks.{FirstLooksView, step_of, step_below, first, or_else, step_if, IsFirstLooks}
+use Rattle.first_looks.specs.Questions.{is_in, same_question}
+use Rattle.machine.specs.Machine.{Answers, looks}
+use Rattle.first_looks.specs.FirstLooks.{FirstLooksView, step_of, step_below, or_else, step_if}
+use Rattle.replay.specs.FirstLooks.{first_look, IsFirstLooks}
 use Rattle.replay.specs.Ring.{Each, IsValidFor}
 use Rattle.replay.specs.RunnerView.{KeepsUntouched, checkpoint_with_text}
 use Rattle.replay.specs.Touch.{Untouched, IsNotedTouch}
@@ -48,7 +50,7 @@ same_ask_is (Length key) (Rec other j) e = absurd (cc)
 same_ask_is (Length key) (Directory drive) e = absurd (cc)
 same_ask_is (Rec key k) (Has other) e = absurd (cc)
 same_ask_is (Rec key k) (Length other) e = absurd (cc)
-same_ask_is (Rec key k) (Rec other j) e = let (keys, places) = both_true (eq_by_cmp (slice_cmp nat_cmp) key other) (k == j) e in λ i. Rec (key_of same_key key other keys i) (eqb-true k j places i)
+same_ask_is (Rec key k) (Rec other j) e = let (keys, offsets) = both_true (eq_by_cmp (slice_cmp nat_cmp) key other) (k == j) e in λ i. Rec (key_of same_key key other keys i) (eqb-true k j offsets i)
 same_ask_is (Rec key k) (Directory drive) e = absurd (cc)
 same_ask_is (Directory drive) (Has other) e = absurd (cc)
 same_ask_is (Directory drive) (Length other) e = absurd (cc)
@@ -89,11 +91,11 @@ noted_here n None b e h = (n, rw e refl, omega arith)
 noted_here n (Some m) b e h = (m, refl, omega (arith, h m refl))
 
 -- A question that a step below n asks is noted at that step or before it.
-pub noted_by : (f : Answers) (q : Question) (n i : ℕ) → i < n → is_in q (looks f i) ≡ true → (m : ℕ) × (first f q n ≡ Some m) × (m ≤ i)
+pub noted_by : (f : Answers) (q : Question) (n i : ℕ) → i < n → is_in q (looks f i) ≡ true → (m : ℕ) × (first_look f q n ≡ Some m) × (m ≤ i)
 noted_by f q zero i b h = absurd (omega arith)
 noted_by f q (suc n) i b h = elim (eq-or-lt_of_le {n = i} {m = n} (omega arith)) [
   | inl e ↦
-      let (m, at, low) = noted_here n (first f q n) (is_in q (looks f n)) (rw e at h) (first_below f q n) in
+      let (m, at, low) = noted_here n (first_look f q n) (is_in q (looks f n)) (rw e at h) (first_below f q n) in
       (m, first-suc f q n ∙ at, omega arith)
   | inr l ↦ let (m, at, low) = noted_by f q n i l h in (m, first-suc f q n ∙ rw at refl, low)
 ]
@@ -104,10 +106,10 @@ marked_there n None false m e = absurd (cc)
 marked_there n (Some x) b m e = inl e
 
 -- The noted step of a question asks it.
-asked_there : (f : Answers) (q : Question) (n m : ℕ) → first f q n ≡ Some m → is_in q (looks f m) ≡ true
-unfolding first
+asked_there : (f : Answers) (q : Question) (n m : ℕ) → first_look f q n ≡ Some m → is_in q (looks f m) ≡ true
+unfolding first_look
 asked_there f q zero m e = absurd (cc)
-asked_there f q (suc n) m e = elim (marked_there n (first f q n) (is_in q (looks f n)) m e) [
+asked_there f q (suc n) m e = elim (marked_there n (first_look f q n) (is_in q (looks f n)) m e) [
   | inl h ↦ asked_there f q n m h
   | inr h ↦ rw h.1 at h.0
 ]

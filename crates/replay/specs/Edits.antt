@@ -2,7 +2,7 @@
 use Rattle.std.specs.Prelude.{ℕ, ◌+◌, ◌-◌, ◌||◌, List, [], length, nat_lt, if◌then◌else◌, Option, Some, None, Result, Ok, Err}
 use Rattle.std.specs.FinMap.{contains_key}
 use Rattle.hostfiles.specs.Hosts.{Key, Record, has_room, records_in}
-use Rattle.file_steps.specs.Setting.{with_file}
+use Rattle.first_looks.specs.Setting.{with_file}
 use Rattle.machine.specs.declared.session.TheConstants.{SCRIPT_LIMIT, STEP_LIMIT}
 use Rattle.machine.specs.Inputs.{Session}
 use Rattle.machine.specs.Session.{splice, written_over}

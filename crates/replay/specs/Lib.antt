@@ -3,9 +3,6 @@ pub mod Options
 pub mod Edits
 pub mod EditAnswers
 pub mod Change
-pub mod Cold
-pub mod PlainRun
-pub mod ColdIsPlain
 pub mod Codes
 pub mod FirstLooks
 pub mod Ring

@@ -8,7 +8,8 @@ use Rattle.machine.specs.Inputs.{Session}
 use Rattle.machine.specs.StateView.{PartialState}
 use Rattle.machine.specs.Session.{IsSession}
 use Rattle.machine.specs.Machine.{session_answers, after, looks}
-use Rattle.machine.specs.PlainLaid.{plain_after, laid_state}
+use Rattle.machine.specs.PlainLaid.{laid_state}
+use Rattle.machine.specs.PlainLaid.{plain_after}
 use Rattle.replay.specs.Touch.{Untouched}
 
 -- n steps of the session s lead to the state st, and n steps of the session t lead to the same.

@@ -25,11 +25,11 @@ pub record RunnerView : Type 0 where
   pub spacing : ℕ
   pub slots : ℕ
   pub checkpoints : List Checkpoint
-  pub refused : ℕ
+  pub alloc_failures : ℕ
 
 -- A runner for a session, with no checkpoint yet.
 abbrev pub with_no_checkpoint : Session → Options → RunnerView
-with_no_checkpoint s options = record { session = s; spacing = options.spacing; slots = options.slots; checkpoints = []; refused = 0 }
+with_no_checkpoint s options = record { session = s; spacing = options.spacing; slots = options.slots; checkpoints = []; alloc_failures = 0 }
 
 -- The options stay the same.
 pub record SameOptions (old new : RunnerView) : Type 0 where
@@ -77,11 +77,11 @@ AddsDueTo old new upto =
 -- If no allocation failed, no due step was left out.
 abbrev pub AddsAllDueTo : RunnerView → RunnerView → ℕ → Type 0
 AddsAllDueTo old new upto =
-    new.refused ≡ 0 → AddsAllBy (λ k. k) (kept_steps old) (kept_steps new) old.slots (rerun_start old) upto upto old.spacing
+    new.alloc_failures ≡ 0 → AddsAllBy (λ k. k) (kept_steps old) (kept_steps new) old.slots (rerun_start old) upto upto old.spacing
 
--- The count of refusals is for a rerun, alone, that reached this step, or was to reach it.
+-- The count of failed allocations is for a rerun, alone, that reached this step, or was to reach it.
 abbrev pub RestartsCount : RunnerView → RunnerView → ℕ → Type 0
-RestartsCount old new upto = CountsThisRun (rerun_start old) upto old.spacing new.refused
+RestartsCount old new upto = CountsThisRun (rerun_start old) upto old.spacing new.alloc_failures
 
 -- What a rerun that reached this step leaves.
 abbrev pub RerunsTo : RunnerView → RunnerView → ℕ → Type 0
@@ -91,11 +91,16 @@ RerunsTo old new steps = AddsDueTo old new steps × AddsAllDueTo old new steps �
 abbrev pub TicksTo : Answers → ℕ → ℕ → ℕ → ℕ → Type 0
 TicksTo f limit from ticks ticked = (n : ℕ) × (st : PartialState) × (after f n ≡ Some st) × (n ≤ limit) × (ticked + from ≡ ticks + n)
 
--- What always holds for the parts of a runner.
-pub record IsSoundRunner (s : Session) (text : List ℕ) (checkpoints : Checkpoints) : Type 0 where
-  pub stands : Each (IsValidFor (session_answers s) text) checkpoints.ring.items
+-- The checkpoints and the first looks belong to a session, and P holds for each checkpoint.
+pub record AreCheckpoints (P : KeptCheckpoint → Type 0) (f : Answers) (checkpoints : Checkpoints) : Type 0 where
+  pub valid : Each P checkpoints.ring.items
   pub rising : Rising checkpoints.ring.items
   pub below : Each (λ c. c.step ≤ checkpoints.notes.looks.seen) checkpoints.ring.items
-  pub noted : IsFirstLooks (session_answers s) checkpoints.notes.looks
+  pub noted : IsFirstLooks f checkpoints.notes.looks
   pub spacing_in : (0 < checkpoints.spacing) × (checkpoints.spacing ≤ 1000000000)
   pub seen_in : checkpoints.notes.looks.seen ≤ STEP_LIMIT
+
+-- What always holds for the parts of a runner: each checkpoint is the state of the session after its step, with a prefix of this
+-- text.
+abbrev pub IsSoundRunner : Session → List ℕ → Checkpoints → Type 0
+IsSoundRunner s text checkpoints = AreCheckpoints (IsValidFor (session_answers s) text) (session_answers s) checkpoints

@@ -1,8 +1,9 @@
 -- Which steps an edit touches. (This project's own.)
 use Rattle.std.specs.Prelude.{◌≡◌, ℕ, ◌<◌, ◌≤◌, Some, ◌⊎◌}
 use Rattle.machine.specs.Tree.{AgreeOn}
-use Rattle.machine.specs.Machine.{Question, Answers, looks}
-use Rattle.replay.specs.FirstLooks.{FirstLooksView, step_of}
+use Rattle.first_looks.specs.declared.question.Question.{Question}
+use Rattle.machine.specs.Machine.{Answers, looks}
+use Rattle.first_looks.specs.FirstLooks.{FirstLooksView, step_of}
 
 -- No step below n asks a question that g answers differently: n is at most the touch, or there is no touch.
 abbrev pub Untouched : Answers → Answers → ℕ → Type 0

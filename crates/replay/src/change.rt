@@ -10,8 +10,8 @@ ghost use Rattle.replay.specs.Change.{IsAllowed, MakesChange, ChangeAllocates, s
 ghost use Rattle.replay.specs.Touch.{IsNotedTouch};
 
 use crate::edit::{Edit, EditError};
-use crate::first_looks::FirstLooks;
 use crate::touch::{file_touch, poke_touch, splice_touch};
+use first_looks::FirstLooks;
 use hostfiles::host::FILE_LIMIT;
 use machine::{Bytes, HostFile, Name, SCRIPT_LIMIT, STEP_LIMIT, Session};
 use std::alloc::{AllocError, Global};

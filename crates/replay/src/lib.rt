@@ -2,16 +2,14 @@
 //!
 //! - `edit`, `change`, `touch`: edits and their refusals; the change that an accepted edit makes; the first step that a change
 //!   touches
-//! - `first_looks`: the first step that looked at each cell, at each script offset and at each question about the host files, and
-//!   the step `seen`
-//! - `ring`, `run_notes`: checkpoints and the steps at which they are due; what may run out of memory, with a count of refusals
+//! - `ring`, `run_notes`: checkpoints and the steps at which they are due; what may run out of memory, with a count of failed
+//!   allocations
 //! - `run`, `rerun`: the loop from one due step to the next; where a rerun begins, and what it leaves
 //! - `runner`, `options`, `report`: `Runner`; how often and how many checkpoints are made; the result of a rerun
 #![tactic(auto)]
 
 mod change;
 mod edit;
-mod first_looks;
 mod options;
 mod report;
 mod rerun;

@@ -6,13 +6,15 @@ ghost use Rattle.std.specs.Cmp.Lexicographic.{slice_cmp};
 ghost use Rattle.std.specs.FinMap.{contains_key};
 ghost use Rattle.hostfiles.specs.Order.{is_above};
 ghost use Rattle.hostfiles.specs.Files.{files};
+ghost use Rattle.hostfiles.specs.FileView.{view_own};
 ghost use Rattle.machine.specs.ChangedFiles.{contents_in};
 ghost use Rattle.replay.specs.Fits.{kept_length};
 ghost use Rattle.replay.specs.LastState.{state_left_by};
-ghost use Rattle.replay.specs.PlainRun.{plain_run};
-ghost use Rattle.replay.specs.ColdIsPlain.{equal_runs-prop, plain_run_of};
+ghost use Rattle.machine.specs.PlainState.{plain_run};
+ghost use Rattle.machine.specs.PlainLaid.{plain_run_of};
+ghost use Rattle.replay.specs.Codes.{equal_runs-prop};
 
-use hostfiles::{Record, contents_count, contents_record, lookup, next_changed};
+use hostfiles::{FileView, Record, next_changed};
 use machine::{BlankMarks, Cause, HostFiles, Journal, Name, Regs, SavedState, Session};
 
 /// A session and its last run: the console text of its runs; what is kept of the state in which the last run ended, `None` before
@@ -57,7 +59,7 @@ impl Report<'_> {
 
     /// Returns the registers at the end.
     pub fn regs(&self) -> Regs
-        ensures { result ≡ (run_of self.now).machine.core.regs }
+        ensures { result ≡ (run_of self.now).state.core.regs }
     {
         match &self.last_run.end {
             Some(kept) => kept.regs(),
@@ -67,7 +69,7 @@ impl Report<'_> {
 
     /// Returns all bytes that were sent to the console.
     pub fn text(&self) -> &[u8]
-        ensures { result.now ≡ (run_of self.now).machine.core.desk.text }
+        ensures { result.now ≡ (run_of self.now).state.core.desk.text }
     {
         match &self.last_run.end {
             Some(kept) => &self.last_run.text[..kept.text_length()],
@@ -77,7 +79,7 @@ impl Report<'_> {
 
     /// Returns the byte of a cell at the end.
     pub fn cell(&self, a: u16) -> u8
-        ensures { result ≡ slice_index (run_of self.now).machine.memory a }
+        ensures { result ≡ slice_index (run_of self.now).state.memory a }
     {
         match &self.last_run.end {
             Some(kept) => kept.cell(&self.last_run.session, a),
@@ -87,25 +89,25 @@ impl Report<'_> {
 
     /// Returns whether there is a file of this name at the end.
     pub fn has(&self, name: &Name) -> bool
-        ensures { result ≡ contains_key (run_of self.now).machine.files name.now }
+        ensures { result ≡ contains_key (run_of self.now).state.files name.now }
     {
-        lookup::has(self.files(), self.journal(), &name.key())
+        self.file(name).is_there()
     }
 
     /// Returns the number of records of a file at the end, or `None` if there is no such file.
     pub fn records(&self, name: &Name) -> Option<u32>
-        ensures { result ≡ option_map length (contents_in (run_of self.now).machine.files name.now) }
+        ensures { result ≡ option_map length (contents_in (run_of self.now).state.files name.now) }
     {
-        contents_count(self.files(), self.journal(), &name.key())
+        self.file(name).records()
     }
 
     /// Returns a record of a file at the end, zeros for a hole, or `None` if there is no such file or it has fewer records.
-    pub fn record(&self, name: &Name, place: u32) -> Option<Record>
+    pub fn record(&self, name: &Name, number: u32) -> Option<Record>
         ensures { result
-            ≡ option_and_then (λ records. slice_get records place)
-            (contents_in (run_of self.now).machine.files name.now) }
+            ≡ option_and_then (λ records. slice_get records number)
+            (contents_in (run_of self.now).state.files name.now) }
     {
-        contents_record(self.files(), self.journal(), &name.key(), place)
+        self.file(name).contents_record(number).copied()
     }
 
     /// Returns the name of the next file, in the order of keys, that the run left different from its host file: the first one after
@@ -119,7 +121,7 @@ impl Report<'_> {
     /// let mut after: Option<Name> = None;
     /// while let Some(name) = report.next_changed(after.as_ref()) {
     ///     match report.records(&name) {
-    ///         Some(count) => { /* report.record(&name, place) for each place below count */ }
+    ///         Some(count) => { /* report.record(&name, number) for each number below count */ }
     ///         None => { /* the file is gone */ }
     ///     }
     ///     after = Some(name);
@@ -134,7 +136,18 @@ impl Report<'_> {
         ensures none { IfNone result ((x : List ℕ) → is_above (option_copied after.entry) x ≡ true
             → is_left_changed self.now x ≡ false) }
     {
-        next_changed(self.files(), self.journal(), after)
+        match next_changed(self.files(), self.journal(), after) {
+            Some(changed) => Some(changed.name),
+            None => None,
+        }
+    }
+
+    // Finds the file of this name at the end.
+    fn file(&self, name: &Name) -> FileView<'_>
+        ensures files { files result.host.now (view_own result) ≡ (run_of self.now).state.files }
+        ensures key { result.key ≡ name.now }
+    {
+        FileView::find(self.files(), self.journal(), &name.key())
     }
 
     /// Returns the host files of the session.
@@ -146,7 +159,7 @@ impl Report<'_> {
 
     /// Returns what the run did to the files. Laid over the host files, it is the files at the end.
     pub fn journal(&self) -> &Journal
-        ensures { files (session_of self.now).files result.now.entries ≡ (run_of self.now).machine.files }
+        ensures { files (session_of self.now).files result.now.entries ≡ (run_of self.now).state.files }
     {
         match &self.last_run.end {
             Some(kept) => kept.journal(),

@@ -1,8 +1,8 @@
-ghost use Rattle.std.specs.Prelude.{◌≡◌, ◌+◌, ◌^◌, ◌<◌, ◌≤◌, ◌⊎◌, Some, IfOk, IsSome, OnErr, OnOk, length, take, vec_len, true, false};
+ghost use Rattle.std.specs.Prelude.{◌≡◌, ◌+◌, ◌^◌, ◌<◌, ◌≤◌, ◌⊎◌, Some, IfOk, IsSome, OnErr, OnOk, length, take, vec_len, nat_lt, if◌then◌else◌};
 ghost use Rattle.machine.specs.Machine.{HasNoLooks, session_answers, after};
 ghost use Rattle.machine.specs.SavedState.{saved_state_of};
 ghost use Rattle.machine.specs.Session.{IsSession};
-ghost use Rattle.replay.specs.Cold.{cold};
+ghost use Rattle.machine.specs.Machine.{cold_run};
 ghost use Rattle.replay.specs.Resuming.{AddsWhileResumed, resume_step};
 ghost use Rattle.replay.specs.Ring.{Each, Rising, IsValidFor, SomeStep, start_step};
 ghost use Rattle.replay.specs.Fits.{kept_length};
@@ -18,25 +18,46 @@ use machine::{BlankMarks, Cause, Meter, STEP_LIMIT, SavedState, Session, State};
 use std::alloc::{AllocError, Global};
 use std::mem;
 
-// Returns the first `length` bytes of a text: a copy if `is_needed`, else the text itself, moved out and cut. At `Err` the text
-// is unchanged.
+/// What becomes of the text of the last run when a run resumes from a part of it.
+#[derive(Clone, Copy)]
+pub enum TextUse {
+    /// It is copied, and stays for a kept step past the limit.
+    Copy,
+    /// It is moved into the state.
+    Move,
+}
+
+// Returns what becomes of the text if the greatest kept step is `newest`.
+fn text_use_of(limit: u64, newest: u64) -> TextUse
+    ensures { result ≡ (if nat_lt limit newest then TextUse.Copy else TextUse.Move) }
+{
+    if limit < newest {
+        TextUse::Copy
+    } else {
+        TextUse::Move
+    }
+}
+
+// Returns the first `length` bytes of a text, copied, or moved and cut. At `Err` the text is unchanged.
 fn text_prefix(
     alloc: Global,
     text: &mut Vec<u8>,
     length: usize,
-    is_needed: bool,
+    text_use: TextUse,
 ) -> Result<Vec<u8>, AllocError>
     requires { length ≤ vec_len text.old }
     ensures value { IfOk result (λ t. t.items ≡ take length text.old.items) }
-    ensures needed { is_needed ≡ true → text.new.items ≡ text.old.items }
+    ensures copied { text_use ≡ TextUse.Copy → text.new.items ≡ text.old.items }
     ensures err { OnErr result (text.new.items ≡ text.old.items) }
 {
-    if is_needed {
-        return Vec::from_slice(alloc, &text[..length]);
+    match text_use {
+        TextUse::Copy => Vec::from_slice(alloc, &text[..length]),
+        TextUse::Move => {
+            let mut own = mem::replace(text, Vec::new(alloc));
+            own.truncate(length);
+            Ok(own)
+        }
     }
-    let mut own = mem::replace(text, Vec::new(alloc));
-    own.truncate(length);
-    Ok(own)
 }
 
 // Returns memory for the marks of a run: the memory that the last run left, if there is any.
@@ -47,15 +68,15 @@ fn take_marks(alloc: Global, spare: &mut Option<BlankMarks>) -> Result<BlankMark
     }
 }
 
-// Returns the greatest kept step that is not past the limit, with its state, or else the start. The text is moved into the state
-// unless `is_needed`: a kept step past the limit needs it. At `Err` the text is unchanged.
+// Returns the greatest kept step that is not past the limit, with its state, or else the start. The text is moved into the state,
+// or copied as `text_use` says. At `Err` the text is unchanged.
 fn begin(
     alloc: Global,
     session: &Session,
     text: &mut Vec<u8>,
     spare: &mut Option<BlankMarks>,
     ring: &HeapCircularBuffer<Checkpoint>,
-    is_needed: bool,
+    text_use: TextUse,
 ) -> Result<(u64, State), AllocError>
     requires stands { Each (IsValidFor (session_answers session.now) text.old.items) ring.now.items }
     requires rising { Rising ring.now.items }
@@ -64,7 +85,7 @@ fn begin(
     ensures step { IfOk result (λ r. r.0 ≡ start_step session.now.limit ring.now.items) }
     ensures started { IfOk result (λ r. (r.0 ≡ 0) ⊎ SomeStep ring.now.items r.0) }
     ensures room { length ring.now.items ≤ ring.now.capacity }
-    ensures needed { is_needed ≡ true → text.new.items ≡ text.old.items }
+    ensures copied { text_use ≡ TextUse.Copy → text.new.items ≡ text.old.items }
     ensures err { OnErr result (text.new.items ≡ text.old.items) }
 {
     let Some(checkpoint) = latest_within(ring, session.limit()) else {
@@ -75,36 +96,35 @@ fn begin(
     let marks = take_marks(alloc, spare)?;
     let overlay = checkpoint.state.overlay(marks)?;
     let changes = checkpoint.state.changes(alloc)?;
-    let own = text_prefix(alloc, text, checkpoint.state.text_length(), is_needed)?;
+    let own = text_prefix(alloc, text, checkpoint.state.text_length(), text_use)?;
     Ok((
         checkpoint.step,
         checkpoint.state.resume(overlay, changes, own),
     ))
 }
 
-// Returns what is kept of the state that a run left. Its text replaces `text` unless `is_needed`; the memory for its marks goes
-// to the next run.
+// Returns what is kept of the state that a run left. Its text replaces a text that was moved; the memory for its marks goes to
+// the next run.
 fn save_end(
     text: &mut Vec<u8>,
     spare: &mut Option<BlankMarks>,
     running: State,
-    is_needed: bool,
+    text_use: TextUse,
 ) -> SavedState
     ensures kept { result ≡ saved_state_of running.state }
-    ensures text { is_needed ≡ false → text.new.items ≡ running.state.core.desk.text }
-    ensures needed { is_needed ≡ true → text.new.items ≡ text.old.items }
+    ensures moved { text_use ≡ TextUse.Move → text.new.items ≡ running.state.core.desk.text }
+    ensures copied { text_use ≡ TextUse.Copy → text.new.items ≡ text.old.items }
 {
     let (kept, own, marks) = running.into_saved();
     *spare = Some(marks);
-    if is_needed {
-        return kept;
+    if let TextUse::Move = text_use {
+        *text = own;
     }
-    *text = own;
     kept
 }
 
 /// Runs a session from the greatest kept step that is not past its limit, or else from the start, and keeps the state in which
-/// the run ends. Returns the number of steps and why the run ended. The count of refusals starts again at 0.
+/// the run ends. Returns the number of steps and why the run ended. The count of failed allocations starts again at 0.
 ///
 /// # Errors
 ///
@@ -118,7 +138,7 @@ pub fn rerun(
     requires sound { IsSoundRunner last_run.old.session last_run.old.text.items checkpoints.old }
     requires room { meter.old ≤ 2 ^ 63 }
     ensures session { (last_run.new.session ≡ last_run.old.session) × IsSession last_run.old.session }
-    ensures cold { IfOk result (λ r. cold last_run.old.session
+    ensures cold { IfOk result (λ r. cold_run last_run.old.session
         ≡ record { state = state_left_by last_run.new; steps = r.0; cause = r.1 }) }
     ensures ended { OnOk result (IsSome last_run.new.end
         × (kept_length last_run.new.end ≤ length last_run.new.text.items)) }
@@ -134,20 +154,20 @@ pub fn rerun(
         last_run.old.session.limit result }
 {
     last_run.end = None;
-    checkpoints.notes.refusals = AllocFailures::new();
+    checkpoints.notes.alloc_failures = AllocFailures::new();
     let newest = newest_step(&checkpoints.ring);
-    let is_needed = last_run.session.limit() < newest;
+    let text_use = text_use_of(last_run.session.limit(), newest);
     let (from, mut running) = begin(
         alloc,
         &last_run.session,
         &mut last_run.text,
         &mut last_run.marks,
         &checkpoints.ring,
-        is_needed,
+        text_use,
     )?;
     let session = &last_run.session;
     let ran = resume(session, checkpoints, meter, newest, from, &mut running);
-    let kept = save_end(&mut last_run.text, &mut last_run.marks, running, is_needed);
+    let kept = save_end(&mut last_run.text, &mut last_run.marks, running, text_use);
     let (steps, cause) = ran?;
     last_run.end = Some(kept);
     Ok((steps, cause))

@@ -71,16 +71,16 @@ pub fn push_checkpoint(
     step: u64,
     seen: u64,
     running: &mut State,
-    refusals: &mut AllocFailures,
+    failures: &mut AllocFailures,
 ) -> u64
-    requires room { refusals.old < 2 ^ 63 }
+    requires room { failures.old < 2 ^ 63 }
     ensures newest { result ≡ max newest step }
     ensures seen { seen < step → ring.new ≡ ring.old }
     ensures ring { PushesIfAbove newest ring.old ring.new (checkpoint_at step running.old.state) }
-    ensures made { newest < step → step ≤ seen → refusals.new ≡ refusals.old
+    ensures made { newest < step → step ≤ seen → failures.new ≡ failures.old
         → ring.new ≡ ring_with ring.old (checkpoint_at step running.old.state) }
-    ensures refused { (refusals.new ≡ refusals.old)
-        ⊎ ((newest < step) × (step ≤ seen) × (refusals.new ≡ refusals.old + 1) × (ring.new ≡ ring.old)) }
+    ensures refused { (failures.new ≡ failures.old)
+        ⊎ ((newest < step) × (step ≤ seen) × (failures.new ≡ failures.old + 1) × (ring.new ≡ ring.old)) }
     ensures running { running.new ≡ running.old }
 {
     if step <= newest {
@@ -89,7 +89,7 @@ pub fn push_checkpoint(
     if seen < step {
         return step;
     }
-    if let Some(kept) = save_or_count(running, refusals) {
+    if let Some(kept) = save_or_count(running, failures) {
         let _ = ring.push_back(Checkpoint { step, state: kept });
     }
     step

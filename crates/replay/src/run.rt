@@ -1,60 +1,33 @@
-ghost use Rattle.std.specs.Prelude.{◌≡◌, ℕ, ◌+◌, ◌-◌, ◌^◌, ◌<◌, ◌≤◌, ◌⊎◌, Some, IfOk, OnOk, OnErr, MatchOption, length};
+ghost use Rattle.std.specs.Prelude.{◌≡◌, ℕ, ◌+◌, ◌-◌, ◌^◌, ◌<◌, ◌≤◌, ◌⊎◌, Some, IfOk, MatchOption, length};
 ghost use Rattle.machine.specs.Outcome.{Stop};
-ghost use Rattle.machine.specs.Machine.{session_answers, after, outcome, is_looked_at};
-ghost use Rattle.replay.specs.Cold.{cold};
-ghost use Rattle.replay.specs.FirstLooks.{NotesLooks, ErasesLast, AllNoted, HasNoScriptLooks, HasNoAsks, IsFirstLooks, AreFirstLooksAt};
-ghost use Rattle.replay.specs.FirstLooks.{looks_from, with_seen, NotesSeenStep, ForgetsSeenStep};
-ghost use Rattle.replay.specs.AllocFailures.{CountsFailure};
+ghost use Rattle.machine.specs.Machine.{HasNoQuestions, session_answers, after, outcome, looks_from};
+ghost use Rattle.machine.specs.Machine.{cold_run};
+ghost use Rattle.first_looks.specs.FirstLooks.{with_seen};
+ghost use Rattle.replay.specs.FirstLooks.{AllNoted, IsFirstLooks, AreFirstLooksAt, NotesSeenStep, ForgetsSeenStep};
 ghost use Rattle.replay.specs.Resuming.{CountsLooks, IsResumePoint, AreCheckpointsOf, AddsWhileResumed};
 ghost use Rattle.replay.specs.Ring.{Each, IsNewest};
 
-use crate::first_looks::FirstLooks;
 use crate::ring::{Checkpoints, due_after, push_checkpoint};
 use crate::run_notes::{RunNotes, note_or_count};
+use first_looks::FirstLooks;
 use machine::{Cause, Meter, STEP_LIMIT, Session, State, run_from};
 use std::alloc::AllocError;
-
-// Notes the new looks: the cells from index `noted` on, and the script offsets and the questions about the host files, which are
-// taken out of `running`.
-#[inline(always)]
-fn note_new_looks(notes: &mut RunNotes, running: &mut State, noted: usize) -> Result<(), AllocError>
-    requires few { noted ≤ length running.old.looked.cells }
-    requires low { (notes.old.refusals < 2 ^ 63) × (notes.old.looks.seen ≤ STEP_LIMIT) }
-    ensures ok { OnOk result (NotesLooks notes.old.looks notes.new.looks
-        (is_looked_at (looks_from noted running.old.looked))) }
-    ensures err { OnErr result (ErasesLast notes.old.looks notes.new.looks) }
-    ensures seen { notes.new.looks.seen ≡ notes.old.looks.seen }
-    ensures state { running.new.state ≡ running.old.state }
-    ensures cells { running.new.looked.cells ≡ running.old.looked.cells }
-    ensures rest { OnOk result
-        (HasNoScriptLooks running.new.looked.places × HasNoAsks running.new.looked.files) }
-    ensures counted { CountsFailure result notes.old.refusals notes.new.refusals }
-{
-    let taken = running.take_place();
-    if taken.is_none() && running.asks_nothing() && running.look_count() == noted {
-        return Ok(());
-    }
-    let asked = running.take_ask();
-    note_or_count(notes, running, noted, taken, asked)
-}
 
 // Notes the looks of the steps from `n` to `reached - 1`, of which only the last looked at anything new. If `n` is not the step
 // `seen`, nothing is noted, and the looks at the script and at the host files are forgotten. If an allocation fails, `seen` stays
 // below `reached`, and no later step of the run is noted.
 fn note_last_step(notes: &mut RunNotes, running: &mut State, noted: usize, n: u64, reached: u64)
     requires few { noted ≤ length running.old.looked.cells }
-    requires room { notes.old.refusals < 2 ^ 63 }
+    requires room { notes.old.alloc_failures < 2 ^ 63 }
     requires order { (n < reached) × (reached ≤ STEP_LIMIT) }
     ensures other { (n ≡ notes.old.looks.seen → ⊥)
-        → (notes.new ≡ notes.old)
-        × HasNoScriptLooks running.new.looked.places × HasNoAsks running.new.looked.files }
+        → (notes.new ≡ notes.old) × HasNoQuestions running.new.looked }
     ensures here { n ≡ notes.old.looks.seen
         → (NotesSeenStep (with_seen notes.old.looks (reached - 1)) notes.new.looks
         (looks_from noted running.old.looked)
-        × (notes.new.refusals ≡ notes.old.refusals)
-        × HasNoScriptLooks running.new.looked.places × HasNoAsks running.new.looked.files)
+        × (notes.new.alloc_failures ≡ notes.old.alloc_failures) × HasNoQuestions running.new.looked)
         ⊎ (ForgetsSeenStep (with_seen notes.old.looks (reached - 1)) notes.new.looks
-        × (notes.new.refusals ≡ notes.old.refusals + 1)) }
+        × (notes.new.alloc_failures ≡ notes.old.alloc_failures + 1)) }
     ensures state { running.new.state ≡ running.old.state }
     ensures cells { running.new.looked.cells ≡ running.old.looked.cells }
 {
@@ -63,9 +36,7 @@ fn note_last_step(notes: &mut RunNotes, running: &mut State, noted: usize, n: u6
         return;
     }
     notes.looks.advance_to(reached - 1);
-    if note_new_looks(notes, running, noted).is_ok() {
-        notes.looks.next_step();
-    }
+    note_or_count(notes, running, noted);
 }
 
 // Moves `seen` from `n` up to `reached`, if it is at `n`: the steps between looked at nothing new, and a stop follows.
@@ -100,7 +71,7 @@ fn advance(
     requires at { after (session_answers session.now) from ≡ Some running.old.state }
     requires noted { AreFirstLooksAt (session_answers session.now) notes.old.looks from running.old.looked }
     requires order { (from ≤ end) × (end ≤ STEP_LIMIT) }
-    requires room { (meter.old + (end - from) < 2 ^ 64) × (notes.old.refusals ≤ STEP_LIMIT + from) }
+    requires room { (meter.old + (end - from) < 2 ^ 64) × (notes.old.alloc_failures ≤ STEP_LIMIT + from) }
     ensures at { (n : ℕ) × (after (session_answers session.now) n ≡ Some running.new.state)
         × (from ≤ n) × (n ≤ end)
         × IfOk result (λ r. r.0 ≡ n) × (meter.new + from ≡ meter.old + n) }
@@ -145,8 +116,8 @@ pub fn resume(
     requires begins { IsResumePoint session.now checkpoints.old from running.old }
     requires sound { AreCheckpointsOf (session_answers session.now) checkpoints.old }
     requires newest { IsNewest newest checkpoints.old.ring.items }
-    requires counts { (meter.old ≤ 2 ^ 63) × (checkpoints.old.notes.refusals ≡ 0) }
-    ensures cold { IfOk result (λ r. cold session.now
+    requires counts { (meter.old ≤ 2 ^ 63) × (checkpoints.old.notes.alloc_failures ≡ 0) }
+    ensures cold { IfOk result (λ r. cold_run session.now
         ≡ record { state = running.new.state; steps = r.0; cause = r.1 }) }
     ensures at { (n : ℕ) × (after (session_answers session.now) n ≡ Some running.new.state)
         × (n ≤ session.now.limit)
@@ -158,15 +129,16 @@ pub fn resume(
 {
     let limit = session.limit();
     let spacing = checkpoints.spacing;
-    let mut last_kept = newest;
+    let mut newest_tried = newest;
     let mut n = from;
     while n < limit {
         let end = due_after(n, spacing, limit);
         let (reached, stop) = advance(running, &mut checkpoints.notes, session, meter, n, end)?;
         n = reached;
         let seen = checkpoints.notes.looks.seen();
-        let refusals = &mut checkpoints.notes.refusals;
-        last_kept = push_checkpoint(&mut checkpoints.ring, last_kept, n, seen, running, refusals);
+        let failures = &mut checkpoints.notes.alloc_failures;
+        let ring = &mut checkpoints.ring;
+        newest_tried = push_checkpoint(ring, newest_tried, n, seen, running, failures);
         if let Some(cause) = stop {
             return Ok((n, cause));
         }

@@ -2,8 +2,8 @@ ghost use Rattle.std.specs.Prelude.{◌≡◌, ◌+◌, ◌^◌, ◌<◌, ◌≤
 ghost use Rattle.std.specs.Borrow.{sem};
 ghost use Rattle.machine.specs.Machine.{session_answers};
 ghost use Rattle.replay.specs.PrefixDependence.{PrefixDependence};
-ghost use Rattle.replay.specs.PlainRun.{plain_run};
-ghost use Rattle.replay.specs.ColdIsPlain.{PlainRunIsCold};
+ghost use Rattle.machine.specs.PlainState.{plain_run};
+ghost use Rattle.machine.specs.PlainLaid.{PlainRunIsCold};
 ghost use Rattle.replay.specs.Edits.{edited};
 ghost use Rattle.replay.specs.EditAnswers.{AnswersEdit, EditAllocates};
 ghost use Rattle.replay.specs.RunnerView.{DropsOldest, SameOptions, KeepsUntouched, AllStand, AddsDueTo, RerunsTo, RestartsCount, TicksTo};
@@ -11,13 +11,13 @@ ghost use Rattle.replay.specs.RunnerView.{kept_steps, rerun_start, with_no_check
 
 use crate::change::{accept, apply, touch_of};
 use crate::edit::{Edit, EditError};
-use crate::first_looks::FirstLooks;
 use crate::options::{Options, OptionsError};
 use crate::report::{LastRun, Report};
 use crate::rerun::rerun;
 use crate::ring::{Checkpoints, drop_past};
 use crate::run_notes::{AllocFailures, RunNotes};
 use circular_buffer::HeapCircularBuffer;
+use first_looks::FirstLooks;
 use machine::{Meter, STEP_LIMIT, Session};
 use std::alloc::{AllocError, Global};
 use std::marker::Model;
@@ -58,7 +58,7 @@ impl Model for Runner {
       spacing = r.checkpoints.spacing;
       slots = r.checkpoints.ring.capacity;
       checkpoints = map (checkpoint_with_text r.last_run.text.items) r.checkpoints.ring.items;
-      refused = r.checkpoints.notes.refusals;
+      alloc_failures = r.checkpoints.notes.alloc_failures;
     } };
 
     ghost invariant = { λ r. IsSoundRunner r.last_run.session r.last_run.text.items r.checkpoints };
@@ -122,14 +122,14 @@ impl Runner {
                 ring,
                 notes: RunNotes {
                     looks: FirstLooks::new(alloc),
-                    refusals: AllocFailures::new(),
+                    alloc_failures: AllocFailures::new(),
                 },
             },
         })
     }
 
     /// Returns a runner for a session that is run once. It has no slots, so it never has a checkpoint. Its runs are not noted, which
-    /// `refusals` counts as one failed allocation: they take less time and memory. `Err` means out of memory.
+    /// `alloc_failures` counts as one failed allocation: they take less time and memory. `Err` means out of memory.
     pub fn for_one_run(alloc: Global, session: Session) -> Result<Runner, AllocError>
         ensures { IfOk result (λ r. r ≡ with_no_checkpoint session once) }
     {
@@ -161,10 +161,10 @@ impl Runner {
 
     /// Returns how many allocations for checkpoints, or for the first looks that these need, failed in the last rerun. Each rerun
     /// starts the count at 0, and nothing else changes it.
-    pub fn refusals(&self) -> u64
-        ensures { result ≡ self.now.refused }
+    pub fn alloc_failures(&self) -> u64
+        ensures { result ≡ self.now.alloc_failures }
     {
-        self.checkpoints.notes.refusals.count()
+        self.checkpoints.notes.alloc_failures.count()
     }
 
     /// Drops the `count` oldest checkpoints, or all if there are fewer.
@@ -181,7 +181,7 @@ impl Runner {
     }
 
     /// Applies an edit. Exactly the checkpoints up to the touch are left: up to the first step with a look that the edited session
-    /// answers differently. The count of refusals stays the same.
+    /// answers differently. The count of failed allocations stays the same.
     ///
     /// # Errors
     ///
@@ -190,7 +190,7 @@ impl Runner {
         ensures answer { AnswersEdit (edited self.old.session edit) result self.new.session }
         ensures memory { result ≡ Err EditError.OutOfMemory → EditAllocates edit }
         ensures options { SameOptions self.old self.new }
-        ensures refusals { self.new.refused ≡ self.old.refused }
+        ensures alloc_failures { self.new.alloc_failures ≡ self.old.alloc_failures }
         ensures kept { OnOk result
             (KeepsUntouched (session_answers self.old.session) (session_answers self.new.session)
             self.old.checkpoints self.new.checkpoints) }
@@ -212,7 +212,7 @@ impl Runner {
 
     /// Runs the session from the greatest kept step that is not past its limit, or else from its start, and returns a report. If
     /// no allocation failed, each due step that the run reached above the old checkpoints has been given a checkpoint, of which
-    /// the newest remain. The count of refusals is for this rerun alone.
+    /// the newest remain. The count of failed allocations is for this rerun alone.
     ///
     /// # Errors
     ///

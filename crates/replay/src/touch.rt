@@ -1,12 +1,14 @@
 ghost use Rattle.std.specs.Prelude.{◌≡◌, ◌==◌, ◌+◌, ◌^◌, ◌<◌, ◌≤◌, IsTrue, ◌↔◌, option_copied, length, min, slice_get, if◌then◌else◌};
-ghost use Rattle.file_steps.specs.FileSteps.{lesser_step};
-ghost use Rattle.machine.specs.Machine.{session_answers, Cell, Script};
+ghost use Rattle.first_looks.specs.FileSteps.{lesser_step};
+ghost use Rattle.first_looks.specs.declared.question.Question.TheVariants.{Cell, Script};
+ghost use Rattle.machine.specs.Machine.{session_answers};
 ghost use Rattle.machine.specs.Session.{splice};
-ghost use Rattle.replay.specs.FirstLooks.{IsFirstLooks, step_of};
+ghost use Rattle.first_looks.specs.FirstLooks.{step_of};
+ghost use Rattle.replay.specs.FirstLooks.{IsFirstLooks};
 ghost use Rattle.replay.specs.Edits.{with_host_file, with_poke, with_splice};
 ghost use Rattle.replay.specs.Touch.{IsNotedTouch};
 
-use crate::first_looks::FirstLooks;
+use first_looks::{FirstLooks, Question};
 use hostfiles::Key;
 use machine::{HostFile, PROGRAM_LIMIT, Session};
 
@@ -36,7 +38,7 @@ fn lesser_if_changed(looks: &FirstLooks, old: u8, new: u8, at: usize, least: u64
     if old == new {
         return least;
     }
-    lesser_step(looks.cell(256 + at as u16), least)
+    lesser_step(looks.get(&Question::Cell(256 + at as u16)), least)
 }
 
 /// Returns the first noted step that looked at an offset of the script which has another byte, or none, after a splice: `removed`
@@ -60,7 +62,7 @@ pub fn splice_touch(
         if is_same_byte(script, at, removed, bytes, place) {
             continue;
         }
-        touch = lesser_step(looks.place(place), touch);
+        touch = lesser_step(looks.get(&Question::Script(place)), touch);
         if looks.is_earliest_from(place) {
             return touch;
         }
@@ -72,10 +74,10 @@ pub fn splice_touch(
 // bytes after them do not move.
 fn changes_end(looks: &FirstLooks, at: usize, removed: usize, added: usize) -> usize
     requires { at + removed < 2 ^ 64 }
-    ensures { result ≡ (if removed == added then min (length looks.now.places) (at + removed)
-        else length looks.now.places) }
+    ensures { result ≡ (if removed == added then min (length looks.now.offsets) (at + removed)
+        else length looks.now.offsets) }
 {
-    let end = looks.places_end();
+    let end = looks.script_end();
     if removed == added {
         return end.min(at + removed);
     }

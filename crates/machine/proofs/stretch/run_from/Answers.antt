@@ -1,7 +1,6 @@
-use Rattle.std.proofs.Common.{ap, arith, refl, sym, ◌∙◌, ◌≡◌, ◌+◌, ◌<◌, Ok, Some, None, Option}
+use Rattle.std.proofs.Common.{ap, arith, refl, ◌∙◌, ◌+◌, ◌<◌, Ok, None, Option}
 use Rattle.console_calls.specs.declared.cause.Cause.{Cause}
 use Rattle.std.proofs.lemmas.Result.{IfOk-from_err}
-use Rattle.machine.specs.Stretch.{RunsStretch, ended_of}
 use Rattle.machine.proofs.StretchLemmas.{fails_too, same_cells}
 use Rattle.machine.proofs.JoinedStretches.{ends_alike, joined_as, looks_alike, quiet_to}
 use Rattle.machine.proofs.stretch.run_from.Goals as goal
@@ -43,7 +42,7 @@ loop-n-preserved c =
     (c.in_ok-cause.was ∙ ap (λ (x : Option Cause). Ok x) c.in_default.is) (c.run_some-steps.ensures.goes c.loop-n.n i.at) c.run_some-steps.ensures.progress in
     let e = c.if-not-looks_at_no_more.ensures in
     let same = looks_alike c.args.running.now.looked c.run_some-steps.new.running.looked stretch.extends
-    (same_cells c.args.running.now.looked.cells c.run_some-steps.new.running.looked.cells stretch.extends.cells (e.cells refl ∙ c.look_count-cells.ensures)) (e.places refl ∙ c.script_looks-places.ensures) (e.files refl) in
+    (same_cells c.args.running.now.looked.cells c.run_some-steps.new.running.looked.cells stretch.extends.cells (e.cells refl ∙ c.look_count-cells.ensures)) (e.offsets refl ∙ c.script_looks-offsets.ensures) (e.files refl) in
     let more : 0 < c.run_some-steps.result.0 = rw c.in_default.is at (rw c.in_ok-cause.was at c.run_some-steps.ensures.progress) in
     record {
       at = stretch.at;

@@ -17,7 +17,7 @@ use Rattle.machine.proofs.StretchLemmas.{ends_by_step, ends_by_stop, ends_by_fai
 use Rattle.machine.proofs.stretch.run_instructions_over.Goals as goal
 
 abbrev with_places : DeskAndFiles → List ℕ → AllLooks
-with_places d cells = record { cells = cells; places = d.places; files = d.asks }
+with_places d cells = record { cells = cells; offsets = d.offsets; files = d.asks }
 
 abbrev seen_here : Regs → DeskAndFiles → View → StateView
 seen_here r d v = view_with r d (overlay_in v)

@@ -4,12 +4,12 @@ use Rattle.machine.specs.StateView.{PartialState}
 use Rattle.machine.specs.Machine.{session_answers}
 use Rattle.machine.specs.SavedState.{state_with_text}
 use Rattle.replay.specs.Ring.{IsValidFor}
-use Rattle.replay.proofs.ColdLemmas.{after_none}
+use Rattle.machine.proofs.RunLemmas.{after_zero}
 use Rattle.replay.proofs.StartLemmas.{has_valid, has_step}
 use Rattle.replay.proofs.rerun.begin.Goals as goal
 
 pub returns-in_default-clause-at : goal.returns-in_default-clause-at
-returns-in_default-clause-at c = after_none _ _ c.in_ok-running.ensures.state
+returns-in_default-clause-at c = after_zero _ _ _ c.in_ok-running.ensures.state
 
 pub text_prefix-requires : goal.text_prefix-requires
 text_prefix-requires c =

@@ -15,7 +15,7 @@ use Rattle.replay.proofs.rerun.rerun.Goals as goal
 pub returns-in_err-from-clause-broken_off : goal.returns-in_err-from-clause-broken_off
 returns-in_err-from-clause-broken_off c =
     let s = c.args.last_run.now.session in
-    let start = start_reached (session_answers s) s.limit c.args.last_run.now.text.items c.args.checkpoints.now.ring.items c.requires.sound.stands in
+    let start = start_reached (session_answers s) s.limit c.args.last_run.now.text.items c.args.checkpoints.now.ring.items c.requires.sound.valid in
     on_err c.from_residual.result _ (start_step s.limit c.args.checkpoints.now.ring.items, start.0, start.1, start_within s.limit c.args.checkpoints.now.ring.items, omega arith)
 
 pub returns-in_err-steps-clause-broken_off : goal.returns-in_err-steps-clause-broken_off
@@ -35,7 +35,7 @@ resume-ran-requires-clause-begins c = record {
 
 pub resume-ran-requires-clause-sound : goal.resume-ran-requires-clause-sound
 resume-ran-requires-clause-sound c = record {
-  valid = stands_valid (session_answers c.args.last_run.now.session) c.args.last_run.now.text.items c.args.checkpoints.now.ring.items c.requires.sound.stands;
+  valid = stands_valid (session_answers c.args.last_run.now.session) c.args.last_run.now.text.items c.args.checkpoints.now.ring.items c.requires.sound.valid;
   rising = c.requires.sound.rising;
   below = c.requires.sound.below;
   noted = c.requires.sound.noted;
@@ -48,20 +48,20 @@ failed c =
     let at = c.resume-ran.ensures.at in
     left (session_answers c.args.last_run.now.session) c.args.last_run.now.session.limit c.newest_step-newest.result c.in_ok-from.from c.limit.result c.resume-ran.new.running.state c.args.checkpoints.now.ring c.resume-ran.new.checkpoints.ring
     c.args.last_run.now.text.items c.begin.new.text.items c.save_end-kept.new.text.items
-    c.requires.sound.stands c.newest_step-newest.ensures.there c.limit.ensures.value c.in_ok-from.ensures.step (at.0, at.1, at.2, at.3) c.resume-ran.ensures.same c.resume-ran.ensures.sound.valid
-    c.in_ok-from.ensures.needed c.save_end-kept.ensures.text c.save_end-kept.ensures.needed
+    c.requires.sound.valid c.newest_step-newest.ensures.there c.limit.ensures.value c.in_ok-from.ensures.step (at.0, at.1, at.2, at.3) c.resume-ran.ensures.same c.resume-ran.ensures.sound.valid
+    _ c.text_use_of-text_use.ensures c.in_ok-from.ensures.copied c.save_end-kept.ensures.moved c.save_end-kept.ensures.copied
 
 ended : (c : goal.Joined-last_run-2) → Left (session_answers c.args.last_run.now.session) c.resume-ran.new.running.state c.save_end-kept.new.text.items c.resume-ran.new.checkpoints.ring.items
 ended c =
     let at = c.resume-ran.ensures.at in
     left (session_answers c.args.last_run.now.session) c.args.last_run.now.session.limit c.newest_step-newest.result c.in_ok-from.from c.limit.result c.resume-ran.new.running.state c.args.checkpoints.now.ring c.resume-ran.new.checkpoints.ring
     c.args.last_run.now.text.items c.begin.new.text.items c.save_end-kept.new.text.items
-    c.requires.sound.stands c.newest_step-newest.ensures.there c.limit.ensures.value c.in_ok-from.ensures.step (at.0, at.1, at.2, at.3) c.resume-ran.ensures.same c.resume-ran.ensures.sound.valid
-    c.in_ok-from.ensures.needed c.save_end-kept.ensures.text c.save_end-kept.ensures.needed
+    c.requires.sound.valid c.newest_step-newest.ensures.there c.limit.ensures.value c.in_ok-from.ensures.step (at.0, at.1, at.2, at.3) c.resume-ran.ensures.same c.resume-ran.ensures.sound.valid
+    _ c.text_use_of-text_use.ensures c.in_ok-from.ensures.copied c.save_end-kept.ensures.moved c.save_end-kept.ensures.copied
 
 pub returns-in_err-steps-clause-sound : goal.returns-in_err-steps-clause-sound
 returns-in_err-steps-clause-sound c = record {
-  stands = (failed c).stands;
+  valid = (failed c).stands;
   rising = c.resume-ran.ensures.sound.rising;
   below = c.resume-ran.ensures.sound.below;
   noted = c.resume-ran.ensures.sound.noted;
@@ -71,7 +71,7 @@ returns-in_err-steps-clause-sound c = record {
 
 pub returns-clause-sound : goal.returns-clause-sound
 returns-clause-sound c = record {
-  stands = (ended c).stands;
+  valid = (ended c).stands;
   rising = c.resume-ran.ensures.sound.rising;
   below = c.resume-ran.ensures.sound.below;
   noted = c.resume-ran.ensures.sound.noted;
@@ -95,7 +95,7 @@ returns-in_err-from-clause-adds c =
       spacing = refl;
     })
 
--- The earlier count of refusals does not matter.
+-- The earlier count of failed allocations does not matter.
 anew : (old : Checkpoints) (notes : RunNotes) (new : Checkpoints) (from upto : ℕ) → AddsDue (record old { notes = notes }) new from upto → AddsDue old new from upto
 anew old notes new from upto h = record { adds = h.adds; counted = h.counted; capacity = h.capacity; spacing = h.spacing }
 

@@ -6,7 +6,8 @@ use Rattle.machine.specs.StateView.{PartialState}
 use Rattle.machine.specs.Machine.{session_answers}
 use Rattle.machine.specs.Stretch.{LooksAtNothingNew, RunsStretch}
 use Rattle.replay.specs.declared.run_notes.RunNotes.{RunNotes}
-use Rattle.replay.specs.FirstLooks.{FirstLooksView, IsFirstLooks}
+use Rattle.first_looks.specs.FirstLooks.{FirstLooksView}
+use Rattle.replay.specs.FirstLooks.{IsFirstLooks}
 use Rattle.replay.proofs.StretchNotes.{stretch_kept, passed}
 use Rattle.replay.proofs.OutcomeLemmas.{match_err}
 use Rattle.replay.proofs.RefusalLemmas.{none_counted, once_on, once_at_stop}
@@ -26,8 +27,8 @@ loop-n-preserved c =
     let more : c.loop-n.n < reached = rw c.in_default.is at c.in_ok-reached.ensures.progress in
     let seen : c.loop-n.n < c.loop-n.notes.looks.seen → reached ≤ c.loop-n.notes.looks.seen = λ low. omega (arith, stretch.within, c.seen.ensures, c.bound_of-bound.ensures.seen (omega (arith, low, c.seen.ensures))) in
     let other = c.note_last_step.ensures.other in
-    let notes = stretch_kept c.args.session.now c.bound_of-bound.result c.loop-n.n reached c.loop-n.notes.looks c.note_last_step.new.notes.looks c.loop-n.notes.refusals c.note_last_step.new.notes.refusals _ c.loop-n.running.looked
-    c.run_from.new.running.looked c.note_last_step.new.running.looked stretch more i.noted i.looks seen c.note_last_step.ensures.cells (λ ne. (ap (λ (t : RunNotes). t.looks) (other ne).0, ap (λ (t : RunNotes). t.refusals) (other ne).0, (other ne).1, (other ne).2))
+    let notes = stretch_kept c.args.session.now c.bound_of-bound.result c.loop-n.n reached c.loop-n.notes.looks c.note_last_step.new.notes.looks c.loop-n.notes.alloc_failures c.note_last_step.new.notes.alloc_failures _ c.loop-n.running.looked
+    c.run_from.new.running.looked c.note_last_step.new.running.looked stretch more i.noted i.looks seen c.note_last_step.ensures.cells (λ ne. (ap (λ (t : RunNotes). t.looks) (other ne).0, ap (λ (t : RunNotes). t.alloc_failures) (other ne).0, (other ne).1))
     (rw c.look_count-noted.ensures at c.note_last_step.ensures.here) in
     record {
       at = stretch.at ∙ ap (λ (st : PartialState). Some st) (sym c.note_last_step.ensures.state);
@@ -35,7 +36,7 @@ loop-n-preserved c =
       noted = notes.noted;
       seen_in = elim notes.within [ inl e ↦ omega (arith, e, i.seen_in) | inr e ↦ omega (arith, e, stretch.within, c.bound_of-bound.ensures.within, c.requires.order) ];
       counted = (omega (arith, notes.counted, i.counted), omega (arith, notes.counted, i.counted, more));
-      once = once_on _ _ _ _ _ c.loop-n.notes.looks _ i.once i.low c.note_last_step.new.notes.looks _ _ _ _ more (λ ne. (ap (λ (t : RunNotes). t.looks) (other ne).0, ap (λ (t : RunNotes). t.refusals) (other ne).0)) c.note_last_step.ensures.here;
+      once = once_on _ _ _ _ _ c.loop-n.notes.looks _ i.once i.low c.note_last_step.new.notes.looks _ _ _ more (λ ne. (ap (λ (t : RunNotes). t.looks) (other ne).0, ap (λ (t : RunNotes). t.alloc_failures) (other ne).0)) c.note_last_step.ensures.here;
       all = λ low none. notes.all (omega (arith, none, notes.counted, i.counted)) (i.all low (omega (arith, none, notes.counted, i.counted)));
       grows = omega (arith, notes.grows, i.grows);
       low = omega (arith, more, i.low);

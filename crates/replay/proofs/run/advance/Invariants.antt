@@ -11,9 +11,9 @@ invariant-loop-n l = record {
   looks : l.n ≤ l.notes.looks.seen → AllNoted l.notes.looks l.running.looked;
   noted : IsFirstLooks (session_answers l.session) l.notes.looks;
   seen_in : l.notes.looks.seen ≤ STEP_LIMIT;
-  counted : (l.initial.notes.refusals ≤ l.notes.refusals) × (l.notes.refusals + l.from ≤ l.initial.notes.refusals + l.n);
-  once : FailsLooksOnce l.initial.notes.looks.seen l.from l.initial.notes.refusals l.notes.looks.seen l.n l.notes.refusals;
-  all : l.from ≤ l.initial.notes.looks.seen → l.notes.refusals ≡ l.initial.notes.refusals → l.n ≤ l.notes.looks.seen;
+  counted : (l.initial.notes.alloc_failures ≤ l.notes.alloc_failures) × (l.notes.alloc_failures + l.from ≤ l.initial.notes.alloc_failures + l.n);
+  once : FailsLooksOnce l.initial.notes.looks.seen l.from l.initial.notes.alloc_failures l.notes.looks.seen l.n l.notes.alloc_failures;
+  all : l.from ≤ l.initial.notes.looks.seen → l.notes.alloc_failures ≡ l.initial.notes.alloc_failures → l.n ≤ l.notes.looks.seen;
   grows : l.initial.notes.looks.seen ≤ l.notes.looks.seen;
   low : l.from ≤ l.n;
   high : l.n ≤ l.end;

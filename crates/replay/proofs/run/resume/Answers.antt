@@ -79,7 +79,7 @@ returns-in-Some-clause-cold c =
     let a = c.in_ok-reached.ensures.at in
     let at : after (session_answers c.args.session.now) c.in_ok-reached.reached ≡ Some c.advance.new.running.state = rw a.4 a.1 in
     let stopped = rw c.in-Some.is at c.in_ok-reached.ensures.stopped in
-    rw c.push_checkpoint-last_kept.ensures.running (cold_stop _ _ _ _ at (omega (arith, stopped.0, c.due_after-end.ensures.later, c.limit-limit.ensures.value)) stopped.1)
+    rw c.push_checkpoint-newest_tried.ensures.running (cold_stop _ _ _ _ at (omega (arith, stopped.0, c.due_after-end.ensures.later, c.limit-limit.ensures.value)) stopped.1)
 
 pub returns-in-Some-clause-at : goal.returns-in-Some-clause-at
 returns-in-Some-clause-at c =
@@ -89,9 +89,9 @@ returns-in-Some-clause-at c =
     let low = a.2 in
     let high = a.3 in (
       a.0,
-      a.1 ∙ ap (λ (r : StateView). Some r.state) (sym c.push_checkpoint-last_kept.ensures.running),
+      a.1 ∙ ap (λ (r : StateView). Some r.state) (sym c.push_checkpoint-newest_tried.ensures.running),
       omega (arith, high, c.due_after-end.ensures.later, c.limit-limit.ensures.value),
-      λ h. kept_each _ c.loop-n.checkpoints.ring _ _ _ c.push_checkpoint-last_kept.ensures.ring (Each-weaken _ _ _ (λ d e. omega (arith, e, low)) (i.upto h)) (λ e. omega (arith, here)),
+      λ h. kept_each _ c.loop-n.checkpoints.ring _ _ _ c.push_checkpoint-newest_tried.ensures.ring (Each-weaken _ _ _ (λ d e. omega (arith, e, low)) (i.upto h)) (λ e. omega (arith, here)),
       omega (arith, low, i.low),
       omega (arith, a.5, i.meter),
       here,
@@ -104,21 +104,21 @@ returns-in-Some-clause-same c h =
     let here : c.in_ok-reached.reached ≡ a.0 = a.4 in
     let high = a.3 in
     let past : c.args.session.now.limit < c.args.newest = h in
-    kept_same _ c.loop-n.checkpoints.ring _ _ c.push_checkpoint-last_kept.ensures.ring (omega (arith, here, high, past, i.newer, c.due_after-end.ensures.later, c.limit-limit.ensures.value)) ∙ i.same (omega (arith, past, c.limit-limit.ensures.value))
+    kept_same _ c.loop-n.checkpoints.ring _ _ c.push_checkpoint-newest_tried.ensures.ring (omega (arith, here, high, past, i.newer, c.due_after-end.ensures.later, c.limit-limit.ensures.value)) ∙ i.same (omega (arith, past, c.limit-limit.ensures.value))
 
-all_due : (c : goal.In-Some) → c.push_checkpoint-last_kept.new.refusals ≡ 0 → AddsAll c.args.checkpoints.now.ring.items c.push_checkpoint-last_kept.new.ring.items c.args.checkpoints.now.ring.capacity c.args.from c.in_ok-reached.reached c.in_ok-reached.reached c.args.checkpoints.now.spacing
+all_due : (c : goal.In-Some) → c.push_checkpoint-newest_tried.new.failures ≡ 0 → AddsAll c.args.checkpoints.now.ring.items c.push_checkpoint-newest_tried.new.ring.items c.args.checkpoints.now.ring.capacity c.args.from c.in_ok-reached.reached c.in_ok-reached.reached c.args.checkpoints.now.spacing
 all_due c r =
     let stopped = rw c.in-Some.is at c.in_ok-reached.ensures.stopped in
     let i = c.loop-n.invariant in
     let a = c.in_ok-reached.ensures.at in
     let low : c.loop-n.n ≤ c.in_ok-reached.reached = rw a.4 a.2 in
-    let ring = c.push_checkpoint-last_kept.ensures.ring in
+    let ring = c.push_checkpoint-newest_tried.ensures.ring in
     let counted = c.in_ok-reached.ensures.counts.1 in
-    elim c.push_checkpoint-last_kept.ensures.refused [
+    elim c.push_checkpoint-newest_tried.ensures.refused [
       | inl e ↦ all_made _ _ _ _ _ _ _ _ (all_on _ _ _ _ _ _ c.loop-n.checkpoints.ring _ _ _ i.capacity low (inr refl)
           (λ k a b m. elim m [ inl w ↦ c.due_after-end.ensures.first k a (omega (arith, b, stopped.0)) w | inr l ↦ omega (arith, b, l) ])
           (relast_all _ _ _ _ _ _ c.in_ok-reached.reached _ _ c.loop-n-test.true low i.spot (i.all (omega (arith, counted.grows, e, r))))
-          _ _ _ _ c.requires.newest.there i.last e (c.in_ok-reached.ensures.counts.1.all (i.on (omega (arith, counted.grows, e, r))) (omega (arith, counted.grows, e, r))) ring (rw c.seen-seen.ensures at c.push_checkpoint-last_kept.ensures.made)) refl
+          _ _ _ _ c.requires.newest.there i.last e (c.in_ok-reached.ensures.counts.1.all (i.on (omega (arith, counted.grows, e, r))) (omega (arith, counted.grows, e, r))) ring (rw c.seen-seen.ensures at c.push_checkpoint-newest_tried.ensures.made)) refl
       | inr e ↦ absurd (omega (arith, e.2, r))
     ]
 
@@ -128,11 +128,11 @@ returns-in-Some-clause-adds c =
     let a = c.in_ok-reached.ensures.at in
     let low : c.loop-n.n ≤ c.in_ok-reached.reached = rw a.4 a.2 in
     let g = relast_adding _ _ _ _ _ _ c.in_ok-reached.reached _ _ c.loop-n-test.true i.adds in
-    let ring = c.push_checkpoint-last_kept.ensures.ring in
+    let ring = c.push_checkpoint-newest_tried.ensures.ring in
     let all = kept_adds _ _ _ _ _ _ c.loop-n.checkpoints.ring _ _ _ i.capacity g low (inr refl) ring in
-    let refused = c.push_checkpoint-last_kept.ensures.refused in
+    let refused = c.push_checkpoint-newest_tried.ensures.refused in
     let counted = c.in_ok-reached.ensures.counts.1 in
-    let few : c.advance.new.notes.refusals + c.loop-n.n ≤ c.loop-n.checkpoints.notes.refusals + c.in_ok-reached.reached = counted.few in
+    let few : c.advance.new.notes.alloc_failures + c.loop-n.n ≤ c.loop-n.checkpoints.notes.alloc_failures + c.in_ok-reached.reached = counted.few in
     let kept = counted_above _ _ _ _ _ _ (rw c.seen-seen.ensures at refused) in (
       record {
         adds = all.adds;
@@ -153,13 +153,13 @@ returns-in-Some-clause-sound c =
     let at : after (session_answers c.args.session.now) c.in_ok-reached.reached ≡ Some c.advance.new.running.state = rw a.4 a.1 in
     let low : c.loop-n.n ≤ c.in_ok-reached.reached = rw a.4 a.2 in
     let g = relast_adding _ _ _ _ _ _ c.in_ok-reached.reached _ _ c.loop-n-test.true i.adds in
-    let ring = c.push_checkpoint-last_kept.ensures.ring in
+    let ring = c.push_checkpoint-newest_tried.ensures.ring in
     let all = kept_adds _ _ _ _ _ _ c.loop-n.checkpoints.ring _ _ _ i.capacity g low (inr refl) ring in
     let s = c.advance.ensures.seen.0 in
     record {
       valid = kept_each _ c.loop-n.checkpoints.ring _ _ _ ring i.valid (λ h. new_valid _ _ _ (omega (arith, h)) at);
       rising = adds_rising _ _ _ _ _ _ _ c.requires.sound.rising all.adds;
-      below = kept_known _ c.loop-n.checkpoints.ring _ c.advance.new.notes.looks.seen _ ring (rw c.seen-seen.ensures at c.push_checkpoint-last_kept.ensures.seen) (Each-weaken _ _ _ (λ d h. omega (arith, h, s)) i.known);
+      below = kept_known _ c.loop-n.checkpoints.ring _ c.advance.new.notes.looks.seen _ ring (rw c.seen-seen.ensures at c.push_checkpoint-newest_tried.ensures.seen) (Each-weaken _ _ _ (λ d h. omega (arith, h, s)) i.known);
       noted = c.advance.ensures.noted;
       spacing_in = rw i.spacing c.requires.sound.spacing_in;
       seen_in = c.advance.ensures.seen.1;
@@ -175,17 +175,17 @@ loop-n-preserved c =
     let a = c.in_ok-reached.ensures.at in
     let at : after (session_answers c.args.session.now) c.in_ok-reached.reached ≡ Some c.advance.new.running.state = rw a.4 a.1 in
     let low : c.loop-n.n ≤ c.in_ok-reached.reached = rw a.4 a.2 in
-    let ring = c.push_checkpoint-last_kept.ensures.ring in
-    let newest = c.push_checkpoint-last_kept.ensures.newest in
-    let refused = c.push_checkpoint-last_kept.ensures.refused in
+    let ring = c.push_checkpoint-newest_tried.ensures.ring in
+    let newest = c.push_checkpoint-newest_tried.ensures.newest in
+    let refused = c.push_checkpoint-newest_tried.ensures.refused in
     let counted = c.in_ok-reached.ensures.counts.1 in
-    let few : c.advance.new.notes.refusals + c.loop-n.n ≤ c.loop-n.checkpoints.notes.refusals + c.in_ok-reached.reached = counted.few in
+    let few : c.advance.new.notes.alloc_failures + c.loop-n.n ≤ c.loop-n.checkpoints.notes.alloc_failures + c.in_ok-reached.reached = counted.few in
     let once = c.in_ok-reached.ensures.counts.0 in
     let kept = counted_above _ _ _ _ _ _ (rw c.seen-seen.ensures at refused) in
     let ends_later : c.loop-n.n < c.in_ok-reached.reached = omega (arith, ends, c.due_after-end.ensures.later) in
     record {
-      at = rw c.push_checkpoint-last_kept.ensures.running at;
-      looks = rw c.push_checkpoint-last_kept.ensures.running looks;
+      at = rw c.push_checkpoint-newest_tried.ensures.running at;
+      looks = rw c.push_checkpoint-newest_tried.ensures.running looks;
       noted = c.advance.ensures.noted;
       seen_in = c.advance.ensures.seen.1;
       low = omega (arith, low);
@@ -198,13 +198,13 @@ loop-n-preserved c =
       spacing = i.spacing;
       capacity = kept_capacity _ c.loop-n.checkpoints.ring _ _ ring ∙ i.capacity;
       valid = kept_each _ c.loop-n.checkpoints.ring _ _ _ ring i.valid (λ h. new_valid _ _ _ (omega (arith, h)) at);
-      known = kept_known _ c.loop-n.checkpoints.ring _ c.advance.new.notes.looks.seen _ ring (rw c.seen-seen.ensures at c.push_checkpoint-last_kept.ensures.seen) (Each-weaken _ _ _ (λ d h. omega (arith, h, s)) i.known);
+      known = kept_known _ c.loop-n.checkpoints.ring _ c.advance.new.notes.looks.seen _ ring (rw c.seen-seen.ensures at c.push_checkpoint-newest_tried.ensures.seen) (Each-weaken _ _ _ (λ d h. omega (arith, h, s)) i.known);
       adds = rw newest (kept_adds _ _ _ _ _ _ c.loop-n.checkpoints.ring _ _ _ i.capacity i.adds low marked ring);
       all = λ r. elim refused [
         | inl e ↦ rw newest (all_on _ _ _ _ _ _ c.loop-n.checkpoints.ring _ _ _ i.capacity low marked
             (λ k a b m. elim m [ inl w ↦ c.due_after-end.ensures.first k a (omega (arith, b, ends)) w | inr l ↦ omega (arith, b, l, ends, c.due_after-end.ensures.later) ])
             (i.all (omega (arith, counted.grows, e, r)))
-            _ _ _ _ c.requires.newest.there i.last e (c.in_ok-reached.ensures.counts.1.all (i.on (omega (arith, counted.grows, e, r))) (omega (arith, counted.grows, e, r))) ring (rw c.seen-seen.ensures at c.push_checkpoint-last_kept.ensures.made))
+            _ _ _ _ c.requires.newest.there i.last e (c.in_ok-reached.ensures.counts.1.all (i.on (omega (arith, counted.grows, e, r))) (omega (arith, counted.grows, e, r))) ring (rw c.seen-seen.ensures at c.push_checkpoint-newest_tried.ensures.made))
         | inr e ↦ absurd (omega (arith, e.2, r))
       ];
       due = λ left. elim marked [

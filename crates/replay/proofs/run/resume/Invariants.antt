@@ -21,15 +21,15 @@ invariant-loop-n l = record {
   capacity : l.checkpoints.ring.capacity ≡ l.initial.checkpoints.ring.capacity;
   valid : Each (IsValid (session_answers l.session)) l.checkpoints.ring.items;
   known : Each (λ c. c.step ≤ l.checkpoints.notes.looks.seen) l.checkpoints.ring.items;
-  adds : Adding l.initial.checkpoints.ring.items l.checkpoints.ring.items l.initial.checkpoints.ring.capacity l.from l.n l.limit l.spacing l.last_kept;
-  on : l.checkpoints.notes.refusals ≡ 0 → l.n ≤ l.checkpoints.notes.looks.seen;
-  all : l.checkpoints.notes.refusals ≡ 0 → AddingAll l.initial.checkpoints.ring.items l.checkpoints.ring.items l.initial.checkpoints.ring.capacity l.from l.n l.limit l.spacing l.last_kept;
-  due : l.n < l.limit → CountsSoFar l.from l.n l.checkpoints.notes.looks.seen l.spacing l.checkpoints.notes.refusals;
-  ended : l.checkpoints.notes.refusals + l.from / l.spacing ≤ l.n / l.spacing + 2;
-  few : l.checkpoints.notes.refusals + 2 * l.from ≤ 2 * l.n;
+  adds : Adding l.initial.checkpoints.ring.items l.checkpoints.ring.items l.initial.checkpoints.ring.capacity l.from l.n l.limit l.spacing l.newest_tried;
+  on : l.checkpoints.notes.alloc_failures ≡ 0 → l.n ≤ l.checkpoints.notes.looks.seen;
+  all : l.checkpoints.notes.alloc_failures ≡ 0 → AddingAll l.initial.checkpoints.ring.items l.checkpoints.ring.items l.initial.checkpoints.ring.capacity l.from l.n l.limit l.spacing l.newest_tried;
+  due : l.n < l.limit → CountsSoFar l.from l.n l.checkpoints.notes.looks.seen l.spacing l.checkpoints.notes.alloc_failures;
+  ended : l.checkpoints.notes.alloc_failures + l.from / l.spacing ≤ l.n / l.spacing + 2;
+  few : l.checkpoints.notes.alloc_failures + 2 * l.from ≤ 2 * l.n;
   spot : (l.n ≡ l.from) ⊎ ((l.n % l.spacing ≡ 0) ⊎ (l.n ≡ l.limit));
-  last : l.last_kept ≡ max l.newest l.n;
-  newer : l.newest ≤ l.last_kept;
+  last : l.newest_tried ≡ max l.newest l.n;
+  newer : l.newest ≤ l.newest_tried;
   upto : l.newest ≤ l.from → Each (λ c. c.step ≤ l.n) l.checkpoints.ring.items;
   same : l.limit < l.newest → l.checkpoints.ring ≡ l.initial.checkpoints.ring;
 }

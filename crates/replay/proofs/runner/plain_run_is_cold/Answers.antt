@@ -1,5 +1,5 @@
-use Rattle.replay.proofs.PlainLemmas.{plain_run_is_cold}
+use Rattle.machine.proofs.WholeLemmas.{plain_machine_is_laid}
 use Rattle.replay.proofs.runner.plain_run_is_cold.Goals as goal
 
 pub returns : goal.returns
-returns c = plain_run_is_cold
+returns c = plain_machine_is_laid.runs

@@ -5,7 +5,7 @@ use Rattle.machine.specs.Step.{next}
 use Rattle.machine.specs.Machine.{session_answers, session_tree, outcome_with, start}
 use Rattle.machine.specs.PlainLaid.{laid_state}
 use Rattle.machine.proofs.DependenceLemmas as lemmas
-use Rattle.machine.proofs.WholeLemmas.{whole_goes_as_laid}
+use Rattle.machine.proofs.WholeLemmas.{plain_machine_is_laid}
 use Rattle.replay.proofs.runner.prefix_dependence.Goals as goal
 
 pub returns : goal.returns
@@ -17,7 +17,7 @@ returns c s t limits other_limits n st at untouched =
       regs = refl;
       desk = refl;
       own = refl;
-      plain = whole_goes_as_laid.states s limits n ∙ ap (option_map (laid_state s)) at;
-      other_plain = whole_goes_as_laid.states t other_limits n ∙ ap (option_map (laid_state t)) (same ∙ at);
+      plain = plain_machine_is_laid.states s limits n ∙ ap (option_map (laid_state s)) at;
+      other_plain = plain_machine_is_laid.states t other_limits n ∙ ap (option_map (laid_state t)) (same ∙ at);
       looks = asked;
     }

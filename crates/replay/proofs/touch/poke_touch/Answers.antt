@@ -1,5 +1,6 @@
 use Rattle.std.proofs.Common.{◌≡◌, ◌+◌, arith, length}
-use Rattle.machine.specs.Machine.{Cell, session_answers}
+use Rattle.first_looks.specs.declared.question.Question.TheVariants.{Cell}
+use Rattle.machine.specs.Machine.{session_answers}
 use Rattle.replay.specs.Edits.{with_poke}
 use Rattle.replay.proofs.FirstLemmas.{noted_below}
 use Rattle.replay.proofs.LeastLemmas.{least_of_none, least_more}

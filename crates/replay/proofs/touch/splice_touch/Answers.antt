@@ -10,7 +10,7 @@ loop-place-preserved-then-is_same_byte c =
 pub loop-place-preserved : goal.loop-place-preserved
 loop-place-preserved c =
     let same = rw c.script-script.ensures.value at c.is_same_byte.ensures in
-    rw (c.lesser_step-touch.ensures, c.place.ensures)
+    rw (c.lesser_step-touch.ensures, c.get.ensures)
     (changed_place c.args.session.now c.args.at c.args.removed c.args.bytes.now c.args.looks.now c.loop-place.place c.loop-place.touch c.loop-place.invariant c.requires.noted
     (λ answers. let yes = same.1 answers in let no : false ≡ true = sym c.if-is_same_byte.false ∙ yes in cc))
 
@@ -20,7 +20,7 @@ returns-then-is_earliest_from c =
     let at = c.args.at in
     let i = c.loop-place.place in
     let same = rw c.script-script.ensures.value at c.is_same_byte.ensures in
-    rw (c.lesser_step-touch.ensures, c.place.ensures)
+    rw (c.lesser_step-touch.ensures, c.get.ensures)
     (splice_touched s at c.args.removed c.args.bytes.now c.requires.inside c.args.looks.now (i + 1) _
     (rest_later s at c.args.removed c.args.bytes.now c.args.looks.now i c.loop-place.touch (c.is_earliest_from.ensures c.if-is_earliest_from.true))
     (changed_place s at c.args.removed c.args.bytes.now c.args.looks.now i c.loop-place.touch c.loop-place.invariant c.requires.noted

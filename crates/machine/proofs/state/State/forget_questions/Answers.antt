@@ -1,5 +1,5 @@
 use Rattle.machine.proofs.HostLemmas.{nothing_asked}
 use Rattle.machine.proofs.state.State.forget_questions.Goals as goal
 
-pub returns-clause-files : goal.returns-clause-files
-returns-clause-files c = λ a. nothing_asked _ a c.forget_looks.ensures.looks
+pub returns-clause-none : goal.returns-clause-none
+returns-clause-none c = record { offsets = c.forget_looks-2.ensures.looks; files = λ a. nothing_asked _ a c.forget_looks.ensures.looks }

@@ -10,4 +10,7 @@ returns-clause-state c =
     λ i. record { core = record { regs = first_regs; desk = c.new-2.ensures.desk i }; own = record { cells = cells_none _ none i; files = c.new-3.ensures.own i } }
 
 pub returns-clause-looked : goal.returns-clause-looked
-returns-clause-looked c = record { cells = c.from_parts.ensures.looks; places = c.new-2.ensures.places; files = λ a. nothing_asked c.new-3.result.looks a c.new-3.ensures.looks }
+returns-clause-looked c = record {
+  cells = c.from_parts.ensures.looks;
+  questions = record { offsets = c.new-2.ensures.looks; files = λ a. nothing_asked c.new-3.result.looks a c.new-3.ensures.looks };
+}

@@ -4,7 +4,7 @@ use Rattle.machine.specs.SavedState.{SavedState, state_with_text}
 use Rattle.machine.specs.PlainLaid.{laid_state}
 use Rattle.machine.proofs.WholeLemmas.{cell_is}
 use Rattle.replay.specs.LastState.{last_state}
-use Rattle.replay.specs.PlainRun.{PlainRun}
+use Rattle.machine.specs.PlainState.{PlainRun}
 use Rattle.replay.proofs.report.Report.cell.Goals as goal
 
 pub returns : goal.returns
@@ -15,4 +15,4 @@ returns c =
     c.cell.ensures (take kept.length text)
     ∙ sym (cell_is s (state_with_text kept (take kept.length text)) c.args.a (omega arith))
     ∙ ap (λ (end : Option SavedState). slice_index (laid_state s (last_state end text)).memory c.args.a) (sym c.in-Some.is)
-    ∙ ap (λ (run : PlainRun). slice_index run.machine.memory c.args.a) c.args.self.now.of_run
+    ∙ ap (λ (run : PlainRun). slice_index run.state.memory c.args.a) c.args.self.now.of_run

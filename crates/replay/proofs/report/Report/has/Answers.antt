@@ -1,8 +1,11 @@
-use Rattle.replay.specs.Report.{run_of, session_of}
+use Rattle.hostfiles.specs.FileView.{view_own}
+use Rattle.replay.specs.Report.{run_of}
 use Rattle.replay.proofs.ReportLemmas.{there_is}
 use Rattle.replay.proofs.report.Report.has.Goals as goal
 
 pub returns : goal.returns
 returns c =
-    let is = there_is (session_of c.args.self.now).files c.journal.result.now.entries (run_of c.args.self.now).machine.files c.journal.ensures c.args.name.now in
+    let file = c.file.result in
+    let is = there_is file.host.now (view_own file) (run_of c.args.self.now).state.files c.file.ensures.files file.key in
+    let key = c.file.ensures.key in
     cc

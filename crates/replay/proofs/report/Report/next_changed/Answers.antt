@@ -1,31 +1,35 @@
-use Rattle.std.proofs.Common.{◌≡◌, ap, ◌∙◌}
+use Rattle.std.proofs.Common.{◌≡◌, sym, ap, ◌∙◌}
+use Rattle.hostfiles.specs.Changed.{is_changed_name}
 use Rattle.hostfiles.specs.Files.{files}
-use Rattle.hostfiles.specs.Hosts.{Host}
+use Rattle.hostfiles.specs.Hosts.{Key, Host}
 use Rattle.machine.specs.ChangedFiles.{is_changed_name_in}
-use Rattle.replay.specs.Report.{run_of}
-use Rattle.replay.proofs.ReportLemmas.{changed_is, some_is, least_is, none_is}
+use Rattle.replay.specs.Report.{is_left_changed, run_of}
+use Rattle.replay.proofs.ReportLemmas.{changed_is}
 use Rattle.replay.proofs.report.Report.next_changed.Goals as goal
 
-pub returns-clause-changed : goal.returns-clause-changed
-returns-clause-changed c =
+pub returns-in-Some-clause-changed : goal.returns-in-Some-clause-changed
+returns-in-Some-clause-changed c =
     let host = c.files.result.now in
     let own = c.journal.result.now.entries in
-    let all = (run_of c.args.self.now).machine.files in
+    let all = (run_of c.args.self.now).state.files in
     let laid : files host own ≡ all = ap (λ (h : Host). files h own) c.files.ensures ∙ c.journal.ensures in
-    some_is _ _ (changed_is host own all laid ∙ ap (λ (h : Host). is_changed_name_in h all) c.files.ensures) _ c.next_changed.ensures.changed
+    let is : (x : Key) → is_left_changed c.args.self.now x ≡ is_changed_name host own x = λ x. ap (λ (h : Host). is_changed_name_in h all x) (sym c.files.ensures) ∙ changed_is host own all laid x in
+    is c.in-Some.changed.name ∙ c.in-Some.ensures.changed
 
-pub returns-clause-least : goal.returns-clause-least
-returns-clause-least c =
+pub returns-in-Some-clause-least : goal.returns-in-Some-clause-least
+returns-in-Some-clause-least c =
     let host = c.files.result.now in
     let own = c.journal.result.now.entries in
-    let all = (run_of c.args.self.now).machine.files in
+    let all = (run_of c.args.self.now).state.files in
     let laid : files host own ≡ all = ap (λ (h : Host). files h own) c.files.ensures ∙ c.journal.ensures in
-    least_is _ _ (changed_is host own all laid ∙ ap (λ (h : Host). is_changed_name_in h all) c.files.ensures) _ _ c.next_changed.ensures.least
+    let is : (x : Key) → is_left_changed c.args.self.now x ≡ is_changed_name host own x = λ x. ap (λ (h : Host). is_changed_name_in h all x) (sym c.files.ensures) ∙ changed_is host own all laid x in
+    λ x a l. is x ∙ c.in-Some.ensures.least x a l
 
-pub returns-clause-none : goal.returns-clause-none
-returns-clause-none c =
+pub returns-in-None-clause-none : goal.returns-in-None-clause-none
+returns-in-None-clause-none c =
     let host = c.files.result.now in
     let own = c.journal.result.now.entries in
-    let all = (run_of c.args.self.now).machine.files in
+    let all = (run_of c.args.self.now).state.files in
     let laid : files host own ≡ all = ap (λ (h : Host). files h own) c.files.ensures ∙ c.journal.ensures in
-    none_is _ _ (changed_is host own all laid ∙ ap (λ (h : Host). is_changed_name_in h all) c.files.ensures) _ _ c.next_changed.ensures.none
+    let is : (x : Key) → is_left_changed c.args.self.now x ≡ is_changed_name host own x = λ x. ap (λ (h : Host). is_changed_name_in h all x) (sym c.files.ensures) ∙ changed_is host own all laid x in
+    λ x a. is x ∙ c.in-None.ensures.none x a

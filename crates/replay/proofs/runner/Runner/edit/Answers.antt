@@ -12,7 +12,7 @@ use Rattle.replay.proofs.runner.Runner.edit.Goals as goal
 pub invariant_of-self-2 : goal.invariant_of-self-2
 invariant_of-self-2 c =
     sound_edit c.self.inside.last_run.session c.apply.new.session c.self.inside.last_run.text.items c.touch_of-touch.result c.self.inside.checkpoints _
-    c.self.invariant (rw (← c.in_ok-apply.ensures.ok) at c.touch_of-touch.ensures) c.drop_past.ensures.parts c.erase_from.ensures.entries c.erase_from.ensures.seen refl
+    c.self.invariant (rw (← c.in_ok-apply.ensures.ok) at c.touch_of-touch.ensures) c.drop_past.ensures.parts c.erase_from.ensures.steps c.erase_from.ensures.seen refl
 
 pub returns-in_err-change-clause-answer : goal.returns-in_err-change-clause-answer
 returns-in_err-change-clause-answer c =
@@ -22,7 +22,7 @@ returns-in_err-change-clause-answer c =
     (subst (λ (r : Result (Unit {0}) EditError). AnswersEdit (edited old c.args.edit) r old) (sym e.1) (subst (Refuses (edited old c.args.edit)) (sym e.2) c.in_err-change.ensures.refused))
 
 pub returns-in_err-change-clause-stand : goal.returns-in_err-change-clause-stand
-returns-in_err-change-clause-stand c = rw (← c.self.view_is) (all_stand _ _ _ c.self.invariant.stands)
+returns-in_err-change-clause-stand c = rw (← c.self.view_is) (all_stand _ _ _ c.self.invariant.valid)
 
 pub returns-in_err-apply-clause-answer : goal.returns-in_err-apply-clause-answer
 returns-in_err-apply-clause-answer c =
@@ -33,7 +33,7 @@ returns-in_err-apply-clause-answer c =
     (subst (Refuses (edited old c.args.edit)) (sym e.2) (session_after_change old c.in_ok-change.change, c.in_ok-change.ensures.makes)))
 
 pub returns-in_err-apply-clause-stand : goal.returns-in_err-apply-clause-stand
-returns-in_err-apply-clause-stand c = rw (c.in_err-apply.ensures.err) (all_stand _ _ _ c.self.invariant.stands)
+returns-in_err-apply-clause-stand c = rw (c.in_err-apply.ensures.err) (all_stand _ _ _ c.self.invariant.valid)
 
 pub returns-clause-kept : goal.returns-clause-kept
 returns-clause-kept c =
@@ -42,6 +42,6 @@ returns-clause-kept c =
 
 pub returns-clause-stand : goal.returns-clause-stand
 returns-clause-stand c =
-    let sound = sound_edit c.self.inside.last_run.session c.apply.new.session c.self.inside.last_run.text.items c.touch_of-touch.result c.self.inside.checkpoints (record { spacing = c.self.inside.checkpoints.spacing; ring = c.drop_past.new.ring; notes = record { looks = c.erase_from.new.self; refusals = c.self.inside.checkpoints.notes.refusals } })
-    c.self.invariant (rw (← c.in_ok-apply.ensures.ok) at c.touch_of-touch.ensures) c.drop_past.ensures.parts c.erase_from.ensures.entries c.erase_from.ensures.seen refl in
-    all_stand _ _ _ sound.stands
+    let sound = sound_edit c.self.inside.last_run.session c.apply.new.session c.self.inside.last_run.text.items c.touch_of-touch.result c.self.inside.checkpoints (record { spacing = c.self.inside.checkpoints.spacing; ring = c.drop_past.new.ring; notes = record { looks = c.erase_from.new.self; alloc_failures = c.self.inside.checkpoints.notes.alloc_failures } })
+    c.self.invariant (rw (← c.in_ok-apply.ensures.ok) at c.touch_of-touch.ensures) c.drop_past.ensures.parts c.erase_from.ensures.steps c.erase_from.ensures.seen refl in
+    all_stand _ _ _ sound.valid

@@ -1,6 +1,6 @@
 use Rattle.std.proofs.Common.{◌≡◌, refl, sym, ap, subst}
-use Rattle.replay.specs.PlainRun.{PlainRun, plain_run}
-use Rattle.replay.proofs.PlainLemmas.{reports_run}
+use Rattle.machine.specs.PlainState.{PlainRun, plain_run}
+use Rattle.replay.proofs.ColdLemmas.{reports_run}
 use Rattle.replay.proofs.RingLemmas.{on_err}
 use Rattle.replay.proofs.OutcomeLemmas.{if_err, match_err}
 use Rattle.replay.proofs.RunnerLemmas.{all_stand}
@@ -19,7 +19,7 @@ returns-in_err-steps c =
         (
           c.rerun.ensures.session.0,
           record { spacing = c.in_err-steps.ensures.adds.spacing; slots = c.in_err-steps.ensures.adds.capacity },
-          all_stand _ _ _ c.rerun.ensures.sound.stands,
+          all_stand _ _ _ c.rerun.ensures.sound.valid,
           match_err c.from_residual.result _ _ c.from_residual.ensures.0 (
             reran text c.rerun.new.last_run.text.items ring c.rerun.new.checkpoints.ring.items _ _ _ _ c.rerun.ensures.sound.rising c.in_err-steps.ensures.adds.adds,
             c.in_err-steps.ensures.adds.counted,
@@ -54,7 +54,7 @@ returns c =
         (
           c.rerun.ensures.session.0,
           record { spacing = c.in_ok-steps.ensures.adds.0.spacing; slots = c.in_ok-steps.ensures.adds.0.capacity },
-          all_stand _ _ _ c.rerun.ensures.sound.stands,
+          all_stand _ _ _ c.rerun.ensures.sound.valid,
           (
             reran text c.rerun.new.last_run.text.items ring c.rerun.new.checkpoints.ring.items _ _ _ _ c.rerun.ensures.sound.rising c.in_ok-steps.ensures.adds.0.adds,
             λ none. none_left text c.rerun.new.last_run.text.items ring c.rerun.new.checkpoints.ring.items _ _ _ _ (c.in_ok-steps.ensures.adds.1 none),
@@ -66,7 +66,7 @@ returns c =
         ends = tt;
         run =
             let run = plain_run c.rerun.new.last_run.session in
-            subst (λ n. ◌≡◌ {A = PlainRun} (record { machine = run.machine; steps = n; cause = run.cause }) (plain_run c.self.inside.last_run.session)) is
+            subst (λ n. ◌≡◌ {A = PlainRun} (record { state = run.state; steps = n; cause = run.cause }) (plain_run c.self.inside.last_run.session)) is
             (ap plain_run c.rerun.ensures.session.0);
         session = c.rerun.ensures.session.0;
         ticked = c.in_ok-steps.ensures.ticked;

@@ -6,5 +6,5 @@ use Rattle.replay.proofs.runner.Runner.with_spacing_in_range.Goals as goal
 
 pub invariant_of-result : goal.invariant_of-result
 invariant_of-result c =
-    sound_start _ _ _ (ap (λ (b : Buffer Checkpoint). b.items) c.in_ok-ring.ensures)
-    (record { cells = c.new-2.ensures.cells; places = c.new-2.ensures.places; files = c.new-2.ensures.files; seen = c.new-2.ensures.seen }) c.requires
+    sound_start c.args.session _ _ (ap (λ (b : Buffer Checkpoint). b.items) c.in_ok-ring.ensures)
+    (record { cells = c.new-2.ensures.cells; offsets = c.new-2.ensures.offsets; files = c.new-2.ensures.files; seen = c.new-2.ensures.seen }) c.requires

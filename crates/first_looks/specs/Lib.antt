@@ -1,0 +1,10 @@
+pub mod Noting
+pub mod FirstSteps
+pub mod SequentialSteps
+pub mod RecordSteps
+pub mod FileSteps
+pub mod Touch
+pub mod Setting
+pub mod Questions
+pub mod Codes
+pub mod FirstLooks
