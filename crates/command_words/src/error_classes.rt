@@ -11,7 +11,7 @@ pub enum ErrorClass {
     /// A request for help or the version. The error's text goes to standard output; the status is 0.
     Information,
     /// A usage error. The error's text goes to standard error; the status is 1.
-    Misuse,
+    UsageError,
     /// A failed allocation. The program prints its own message instead of the error's text; the status is 12.
     OutOfMemory,
 }
@@ -23,6 +23,6 @@ pub fn error_class(error: &Error) -> ErrorClass
     match error.kind() {
         ErrorKind::OutOfMemory => ErrorClass::OutOfMemory,
         ErrorKind::DisplayHelp | ErrorKind::DisplayVersion => ErrorClass::Information,
-        _ => ErrorClass::Misuse,
+        _ => ErrorClass::UsageError,
     }
 }

@@ -3,11 +3,11 @@ use Rattle.std.proofs.Common.{◌≡◌, ◌∙◌, ℕ, inl, inr, sym}
 use Rattle.report_lines.specs.Streams.{Output}
 use Rattle.cpmrun.specs.FaultReports.{ReportsFaultOrMemory, status_of}
 use Rattle.cpmrun.specs.declared.fault.Fault.{Fault}
-use Rattle.cpmrun.specs.declared.fault.Fault.TheVariants.{Use, NotText, CannotRead, CannotWrite, Folders, Refused, Malformed, TooLong, OutOfMemory}
+use Rattle.cpmrun.specs.declared.fault.Fault.TheVariants.{Usage, NotText, CannotRead, CannotWrite, Folders, Refused, Malformed, TooLong, OutOfMemory}
 
 -- No error has the status 0.
 status_above : (f : Fault) → status_of f ≡ 0 → ⊥
-status_above (Use text) e = cc
+status_above (Usage text) e = cc
 status_above NotText e = cc
 status_above (CannotRead path) e = cc
 status_above CannotWrite e = cc

@@ -8,7 +8,7 @@ use Rattle.machine.specs.Inputs.{Session}
 use Rattle.edit_lines.specs.declared.ending.ReplayFault.{ReplayFault}
 use Rattle.edit_lines.specs.declared.ending.ReplayFault.TheVariants as replay_fault
 use Rattle.cpmrun.specs.declared.fault.Fault.{Fault}
-use Rattle.cpmrun.specs.declared.fault.Fault.TheVariants.{Use, NotText, CannotRead, CannotWrite, Folders, Refused, Malformed, TooLong, OutOfMemory}
+use Rattle.cpmrun.specs.declared.fault.Fault.TheVariants.{Usage, NotText, CannotRead, CannotWrite, Folders, Refused, Malformed, TooLong, OutOfMemory}
 use Rattle.cpmrun.specs.Requests.{AreWords, FailsToParse}
 use Rattle.loading.specs.Loading.{FailsToLoad, IsLoadedFrom}
 use Rattle.loading.specs.declared.fault.LoadFault.{LoadFault}
@@ -43,7 +43,7 @@ pub record BreaksOffWith (f : ReplayFault) (source : Option (List ℕ)) (first :
 
 -- What an error that broke off the replay of the edit lines of this path leaves; the file has these bytes if they are known.
 abbrev pub BreaksReplay : List ℕ → Option (List ℕ) → Session → Output → Output → Fault → Type 0
-BreaksReplay path source s old new (Use text) = ⊥
+BreaksReplay path source s old new (Usage text) = ⊥
 BreaksReplay path source s old new NotText = ⊥
 BreaksReplay path source s old new (CannotRead p) = (p.now ≡ path) × ((new ≡ old) ⊎ BreaksOffWith replay_fault.Read source s old new)
 BreaksReplay path source s old new CannotWrite = BreaksOffWith replay_fault.Write source s old new

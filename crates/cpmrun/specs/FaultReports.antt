@@ -7,7 +7,7 @@ use Rattle.loading.specs.declared.fault.LoadFault.TheVariants as load
 use Rattle.one_run.specs.declared.fault.RunFault.{RunFault}
 use Rattle.one_run.specs.declared.fault.RunFault.TheVariants as run
 use Rattle.cpmrun.specs.declared.fault.Fault.{Fault}
-use Rattle.cpmrun.specs.declared.fault.Fault.TheVariants.{Use, NotText, CannotRead, CannotWrite, Folders, Refused, Malformed, TooLong, OutOfMemory}
+use Rattle.cpmrun.specs.declared.fault.Fault.TheVariants.{Usage, NotText, CannotRead, CannotWrite, Folders, Refused, Malformed, TooLong, OutOfMemory}
 use Rattle.report_lines.specs.FirstLines.{line}
 use Rattle.report_lines.specs.Streams.{Output, WritesOrFails}
 
@@ -25,7 +25,7 @@ of_run run.OutOfMemory = OutOfMemory
 
 -- The failures of the file system that an error reports: one if a file or a folder could not be read or written.
 abbrev pub file_failures : Fault → ℕ
-file_failures (Use text) = 0
+file_failures (Usage text) = 0
 file_failures NotText = 0
 file_failures (CannotRead path) = 1
 file_failures CannotWrite = 0
@@ -37,7 +37,7 @@ file_failures OutOfMemory = 0
 
 -- The exit status of an error.
 abbrev pub status_of : Fault → ℕ
-status_of (Use text) = 1
+status_of (Usage text) = 1
 status_of NotText = 1
 status_of (CannotRead path) = 1
 status_of CannotWrite = 1
@@ -49,7 +49,7 @@ status_of OutOfMemory = 12
 
 -- The message of an error: clap's lines for a usage error, and one line for every other.
 abbrev pub message_of : Fault → List ℕ
-message_of (Use text) = string_bytes text
+message_of (Usage text) = string_bytes text
 message_of NotText =
     line (codes "error: invalid UTF-8 was detected in one or more arguments") ++ line []
     ++ line (codes "Usage: cpmrun [OPTIONS] <PROGRAM> [TAIL]") ++ line []
@@ -68,7 +68,7 @@ ReportsFault f status before after = (status ≡ status_of f) × WritesOrFails b
 
 -- The message has a path, a name or a number put into it, and so needs memory.
 abbrev pub NamesAValue : Fault → Type 0
-NamesAValue (Use text) = ⊥
+NamesAValue (Usage text) = ⊥
 NamesAValue NotText = ⊥
 NamesAValue (CannotRead path) = Unit {0}
 NamesAValue CannotWrite = ⊥

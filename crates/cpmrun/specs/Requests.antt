@@ -7,7 +7,7 @@ use Rattle.command_words.specs.declared.words.Words.{Words}
 use Rattle.cpmrun.specs.declared.request.Request.{Request}
 use Rattle.cpmrun.specs.declared.request.Request.TheVariants.{Session, Information}
 use Rattle.cpmrun.specs.declared.fault.Fault.{Fault}
-use Rattle.cpmrun.specs.declared.fault.Fault.TheVariants.{Use, NotText, CannotRead, CannotWrite, Folders, Refused, Malformed, TooLong, OutOfMemory}
+use Rattle.cpmrun.specs.declared.fault.Fault.TheVariants.{Usage, NotText, CannotRead, CannotWrite, Folders, Refused, Malformed, TooLong, OutOfMemory}
 
 -- The words are no usage error, and have these values.
 pub record AreWords (words : List (List ℕ)) (w : Words) : Type 0 where
@@ -24,7 +24,7 @@ IsRequestOf words (Information text) = HasErrorClass words outcome.Information
 
 -- Why words have no request: they are a usage error, or an allocation failed.
 abbrev pub FailsToParse : List (List ℕ) → Fault → Type 0
-FailsToParse words (Use text) = HasErrorClass words outcome.Misuse
+FailsToParse words (Usage text) = HasErrorClass words outcome.UsageError
 FailsToParse words NotText = ⊥
 FailsToParse words (CannotRead path) = ⊥
 FailsToParse words CannotWrite = ⊥

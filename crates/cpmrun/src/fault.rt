@@ -11,7 +11,7 @@ use std::alloc::{AllocError, Global};
 #[derive(Drop)]
 pub enum Fault<'a> {
     /// A usage error in the words of the command line, with its message.
-    Use(String),
+    Usage(String),
     /// A word of the command line is not UTF-8.
     NotText,
     /// The file of this path could not be read.
@@ -91,7 +91,7 @@ impl Fault<'_> {
         ensures none { IfNone result (NamesAValue self.now) }
     {
         match self {
-            Fault::Use(text) => Some(text.as_str()),
+            Fault::Usage(text) => Some(text.as_str()),
             Fault::NotText => Some(NOT_TEXT),
             Fault::CannotWrite => Some("cpmrun: cannot write standard output\n"),
             Fault::OutOfMemory => Some("cpmrun: out of memory\n"),
@@ -104,7 +104,7 @@ impl Fault<'_> {
         ensures { IfOk result (λ s. string_bytes s ≡ message_of self.now) }
     {
         match self {
-            Fault::Use(text) => String::from_str(alloc, text.as_str()),
+            Fault::Usage(text) => String::from_str(alloc, text.as_str()),
             Fault::NotText => String::from_str(alloc, NOT_TEXT),
             Fault::CannotRead(path) => format!(in alloc; "cpmrun: cannot read {path}\n"),
             Fault::CannotWrite => String::from_str(alloc, "cpmrun: cannot write standard output\n"),

@@ -34,6 +34,6 @@ pub fn read_request<'a>(alloc: Global, words: &'a [String]) -> Result<Request<'a
     };
     match outcome {
         ErrorClass::Information => Ok(Request::Information(text)),
-        _ => Err(Fault::Use(text)),
+        _ => Err(Fault::Usage(text)),
     }
 }

@@ -3,7 +3,7 @@ use Rattle.std.proofs.Common.{◌≡◌, ℕ, List, [], take, Option, Result, Ok
 use Rattle.std.proofs.lemmas.List.{append-nil}
 use Rattle.std.specs.Io.KnownBytes.{Consumes, IsAtEnd}
 use Rattle.std.proofs.KnownBytes.{Consumes-trans}
-use Rattle.replay.specs.RunnerView.{RunnerView}
+use Rattle.replay.specs.RunnerView.{RunnerView, SameOptions}
 use Rattle.report_lines.specs.Streams.{Output, WritesWhole}
 use Rattle.edit_lines.specs.declared.ending.Ending.{Ending}
 use Rattle.edit_lines.specs.declared.ending.ReplayFault.{ReplayFault}
@@ -11,6 +11,7 @@ use Rattle.edit_lines.specs.Effects.{Effects, EffectsAtFault}
 use Rattle.edit_lines.specs.Pieces.{lines_of}
 use Rattle.edit_lines.specs.Replay.{Finished, Replays}
 use Rattle.edit_lines.specs.Faults.{Faults}
+use Rattle.edit_lines.proofs.Executing.{options_after, options_at_fault}
 use Rattle.edit_lines.specs.Progress.{FinishesReplay, ReplayState}
 
 pub no_more_bytes : (a b d : Option (List ℕ)) (bytes piece : List ℕ) (n : ℕ) → n ≡ 0 → Consumes a b bytes → Consumes b d (take n piece) → Consumes a d bytes
@@ -32,3 +33,8 @@ module _ (first : ReplayState) (now : RunnerView) (meter : ℕ) (after : Output)
       × EffectsAtFault first.runner first.meter bytes now meter f)
   answers_err (Ok e) h = tt
   answers_err (Err f) h = (bytes, read, h.0 d end, h.1)
+
+pub options_finished : (first : ReplayState) (now : RunnerView) (meter : ℕ) (after : Output) (bytes : List ℕ) (r : Result Ending ReplayFault)
+    → FinishesReplay first bytes now meter after r → SameOptions first.runner now
+options_finished first now meter after bytes (Ok e) h = options_after h.3
+options_finished first now meter after bytes (Err f) h = options_at_fault first.runner first.meter bytes now meter f h.1

@@ -6,8 +6,10 @@ use Rattle.std.proofs.Math.Seq.{take-append_seam}
 use Rattle.std.specs.List.{concat}
 use Rattle.std.proofs.KnownBytes.{Appends-trans}
 use Rattle.machine.specs.Inputs.{Session}
+use Rattle.replay.specs.RunnerView.{RunnerView}
 use Rattle.report_lines.specs.Streams.{Output, WritesWhole}
 use Rattle.edit_lines.specs.declared.line.Command.{Command}
+use Rattle.edit_lines.specs.declared.line.Command.TheVariants.{Run}
 use Rattle.edit_lines.specs.declared.ending.ReplayFault.{ReplayFault}
 use Rattle.edit_lines.specs.declared.ending.ReplayFault.TheVariants.{Malformed, LineTooLong, Read, Write, OutOfMemory}
 use Rattle.edit_lines.specs.EditLine.{EditLine}
@@ -15,6 +17,7 @@ use Rattle.edit_lines.specs.Pieces.{lines_of, past_lines}
 use Rattle.edit_lines.specs.Replay.{ExecutesLines, Replays, MalformedAt, none, more, reply, session_after}
 use Rattle.edit_lines.specs.Faults.{StopsMidLine, Faults}
 use Rattle.edit_lines.specs.Progress.{ExecutesLine}
+use Rattle.edit_lines.proofs.Executing.{session_after_effect, session_left}
 use Rattle.edit_lines.specs.declared.limits.TheConstants.{LINE_LIMIT, LINES_LIMIT}
 
 -- One more line is executed.
@@ -39,12 +42,12 @@ take_most rs r =
     let n : length (rs ++ r ∷ []) - 1 ≡ length rs = omega (arith, length-append rs (r ∷ [])) in
     ap (λ k. take k (rs ++ r ∷ [])) n ∙ take-append_seam rs (r ∷ [])
 
-module _ (left : Option (List ℕ)) (first s t : Session) (before h₀ h₁ : Output) (whole line : List ℕ) (done replies : List (List ℕ))
-    (carried : ExecutesLines first done replies s) (written : WritesWhole before h₀ (concat replies)) (few : length done ≤ LINES_LIMIT) where
+module _ (left : Option (List ℕ)) (first : Session) (old new : RunnerView) (meter metered : ℕ) (before h₀ h₁ : Output) (whole line : List ℕ) (done replies : List (List ℕ))
+    (carried : ExecutesLines first done replies old.session) (written : WritesWhole before h₀ (concat replies)) (few : length done ≤ LINES_LIMIT) where
   -- No further line was executed.
   pub stays_there : (others : List (List ℕ)) → lines_of whole ≡ done ++ others
       → ((rest : List ℕ) → left ≡ Some rest → (others : List (List ℕ)) × (lines_of (whole ++ rest) ≡ done ++ others))
-      → length (past_lines (length done) whole) ≤ 2 * LINE_LIMIT → StopsMidLine left first before whole s h₀ 0
+      → length (past_lines (length done) whole) ≤ 2 * LINE_LIMIT → StopsMidLine left first before whole old.session h₀ 0
   stays_there others cut cuts near = record {
     text = concat replies;
     written = written.bytes;
@@ -65,8 +68,8 @@ module _ (left : Option (List ℕ)) (first s t : Session) (before h₀ h₁ : Ou
       → (others : List (List ℕ)) → lines_of whole ≡ done ++ line ∷ others
       → ((rest : List ℕ) → left ≡ Some rest → (others : List (List ℕ)) × (lines_of (whole ++ rest) ≡ done ++ line ∷ others))
       → length (past_lines (length done) whole) ≤ 2 * LINE_LIMIT → length (past_lines (length done + 1) whole) ≤ 2 * LINE_LIMIT
-      → ExecutesLine {U = U} n line s t h₀ h₁ (Err f) → Faults left first before whole t h₁ f
-  Faults-from U n (Malformed k) number short others cut cuts near near' h = rw (h.2, h.3) (record {
+      → ExecutesLine {U = U} n line old meter h₀ new metered h₁ (Err f) → Faults left first before whole new.session h₁ f
+  Faults-from U n (Malformed k) number short others cut cuts near near' h = rw (h.3.0, h.2) (record {
     text = concat replies;
     written = written;
     replays = λ rest e. malformed rest (cuts rest e).0 (cuts rest e).1;
@@ -74,7 +77,7 @@ module _ (left : Option (List ℕ)) (first s t : Session) (before h₀ h₁ : Ou
     near = let e : k - 1 ≡ length done = omega (arith, h.0, number) in rw e near;
   }) where
     malformed : (rest : List ℕ) (after_it : List (List ℕ)) → lines_of (whole ++ rest) ≡ done ++ line ∷ after_it
-        → Replays first (lines_of (whole ++ rest)) (concat replies) s (MalformedAt k)
+        → Replays first (lines_of (whole ++ rest)) (concat replies) old.session (MalformedAt k)
     malformed rest after_it is = record {
       done = done;
       left = line ∷ after_it;
@@ -88,22 +91,22 @@ module _ (left : Option (List ℕ)) (first s t : Session) (before h₀ h₁ : Ou
   Faults-from U n (LineTooLong k) number short others cut cuts near near' h = absurd h
   Faults-from U n Read number short others cut cuts near near' h = absurd h
   Faults-from U n Write number short others cut cuts near near' h =
-      let c = h.0 in
-      let r = reply s c in
-      let m = h.4.count in
+      let (c, is, few_lines, did, wrote) = h in
+      let r = reply old.session c in
+      let m = wrote.count in
       record {
         text = concat replies ++ take m r;
-        written = Appends-trans _ _ _ (concat replies) (take m r) written.bytes h.4.bytes;
-        failed = h.4.failures ∙ ap (λ k. k + 1) written.failures;
+        written = Appends-trans _ _ _ (concat replies) (take m r) written.bytes wrote.bytes;
+        failed = wrote.failures ∙ ap (λ k. k + 1) written.failures;
         done = done ++ line ∷ [];
         replies = replies ++ r ∷ [];
         read = (others, cut ∙ sym (append_assoc done (line ∷ []) others));
         cut = λ rest e. let more = cuts rest e in (more.0, more.1 ∙ sym (append_assoc done (line ∷ []) more.0));
-        few = omega (arith, h.2, number, length-append done (line ∷ []));
-        carried = rw h.3 (ExecutesLines-snoc line c carried short h.1);
+        few = omega (arith, few_lines, number, length-append done (line ∷ []));
+        carried = rw (session_after_effect c old meter new metered did) (ExecutesLines-snoc line c carried short is);
         begins = (drop m r, concat-snoc replies r ∙ ap (λ x. concat replies ++ x) (sym (take-append-drop m r)) ∙ sym (append_assoc (concat replies) (take m r) (drop m r)));
         contains = (take m r, ap (λ x. concat x ++ take m r) (sym (take_most replies r)));
         near = let e : length (done ++ line ∷ []) ≡ length done + 1 = omega (arith, length-append done (line ∷ [])) in rw e near';
       }
-  Faults-from U n OutOfMemory number short others cut cuts near near' h = rw (h.2, h.3) (stays_there (line ∷ others) cut
+  Faults-from U n OutOfMemory number short others cut cuts near near' h = rw (session_left (EditLine line Run) old meter new metered h.3, h.2) (stays_there (line ∷ others) cut
       (λ rest e. let more = cuts rest e in (line ∷ more.0, more.1)) near)

@@ -1,15 +1,15 @@
 -- The effect of one more line, one more byte and the end of the input on a runner and a meter.
 use Rattle.std.proofs.Common.{◌≡◌, ℕ, ◌+◌, ◌-◌, ◌<◌, List, [], ◌∷◌, ◌++◌, length, refl, sym, ap, subst, ◌∙◌, arith, append_assoc, length-append, inl, inr, Result, Ok, Err}
 use Rattle.std.proofs.lemmas.List.{append-nil}
-use Rattle.replay.specs.PlainRun.{PlainRun, plain_run}
-use Rattle.replay.specs.RunnerView.{RunnerView, SameOptions, AddsDueTo, AddsAllDueTo, RestartsCount, rerun_start}
+use Rattle.report_lines.specs.Streams.{Output}
+use Rattle.replay.specs.RunnerView.{RunnerView}
 use Rattle.edit_lines.specs.declared.line.Command.{Command}
 use Rattle.edit_lines.specs.declared.ending.ReplayFault.{ReplayFault}
 use Rattle.edit_lines.specs.declared.ending.ReplayFault.TheVariants.{Malformed, LineTooLong, Read, Write, OutOfMemory}
 use Rattle.edit_lines.specs.EditLine.{EditLine}
 use Rattle.edit_lines.specs.Pieces.{first_piece, other_pieces, without_empty_last, lines_of}
-use Rattle.edit_lines.specs.Progress.{IsPartFault, IsReplayedTo, ReplayState}
-use Rattle.edit_lines.specs.Effects.{Effect, RunEffect, Effects, none, more, CommandTakesEffect, LineTakesEffect, FirstEffects, EffectsAtFault}
+use Rattle.edit_lines.specs.Progress.{ExecutesLine, IsPartFault, IsReplayedTo, ReplayState}
+use Rattle.edit_lines.specs.Effects.{Effect, Effects, none, more, FirstEffects, EffectsAtFault}
 use Rattle.edit_lines.proofs.Cutting.{cut_here, one_line, lines_of-append, lines_of-pieces}
 
 -- One more line has its effect.
@@ -17,39 +17,6 @@ pub Effects-snoc : {r s t : RunnerView} {k m n : ℕ} {ls : List (List ℕ)} (l 
     → Effect c s m t n → Effects r k (ls ++ l ∷ []) t n
 Effects-snoc l c none is e = more c is e none
 Effects-snoc l c (more d is' e' rest) is e = more d is' e' (Effects-snoc l c rest is e)
-
--- Options stay the same through steps that keep them.
-pub SameOptions-refl : (r : RunnerView) → SameOptions r r
-SameOptions-refl r = record { spacing = refl; slots = refl }
-
-pub SameOptions-trans : (a b d : RunnerView) → SameOptions a b → SameOptions b d → SameOptions a d
-SameOptions-trans a b d p q = record { spacing = q.spacing ∙ p.spacing; slots = q.slots ∙ p.slots }
-
--- The effect of a run, from its report.
-pub run_effect : (old : RunnerView) (meter : ℕ) (new : RunnerView) (metered : ℕ) (run : PlainRun) → run ≡ plain_run old.session → new.session ≡ old.session
-    → SameOptions old new → metered + rerun_start old ≡ meter + run.steps
-    → AddsDueTo old new run.steps × AddsAllDueTo old new run.steps × RestartsCount old new run.steps → RunEffect old meter new metered
-run_effect old meter new metered run is session options ticked made =
-    let steps : run.steps ≡ (plain_run old.session).steps = ap (λ (r : PlainRun). r.steps) is in
-    record {
-      session = session;
-      options = options;
-      ticked = rw steps at ticked;
-      reran = subst (λ (k : ℕ). AddsDueTo old new k) steps made.0;
-      complete = subst (λ (k : ℕ). AddsAllDueTo old new k) steps made.1;
-      counted = subst (λ (k : ℕ). RestartsCount old new k) steps made.2;
-    }
-
--- What a line did, from what its command did.
-pub line_did : (U : Type 0) (n : ℕ) (line : List ℕ) (c : Command) (old : RunnerView) (meter : ℕ) (new : RunnerView) (metered : ℕ) (r : Result U ReplayFault)
-    → EditLine line c → CommandTakesEffect c old meter new metered r → LineTakesEffect n line old meter new metered r
-line_did U n line c old meter new metered (Ok u) is h = (c, is, h)
-line_did U n line c old meter new metered (Err Write) is h = (c, is, h)
-line_did U n line c old meter new metered (Err OutOfMemory) is (inl h) = inl h
-line_did U n line c old meter new metered (Err OutOfMemory) is (inr h) = inr (subst (λ (d : Command). EditLine line d) h.0 is, h.1)
-line_did U n line c old meter new metered (Err (Malformed k)) is h = absurd h
-line_did U n line c old meter new metered (Err (LineTooLong k)) is h = absurd h
-line_did U n line c old meter new metered (Err Read) is h = absurd h
 
 module _ (first : ReplayState) (bytes : List ℕ) (now : ReplayState) (r : IsReplayedTo first bytes now) where
   -- The first lines of a longer text.
@@ -68,15 +35,15 @@ module _ (first : ReplayState) (bytes : List ℕ) (now : ReplayState) (r : IsRep
   }
 
   -- The next line of the text failed.
-  failed : (whole : List ℕ) (others : List (List ℕ)) → lines_of whole ≡ r.done ++ now.line ∷ others → (U : Type 0) (t : RunnerView) (n : ℕ) (f : ReplayFault)
-      → LineTakesEffect {U = U} (now.count + 1) now.line now.runner now.meter t n (Err f) → EffectsAtFault first.runner first.meter whole t n f
-  failed whole others cut U t n (Malformed k) h =
-      let e : k - 1 ≡ now.count = omega (arith, h.0) in rw (e, h.1.0, h.1.1) (so_far whole (now.line ∷ others) cut)
-  failed whole others cut U t n (LineTooLong k) h = absurd h
-  failed whole others cut U t n Read h = absurd h
-  failed whole others cut U t n Write h = (now.count + 1, with_line whole others cut t n h.0 h.1 h.2)
-  failed whole others cut U t n OutOfMemory (inl h) = inl (now.count, rw (h.0, h.1) (so_far whole (now.line ∷ others) cut))
-  failed whole others cut U t n OutOfMemory (inr h) = inr (record {
+  failed : (whole : List ℕ) (others : List (List ℕ)) → lines_of whole ≡ r.done ++ now.line ∷ others → (U : Type 0) (t : RunnerView) (n : ℕ) (after : Output) (f : ReplayFault)
+      → ExecutesLine {U = U} (now.count + 1) now.line now.runner now.meter now.output t n after (Err f) → EffectsAtFault first.runner first.meter whole t n f
+  failed whole others cut U t n after (Malformed k) h =
+      let e : k - 1 ≡ now.count = omega (arith, h.0) in rw (e, h.3.0, h.3.1) (so_far whole (now.line ∷ others) cut)
+  failed whole others cut U t n after (LineTooLong k) h = absurd h
+  failed whole others cut U t n after Read h = absurd h
+  failed whole others cut U t n after Write h = (now.count + 1, with_line whole others cut t n h.0 h.1 h.3)
+  failed whole others cut U t n after OutOfMemory (few, wants, same, inl h) = inl (now.count, rw (h.0, h.1) (so_far whole (now.line ∷ others) cut))
+  failed whole others cut U t n after OutOfMemory (few, wants, same, inr h) = inr (record {
     done = r.done;
     line = now.line;
     others = others;
@@ -89,14 +56,14 @@ module _ (first : ReplayState) (bytes : List ℕ) (now : ReplayState) (r : IsRep
   })
 
   -- The line ended and failed.
-  pub effects_failing : (U : Type 0) (rest : List ℕ) (t : RunnerView) (n : ℕ) (f : ReplayFault) (given : List ℕ) → given ≡ now.line
-      → LineTakesEffect {U = U} (now.count + 1) given now.runner now.meter t n (Err f)
+  pub effects_failing : (U : Type 0) (rest : List ℕ) (t : RunnerView) (n : ℕ) (after : Output) (f : ReplayFault) (given : List ℕ) → given ≡ now.line
+      → ExecutesLine {U = U} (now.count + 1) given now.runner now.meter now.output t n after (Err f)
       → EffectsAtFault first.runner first.meter ((bytes ++ 10 ∷ []) ++ rest) t n f
-  effects_failing U rest t n f given same h =
+  effects_failing U rest t n after f given same h =
       let others = without_empty_last (first_piece 10 rest ∷ other_pieces 10 rest) in
       failed ((bytes ++ 10 ∷ []) ++ rest) others
       (lines_of-append (bytes ++ 10 ∷ []) rest (r.done ++ now.line ∷ []) [] (cut_here bytes r.done now.line r.cut) ∙ append_assoc r.done (now.line ∷ []) others)
-      U t n f (subst (λ x. LineTakesEffect {U = U} (now.count + 1) x now.runner now.meter t n (Err f)) same h)
+      U t n after f (subst (λ x. ExecutesLine {U = U} (now.count + 1) x now.runner now.meter now.output t n after (Err f)) same h)
 
   -- The line continues with these bytes and more, and is not executed.
   effects_stay : (bs rest : List ℕ) → FirstEffects first.runner first.meter ((bytes ++ bs) ++ rest) now.count now.runner now.meter
@@ -129,7 +96,7 @@ module _ (first : ReplayState) (bytes : List ℕ) (now : ReplayState) (r : IsRep
   effects_ended some t n c is e = rw (lines_there some) (Effects-snoc now.line c r.effects is e)
 
   -- The last line failed.
-  pub effects_broken : 0 < length now.line → (U : Type 0) (t : RunnerView) (n : ℕ) (f : ReplayFault) (given : List ℕ) → given ≡ now.line
-      → LineTakesEffect {U = U} (now.count + 1) given now.runner now.meter t n (Err f) → EffectsAtFault first.runner first.meter bytes t n f
-  effects_broken some U t n f given same h =
-      failed bytes [] (lines_there some) U t n f (subst (λ x. LineTakesEffect {U = U} (now.count + 1) x now.runner now.meter t n (Err f)) same h)
+  pub effects_broken : 0 < length now.line → (U : Type 0) (t : RunnerView) (n : ℕ) (after : Output) (f : ReplayFault) (given : List ℕ) → given ≡ now.line
+      → ExecutesLine {U = U} (now.count + 1) given now.runner now.meter now.output t n after (Err f) → EffectsAtFault first.runner first.meter bytes t n f
+  effects_broken some U t n after f given same h =
+      failed bytes [] (lines_there some) U t n after f (subst (λ x. ExecutesLine {U = U} (now.count + 1) x now.runner now.meter now.output t n after (Err f)) same h)

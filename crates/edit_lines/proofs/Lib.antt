@@ -1,5 +1,6 @@
 pub mod Parts
 pub mod Cutting
+pub mod Executing
 pub mod Carrying
 pub mod Stepping
 pub mod EffectLemmas

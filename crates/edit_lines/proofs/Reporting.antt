@@ -9,7 +9,7 @@ use Rattle.replay.specs.declared.edit.EditError.TheVariants.{PastEnd, ScriptTooL
 use Rattle.hostfiles.specs.Hosts.{Host}
 use Rattle.machine.specs.PlainFiles.{Files}
 use Rattle.machine.specs.Inputs.{Session}
-use Rattle.replay.specs.PlainRun.{PlainRun}
+use Rattle.machine.specs.PlainState.{PlainRun}
 use Rattle.edit_lines.specs.declared.ending.ReplayFault.{ReplayFault}
 use Rattle.edit_lines.specs.declared.ending.ReplayFault.TheVariants.{Malformed, LineTooLong, Read, Write}
 use Rattle.edit_lines.specs.declared.ending.ReplayFault.TheVariants as fault
@@ -21,15 +21,15 @@ use Rattle.report_lines.specs.FirstLines.{line, report_head, text_line}
 use Rattle.report_lines.specs.ChangedLines.{changed_lines}
 use Rattle.edit_lines.specs.Reports.{report_text}
 
-pub report_is : (s : Session) (run : PlainRun) (head text : List ℕ) (host : Host) (all : Files) → head ≡ report_head run.cause run.steps run.machine.core.regs
-    → text ≡ run.machine.core.desk.text → host ≡ s.files → all ≡ run.machine.files
+pub report_is : (s : Session) (run : PlainRun) (head text : List ℕ) (host : Host) (all : Files) → head ≡ report_head run.cause run.steps run.state.core.regs
+    → text ≡ run.state.core.desk.text → host ≡ s.files → all ≡ run.state.files
     → (((head ++ text_line text) ++ changed_lines host all) ++ line (codes "end")) ≡ report_text s run
 unfolding report_text
 report_is s run head text host all first printed files done =
     ap (λ (h : List ℕ). ((h ++ text_line text) ++ changed_lines host all) ++ line (codes "end")) first
-    ∙ ap (λ (t : List ℕ). ((report_head run.cause run.steps run.machine.core.regs ++ text_line t) ++ changed_lines host all) ++ line (codes "end")) printed
-    ∙ ap (λ (h : Host). ((report_head run.cause run.steps run.machine.core.regs ++ text_line run.machine.core.desk.text) ++ changed_lines h all) ++ line (codes "end")) files
-    ∙ ap (λ (m : Files). ((report_head run.cause run.steps run.machine.core.regs ++ text_line run.machine.core.desk.text) ++ changed_lines s.files m) ++ line (codes "end")) done
+    ∙ ap (λ (t : List ℕ). ((report_head run.cause run.steps run.state.core.regs ++ text_line t) ++ changed_lines host all) ++ line (codes "end")) printed
+    ∙ ap (λ (h : Host). ((report_head run.cause run.steps run.state.core.regs ++ text_line run.state.core.desk.text) ++ changed_lines h all) ++ line (codes "end")) files
+    ∙ ap (λ (m : Files). ((report_head run.cause run.steps run.state.core.regs ++ text_line run.state.core.desk.text) ++ changed_lines s.files m) ++ line (codes "end")) done
 
 -- The refusal that the edit returned.
 pub refused_by : (wanted : Result Session ℕ) (e : EditError) (after : Session) → (e ≡ OutOfMemory → ⊥) → AnswersEdit {U = Unit {0}} wanted (Err e) after → wanted ≡ Err (edit_error_number e)
@@ -41,13 +41,3 @@ refused_by wanted TooManyFiles after not a = a
 refused_by wanted OutsideProgram after not a = a
 refused_by wanted LimitTooLarge after not a = a
 refused_by wanted OutOfMemory after not a = absurd (not refl)
-
--- An edit was applied, and this reply to it written.
-pub edit_does : (s t : Session) (e : Edit) (before after : Output) (text : List ℕ) (r : Result (Unit {0}) ReplayFault) → t ≡ edit_after s (edited s e) → text ≡ edit_reply (edited s e)
-    → Replies before after text r → ExecutesCommand (command.Edit e) s t before after r
-edit_does s t e before after text (Ok u) went is w = (went, subst (WritesWhole before after) is w)
-edit_does s t e before after text (Err Write) went is w = (went, subst (WritesPart before after) is w.1)
-edit_does s t e before after text (Err fault.OutOfMemory) went is w = let no = w.0 in absurd (cc)
-edit_does s t e before after text (Err (Malformed k)) went is w = let no = w.0 in absurd (cc)
-edit_does s t e before after text (Err (LineTooLong k)) went is w = let no = w.0 in absurd (cc)
-edit_does s t e before after text (Err Read) went is w = let no = w.0 in absurd (cc)

@@ -14,13 +14,14 @@ use Rattle.edit_lines.specs.declared.ending.ReplayFault.{ReplayFault}
 use Rattle.edit_lines.specs.declared.ending.ReplayFault.TheVariants.{Malformed, LineTooLong, Read, Write, OutOfMemory}
 use Rattle.edit_lines.specs.EditLine.{EditLine}
 use Rattle.edit_lines.specs.Pieces.{first_piece, other_pieces, pieces, without_empty_last, lines_of, past_lines}
-use Rattle.edit_lines.specs.Replay.{none, Finished, TooLongAt, EndsAt, Replays, reply, session_after}
+use Rattle.edit_lines.specs.Replay.{none, Finished, TooLongAt, EndsAt, Replays, reply}
 use Rattle.edit_lines.specs.Faults.{EndsAtFault, StopsMidLine, Faults}
 use Rattle.edit_lines.specs.Effects as effects
 use Rattle.edit_lines.specs.Effects.{Effect}
 use Rattle.edit_lines.specs.Progress.{IsReplayedTo, ReplayState, ExecutesLine, ContinuesReplay, IsPartFault}
 use Rattle.edit_lines.proofs.Cutting.{cut_beside, cut_here, one_line, past_lines-pieces, past_lines-last, lines_of-append, lines_of-pieces}
 use Rattle.edit_lines.proofs.EffectLemmas.{Effects-snoc, effects_part}
+use Rattle.edit_lines.proofs.Executing.{session_after_effect}
 use Rattle.edit_lines.proofs.Carrying.{ExecutesLines-snoc, concat-snoc, Faults-from, stays_there}
 use Rattle.edit_lines.specs.declared.limits.TheConstants.{LINE_LIMIT, LINES_LIMIT}
 
@@ -98,37 +99,36 @@ module _ (first : ReplayState) (bytes : List ℕ) (now : ReplayState) (r : IsRep
 
   -- The command of the line was executed.
   pub line_done : (t : RunnerView) (n : ℕ) (h₁ : Output) (line : List ℕ) (room : ℕ) → line ≡ [] → room ≡ now.room → length now.line ≤ now.room
-      → (c : Command) → EditLine now.line c → t.session ≡ session_after now.runner.session c → WritesWhole now.output h₁ (reply now.runner.session c)
-      → (d : Command) → EditLine now.line d → Effect d now.runner now.meter t n
+      → (c : Command) → EditLine now.line c → Effect c now.runner now.meter t n → WritesWhole now.output h₁ (reply now.runner.session c)
       → IsReplayedTo first (bytes ++ 10 ∷ []) (record { runner = t; meter = n; output = h₁; line = line; room = room; count = now.count + 1 })
-  line_done t n h₁ line room empty same fit c is e w d so did = record {
+  line_done t n h₁ line room empty same fit c is did w = record {
     done = r.done ++ now.line ∷ [];
     replies = r.replies ++ reply now.runner.session c ∷ [];
     cut = rw empty ends_here;
-    carried = rw e (ExecutesLines-snoc now.line c r.carried short is);
+    carried = rw (session_after_effect c now.runner now.meter t n did) (ExecutesLines-snoc now.line c r.carried short is);
     written = rw (concat-snoc r.replies (reply now.runner.session c)) (whole_then (concat r.replies) (reply now.runner.session c) r.written w);
-    effects = Effects-snoc now.line d r.effects so did;
+    effects = Effects-snoc now.line c r.effects is did;
     counted = omega (arith, r.counted, length-append r.done (now.line ∷ []));
     fits = rw same (All-append (λ (l : List ℕ). length l ≤ now.room) r.done (now.line ∷ []) r.fits
         (All-cons (λ (l : List ℕ). length l ≤ now.room) now.line [] fit (All-nil (λ (l : List ℕ). length l ≤ now.room))));
   }
 
   -- The line failed.
-  pub line_fails : (U : Type 0) (left : Option (List ℕ)) (rest : List ℕ) → length rest ≤ 65535 → (t : Session) (h₁ : Output) (f : ReplayFault)
-      → (given : List ℕ) → given ≡ now.line → ExecutesLine {U = U} (now.count + 1) given now.runner.session t now.output h₁ (Err f) → Faults left first.runner.session first.output ((bytes ++ 10 ∷ []) ++ rest) t h₁ f
-  line_fails U left rest few_more t h₁ f given same h =
+  pub line_fails : (U : Type 0) (left : Option (List ℕ)) (rest : List ℕ) → length rest ≤ 65535 → (t : RunnerView) (n : ℕ) (h₁ : Output) (f : ReplayFault)
+      → (given : List ℕ) → given ≡ now.line → ExecutesLine {U = U} (now.count + 1) given now.runner now.meter now.output t n h₁ (Err f) → Faults left first.runner.session first.output ((bytes ++ 10 ∷ []) ++ rest) t.session h₁ f
+  line_fails U left rest few_more t n h₁ f given same h =
       let whole = (bytes ++ 10 ∷ []) ++ rest in
       let here = lines_here rest in
       let past : past_lines (length r.done) whole ≡ now.line ++ (10 ∷ [] ++ rest) =
       ap (past_lines (length r.done)) (append_assoc bytes (10 ∷ []) rest) ∙ past_lines-pieces bytes (10 ∷ rest) r.done now.line r.cut in
       let past' : past_lines (length (r.done ++ now.line ∷ [])) whole ≡ rest = past_lines-pieces (bytes ++ 10 ∷ []) rest (r.done ++ now.line ∷ []) [] ends_here in
       let e : length (r.done ++ now.line ∷ []) ≡ length r.done + 1 = omega (arith, length-append r.done (now.line ∷ [])) in
-      Faults-from left first.runner.session now.runner.session t first.output now.output h₁ whole now.line r.done r.replies r.carried r.written enough U (now.count + 1) f
+      Faults-from left first.runner.session now.runner t now.meter n first.output now.output h₁ whole now.line r.done r.replies r.carried r.written enough U (now.count + 1) f
       (omega (arith, r.counted)) short here.0 here.1
       (λ more e'. let again = lines_here (rest ++ more) in (again.0, ap lines_of (append_assoc (bytes ++ 10 ∷ []) rest more) ∙ again.1))
       (rw past (omega (arith, length-append now.line (10 ∷ rest))))
       (rw (← e, past') (omega arith))
-      (subst (λ x. ExecutesLine {U = U} (now.count + 1) x now.runner.session t now.output h₁ (Err f)) same h)
+      (subst (λ x. ExecutesLine {U = U} (now.count + 1) x now.runner now.meter now.output t n h₁ (Err f)) same h)
 
   -- What follows the executed lines.
   pub past_here : (bs rest : List ℕ) → length bs + length rest ≤ 65536 → length (past_lines (length r.done) ((bytes ++ bs) ++ rest)) ≤ 2 * LINE_LIMIT
@@ -174,7 +174,7 @@ module _ (first : ReplayState) (bytes : List ℕ) (now : ReplayState) (r : IsRep
   line_stays : (left : Option (List ℕ)) (bs rest : List ℕ) → length bs + length rest ≤ 65536
       → StopsMidLine left first.runner.session first.output ((bytes ++ bs) ++ rest) now.runner.session now.output 0
   line_stays left bs rest few_more =
-      stays_there left first.runner.session now.runner.session now.runner.session first.output now.output now.output ((bytes ++ bs) ++ rest) now.line r.done r.replies r.carried r.written enough
+      stays_there left first.runner.session now.runner now.runner now.meter now.meter first.output now.output now.output ((bytes ++ bs) ++ rest) now.line r.done r.replies r.carried r.written enough
       (lines_on bs rest).0 (lines_on bs rest).1
       (λ more e. let on = lines_on bs (rest ++ more) in (on.0, ap lines_of (append_assoc (bytes ++ bs) rest more) ∙ on.1))
       (past_here bs rest few_more)
@@ -215,10 +215,10 @@ module _ (first : ReplayState) (bytes : List ℕ) (now : ReplayState) (r : IsRep
   lines_there some = lines_of-pieces bytes r.done now.line r.cut ∙ ap (λ ls. r.done ++ ls) (one_line now.line some)
 
   -- The command of the last line was executed.
-  pub ends_done : 0 < length now.line → (t : Session) (h₁ : Output) (c : Command) → EditLine now.line c → t ≡ session_after now.runner.session c
+  pub ends_done : 0 < length now.line → (t : RunnerView) (n : ℕ) (h₁ : Output) (c : Command) → EditLine now.line c → Effect c now.runner now.meter t n
       → WritesWhole now.output h₁ (reply now.runner.session c) → now.count + 1 ≤ LINES_LIMIT
-      → (text : List ℕ) × WritesWhole first.output h₁ text × Replays first.runner.session (lines_of bytes) text t (Finished (now.count + 1))
-  ends_done some t h₁ c is e w fits = (
+      → (text : List ℕ) × WritesWhole first.output h₁ text × Replays first.runner.session (lines_of bytes) text t.session (Finished (now.count + 1))
+  ends_done some t n h₁ c is did w fits = (
     concat r.replies ++ reply now.runner.session c,
     whole_then (concat r.replies) (reply now.runner.session c) r.written w,
     record {
@@ -227,23 +227,23 @@ module _ (first : ReplayState) (bytes : List ℕ) (now : ReplayState) (r : IsRep
       replies = r.replies ++ reply now.runner.session c ∷ [];
       cut = lines_there some ∙ sym (append-nil (r.done ++ now.line ∷ []));
       few = omega (arith, r.counted, length-append r.done (now.line ∷ []));
-      carried = rw e (ExecutesLines-snoc now.line c r.carried short is);
+      carried = rw (session_after_effect c now.runner now.meter t n did) (ExecutesLines-snoc now.line c r.carried short is);
       written = sym (concat-snoc r.replies (reply now.runner.session c));
       ends = (refl, omega (arith, r.counted, length-append r.done (now.line ∷ [])));
     },
   )
 
   -- The last line failed.
-  pub ends_failing : 0 < length now.line → (U : Type 0) (left : Option (List ℕ)) → IsAtEnd left → (t : Session) (h₁ : Output) (f : ReplayFault)
-      → (given : List ℕ) → given ≡ now.line → ExecutesLine {U = U} (now.count + 1) given now.runner.session t now.output h₁ (Err f) → Faults left first.runner.session first.output bytes t h₁ f
-  ends_failing some U left end t h₁ f given same h =
+  pub ends_failing : 0 < length now.line → (U : Type 0) (left : Option (List ℕ)) → IsAtEnd left → (t : RunnerView) (n : ℕ) (h₁ : Output) (f : ReplayFault)
+      → (given : List ℕ) → given ≡ now.line → ExecutesLine {U = U} (now.count + 1) given now.runner now.meter now.output t n h₁ (Err f) → Faults left first.runner.session first.output bytes t.session h₁ f
+  ends_failing some U left end t n h₁ f given same h =
       let past : past_lines (length r.done) bytes ≡ now.line =
       ap (past_lines (length r.done)) (sym (append-nil bytes)) ∙ past_lines-pieces bytes [] r.done now.line r.cut ∙ append-nil now.line in
       let e : length r.done + 1 ≡ suc (length r.done) = omega arith in
-      Faults-from left first.runner.session now.runner.session t first.output now.output h₁ bytes now.line r.done r.replies r.carried r.written enough U (now.count + 1) f
+      Faults-from left first.runner.session now.runner t now.meter n first.output now.output h₁ bytes now.line r.done r.replies r.carried r.written enough U (now.count + 1) f
       (omega (arith, r.counted)) short [] (lines_there some)
       (λ more e'. let none_more : more ≡ [] = at_end left more end e' in
       ([], rw (none_more, append-nil bytes) (lines_there some)))
       (rw past (omega arith))
       (rw (e, past_lines-last bytes r.done now.line r.cut) (omega arith))
-      (subst (λ x. ExecutesLine {U = U} (now.count + 1) x now.runner.session t now.output h₁ (Err f)) same h)
+      (subst (λ x. ExecutesLine {U = U} (now.count + 1) x now.runner now.meter now.output t n h₁ (Err f)) same h)

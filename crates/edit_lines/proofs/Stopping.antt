@@ -13,20 +13,19 @@ use Rattle.edit_lines.specs.declared.limits.TheConstants.{LINE_LIMIT, LINES_LIMI
 use Rattle.edit_lines.specs.EditLine.{EditLine}
 use Rattle.edit_lines.specs.LineParts.{LineAllocates}
 use Rattle.edit_lines.specs.Pieces.{first_piece, other_pieces, pieces, without_empty_last, lines_of, past_lines}
-use Rattle.edit_lines.specs.Effects.{LineTakesEffect}
 use Rattle.edit_lines.specs.Progress.{ExecutesLine, IsPartFault, IsReplayedTo, ReplayState}
 use Rattle.edit_lines.specs.MemoryFaults.{FailsForMemory, StopsForMemory}
+use Rattle.edit_lines.proofs.Executing.{session_left}
 use Rattle.edit_lines.proofs.Cutting.{cut_beside, lines_of-append, past_lines-pieces}
 use Rattle.edit_lines.proofs.Stepping.{enough, lines_here, lines_there, past_here}
 
 -- An allocation failed at this line, by the result of the line.
 pub fails_for_memory : (U : Type 0) (n : ℕ) (line given : List ℕ) (old : RunnerView) (meter : ℕ) (new : RunnerView) (metered : ℕ) (before after : Output)
-    (f : ReplayFault) → given ≡ line → f ≡ OutOfMemory → ExecutesLine {U = U} n given old.session new.session before after (Err f)
-    → LineTakesEffect {U = U} n given old meter new metered (Err f) → FailsForMemory n line old meter new metered before after
-fails_for_memory U n line given old meter new metered before after f same is carries did =
-    let carries' = subst (λ x. ExecutesLine {U = U} n given old.session new.session before after (Err x)) is carries in
-    let did' = subst (λ x. LineTakesEffect {U = U} n given old meter new metered (Err x)) is did in
-    subst (λ x. FailsForMemory n x old meter new metered before after) same (carries', did')
+    (f : ReplayFault) → given ≡ line → f ≡ OutOfMemory → ExecutesLine {U = U} n given old meter before new metered after (Err f)
+    → FailsForMemory n line old meter new metered before after
+fails_for_memory U n line given old meter new metered before after f same is did =
+    let did' = subst (λ x. ExecutesLine {U = U} n given old meter before new metered after (Err x)) is did in
+    subst (λ x. FailsForMemory n x old meter new metered before after) same did'
 
 -- If an allocation failed for the next part of a line, its buffer had no room for that part.
 pub part_fault_room : (count taken more room : ℕ) (f : ReplayFault) → f ≡ OutOfMemory → IsPartFault count taken more room f → room < taken + more
@@ -64,19 +63,19 @@ module _ (first : ReplayState) (bytes : List ℕ) (now : ReplayState) (r : IsRep
   at_line : (whole : List ℕ) → (others : List (List ℕ)) × (lines_of whole ≡ r.done ++ now.line ∷ others) → length (past_lines (length r.done) whole) ≤ 2 * LINE_LIMIT
       → (t : RunnerView) (n : ℕ) (h₁ : Output) → FailsForMemory (now.count + 1) now.line now.runner now.meter t n now.output h₁
       → StopsForMemory first.runner first.meter first.output whole t n h₁
-  at_line whole cut near t n h₁ (carries, did) = record {
+  at_line whole cut near t n h₁ (below, wants, unwritten, did) = record {
     done = r.done;
     replies = r.replies;
     line = now.line;
     cut = cut;
     few = enough first bytes now r few short;
-    carried = rw carries.2 r.carried;
-    written = rw carries.3 r.written;
+    carried = rw (session_left (EditLine now.line Run) now.runner now.meter t n did) r.carried;
+    written = rw unwritten r.written;
     effects = elim did [
       | inl same ↦ inl (rw (same.0, same.1) r.effects)
       | inr part ↦ inr (part.0, (now.runner, now.meter, r.effects, part.1))
     ];
-    wants = let below = carries.0 in inr (omega (arith, below, r.counted), rw carries.2 carries.1);
+    wants = inr (omega (arith, below, r.counted), rw (session_left (EditLine now.line Run) now.runner now.meter t n did) wants);
     near = near;
   }
 

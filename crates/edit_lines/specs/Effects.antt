@@ -2,7 +2,7 @@
 use Rattle.std.specs.Prelude.{◌≡◌, ℕ, ◌+◌, ◌-◌, ◌⊎◌, List, [], ◌∷◌, ◌++◌, length, Result, Ok, Err}
 use Rattle.machine.specs.Inputs.{Session}
 use Rattle.machine.specs.Machine.{session_answers}
-use Rattle.replay.specs.PlainRun.{plain_run}
+use Rattle.machine.specs.PlainState.{plain_run}
 use Rattle.replay.specs.Edits.{edited}
 use Rattle.replay.specs.RunnerView.{RunnerView, SameOptions, KeepsUntouched, DropsOldest, AddsDueTo, AddsAllDueTo, RestartsCount, TicksTo, rerun_start}
 use Rattle.edit_lines.specs.declared.line.Command.{Command}
@@ -15,7 +15,7 @@ use Rattle.edit_lines.specs.Pieces.{pieces, lines_of}
 -- An edit that is applied leaves exactly the checkpoints that it does not touch; an edit that is refused changes nothing.
 abbrev pub EditEffect : Result Session ℕ → RunnerView → RunnerView → Type 0
 EditEffect (Ok s) old new =
-    (new.session ≡ s) × SameOptions old new × (new.refused ≡ old.refused)
+    (new.session ≡ s) × SameOptions old new × (new.alloc_failures ≡ old.alloc_failures)
     × KeepsUntouched (session_answers old.session) (session_answers new.session) old.checkpoints new.checkpoints
 EditEffect (Err n) old new = new ≡ old
 
@@ -52,27 +52,6 @@ pub record RunCutShort (old : RunnerView) (meter : ℕ) (new : RunnerView) (mete
   pub ticked : TicksTo (session_answers old.session) old.session.limit (rerun_start old) meter metered
   pub reran : AddsDueTo old new old.session.limit
   pub counted : RestartsCount old new old.session.limit
-
--- What a command did, by its result. If its reply could not be written, it was executed. If memory ran out, nothing was done, or
--- it is a run that was cut short.
-abbrev pub CommandTakesEffect : {U : Type 0} → Command → RunnerView → ℕ → RunnerView → ℕ → Result U ReplayFault → Type 0
-CommandTakesEffect c old meter new metered (Ok _) = Effect c old meter new metered
-CommandTakesEffect c old meter new metered (Err Write) = Effect c old meter new metered
-CommandTakesEffect c old meter new metered (Err OutOfMemory) =
-    IsUnchanged old meter new metered ⊎ ((c ≡ Run) × RunCutShort old meter new metered)
-CommandTakesEffect c old meter new metered (Err (Malformed k)) = ⊥
-CommandTakesEffect c old meter new metered (Err (LineTooLong k)) = ⊥
-CommandTakesEffect c old meter new metered (Err Read) = ⊥
-
--- What line number n did, by its result.
-abbrev pub LineTakesEffect : {U : Type 0} → ℕ → List ℕ → RunnerView → ℕ → RunnerView → ℕ → Result U ReplayFault → Type 0
-LineTakesEffect n line old meter new metered (Ok _) = (c : Command) × EditLine line c × Effect c old meter new metered
-LineTakesEffect n line old meter new metered (Err Write) = (c : Command) × EditLine line c × Effect c old meter new metered
-LineTakesEffect n line old meter new metered (Err OutOfMemory) =
-    IsUnchanged old meter new metered ⊎ (EditLine line Run × RunCutShort old meter new metered)
-LineTakesEffect n line old meter new metered (Err (Malformed k)) = (k ≡ n) × IsUnchanged old meter new metered
-LineTakesEffect n line old meter new metered (Err (LineTooLong k)) = ⊥
-LineTakesEffect n line old meter new metered (Err Read) = ⊥
 
 -- The lines whose 0AH is among the bytes had their effects.
 pub record EffectsOfEnded (first : RunnerView) (begun : ℕ) (bytes : List ℕ) (now : RunnerView) (meter : ℕ) : Type 0 where

@@ -10,19 +10,16 @@ use Rattle.edit_lines.specs.EditLine.{EditLine}
 use Rattle.edit_lines.specs.LineParts.{LineAllocates}
 use Rattle.edit_lines.specs.Pieces.{lines_of, past_lines}
 use Rattle.edit_lines.specs.Replay.{ExecutesLines}
-use Rattle.edit_lines.specs.Effects.{Effects, LineTakesEffect, RunCutShort}
+use Rattle.edit_lines.specs.Effects.{Effects, RunCutShort}
 use Rattle.edit_lines.specs.Progress.{ExecutesLine}
 
 -- A line that is not empty and is longer than each of these: the buffer that held them may have to grow for it.
 abbrev pub IsLongest : List (List ℕ) → List ℕ → Type 0
 IsLongest lines line = (0 < length line) × All (λ l. length l < length line) lines
 
--- An allocation failed when line number n was executed. The line may need memory in its session, nothing was written, and nothing
--- was done, or its run was cut short.
+-- An allocation failed when line number n was executed.
 abbrev pub FailsForMemory : ℕ → List ℕ → RunnerView → ℕ → RunnerView → ℕ → Output → Output → Type 0
-FailsForMemory n line old meter new metered before after =
-    ExecutesLine {U = Unit {0}} n line old.session new.session before after (Err OutOfMemory)
-    × LineTakesEffect {U = Unit {0}} n line old meter new metered (Err OutOfMemory)
+FailsForMemory n line old meter new metered before after = ExecutesLine {U = Unit {0}} n line old meter before new metered after (Err OutOfMemory)
 
 -- These lines had their effects, and the next one had none, or its run was cut short.
 abbrev pub EffectsBefore : RunnerView → ℕ → List (List ℕ) → List ℕ → RunnerView → ℕ → Type 0

@@ -1,20 +1,21 @@
 -- How far a replay has come, and the result of each of its parts. (This project's own.)
-use Rattle.std.specs.Prelude.{◌≡◌, ℕ, ◌+◌, ◌<◌, ◌≤◌, List, [], ◌∷◌, ◌++◌, length, Option, Result, Ok, Err, Vec, vec_capacity}
+use Rattle.std.specs.Prelude.{◌≡◌, ℕ, ◌+◌, ◌<◌, ◌≤◌, ◌⊎◌, List, [], ◌∷◌, ◌++◌, length, Option, Result, Ok, Err, Vec, vec_capacity}
 use Rattle.std.specs.List.{All, concat}
 use Rattle.std.specs.Io.KnownBytes.{IsAtEnd}
 use Rattle.report_lines.specs.Streams.{Output, WritesPart, WritesWhole}
 use Rattle.machine.specs.Inputs.{Session}
 use Rattle.replay.specs.RunnerView.{RunnerView}
 use Rattle.edit_lines.specs.declared.line.Command.{Command}
+use Rattle.edit_lines.specs.declared.line.Command.TheVariants.{Run}
 use Rattle.edit_lines.specs.declared.ending.Ending.{Ending}
 use Rattle.edit_lines.specs.declared.ending.ReplayFault.{ReplayFault}
 use Rattle.edit_lines.specs.declared.ending.ReplayFault.TheVariants.{Malformed, LineTooLong, Read, Write, OutOfMemory}
 use Rattle.edit_lines.specs.EditLine.{EditLine}
 use Rattle.edit_lines.specs.LineParts.{CommandAllocates, LineAllocates}
-use Rattle.edit_lines.specs.Effects.{Effects, EffectsAtFault}
+use Rattle.edit_lines.specs.Effects.{Effect, Effects, EffectsAtFault, IsUnchanged, RunCutShort}
 use Rattle.edit_lines.specs.Faults.{Faults}
 use Rattle.edit_lines.specs.Pieces.{pieces, lines_of}
-use Rattle.edit_lines.specs.Replay.{ExecutesLines, Finished, IsMalformed, Replays, reply, session_after}
+use Rattle.edit_lines.specs.Replay.{ExecutesLines, Finished, IsMalformed, Replays, reply}
 use Rattle.edit_lines.specs.declared.limits.TheConstants.{LINE_LIMIT, LINES_LIMIT}
 
 -- A replay in progress: its runner, the count of its meter, its output, the beginning of a line that was read, the capacity of the buffer
@@ -43,25 +44,32 @@ pub record IsReplayedTo (first : ReplayState) (bytes : List ℕ) (now : ReplaySt
   pub counted : now.count ≡ length done
   pub fits : All (λ l. length l ≤ now.room) done
 
--- The result of a command: its reply is written, whole or in part, or memory ran out and nothing was done.
-abbrev pub ExecutesCommand : {U : Type 0} → Command → Session → Session → Output → Output → Result U ReplayFault → Type 0
-ExecutesCommand c s t before after (Ok _) = (t ≡ session_after s c) × WritesWhole before after (reply s c)
-ExecutesCommand c s t before after (Err Write) = (t ≡ session_after s c) × WritesPart before after (reply s c)
-ExecutesCommand c s t before after (Err OutOfMemory) = CommandAllocates s c × (t ≡ s) × (after ≡ before)
-ExecutesCommand c s t before after (Err (Malformed k)) = ⊥
-ExecutesCommand c s t before after (Err (LineTooLong k)) = ⊥
-ExecutesCommand c s t before after (Err Read) = ⊥
+-- What a command did to a runner, a meter and an output, by its result. If its reply could not be written whole, it was executed. If
+-- memory ran out, nothing was written, and nothing was done, or it is a run that was cut short.
+abbrev pub ExecutesCommand : {U : Type 0} → Command → RunnerView → ℕ → Output → RunnerView → ℕ → Output → Result U ReplayFault → Type 0
+ExecutesCommand c old meter before new metered after (Ok _) =
+    Effect c old meter new metered × WritesWhole before after (reply old.session c)
+ExecutesCommand c old meter before new metered after (Err Write) =
+    Effect c old meter new metered × WritesPart before after (reply old.session c)
+ExecutesCommand c old meter before new metered after (Err OutOfMemory) =
+    CommandAllocates old.session c × (after ≡ before) × (IsUnchanged old meter new metered ⊎ ((c ≡ Run) × RunCutShort old meter new metered))
+ExecutesCommand c old meter before new metered after (Err (Malformed k)) = ⊥
+ExecutesCommand c old meter before new metered after (Err (LineTooLong k)) = ⊥
+ExecutesCommand c old meter before new metered after (Err Read) = ⊥
 
--- The result of line number n.
-abbrev pub ExecutesLine : {U : Type 0} → ℕ → List ℕ → Session → Session → Output → Output → Result U ReplayFault → Type 0
-ExecutesLine n line s t before after (Ok _) =
-    (c : Command) × EditLine line c × (n ≤ LINES_LIMIT) × (t ≡ session_after s c) × WritesWhole before after (reply s c)
-ExecutesLine n line s t before after (Err Write) =
-    (c : Command) × EditLine line c × (n ≤ LINES_LIMIT) × (t ≡ session_after s c) × WritesPart before after (reply s c)
-ExecutesLine n line s t before after (Err OutOfMemory) = (n ≤ LINES_LIMIT) × LineAllocates s line × (t ≡ s) × (after ≡ before)
-ExecutesLine n line s t before after (Err (Malformed k)) = (k ≡ n) × IsMalformed n line × (t ≡ s) × (after ≡ before)
-ExecutesLine n line s t before after (Err (LineTooLong k)) = ⊥
-ExecutesLine n line s t before after (Err Read) = ⊥
+-- What line number n did, by its result.
+abbrev pub ExecutesLine : {U : Type 0} → ℕ → List ℕ → RunnerView → ℕ → Output → RunnerView → ℕ → Output → Result U ReplayFault → Type 0
+ExecutesLine n line old meter before new metered after (Ok _) =
+    (c : Command) × EditLine line c × (n ≤ LINES_LIMIT) × Effect c old meter new metered × WritesWhole before after (reply old.session c)
+ExecutesLine n line old meter before new metered after (Err Write) =
+    (c : Command) × EditLine line c × (n ≤ LINES_LIMIT) × Effect c old meter new metered × WritesPart before after (reply old.session c)
+ExecutesLine n line old meter before new metered after (Err OutOfMemory) =
+    (n ≤ LINES_LIMIT) × LineAllocates old.session line × (after ≡ before)
+    × (IsUnchanged old meter new metered ⊎ (EditLine line Run × RunCutShort old meter new metered))
+ExecutesLine n line old meter before new metered after (Err (Malformed k)) =
+    (k ≡ n) × IsMalformed n line × (after ≡ before) × IsUnchanged old meter new metered
+ExecutesLine n line old meter before new metered after (Err (LineTooLong k)) = ⊥
+ExecutesLine n line old meter before new metered after (Err Read) = ⊥
 
 -- Why the next part of a line is not taken: the line would be too long; or it would not, and the buffer is too small for it.
 -- `count` lines were executed, the line has `taken` bytes and the part `more`, and the buffer has room for `room`.

@@ -4,7 +4,7 @@ use Rattle.std.specs.Prelude.{◌≡◌, ℕ, ◌+◌, ◌<◌, ◌≤◌, ◌�
 use Rattle.std.specs.Fmt.{decimal}
 use Rattle.std.specs.List.{concat}
 use Rattle.machine.specs.Inputs.{Session}
-use Rattle.replay.specs.PlainRun.{plain_run}
+use Rattle.machine.specs.PlainState.{plain_run}
 use Rattle.replay.specs.Edits.{edited}
 use Rattle.edit_lines.specs.declared.line.Command.{Command}
 use Rattle.edit_lines.specs.declared.line.Command.TheVariants.{Edit, Run, DropOldest}

@@ -1,7 +1,7 @@
 -- The reply to `run`. (This project's own.)
 use Rattle.std.specs.Prelude.{ℕ, List, ◌++◌, codes}
 use Rattle.machine.specs.Inputs.{Session}
-use Rattle.replay.specs.PlainRun.{PlainRun}
+use Rattle.machine.specs.PlainState.{PlainRun}
 use Rattle.report_lines.specs.FirstLines.{line, report_head, text_line}
 use Rattle.report_lines.specs.ChangedLines.{changed_lines}
 
@@ -9,4 +9,4 @@ use Rattle.report_lines.specs.ChangedLines.{changed_lines}
 -- each changed file in the order of the names, and `end`.
 unfoldable pub report_text : Session → PlainRun → List ℕ
 report_text s run =
-    ((report_head run.cause run.steps run.machine.core.regs ++ text_line run.machine.core.desk.text) ++ changed_lines s.files run.machine.files) ++ line (codes "end")
+    ((report_head run.cause run.steps run.state.core.regs ++ text_line run.state.core.desk.text) ++ changed_lines s.files run.state.files) ++ line (codes "end")

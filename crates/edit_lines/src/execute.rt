@@ -1,8 +1,5 @@
-ghost use Rattle.std.specs.Prelude.{◌≡◌, ℕ, ◌+◌, ◌^◌, ◌<◌, ◌≤◌, OnOk};
-ghost use Rattle.replay.specs.PlainRun.{plain_run};
-ghost use Rattle.replay.specs.RunnerView.{DropsOldest, SameOptions, rerun_start};
+ghost use Rattle.std.specs.Prelude.{◌≡◌, ℕ, ◌+◌, ◌^◌, ◌<◌, ◌≤◌};
 ghost use Rattle.replay.specs.Report.{run_of, session_of};
-ghost use Rattle.edit_lines.specs.Effects.{CommandTakesEffect, LineTakesEffect};
 ghost use Rattle.edit_lines.specs.Progress.{ExecutesLine, ExecutesCommand};
 ghost use Rattle.edit_lines.specs.Reports.{report_text};
 ghost use Rattle.edit_lines.specs.Replies.{Replies};
@@ -39,11 +36,8 @@ fn execute_edit<W: Writer>(
     writer: &mut W,
 ) -> Result<(), ReplayFault>
     requires { (W.output writer.old).failures < 2 ^ 63 }
-    ensures does { ExecutesCommand (Command.Edit edit) runner.old.session runner.new.session
-        (W.output writer.old) (W.output writer.new) result }
-    ensures effect { (meter : ℕ)
-        → CommandTakesEffect (Command.Edit edit) runner.old meter runner.new meter result }
-    ensures options { SameOptions runner.old runner.new }
+    ensures { (meter : ℕ) → ExecutesCommand (Command.Edit edit)
+        runner.old meter (W.output writer.old) runner.new meter (W.output writer.new) result }
 {
     match runner.edit(edit) {
         Ok(()) => write_reply(writer, b"ok\n"),
@@ -59,12 +53,8 @@ fn drop_oldest<W: Writer>(
     writer: &mut W,
 ) -> Result<(), ReplayFault>
     requires { (W.output writer.old).failures < 2 ^ 63 }
-    ensures does { ExecutesCommand (Command.DropOldest count) runner.old.session runner.new.session
-        (W.output writer.old) (W.output writer.new) result }
-    ensures dropped { DropsOldest count runner.old runner.new }
-    ensures effect { (meter : ℕ)
-        → CommandTakesEffect (Command.DropOldest count) runner.old meter runner.new meter result }
-    ensures options { SameOptions runner.old runner.new }
+    ensures { (meter : ℕ) → ExecutesCommand (Command.DropOldest count)
+        runner.old meter (W.output writer.old) runner.new meter (W.output writer.new) result }
 {
     runner.drop_oldest(count);
     write_reply(writer, b"ok\n")
@@ -102,12 +92,8 @@ fn write_short_at_once<W: Writer>(report: &Report<'_>, writer: &mut W) -> Result
 fn run<W: Writer>(runner: &mut Runner, meter: &mut Meter, writer: &mut W) -> Result<(), ReplayFault>
     requires writer { (W.output writer.old).failures < 2 ^ 63 }
     requires meter { meter.old ≤ 2 ^ 63 }
-    ensures does { ExecutesCommand Command.Run runner.old.session runner.new.session
-        (W.output writer.old) (W.output writer.new) result }
-    ensures from { OnOk result
-        (meter.new + rerun_start runner.old ≡ meter.old + (plain_run runner.old.session).steps) }
-    ensures effect { CommandTakesEffect Command.Run runner.old meter.old runner.new meter.new result }
-    ensures options { SameOptions runner.old runner.new }
+    ensures does { ExecutesCommand Command.Run
+        runner.old meter.old (W.output writer.old) runner.new meter.new (W.output writer.new) result }
     ensures meter { meter.new ≤ meter.old + STEP_LIMIT }
 {
     let report = runner.rerun(meter)?;
@@ -129,10 +115,8 @@ pub fn execute_line<W: Writer>(
 ) -> Result<(), ReplayFault>
     requires writer { (W.output writer.old).failures < 2 ^ 63 }
     requires meter { meter.old ≤ 2 ^ 63 }
-    ensures carries { ExecutesLine number line.now runner.old.session runner.new.session
-        (W.output writer.old) (W.output writer.new) result }
-    ensures effect { LineTakesEffect number line.now runner.old meter.old runner.new meter.new result }
-    ensures options { SameOptions runner.old runner.new }
+    ensures does { ExecutesLine number line.now
+        runner.old meter.old (W.output writer.old) runner.new meter.new (W.output writer.new) result }
     ensures meter { meter.new ≤ meter.old + STEP_LIMIT }
 {
     if number > LINES_LIMIT {

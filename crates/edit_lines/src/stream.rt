@@ -65,7 +65,6 @@ fn end_line<W: Writer>(
         (replay_state runner.old meter.old (W.output writer.old) place.old.line place.old.lines)
         → ContinuesReplay first (bytes ++ 10 ∷ []) rest
         (replay_state runner.new meter.new (W.output writer.new) place.new.line place.new.lines) result }
-    ensures options { SameOptions runner.old runner.new }
     ensures fine { OnOk result ((W.output writer.new).failures ≡ (W.output writer.old).failures) }
     ensures reads { result ≡ Err ReplayFault.Read → ⊥ }
     ensures meter { OnOk result (meter.new ≤ STEP_LIMIT * place.new.lines) }
@@ -109,7 +108,6 @@ fn take_piece<W: Writer>(
         (replay_state runner.old meter.old (W.output writer.old) place.old.line place.old.lines)
         → result ≡ Err ReplayFault.OutOfMemory → StopsForMemory first.runner first.meter first.output
         (bytes ++ piece.now) runner.new meter.new (W.output writer.new) }
-    ensures options { SameOptions runner.old runner.new }
     ensures reads { result ≡ Err ReplayFault.Read → ⊥ }
     ensures meter { OnOk result (meter.new ≤ STEP_LIMIT * place.new.lines) }
     ensures on { OnOk result (65537 * place.old.lines + vec_len place.old.line + length piece.now
@@ -138,7 +136,6 @@ fn finish<W: Writer>(
         → IsReplayedTo first bytes
         (replay_state runner.old meter.old (W.output writer.old) place.line place.lines)
         → FinishesReplay first bytes runner.new meter.new (W.output writer.new) result }
-    ensures options { SameOptions runner.old runner.new }
     ensures memory { result ≡ Err ReplayFault.OutOfMemory
         → FailsForMemory (place.lines + 1) place.line.items runner.old meter.old
         runner.new meter.new (W.output writer.old) (W.output writer.new) }

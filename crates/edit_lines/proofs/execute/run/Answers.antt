@@ -1,15 +1,19 @@
 use Rattle.replay.specs.Report.{run_of}
-use Rattle.edit_lines.proofs.EffectLemmas.{run_effect}
+use Rattle.edit_lines.proofs.Executing.{run_effect}
 use Rattle.edit_lines.proofs.execute.run.Goals as goal
 
-pub returns-in-Ok-clause-effect : goal.returns-in-Ok-clause-effect
-returns-in-Ok-clause-effect g c =
+pub returns-in-Ok-clause-does : goal.returns-in-Ok-clause-does
+returns-in-Ok-clause-does g c =
     let h = c.rerun.follows.holds-at-none in
-    let made = rw c.in_ok-report.was at h.3 in
-    run_effect _ _ _ _ (run_of c.in_ok-report.report) c.in_ok-report.ensures.run h.0 h.1 c.in_ok-report.ensures.ticked made
+    let report = c.in_ok-report.ensures in (
+      run_effect _ _ _ _ (run_of c.in_ok-report.report) report.run h.0 h.1 report.ticked (rw c.in_ok-report.was at h.3),
+      rw report.session at c.in-Ok.ensures,
+    )
 
-pub returns-in-Err-clause-effect : goal.returns-in-Err-clause-effect
-returns-in-Err-clause-effect g c =
+pub returns-in-Err-clause-does : goal.returns-in-Err-clause-does
+returns-in-Err-clause-does g c =
     let h = c.rerun.follows.holds-at-none in
-    let made = rw c.in_ok-report.was at h.3 in
-    run_effect _ _ _ _ (run_of c.in_ok-report.report) c.in_ok-report.ensures.run h.0 h.1 c.in_ok-report.ensures.ticked made
+    let report = c.in_ok-report.ensures in (
+      run_effect _ _ _ _ (run_of c.in_ok-report.report) report.run h.0 h.1 report.ticked (rw c.in_ok-report.was at h.3),
+      rw report.session at c.in-Err.ensures,
+    )

@@ -14,11 +14,11 @@ returns-in_err-write_all g c =
     let s = session_of c.args.report.now in
     let run = run_of c.args.report.now in
     let head = c.as_bytes.result.now in
-    let text = text_line run.machine.core.desk.text in
-    let lines = changed_lines s.files run.machine.files in
+    let text = text_line run.state.core.desk.text in
+    let lines = changed_lines s.files run.state.files in
     let last = line (codes "end") in
     writes_same _ _ (((head ++ text) ++ lines) ++ last) (report_text s run) c.from_residual.result
-    (report_is s run head run.machine.core.desk.text s.files run.machine.files (c.as_bytes.ensures.value ∙ c.deref.ensures.0 ∙ (rw (c.cause.ensures, c.steps.ensures, c.regs.ensures) at c.report_head-head.ensures)) refl refl refl)
+    (report_is s run head run.state.core.desk.text s.files run.state.files (c.as_bytes.ensures.value ∙ c.deref.ensures.0 ∙ (rw (c.cause.ensures, c.steps.ensures, c.regs.ensures) at c.report_head-head.ensures)) refl refl refl)
     (writes_part (((head ++ text) ++ lines) ++ last) c.from_residual.result c.from_residual.ensures.0
     (part_more ((head ++ text) ++ lines) last (part_more (head ++ text) lines (part_more head text c.in_err-write_all.ensures))))
 
@@ -28,10 +28,10 @@ returns-in_err-write_text g c =
     let run = run_of c.args.report.now in
     let head = c.as_bytes.result.now in
     let text = text_line c.text.result.now in
-    let lines = changed_lines s.files run.machine.files in
+    let lines = changed_lines s.files run.state.files in
     let last = line (codes "end") in
     writes_same _ _ (((head ++ text) ++ lines) ++ last) (report_text s run) c.from_residual-in_err-write_text.result
-    (report_is s run head c.text.result.now s.files run.machine.files (c.as_bytes.ensures.value ∙ c.deref.ensures.0 ∙ (rw (c.cause.ensures, c.steps.ensures, c.regs.ensures) at c.report_head-head.ensures)) c.text.ensures refl refl)
+    (report_is s run head c.text.result.now s.files run.state.files (c.as_bytes.ensures.value ∙ c.deref.ensures.0 ∙ (rw (c.cause.ensures, c.steps.ensures, c.regs.ensures) at c.report_head-head.ensures)) c.text.ensures refl refl)
     (writes_part (((head ++ text) ++ lines) ++ last) c.from_residual-in_err-write_text.result c.from_residual-in_err-write_text.ensures.0
     (part_more ((head ++ text) ++ lines) last (part_more (head ++ text) lines
     (part_then head text c.in_ok-write_all.ensures c.in_err-write_text.ensures))))

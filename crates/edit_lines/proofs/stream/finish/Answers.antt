@@ -24,21 +24,21 @@ returns-in_err-execute_line-clause-ends g c = λ first bytes r.
     let some : 0 < length p.line.items = search rules in
     let e = err_from_is_err_and c.from_residual.result c.from_residual.ensures.1 in
     rw (e.1, e.2) (
-      λ left end. ends_failing first bytes _ r p.few (omega (arith, p.short, p.line.ok.0)) some (Unit {0}) left end _ _ f
-          _ c.as_slice.ensures.value c.in_err-execute_line.ensures.carries,
-      effects_broken first bytes _ r some (Unit {0}) _ _ f _ c.as_slice.ensures.value c.in_err-execute_line.ensures.effect,
+      λ left end. ends_failing first bytes _ r p.few (omega (arith, p.short, p.line.ok.0)) some (Unit {0}) left end _ _ _ f
+          _ c.as_slice.ensures.value c.in_err-execute_line.ensures.does,
+      effects_broken first bytes _ r some (Unit {0}) _ _ _ f _ c.as_slice.ensures.value c.in_err-execute_line.ensures.does,
     )
 
 pub returns-clause-ends : goal.returns-clause-ends
 returns-clause-ends g c = λ first bytes r.
     let p = c.args.place in
-    let h = c.in_ok-execute_line.ensures.carries in
-    let e = c.in_ok-execute_line.ensures.effect in
+    let h = c.in_ok-execute_line.ensures.does in
+    let is = rw c.as_slice.ensures.value at h.1 in
     let some : 0 < length p.line.items = search rules in
-    let done = ends_done first bytes _ r p.few (omega (arith, p.short, p.line.ok.0)) some _ _ h.0 (rw c.as_slice.ensures.value at h.1) h.3 h.4 h.2 in
-    (done.0, done.1, done.2, effects_ended first bytes _ r some _ _ e.0 (rw c.as_slice.ensures.value at e.1) e.2)
+    let done = ends_done first bytes _ r p.few (omega (arith, p.short, p.line.ok.0)) some _ _ _ h.0 is h.3 h.4 h.2 in
+    (done.0, done.1, done.2, effects_ended first bytes _ r some _ _ h.0 is h.3)
 
 pub returns-in_err-execute_line-clause-memory : goal.returns-in_err-execute_line-clause-memory
 returns-in_err-execute_line-clause-memory g c = λ same.
     let e = err_from_is_err_and c.from_residual.result c.from_residual.ensures.1 in
-    fails_for_memory (Unit {0}) _ _ _ _ _ _ _ _ _ _ c.as_slice.ensures.value (cc) c.in_err-execute_line.ensures.carries c.in_err-execute_line.ensures.effect
+    fails_for_memory (Unit {0}) _ _ _ _ _ _ _ _ _ _ c.as_slice.ensures.value (cc) c.in_err-execute_line.ensures.does

@@ -5,9 +5,9 @@ use Rattle.std.proofs.KnownBytes.{Consumes-nil, Consumes-trans}
 use Rattle.edit_lines.specs.Faults.{Faults}
 use Rattle.edit_lines.specs.Effects.{EffectsAtFault}
 use Rattle.edit_lines.proofs.Stepping.{at_start, start_of}
-use Rattle.edit_lines.proofs.EffectLemmas.{SameOptions-refl, SameOptions-trans}
+use Rattle.edit_lines.proofs.Executing.{options_after, options_at_fault}
 use Rattle.edit_lines.proofs.Stopping.{last_stops, wants_some}
-use Rattle.edit_lines.proofs.Answering.{no_more_bytes, answers_ok, answers_err}
+use Rattle.edit_lines.proofs.Answering.{no_more_bytes, answers_ok, answers_err, options_finished}
 use Rattle.edit_lines.proofs.stream.replay.Goals as goal
 
 pub loop-count-init : goal.loop-count-init
@@ -15,7 +15,6 @@ loop-count-init g c = (
   ([], Consumes-nil _, at_start _ _ _ _ _ c.new.ensures.items),
   refl,
   omega (arith, c.requires.meter),
-  SameOptions-refl _,
 )
 
 pub returns-then-count-eq0-clause-ok : goal.returns-then-count-eq0-clause-ok
@@ -42,7 +41,7 @@ returns-then-count-eq0-clause-memory g c = λ e.
     let h = c.finish.ensures.memory e in (
       i.0,
       no_more_bytes _ _ _ i.0 _ _ c.if-count-eq0.true i.1 b.0,
-      last_stops _ i.0 _ i.2 p.few (omega (arith, p.short, p.line.ok.0)) (wants_some _ _ h.0.1) _ _ _ h,
+      last_stops _ i.0 _ i.2 p.few (omega (arith, p.short, p.line.ok.0)) (wants_some _ _ h.1) _ _ _ h,
     )
 
 pub returns-in_err-take_piece-clause-memory : goal.returns-in_err-take_piece-clause-memory
@@ -64,7 +63,6 @@ loop-count-preserved g c =
       ),
       c.in-Ok.ensures.ok ∙ c.loop-count.invariant.1,
       c.in_ok-take_piece.ensures.meter,
-      SameOptions-trans _ _ _ c.loop-count.invariant.3 c.in_ok-take_piece.ensures.options,
     )
 
 pub returns-in_err-take_piece-clause-fault : goal.returns-in_err-take_piece-clause-fault
@@ -84,7 +82,16 @@ returns-in_err-take_piece-clause-fault g c =
     )
 
 pub returns-then-count-eq0-clause-options : goal.returns-then-count-eq0-clause-options
-returns-then-count-eq0-clause-options g c = SameOptions-trans _ _ _ c.loop-count.invariant.3 c.finish.ensures.options
+returns-then-count-eq0-clause-options g c =
+    let i = c.loop-count.invariant.0 in
+    let first = start_of c.args.runner.now c.args.meter.now (g.W.Writer.output c.args.writer.now) in
+    options_finished first _ _ _ i.0 c.finish.result (c.finish.ensures.ends first i.0 i.2)
 
 pub returns-in_err-take_piece-clause-options : goal.returns-in_err-take_piece-clause-options
-returns-in_err-take_piece-clause-options g c = SameOptions-trans _ _ _ c.loop-count.invariant.3 c.in_err-take_piece.ensures.options
+returns-in_err-take_piece-clause-options g c =
+    let i = c.loop-count.invariant.0 in
+    options_at_fault _ _ _ _ _ _ (c.in_err-take_piece.ensures.goes _ i.0 i.2).1
+
+-- The reader failed.
+pub returns-in_default-clause-options : goal.returns-in_default-clause-options
+returns-in_default-clause-options g c = options_after c.loop-count.invariant.0.2.effects

@@ -1,7 +1,6 @@
 use Rattle.std.proofs.Common.{◌≡◌, ℕ, ◌+◌, ◌-◌, ◌*◌, ◌≤◌, List, vec_len}
 use Rattle.std.specs.Io.KnownBytes.{Consumes}
 use Rattle.machine.specs.declared.session.TheConstants.{STEP_LIMIT}
-use Rattle.replay.specs.RunnerView.{SameOptions}
 use Rattle.edit_lines.specs.Progress.{IsReplayedTo, replay_state}
 use Rattle.edit_lines.proofs.Stepping.{start_of}
 use Rattle.edit_lines.proofs.stream.replay.Given as goal
@@ -13,7 +12,6 @@ invariant-loop-count g l =
     (replay_state l.runner l.meter (g.W.Writer.output l.writer) l.place.line l.place.lines))
     × ((g.R.Reader.input l.reader).failures ≡ (g.R.Reader.input l.initial.reader).failures)
     × (l.meter ≤ STEP_LIMIT * l.place.lines)
-    × SameOptions l.initial.runner l.runner
 
 abbrev pub decreases-loop-count : goal.decreases-loop-count
 decreases-loop-count g l = 65537 * 1000001 - (65537 * l.place.lines + vec_len l.place.line)

@@ -9,7 +9,7 @@ use Rattle.edit_lines.proofs.Stepping.{line_grows, part_fails, part_goes}
 use Rattle.std.proofs.lemmas.List.{append-nil}
 use Rattle.edit_lines.specs.MemoryFaults.{StopsForMemory}
 use Rattle.edit_lines.proofs.Stopping.{full_when, line_stops, part_fault_room, part_stops}
-use Rattle.edit_lines.proofs.EffectLemmas.{SameOptions-trans, effects_part}
+use Rattle.edit_lines.proofs.EffectLemmas.{effects_part}
 use Rattle.edit_lines.proofs.stream.take_piece.Goals as goal
 
 pub returns-in_err-take_part-clause-goes : goal.returns-in_err-take_part-clause-goes
@@ -98,7 +98,6 @@ loop-at-preserved g c =
         length-append (i.taken ++ part) (10 ∷ []),
         length-append i.taken part,
       );
-      options = SameOptions-trans _ _ _ i.options c.in_ok-end_line.ensures.options;
     }
 
 pub returns-clause-goes : goal.returns-clause-goes

@@ -1,6 +1,5 @@
 use Rattle.std.proofs.Common.{◌≡◌, ℕ, ◌+◌, ◌*◌, ◌≤◌, List, ◌++◌, length, vec_len}
 use Rattle.machine.specs.declared.session.TheConstants.{STEP_LIMIT}
-use Rattle.replay.specs.RunnerView.{SameOptions}
 use Rattle.edit_lines.specs.Progress.{IsReplayedTo, ReplayState, replay_state}
 use Rattle.edit_lines.proofs.stream.take_piece.Given as goal
 
@@ -15,7 +14,6 @@ invariant-loop-at g l = record {
   same : (g.W.Writer.output l.writer).failures ≡ (g.W.Writer.output l.initial.writer).failures;
   meter : l.meter ≤ STEP_LIMIT * l.place.lines;
   on : 65537 * l.initial.place.lines + vec_len l.initial.place.line + length taken ≤ 65537 * l.place.lines + vec_len l.place.line;
-  options : SameOptions l.initial.runner l.runner;
 }
 
 abbrev pub decreases-loop-at : goal.decreases-loop-at
