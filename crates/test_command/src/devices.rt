@@ -2,7 +2,7 @@
 
 use crate::fixtures::Act::{Ask, Put};
 use crate::fixtures::Wanted::{NoRoom, Untold};
-use crate::fixtures::{Act, HI, in_folder_of};
+use crate::fixtures::{Act, HI, play};
 use std::test::Fail;
 
 const FULL: &[Act<'_>] = &[
@@ -18,11 +18,6 @@ const FULL: &[Act<'_>] = &[
     Ask(&["--version"], NoRoom(1)),
 ];
 
-#[test]
-fn standard_output_may_fail(rt: HostRuntime) -> Result<(), Fail> {
-    in_folder_of(&rt, rt.process(), "full", FULL)
-}
-
 const MUTE: &[Act<'_>] = &[
     Put("p3.com", HI),
     Ask(&["@/p3.com"], Untold(0, 0)),
@@ -36,6 +31,12 @@ const MUTE: &[Act<'_>] = &[
 ];
 
 #[test]
-fn a_failure_of_standard_error_is_passed_over(rt: HostRuntime) -> Result<(), Fail> {
-    in_folder_of(&rt, rt.process(), "mute", MUTE)
+fn outputs_that_fail(rt: HostRuntime) -> Result<(), Fail> {
+    play(
+        &rt,
+        &[
+            ("standard output may fail", FULL),
+            ("a failure of standard error is passed over", MUTE),
+        ],
+    )
 }

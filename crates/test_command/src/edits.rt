@@ -2,7 +2,7 @@
 
 use crate::fixtures::Act::{Ask, Put, PutZeros};
 use crate::fixtures::Wanted::Answer;
-use crate::fixtures::{Act, HI, TAKE, in_folder_of};
+use crate::fixtures::{Act, HI, TAKE, play};
 use std::test::Fail;
 
 const REPORT: &str =
@@ -45,11 +45,6 @@ const LINES: &[Act<'_>] = &[
     ),
 ];
 
-#[test]
-fn edit_lines_are_answered(rt: HostRuntime) -> Result<(), Fail> {
-    in_folder_of(&rt, rt.process(), "lines", LINES)
-}
-
 const FAULTS: &[Act<'_>] = &[
     Put("p3.com", HI),
     Put("bogus", b"limit 5\nbogus\nrun\n"),
@@ -65,6 +60,12 @@ const FAULTS: &[Act<'_>] = &[
 ];
 
 #[test]
-fn a_fault_of_edit_lines_comes_after_the_replies(rt: HostRuntime) -> Result<(), Fail> {
-    in_folder_of(&rt, rt.process(), "faults", FAULTS)
+fn edit_lines_over_files(rt: HostRuntime) -> Result<(), Fail> {
+    play(
+        &rt,
+        &[
+            ("edit lines are answered", LINES),
+            ("a fault of edit lines comes after the replies", FAULTS),
+        ],
+    )
 }

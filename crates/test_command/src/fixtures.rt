@@ -6,16 +6,15 @@ use cpmrun::{Failed, Over, SystemFiles, Writer, command, metered_command};
 use machine::Meter;
 use std::alloc::{AllocError, Global};
 use std::fs::OpenFile;
-use std::process::{Abort, Process};
-use std::rt::Files;
 use std::test::Fail;
 use std::{fs, process};
+use test_sessions::program;
 
 /// A program that prints `Hi` by call 9 and returns.
-pub const HI: &[u8] = b"\x0e\x09\x11\x09\x01\xcd\x05\x00\xc9Hi$";
+pub const HI: &[u8] = &program![MVI C,9; LXI D,0x0109; CALL 5; RET; DB b'H',b'i',b'$';];
 
 /// A program that takes a byte of the console by call 1 and returns.
-pub const TAKE: &[u8] = b"\x0e\x01\xcd\x05\x00\xc9";
+pub const TAKE: &[u8] = &program![MVI C,1; CALL 5; RET;];
 
 /// The expected result of the command: its status, and the texts of standard output and standard error.
 #[derive(Clone, Copy, Debug)]
@@ -47,19 +46,21 @@ pub enum Act<'a> {
     Load(&'a [&'a str; 6], &'a str),
 }
 
-// A writer that takes a number of bytes, and then fails.
+// A writer that has room for a number of bytes, and then fails; and what was written to it.
 #[derive(Drop)]
-struct Narrow {
+struct Screen {
+    text: Vec<u8>,
     room: usize,
     failures: u64,
 }
 
-impl Writer for Narrow {
-    ghost output = { λ n. record { holds = None; failures = n.failures } };
+impl Writer for Screen {
+    ghost output = { λ s. record { holds = None; failures = s.failures } };
 
     fn write(&mut self, piece: &[u8]) -> Result<usize, Failed> {
         let count = piece.len().min(self.room);
-        if count == 0 && !piece.is_empty() {
+        let taken = self.text.extend_from_slice(&piece[..count]);
+        if taken.is_err() || count == 0 && !piece.is_empty() {
             self.failures += 1;
             return Err(Failed);
         }
@@ -126,115 +127,65 @@ fn is_wanted(folder: &str, told: Told<'_>, wanted: Wanted<'_>) -> bool {
     }
 }
 
-fn compare(rt: &impl Abort, folder: &str, told: Told<'_>, wanted: Wanted<'_>) {
-    assert!(rt;
-        is_wanted(folder, told, wanted),
-        "{wanted:?} is told {told:?}"
-    );
-}
-
-// Returns the result of the command for words, with outputs that never fail.
-fn answer<R: Files + AllocGlobal + Clone + Drop + Abort>(
-    rt: &R,
-    folder: &str,
-    words: &[String],
-    wanted: Wanted<'_>,
-) {
-    let mut out = Over::new(Vec::new(rt.alloc()));
-    let mut err = Over::new(Vec::new(rt.alloc()));
-    let status = command(&mut SystemFiles::new(rt), words, &mut out, &mut err);
-    let out = out.into_inner();
-    let err = err.into_inner();
-    compare(rt, folder, (status, out.as_slice(), err.as_slice()), wanted);
-}
-
-fn find_no_room<R: Files + AllocGlobal + Clone + Drop + Abort>(
-    rt: &R,
-    folder: &str,
-    words: &[String],
-    room: usize,
-    wanted: Wanted<'_>,
-) {
-    let mut out = Narrow { room, failures: 0 };
-    let mut err = Over::new(Vec::new(rt.alloc()));
-    let status = command(&mut SystemFiles::new(rt), words, &mut out, &mut err);
-    let err = err.into_inner();
-    compare(rt, folder, (status, b"".as_slice(), err.as_slice()), wanted);
-}
-
-fn leave_unreported<R: Files + AllocGlobal + Clone + Drop + Abort>(
-    rt: &R,
-    folder: &str,
-    words: &[String],
-    room: usize,
-    wanted: Wanted<'_>,
-) {
-    let mut out = Over::new(Vec::new(rt.alloc()));
-    let mut err = Narrow { room, failures: 0 };
-    let status = command(&mut SystemFiles::new(rt), words, &mut out, &mut err);
-    let out = out.into_inner();
-    compare(rt, folder, (status, out.as_slice(), b"".as_slice()), wanted);
-}
-
-fn ask<R: Files + AllocGlobal + Clone + Drop + Abort>(
-    rt: &R,
-    folder: &str,
-    words: &[String],
-    wanted: Wanted<'_>,
-) {
+// Returns the room of standard output and of standard error.
+fn rooms(wanted: Wanted<'_>) -> (usize, usize) {
     match wanted {
-        Wanted::NoRoom(room) => find_no_room(rt, folder, words, room, wanted),
-        Wanted::Untold(room, _) => leave_unreported(rt, folder, words, room, wanted),
-        _ => answer(rt, folder, words, wanted),
+        Wanted::NoRoom(room) => (room, usize::MAX),
+        Wanted::Untold(room, _) => (usize::MAX, room),
+        _ => (usize::MAX, usize::MAX),
     }
 }
 
-fn ask_in<R: Files + AllocGlobal + Clone + Drop + Abort>(
-    rt: &R,
-    folder: &str,
-    words: &[&str],
-    wanted: Wanted<'_>,
-) -> Result<(), Fail> {
+// Calls the command, and compares its result.
+fn ask(rt: &HostRuntime, folder: &str, words: &[String], wanted: Wanted<'_>) -> Result<(), Fail> {
+    let (out_room, err_room) = rooms(wanted);
+    let mut out = Screen {
+        text: Vec::new(rt.alloc()),
+        room: out_room,
+        failures: 0,
+    };
+    let mut err = Screen {
+        text: Vec::new(rt.alloc()),
+        room: err_room,
+        failures: 0,
+    };
+    let status = command(&mut SystemFiles::new(rt), words, &mut out, &mut err);
+    let told = (status, out.text.as_slice(), err.text.as_slice());
+    if is_wanted(folder, told, wanted) {
+        return Ok(());
+    }
+    Err(Fail::new(format_args!("{words:?}: {told:?}, and not {wanted:?}")))
+}
+
+fn ask_in(rt: &HostRuntime, folder: &str, words: &[&str], wanted: Wanted<'_>) -> Result<(), Fail> {
     let words = owned(rt.alloc(), folder, words)?;
-    ask(rt, folder, words.as_slice(), wanted);
-    Ok(())
+    ask(rt, folder, words.as_slice(), wanted)
 }
 
 // Checks how many steps the runs of the command execute with these words, and that it ends with status 0.
-fn count<R: Files + AllocGlobal + Clone + Drop + Abort>(rt: &R, words: &[String], wanted: u64) {
+fn count(rt: &HostRuntime, words: &[String], wanted: u64) -> Result<(), Fail> {
     let mut meter = Meter::new();
     let mut out = Over::new(Vec::new(rt.alloc()));
     let mut err = Over::new(Vec::new(rt.alloc()));
     let mut system = SystemFiles::new(rt);
     let status = metered_command(&mut system, words, &mut meter, &mut out, &mut err);
     let steps = meter.count();
-    assert!(rt;
-        status == 0 && steps == wanted,
-        "{words:?} take {steps} steps, with the status {status}"
-    );
+    if status == 0 && steps == wanted {
+        return Ok(());
+    }
+    Err(Fail::new(format_args!("{words:?}: {steps} steps, with the status {status}")))
 }
 
-fn count_in<R: Files + AllocGlobal + Clone + Drop + Abort>(
-    rt: &R,
-    folder: &str,
-    text: &str,
-    wanted: u64,
-) -> Result<(), Fail> {
+fn count_in(rt: &HostRuntime, folder: &str, text: &str, wanted: u64) -> Result<(), Fail> {
     let mut words = Vec::new(rt.alloc());
     for word in text.split(' ') {
         words.push(word)?;
     }
     let words = owned(rt.alloc(), folder, words.as_slice())?;
-    count(rt, words.as_slice(), wanted);
-    Ok(())
+    count(rt, words.as_slice(), wanted)
 }
 
-fn load_in<R: Files + AllocGlobal + Clone + Drop + Abort>(
-    rt: &R,
-    folder: &str,
-    named: &[&str; 6],
-    told: &str,
-) -> Result<(), Fail> {
+fn load_in(rt: &HostRuntime, folder: &str, named: &[&str; 6], told: &str) -> Result<(), Fail> {
     let [program, a, b, c, d, console] = *named;
     let words = [
         program,
@@ -254,28 +205,19 @@ fn load_in<R: Files + AllocGlobal + Clone + Drop + Abort>(
     ask_in(rt, folder, &words, Wanted::Answer(1, "", told))
 }
 
-fn put<R: Files + AllocGlobal>(rt: &R, folder: &str, file: &str, bytes: &[u8]) -> Result<(), Fail> {
+fn put(rt: &HostRuntime, folder: &str, file: &str, bytes: &[u8]) -> Result<(), Fail> {
     let path = format!(in rt.alloc(); "{folder}/{file}")?;
     fs::write(rt, path.as_str(), bytes)?;
     Ok(())
 }
 
-fn put_zeros<R: Files + AllocGlobal>(
-    rt: &R,
-    folder: &str,
-    file: &str,
-    len: u64,
-) -> Result<(), Fail> {
+fn put_zeros(rt: &HostRuntime, folder: &str, file: &str, len: u64) -> Result<(), Fail> {
     let path = format!(in rt.alloc(); "{folder}/{file}")?;
     fs::create(rt, path.as_str())?.set_len(len)?;
     Ok(())
 }
 
-fn carry_out<R: Files + AllocGlobal + Clone + Drop + Abort>(
-    rt: &R,
-    folder: &str,
-    act: Act<'_>,
-) -> Result<(), Fail> {
+fn execute(rt: &HostRuntime, folder: &str, act: Act<'_>) -> Result<(), Fail> {
     match act {
         Act::Put(file, bytes) => put(rt, folder, file, bytes),
         Act::PutZeros(file, len) => put_zeros(rt, folder, file, len),
@@ -285,45 +227,27 @@ fn carry_out<R: Files + AllocGlobal + Clone + Drop + Abort>(
     }
 }
 
-fn carry_out_all<R: Files + AllocGlobal + Clone + Drop + Abort>(
-    rt: &R,
-    folder: &str,
-    acts: &[Act<'_>],
-) -> Result<(), Fail> {
+fn execute_all(rt: &HostRuntime, folder: &str, acts: &[Act<'_>]) -> Result<(), Fail> {
     for act in acts {
-        carry_out(rt, folder, *act)?;
+        execute(rt, folder, *act)?;
     }
     Ok(())
 }
 
-/// Executes acts in an empty folder of this name, and removes the folder.
-pub fn in_folder_of<R: Files + AllocGlobal + Clone + Drop + Abort>(
-    rt: &R,
-    process: Process,
-    name: &str,
-    acts: &[Act<'_>],
-) -> Result<(), Fail> {
-    let id = process::id(process);
-    let path = format!(in rt.alloc(); "/tmp/vembrusk-{id}-{name}")?;
-    in_empty_folder(rt, path.as_str(), acts)
-}
-
-fn in_empty_folder<R: Files + AllocGlobal + Clone + Drop + Abort>(
-    rt: &R,
-    path: &str,
-    acts: &[Act<'_>],
-) -> Result<(), Fail> {
-    let _ = fs::remove_dir_all(rt, path);
-    fs::create_dir_all(rt, path)?;
-    carry_out_all(rt, path, acts)?;
-    fs::remove_dir_all(rt, path)?;
+/// Executes acts in empty folders of these names, and removes the folders.
+pub fn play(rt: &HostRuntime, cases: &[(&str, &[Act<'_>])]) -> Result<(), Fail> {
+    let id = process::id(rt.process());
+    for (name, acts) in cases {
+        let path = format!(in rt.alloc(); "/tmp/vembrusk-{id} {name}")?;
+        in_empty_folder(rt, path.as_str(), acts)?;
+    }
     Ok(())
 }
 
-/// Executes acts without a folder.
-pub fn without_folder<R: Files + AllocGlobal + Clone + Drop + Abort>(
-    rt: &R,
-    acts: &[Act<'_>],
-) -> Result<(), Fail> {
-    carry_out_all(rt, "", acts)
+fn in_empty_folder(rt: &HostRuntime, path: &str, acts: &[Act<'_>]) -> Result<(), Fail> {
+    let _ = fs::remove_dir_all(rt, path);
+    fs::create_dir_all(rt, path)?;
+    execute_all(rt, path, acts)?;
+    fs::remove_dir_all(rt, path)?;
+    Ok(())
 }

@@ -2,7 +2,7 @@
 
 use crate::fixtures::Act::Ask;
 use crate::fixtures::Wanted::{Answer, Parts};
-use crate::fixtures::{Act, without_folder};
+use crate::fixtures::{Act, play};
 use std::test::Fail;
 
 const HELP: &[&str] = &[
@@ -15,11 +15,6 @@ const INFORMED: &[Act<'_>] = &[
     Ask(&["-h"], Parts(0, HELP, &[])),
     Ask(&["--version"], Answer(0, "cpmrun 1.0.0\n", "")),
 ];
-
-#[test]
-fn help_goes_to_standard_output(rt: HostRuntime) -> Result<(), Fail> {
-    without_folder(&rt, INFORMED)
-}
 
 const MISUSED: &[Act<'_>] = &[
     Ask(
@@ -49,6 +44,12 @@ const MISUSED: &[Act<'_>] = &[
 ];
 
 #[test]
-fn a_fault_of_use_goes_to_standard_error(rt: HostRuntime) -> Result<(), Fail> {
-    without_folder(&rt, MISUSED)
+fn help_version_and_usage_errors(rt: HostRuntime) -> Result<(), Fail> {
+    play(
+        &rt,
+        &[
+            ("help goes to standard output", INFORMED),
+            ("a fault of use goes to standard error", MISUSED),
+        ],
+    )
 }

@@ -2,7 +2,7 @@
 
 use crate::fixtures::Act::{Ask, Load, Put, PutZeros};
 use crate::fixtures::Wanted::Answer;
-use crate::fixtures::{Act, HI, in_folder_of};
+use crate::fixtures::{Act, HI, play};
 use std::test::Fail;
 
 // Each error with all later ones present: only the first is reported.
@@ -43,11 +43,6 @@ const ORDER: &[Act<'_>] = &[
     ),
 ];
 
-#[test]
-fn the_first_error_is_reported(rt: HostRuntime) -> Result<(), Fail> {
-    in_folder_of(&rt, rt.process(), "order", ORDER)
-}
-
 const NAMES: &[Act<'_>] = &[
     Put("p3.com.com", HI),
     Put("a.txt", b"x"),
@@ -62,11 +57,6 @@ const NAMES: &[Act<'_>] = &[
     ),
 ];
 
-#[test]
-fn two_files_of_one_name_are_reported(rt: HostRuntime) -> Result<(), Fail> {
-    in_folder_of(&rt, rt.process(), "names", NAMES)
-}
-
 const BIG: &[Act<'_>] = &[
     PutZeros("big", 8_388_609),
     Put("p3.com.com", HI),
@@ -75,11 +65,6 @@ const BIG: &[Act<'_>] = &[
         Answer(1, "", "cpmrun: file C:BIG refused 1\n"),
     ),
 ];
-
-#[test]
-fn a_host_file_may_be_refused(rt: HostRuntime) -> Result<(), Fail> {
-    in_folder_of(&rt, rt.process(), "big", BIG)
-}
 
 // A tail of 127 tabs: it is too long, and no tail may have a tab.
 const LONG_TAIL: &str =
@@ -113,6 +98,14 @@ const REFUSED: &[Act<'_>] = &[
 ];
 
 #[test]
-fn a_session_may_be_refused(rt: HostRuntime) -> Result<(), Fail> {
-    in_folder_of(&rt, rt.process(), "refused", REFUSED)
+fn files_that_are_refused(rt: HostRuntime) -> Result<(), Fail> {
+    play(
+        &rt,
+        &[
+            ("the first error is reported", ORDER),
+            ("two files of one name are reported", NAMES),
+            ("a host file may be refused", BIG),
+            ("a session may be refused", REFUSED),
+        ],
+    )
 }

@@ -93,7 +93,7 @@ fn a_message_has_a_long_path(rt: HostRuntime) -> Result<(), Fail> {
 #[test]
 fn a_fault_of_use_has_its_own_text(rt: HostRuntime) -> Result<(), Fail> {
     let alloc = rt.alloc();
-    let used = Fault::Use(text(alloc, "cpmrun: wrong words\n")?);
+    let used = Fault::Usage(text(alloc, "cpmrun: wrong words\n")?);
     is_reported(&rt, alloc, used, ("wrong ", "words", 1));
     let mut err = Over::new(Vec::new(alloc));
     let status = report_fault(alloc, Fault::NotText, &mut err);

@@ -2,8 +2,9 @@
 
 use crate::fixtures::Act::{Ask, Put};
 use crate::fixtures::Wanted::Answer;
-use crate::fixtures::{Act, HI, TAKE, in_folder_of};
+use crate::fixtures::{Act, HI, TAKE, play};
 use std::test::Fail;
+use test_sessions::program;
 
 const LIMITS: &[Act<'_>] = &[
     Put("p3.com", HI),
@@ -29,15 +30,10 @@ const LIMITS: &[Act<'_>] = &[
     ),
 ];
 
-#[test]
-fn the_text_goes_out_as_it_is(rt: HostRuntime) -> Result<(), Fail> {
-    in_folder_of(&rt, rt.process(), "hi", LIMITS)
-}
-
 const STOPS: &[Act<'_>] = &[
-    Put("stops.com", b"\xc9"),
+    Put("stops.com", &program![RET;]),
     Ask(&["@/stops.com"], Answer(0, "", "stop WarmBoot\n")),
-    Put("stops.com", b"\x76"),
+    Put("stops.com", &program![HLT;]),
     Ask(&["@/stops.com"], Answer(4, "", "stop Halt\n")),
     Put("stops.com", b"\x08"),
     Ask(&["@/stops.com"], Answer(5, "", "stop Undefined 08\n")),
@@ -45,23 +41,18 @@ const STOPS: &[Act<'_>] = &[
     Ask(&["@/stops.com"], Answer(6, "", "stop SystemArea FE00\n")),
     Put("stops.com", TAKE),
     Ask(&["@/stops.com"], Answer(7, "", "stop ConsoleExhausted\n")),
-    Put("stops.com", b"\x0e\x09\xcd\x05\x00\xc9"),
+    Put("stops.com", &program![MVI C,9; CALL 5; RET;]),
     Ask(&["@/stops.com"], Answer(8, "", "stop NoDollar\n")),
-    Put("stops.com", b"\x0e\x1b\xcd\x05\x00\xc9"),
+    Put("stops.com", &program![MVI C,27; CALL 5; RET;]),
     Ask(&["@/stops.com"], Answer(9, "", "stop Unsupported 27\n")),
-    Put("stops.com", b"\x0e\x0e\x1e\x05\xcd\x05\x00\xc9"),
+    Put("stops.com", &program![MVI C,14; MVI E,5; CALL 5; RET;]),
     Ask(&["@/stops.com"], Answer(10, "", "stop BadDrive 5\n")),
 ];
-
-#[test]
-fn each_stop_has_its_status(rt: HostRuntime) -> Result<(), Fail> {
-    in_folder_of(&rt, rt.process(), "stops", STOPS)
-}
 
 const TYPED: &[Act<'_>] = &[
     Put("take.com", TAKE),
     Put("typed", b"xy"),
-    Put("tell.com", b"\x0e\x09\x11\x82\x00\xcd\x05\x00\xc9"),
+    Put("tell.com", &program![MVI C,9; LXI D,0x0082; CALL 5; RET;]),
     Ask(
         &["@/take.com", "--console", "@/typed"],
         Answer(0, "x", "stop WarmBoot\n"),
@@ -77,6 +68,13 @@ const TYPED: &[Act<'_>] = &[
 ];
 
 #[test]
-fn a_program_has_its_console_and_tail(rt: HostRuntime) -> Result<(), Fail> {
-    in_folder_of(&rt, rt.process(), "typed", TYPED)
+fn sessions_that_are_run_once(rt: HostRuntime) -> Result<(), Fail> {
+    play(
+        &rt,
+        &[
+            ("the text goes out as it is", LIMITS),
+            ("each stop has its status", STOPS),
+            ("a program has its console and tail", TYPED),
+        ],
+    )
 }

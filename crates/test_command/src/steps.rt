@@ -1,7 +1,7 @@
 // How many steps the replies to edit lines take, by the options.
 
 use crate::fixtures::Act::{Count, Put};
-use crate::fixtures::{Act, TAKE, in_folder_of};
+use crate::fixtures::{Act, TAKE, play};
 use std::test::Fail;
 
 // A run takes six steps, and the fourth reads the script. Checkpoints are due at each multiple of the spacing and at the stop. A
@@ -63,5 +63,8 @@ const EDITED: &[Act<'_>] = &[
 
 #[test]
 fn spacing_and_slots_say_where_a_run_resumes(rt: HostRuntime) -> Result<(), Fail> {
-    in_folder_of(&rt, rt.process(), "steps", EDITED)
+    play(
+        &rt,
+        &[("spacing and slots say where a run resumes", EDITED)],
+    )
 }

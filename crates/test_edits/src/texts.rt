@@ -7,6 +7,7 @@ use edit_lines::ReplayFault;
 use std::alloc::{AllocError, Global};
 use std::process::Abort;
 use std::test::Fail;
+use test_sessions::program;
 use test_sessions::worked::PRINTS;
 
 const REPORT: &[u8] =
@@ -144,7 +145,7 @@ fn a_line_may_be_too_long(rt: HostRuntime) -> Result<(), Fail> {
 }
 
 // The bytes before the string of the program that prints `Hi`, and the lines before the digits of its report.
-const BEFORE_STRING: &[u8] = b"\x0e\x09\x11\x09\x01\xcd\x05\x00\xc9";
+const BEFORE_STRING: &[u8] = &program![MVI C,9; LXI D,0x0109; CALL 5; RET;];
 
 const BEFORE_DIGITS: &[u8] =
     b"stop WarmBoot\nsteps 7\nregs A=00 F=02 B=00 C=09 D=01 E=09 H=00 L=00 SP=FE00 PC=FF03\ntext ";

@@ -2,7 +2,9 @@
 
 use crate::finding::Found;
 use crate::hosting::Bytes;
+use bdos::Cause;
 use cpmfiles::{Ask, Key};
+use filenames::Drive;
 
 /// An act or a question of a test, and the expected result. A record is given by the one byte of which it is made.
 #[derive(Clone, Copy)]
@@ -68,17 +70,45 @@ pub enum Act<'a> {
     SetNext(&'a str, Bytes<'a>),
     /// The earlier of this step and the first step that a file touches, if it becomes the file of the next host files.
     Touch(u64, Key, u64),
+    /// Bytes that are put into the cells from an address on; the cell after 0FFFFH is 0000H.
+    Put(u16, &'a [u8]),
+    /// A byte that is put into a number of cells: `PutAll(address, count, byte)`.
+    PutAll(u16, u16, u8),
+    /// The address of the return address of the calls that follow.
+    Stack(u16),
+    /// A system call with a word in DE that returns a value: `Call(number, word, value)`.
+    Call(u8, u16, u8),
+    /// A system call with a word in DE that stops.
+    Stops(u8, u16, Cause),
+    /// The expected bytes of the cells from an address on.
+    Are(u16, &'a [u8]),
+    /// The expected byte of a number of cells: `AreAll(address, count, byte)`.
+    AreAll(u16, u16, u8),
+    /// The current drive and the buffer address.
+    Selected(Drive, u16),
+    /// All that was printed.
+    Printed(&'a [u8]),
 }
 
 /// An act, and all questions that were asked up to then.
 pub type Row<'a> = (Act<'a>, &'a [Ask]);
 
-/// Acts over host files, each of a number of bytes `x`, and then rows.
+/// The acts of a case.
+#[derive(Clone, Copy)]
+pub enum Acts<'a> {
+    /// Acts whose questions are not compared.
+    Plain(&'a [Act<'a>]),
+    /// Rows.
+    Asking(&'a [Row<'a>]),
+    /// Acts whose questions are not compared, and then rows.
+    Both(&'a [Act<'a>], &'a [Row<'a>]),
+}
+
+/// Acts over host files, each of a number of bytes `x`. The buffer begins at 0300H.
 #[derive(Clone, Copy)]
 pub struct Case<'a> {
     /// What they show.
     pub name: &'a str,
     pub files: &'a [(&'a str, usize)],
-    pub acts: &'a [Act<'a>],
-    pub rows: &'a [Row<'a>],
+    pub acts: Acts<'a>,
 }

@@ -2,7 +2,7 @@
 
 use crate::acts::Act::{self, EraseFrom, Note, StepOf, Touch};
 use cpmfiles::{Ask, HostFiles};
-use file_steps::FileSteps;
+use first_looks::FileSteps;
 use std::alloc::{AllocError, Global};
 use std::marker::Model;
 

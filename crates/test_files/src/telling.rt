@@ -3,7 +3,7 @@
 use crate::acts::Act::{self, Changed, ChangedAfter, Same, TellKeys, TellRecord, TellRecords};
 use crate::contents::filled;
 use cpmfiles::{Changes, HostFiles, Key, Name};
-use hostfiles::{is_changed, next_changed};
+use hostfiles::{ChangedFile, FileView, next_changed};
 use std::test::Fail;
 
 /// Names that are listed, in order.
@@ -32,7 +32,7 @@ pub fn tell(host: &HostFiles, changes: &Changes, act: Act<'_>) -> Result<bool, F
             let next = next_name(host, changes, Names::Changed, Some(&Name::parse(text)?));
             has_key(next, &key)
         }
-        Same(key) => !is_changed(host, &changes.journal, &key),
+        Same(key) => !FileView::find(host, &changes.journal, &key).is_changed(),
         _ => false,
     })
 }
@@ -47,7 +47,9 @@ fn next_name(
     match names {
         Names::Host => host.next(after),
         Names::All => host.next_with(changes, after),
-        Names::Changed => next_changed(host, &changes.journal, after),
+        Names::Changed => next_changed(host, &changes.journal, after).map(|changed: ChangedFile<
+            '_,
+        >| changed.name),
     }
 }
 
@@ -69,7 +71,7 @@ pub fn are_keys(host: &HostFiles, changes: &Changes, names: Names, keys: &[Key])
 
 fn are_changed(host: &HostFiles, changes: &Changes, keys: &[Key]) -> bool {
     for key in keys {
-        if !is_changed(host, &changes.journal, key) {
+        if !FileView::find(host, &changes.journal, key).is_changed() {
             return false;
         }
     }

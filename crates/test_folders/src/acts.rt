@@ -19,8 +19,6 @@ pub enum Act<'a> {
     MakeFolder(&'a str),
     /// The removal of an empty folder.
     RemoveFolder(&'a str),
-    /// The removal of a folder with all that is in it.
-    RemoveAll(&'a str),
     /// A symbolic link that leads to the second path.
     Link(&'a str, &'a str),
     /// The text for a folder that is read as the folder of a drive, counted from 0, or of no drive.
@@ -40,8 +38,8 @@ pub enum Act<'a> {
 }
 
 use Act::{
-    HasAHole, HasBoth, Holds, Lacks, Link, MakeFolder, Put, PutMany, PutSparse, RemoveAll,
-    RemoveFolder, Tells, TellsBoth, Writes,
+    HasAHole, HasBoth, Holds, Lacks, Link, MakeFolder, Put, PutMany, PutSparse, RemoveFolder,
+    Tells, TellsBoth, Writes,
 };
 
 /// The expected text.
@@ -53,22 +51,36 @@ pub enum Text<'a> {
     Around(&'a str, &'a str),
 }
 
-// The number of an act, counted from 1, with another text than expected.
-#[derive(Clone, Copy, Debug)]
-struct NotAsWanted {
-    act: u32,
+/// Acts in an empty folder.
+#[derive(Clone, Copy)]
+pub struct Case<'a> {
+    /// What they show; also the end of the folder's name.
+    pub name: &'a str,
+    pub acts: &'a [Act<'a>],
 }
 
-/// Executes acts in an empty folder of this name.
-pub fn play(rt: &HostRuntime, name: &str, acts: &[Act<'_>]) -> Result<(), Fail> {
-    let folder = make_folder(rt, name)?;
-    all(rt, folder.as_str(), acts)
+/// Executes the acts of each case, and removes its folder.
+pub fn play(rt: &HostRuntime, cases: &[Case<'_>]) -> Result<(), Fail> {
+    for case in cases {
+        play_case(rt, case)?;
+    }
+    Ok(())
 }
 
-// Makes an empty folder for a test of this name, and returns its path.
+fn play_case(rt: &HostRuntime, case: &Case<'_>) -> Result<(), Fail> {
+    let folder = make_folder(rt, case.name)?;
+    let wrong = first_wrong(rt, folder.as_str(), case.acts)?;
+    let _ = fs::remove_dir_all(rt, folder.as_str());
+    if wrong != 0 {
+        return Err(Fail::new(format_args!("{}: act {wrong}", case.name)));
+    }
+    Ok(())
+}
+
+// Makes an empty folder for a case of this name, and returns its path.
 fn make_folder(rt: &HostRuntime, name: &str) -> Result<String, Fail> {
     let id = process::id(rt.process());
-    let path = format!(in rt.alloc(); "/tmp/vembrusk-{id}-{name}")?;
+    let path = format!(in rt.alloc(); "/tmp/vembrusk-{id} {name}")?;
     make_empty(rt, path.as_str())?;
     Ok(path)
 }
@@ -79,21 +91,22 @@ fn make_empty(rt: &HostRuntime, path: &str) -> Result<(), Fail> {
     Ok(())
 }
 
-fn all(rt: &HostRuntime, folder: &str, acts: &[Act<'_>]) -> Result<(), Fail> {
+// Returns the number of the first act, counted from 1, with another result, or 0 if there is none.
+fn first_wrong(rt: &HostRuntime, folder: &str, acts: &[Act<'_>]) -> Result<u32, Fail> {
     let mut number: u32 = 0;
     for act in acts {
         number = number.wrapping_add(1);
-        if !carry_out(rt, folder, *act)? {
-            return Err(Fail::from(NotAsWanted { act: number }));
+        if !execute(rt, folder, *act)? {
+            return Ok(number);
         }
     }
-    Ok(())
+    Ok(0)
 }
 
 // Executes an act, and returns whether the result is as expected.
-fn carry_out(rt: &HostRuntime, folder: &str, act: Act<'_>) -> Result<bool, Fail> {
+fn execute(rt: &HostRuntime, folder: &str, act: Act<'_>) -> Result<bool, Fail> {
     let path = path_in(rt.alloc(), folder, place_of(act))?;
-    carry_out_at(rt, folder, path.as_str(), act)
+    execute_at(rt, folder, path.as_str(), act)
 }
 
 fn path_in(alloc: Global, folder: &str, place: &str) -> Result<String, AllocError> {
@@ -106,20 +119,19 @@ fn path_in(alloc: Global, folder: &str, place: &str) -> Result<String, AllocErro
 fn place_of(act: Act<'_>) -> &str {
     match act {
         Put(place, _) | PutSparse(place, _) | PutMany(place, _) => place,
-        MakeFolder(place) | RemoveFolder(place) | RemoveAll(place) | Link(place, _) => place,
+        MakeFolder(place) | RemoveFolder(place) | Link(place, _) => place,
         Tells(place, _, _) | TellsBoth(place, _, _) | HasBoth(place) => place,
         Writes(place, _, _, _) | HasAHole(place) | Holds(place, _) | Lacks(place) => place,
     }
 }
 
-fn carry_out_at(rt: &HostRuntime, folder: &str, path: &str, act: Act<'_>) -> Result<bool, Fail> {
+fn execute_at(rt: &HostRuntime, folder: &str, path: &str, act: Act<'_>) -> Result<bool, Fail> {
     match act {
         Put(_, bytes) => fs::write(rt, path, bytes)?,
         PutSparse(_, len) => put_sparse(rt, path, len)?,
         PutMany(_, count) => put_many(rt, path, count)?,
         MakeFolder(_) => fs::create_dir(rt, path)?,
         RemoveFolder(_) => fs::remove_dir(rt, path)?,
-        RemoveAll(_) => fs::remove_dir_all(rt, path)?,
         Link(_, target) => symlink(rt, target, path)?,
         _ => return answers(rt, folder, path, act),
     }

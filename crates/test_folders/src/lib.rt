@@ -1,4 +1,5 @@
-//! The tests of host folders, over files and folders that they write.
+//! The tests of host folders, over files and folders that they write. Their acts call `folders` itself; those of `test_command`, which
+//! also begin with files in a folder, call the command alone. So each has its own.
 //!
 //! - `reading`, `writing`, `faults`: tests over folders and files that they write
 //! - `acts`: acts in the folder of a test, and the expected results

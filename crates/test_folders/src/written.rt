@@ -2,10 +2,8 @@
 
 use crate::listed::text;
 use filenames::{Drive, Name};
-use folders::{
-    ChangedFile, Failure, SystemFiles, name_in_folder, temporary_name, write_file, write_to_drive,
-};
-use hostfiles::{HostFiles, Journal, contents_count};
+use folders::{Failure, SystemFiles, name_in_folder, temporary_name, write_file, write_to_drive};
+use hostfiles::{FileView, Gap, HostFiles, Journal};
 use std::alloc::{AllocError, Global};
 use std::fs;
 use std::io::ErrorKind;
@@ -47,8 +45,8 @@ fn make(journal: &mut Journal, name: &Name, how: How) -> Result<(), AllocError> 
 }
 
 fn write_apart(journal: &mut Journal, name: &Name) -> Result<(), AllocError> {
-    journal.write(&name.key(), 0, 0, &[1; 128], false)?;
-    journal.write(&name.key(), 1, 2, &[3; 128], false)
+    journal.write(&name.key(), 0, 0, &[1; 128], Gap::Holes)?;
+    journal.write(&name.key(), 1, 2, &[3; 128], Gap::Holes)
 }
 
 fn write(
@@ -59,19 +57,15 @@ fn write(
     how: How,
 ) -> Result<String, AllocError> {
     let host = HostFiles::new(rt.alloc());
-    if contents_count(&host, journal, &name.key()).is_none() {
+    let file = FileView::find(&host, journal, &name.key());
+    if !file.is_there() {
         return String::from_str(rt.alloc(), "no such file");
     }
     let folders = [None, Some(folder), None, Some("/none")];
     let mut system = SystemFiles::new(rt);
-    let contents = ChangedFile {
-        host: &host,
-        journal,
-        name,
-    };
     let answer = match how {
-        How::WithAHole => write_file(&mut system, folder, name, &contents),
-        How::ToItsDrive => write_to_drive(&mut system, &folders, name, &contents),
+        How::WithAHole => write_file(&mut system, folder, name, &file),
+        How::ToItsDrive => write_to_drive(&mut system, &folders, name, &file),
     };
     text_of(rt.alloc(), answer)
 }

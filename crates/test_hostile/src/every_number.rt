@@ -5,9 +5,10 @@ ghost use Rattle.std.specs.Prelude.{◌≤◌};
 
 use machine::{Cause, Regs};
 use std::alloc::Global;
+use std::test::Fail;
 use test_sessions::Act::{Edit, Run};
 use test_sessions::Change::Limit;
-use test_sessions::{Case, EMPTY, Given, LOADED, Trouble, Wanted, play};
+use test_sessions::{CALLING, RETURNED, Trouble, Wanted, given, play_acts, program};
 
 /// The words in DE: the first cell, the one before the program, and two from which a control block continues at 0000H.
 const WORDS: [u16; 4] = [0x0000, 0x00ff, 0xffe0, 0xffff];
@@ -69,9 +70,7 @@ fn at_call(number: u8, word: u16) -> Regs {
         c: number,
         d: (word / 256) as u8,
         e: low(word),
-        sp: 0xfdfc,
-        pc: 0xfe06,
-        ..LOADED
+        ..CALLING
     }
 }
 
@@ -81,8 +80,8 @@ fn back(number: u8, word: u16) -> Regs {
     Regs {
         a: value,
         l: value,
-        sp: 0xfe00,
-        pc: 0xff03,
+        sp: RETURNED.sp,
+        pc: RETURNED.pc,
         ..at_call(number, word)
     }
 }
@@ -136,22 +135,6 @@ fn end_of(number: u8, word: u16) -> (Cause, u64, Regs) {
 
 // Breaks a run off at its call, and resumes it from the checkpoint there. Then runs it again from its end.
 fn calls(alloc: Global, number: u8, word: u16) -> Result<(), Trouble> {
-    let program = [
-        0x0e,
-        number,
-        0x11,
-        low(word),
-        (word / 256) as u8,
-        0xcd,
-        0x05,
-        0x00,
-        0xc9,
-    ];
-    let given = Given {
-        program: &program,
-        limit: 4,
-        ..EMPTY
-    };
     let broken_off = Wanted {
         cause: Cause::Limit,
         steps: 4,
@@ -172,11 +155,12 @@ fn calls(alloc: Global, number: u8, word: u16) -> Result<(), Trouble> {
         Run(steps.wrapping_sub(4), wanted),
         Run(0, wanted),
     ];
-    play(alloc, 0, &Case { given, acts: &acts })
+    let given = given!(program: &program![MVI C,number; LXI D,word; CALL 5; RET;], limit: 4);
+    play_acts(alloc, &given, &acts)
 }
 
 #[test]
-fn each_number_of_a_call_has_its_end(rt: HostRuntime) -> Result<(), Trouble> {
+fn each_number_of_a_call_has_its_end(rt: HostRuntime) -> Result<(), Fail> {
     for number in 0..=255 {
         for word in WORDS {
             calls(rt.alloc(), number, word)?;

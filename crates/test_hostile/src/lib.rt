@@ -7,13 +7,11 @@
 //! - `self_changing`: tests of programs that write over themselves, or over what a call is given while it is in use
 //! - `every_number`, `calls_at_the_edge`: tests of every number of a call, and of control blocks, buffers and strings across the
 //!   end of memory
-//! - `ends`, `parts`: how a run ends, at once and broken off after each of its steps; programs that are put together from parts
+//! - `parts`: programs that are put together from parts, of which the steps and the registers at the end follow
 #![tactic(auto)]
 
 #[cfg(test)]
 mod calls_at_the_edge;
-#[cfg(test)]
-mod ends;
 #[cfg(test)]
 mod every_number;
 #[cfg(test)]

@@ -1,9 +1,9 @@
 // Programs that are put together from parts, in which page zero is written over and each call goes to the system's entry itself.
 
-use crate::ends::ends;
 use machine::{Cause, Regs};
 use std::alloc::{AllocError, Global};
-use test_sessions::{Given, LOADED, Left, Trouble, Wanted, alone};
+use std::test::Fail;
+use test_sessions::{Given, LOADED, Left, Trouble, Wanted, ends, given, name_failure, program};
 
 /// A part of a program.
 #[derive(Clone, Copy)]
@@ -18,6 +18,8 @@ pub enum Part<'a> {
 /// what is left.
 #[derive(Clone, Copy)]
 pub struct Row<'a> {
+    /// What the run shows.
+    pub name: &'a str,
     pub parts: &'a [Part<'a>],
     pub hosts: &'a [(&'a str, &'a [u8])],
     pub script: &'a [u8],
@@ -39,13 +41,12 @@ fn write_part(program: &mut Vec<u8>, part: Part<'_>) -> Result<(), AllocError> {
         Part::Put(from, bytes) => {
             let mut at = from;
             for byte in bytes {
-                program.extend_from_slice(&[0x3e, *byte, 0x32, low(at), high(at)])?;
+                program.extend_from_slice(&program![MVI A,*byte; STA at;])?;
                 at = at.wrapping_add(1);
             }
         }
         Part::Call(number, word) => {
-            program.extend_from_slice(&[0x0e, number, 0x11, low(word), high(word)])?;
-            program.extend_from_slice(&[0xcd, 0x06, 0xfe])?;
+            program.extend_from_slice(&program![MVI C,number; LXI D,word; CALL 0xfe06;])?;
         }
     }
     Ok(())
@@ -74,6 +75,10 @@ fn after(regs: Regs, part: Part<'_>, value: u8) -> Regs {
     }
 }
 
+fn alone(program: &[u8]) -> Given<'_> {
+    given!(program: program)
+}
+
 // Runs a program of parts and a HLT at its end, and compares how it ends.
 fn halts(alloc: Global, row: Row<'_>) -> Result<(), Trouble> {
     let mut program = Vec::new(alloc);
@@ -85,7 +90,7 @@ fn halts(alloc: Global, row: Row<'_>) -> Result<(), Trouble> {
         steps = steps.wrapping_add(steps_of(*part));
     }
     regs.pc = ((program.len() % 0x8000) as u16).wrapping_add(0x0100);
-    program.extend_from_slice(&[0x76])?;
+    program.extend_from_slice(&program![HLT;])?;
     let given = Given {
         hosts: row.hosts,
         script: row.script,
@@ -101,9 +106,9 @@ fn halts(alloc: Global, row: Row<'_>) -> Result<(), Trouble> {
 }
 
 /// Runs the program of each row with a HLT at its end, and compares how it ends.
-pub fn all_halt(alloc: Global, rows: &[Row<'_>]) -> Result<(), Trouble> {
+pub fn all_halt(alloc: Global, rows: &[Row<'_>]) -> Result<(), Fail> {
     for row in rows {
-        halts(alloc, *row)?;
+        name_failure(row.name, halts(alloc, *row))?;
     }
     Ok(())
 }

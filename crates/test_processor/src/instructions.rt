@@ -1,7 +1,7 @@
-// What the contracts leave to the reader: that the definitions are the 8080's, shown by the manual's examples and by computing in
-// a second way.
+// What no contract can say: that the definitions are the 8080's. The instructions are compared with the manual's examples and with a
+// second computation.
 
-use crate::fixtures::{blank, words_of};
+use crate::fixtures::blank;
 use i8080::opcode::Arithmetic::{self, Adc, Add, Ana, Cmp, Ora, Sbb, Sub, Xra};
 use i8080::{
     Bus, Did, Flags, Regs, bytes_have_one_instruction, decode, execute, opcodes_differ, word_of,
@@ -130,6 +130,7 @@ fn arithmetic_agrees_with_a_second_way(rt: HostRuntime) -> Result<(), AllocError
     arithmetic_agrees(&rt, &mut memory)
 }
 
+// Each operation, with the opcodes of its forms for register B and for an immediate byte.
 fn arithmetic_agrees(rt: &impl Abort, memory: &mut PlainMemory) -> Result<(), AllocError> {
     for (function, held, immediate) in [
         (Add, 0x80, 0xc6),
@@ -232,16 +233,16 @@ fn second_ways(before: Regs) -> [(u8, u8, Flags); 10] {
     other.cy = cy == false;
     set.cy = true;
     [
-        (0x3c, more, flags_of(more, more_half, cy)),
-        (0x3d, less, flags_of(less, less_half, cy)),
-        (0x27, decimal, decimal_flags),
-        (0x07, left, top),
-        (0x0f, right, bottom),
-        (0x17, left & 254 | carry, top),
-        (0x1f, right & 127 | carry.rotate_right(1), bottom),
-        (0x2f, 255 - a, before.flags),
-        (0x3f, a, other),
-        (0x37, a, set),
+        (0x3c, more, flags_of(more, more_half, cy)), // INR A
+        (0x3d, less, flags_of(less, less_half, cy)), // DCR A
+        (0x27, decimal, decimal_flags), // DAA
+        (0x07, left, top), // RLC
+        (0x0f, right, bottom), // RRC
+        (0x17, left & 254 | carry, top), // RAL
+        (0x1f, right & 127 | carry.rotate_right(1), bottom), // RAR
+        (0x2f, 255 - a, before.flags), // CMA
+        (0x3f, a, other), // CMC
+        (0x37, a, set), // STC
     ]
 }
 
@@ -253,6 +254,18 @@ fn filled(low: u8, high: u8, cy: bool) -> Regs {
     (regs.h, regs.l) = (high, low);
     regs.sp = word_of(low, high);
     regs
+}
+
+// Returns A and the flag byte, BC, DE, HL, SP and PC.
+fn words_of(regs: Regs) -> [u16; 6] {
+    [
+        word_of(regs.flags.byte(), regs.a),
+        word_of(regs.c, regs.b),
+        word_of(regs.e, regs.d),
+        word_of(regs.l, regs.h),
+        regs.sp,
+        regs.pc,
+    ]
 }
 
 // Returns the sum of two words, computed by their bytes, with the carry.
@@ -282,14 +295,14 @@ fn counts(memory: &mut PlainMemory, word: u16) -> Result<bool, AllocError> {
     let (more, _) = sum_of_words(word, 1);
     let (less, _) = sum_of_words(word, 0xffff);
     for (byte, wanted) in [
-        (0x03, [kept, more, word, word, word, 1]),
-        (0x13, [kept, word, more, word, word, 1]),
-        (0x23, [kept, word, word, more, word, 1]),
-        (0x33, [kept, word, word, word, more, 1]),
-        (0x0b, [kept, less, word, word, word, 1]),
-        (0x1b, [kept, word, less, word, word, 1]),
-        (0x2b, [kept, word, word, less, word, 1]),
-        (0x3b, [kept, word, word, word, less, 1]),
+        (0x03, [kept, more, word, word, word, 1]), // INX B
+        (0x13, [kept, word, more, word, word, 1]), // INX D
+        (0x23, [kept, word, word, more, word, 1]), // INX H
+        (0x33, [kept, word, word, word, more, 1]), // INX SP
+        (0x0b, [kept, less, word, word, word, 1]), // DCX B
+        (0x1b, [kept, word, less, word, word, 1]), // DCX D
+        (0x2b, [kept, word, word, less, word, 1]), // DCX H
+        (0x3b, [kept, word, word, word, less, 1]), // DCX SP
     ] {
         if words_of(after(memory, byte, before)?) != wanted {
             return Ok(false);
@@ -327,10 +340,10 @@ fn is_added(memory: &mut PlainMemory, others: Regs, word: u16) -> Result<bool, A
     let (sum, over) = sum_of_words(word, other);
     let (twice, twice_over) = sum_of_words(word, word);
     for (byte, wanted, carry) in [
-        (0x09, sum, over),
-        (0x19, sum, over),
-        (0x29, twice, twice_over),
-        (0x39, sum, over),
+        (0x09, sum, over), // DAD B
+        (0x19, sum, over), // DAD D
+        (0x29, twice, twice_over), // DAD H
+        (0x39, sum, over), // DAD SP
     ] {
         let mut flags = before.flags;
         flags.cy = carry;

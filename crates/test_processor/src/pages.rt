@@ -1,6 +1,6 @@
 // What a run wrote and looked at, over an image.
 
-use crate::fixtures::{HI, blank};
+use crate::fixtures::blank;
 use i8080::{Bus, fetch};
 use pagemem::{BlankMarks, Cells, Image, Overlay, View, memories_agree};
 use std::alloc::AllocError;
@@ -28,7 +28,7 @@ fn three_laid(image: Image<'_>, overlay: &mut Overlay) -> Result<[u8; 3], AllocE
 fn reads_of_unwritten_cells_alone_are_looks(rt: HostRuntime) -> Result<(), Fail> {
     let page_zero = [0; 256];
     let mut overlay = Overlay::new(rt.alloc())?;
-    reads_are_looks(&rt, Image::new(&page_zero, &HI), &mut overlay)
+    reads_are_looks(&rt, Image::new(&page_zero, &[0x0e, 0x09]), &mut overlay)
 }
 
 fn reads_are_looks(rt: &impl Abort, image: Image<'_>, overlay: &mut Overlay) -> Result<(), Fail> {

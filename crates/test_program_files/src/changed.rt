@@ -5,6 +5,7 @@ use std::test::Fail;
 use test_files::Act::{
     Anew, Changed, ChangedAfter, Delete, Make, Rename, Same, Set, Write, WriteOther,
 };
+use test_files::Acts::Plain;
 use test_files::{ANN, B_ANN, BEN, CAT, Case, play};
 
 const B_COM: Key = *b"\0B       COM";
@@ -21,26 +22,24 @@ const CASES: &[Case<'_>] = &[
     Case {
         name: "nothing done changes nothing",
         files: &[("ann", 256), ("d:zed", 0)],
-        acts: &[Same(ANN), Same(BEN), Changed(&[])],
-        rows: &[],
+        acts: Plain(&[Same(ANN), Same(BEN), Changed(&[])]),
     },
     Case {
         name: "equal bytes change nothing",
         files: &[("ann", 256)],
-        acts: &[
+        acts: Plain(&[
             Write(ANN, 1, b'x', true),
             Changed(&[]),
             Write(ANN, 1, b'y', true),
             Changed(&[ANN]),
             Write(ANN, 1, b'x', true),
             Changed(&[]),
-        ],
-        rows: &[],
+        ]),
     },
     Case {
         name: "one byte makes the difference",
         files: &[("ann", 384)],
-        acts: &[
+        acts: Plain(&[
             WriteOther(ANN, 0, 0),
             Changed(&[ANN]),
             Anew,
@@ -52,24 +51,22 @@ const CASES: &[Case<'_>] = &[
             Anew,
             WriteOther(ANN, 2, 127),
             Changed(&[ANN]),
-        ],
-        rows: &[],
+        ]),
     },
     Case {
         name: "a longer file is changed",
         files: &[("ann", 128), ("ben", 0)],
-        acts: &[
+        acts: Plain(&[
             Write(ANN, 1, b'x', true),
             Write(BEN, 0, 0, true),
             Changed(&[ANN, BEN]),
-        ],
-        rows: &[],
+        ]),
     },
     // The host file's second record is zeros, and the file that is made again has a hole there.
     Case {
         name: "a hole is zeros",
         files: &[],
-        acts: &[
+        acts: Plain(&[
             Set("ann", &[(b'x', 128), (0, 128), (b'x', 128)], 0),
             Delete(ANN, 1),
             Make(ANN, true),
@@ -78,13 +75,12 @@ const CASES: &[Case<'_>] = &[
             Changed(&[]),
             Write(ANN, 1, 1, true),
             Changed(&[ANN]),
-        ],
-        rows: &[],
+        ]),
     },
     Case {
         name: "a file is made again",
         files: &[("ann", 128), ("ben", 0), ("cat", 128)],
-        acts: &[
+        acts: Plain(&[
             Delete(ANN, 1),
             Make(ANN, true),
             Delete(BEN, 1),
@@ -93,51 +89,47 @@ const CASES: &[Case<'_>] = &[
             Make(CAT, true),
             Write(ANN, 0, b'x', true),
             Changed(&[CAT]),
-        ],
-        rows: &[],
+        ]),
     },
     Case {
         name: "new and deleted files are changed",
         files: &[("ann", 128), ("ben", 0)],
-        acts: &[
+        acts: Plain(&[
             Delete(*b"\0????????   ", 2),
             Make(CAT, true),
             Changed(&[ANN, BEN, CAT]),
             Delete(CAT, 1),
             Changed(&[ANN, BEN]),
-        ],
-        rows: &[],
+        ]),
     },
     Case {
         name: "a file is renamed away and back",
         files: &[("ann", 300)],
-        acts: &[
+        acts: Plain(&[
             Rename(ANN, BEN, true),
             Changed(&[ANN, BEN]),
             Rename(BEN, ANN, true),
             Changed(&[]),
-        ],
-        rows: &[],
+        ]),
     },
     // Each of the two files has the records of the other, and these are the same.
     Case {
         name: "files are renamed onto one another",
         files: &[("ann", 256), ("ben", 256)],
-        acts: &[
+        acts: Plain(&[
             Rename(ANN, CAT, true),
             Rename(BEN, ANN, true),
             Rename(CAT, BEN, true),
             Changed(&[]),
             Write(BEN, 0, 0, true),
             Changed(&[BEN]),
-        ],
-        rows: &[],
+        ]),
     },
     // The drive comes first, then the name, then the type. The two host files are deleted, and the others made.
     Case {
-        name: "changed files stand in the order of drives and names",
+        name: "changed files are in the order of drives and names",
         files: &[("b:ann", 128), ("zed", 128)],
-        acts: &[
+        acts: Plain(&[
             Make(D_AAA_TXT, true),
             Make(B_ANN_TXT, true),
             Delete(ZED, 1),
@@ -146,8 +138,7 @@ const CASES: &[Case<'_>] = &[
             Changed(ORDER),
             ChangedAfter("b:anm", B_ANN),
             Changed(ORDER),
-        ],
-        rows: &[],
+        ]),
     },
 ];
 

@@ -7,6 +7,7 @@ use test_files::Act::{
     Copy, Delete, Exchange, Fill, Find, Has, HostRecords, Make, Read, Records, Rename, Take,
     TellKeys, TellRecord, TellRecords, Write,
 };
+use test_files::Acts::{Both, Plain};
 use test_files::{ALL, ANN, Act, BEN, CAT, Case, play};
 
 // Then ANN has a hole at 2, BEN is CAT, and there is a new file on drive B.
@@ -24,7 +25,7 @@ const CASES: &[Case<'_>] = &[
     Case {
         name: "records after changes",
         files: &[("ann", 256), ("ben", 130)],
-        acts: &[
+        acts: Plain(&[
             LONGER,
             RENAMED,
             NEW,
@@ -34,14 +35,13 @@ const CASES: &[Case<'_>] = &[
             TellRecords("b:dan", Some(0)),
             TellRecords("dan", None),
             HostRecords("ann", Some(2)),
-        ],
-        rows: &[],
+        ]),
     },
     // A hole is reported as zeros, and past the end there is no record.
     Case {
         name: "a record after changes",
         files: &[("ann", 256), ("ben", 130)],
-        acts: &[
+        acts: Plain(&[
             LONGER,
             RENAMED,
             NEW,
@@ -53,78 +53,81 @@ const CASES: &[Case<'_>] = &[
             TellRecord("cat", 0, Some(b'x')),
             TellRecord("cat", 2, None),
             TellRecord("b:dan", 0, None),
-        ],
-        rows: &[],
+        ]),
     },
     Case {
         name: "names after changes",
         files: &[("ann", 256), ("ben", 130), ("d:a", 0)],
-        acts: &[
+        acts: Plain(&[
             LONGER,
             RENAMED,
             NEW,
             TellKeys(&[ANN, CAT, *b"\x01DAN        ", *b"\x03A          "]),
-        ],
-        rows: &[],
+        ]),
     },
     Case {
-        name: "what is told after changes is no question",
+        name: "reading what is there after changes is no question",
         files: &[("ann", 256), ("ben", 130)],
-        acts: &[
-            TellRecords("ann", Some(2)),
-            TellRecord("ann", 1, Some(b'x')),
-        ],
-        rows: &[(TellKeys(&[ANN, BEN]), &[])],
+        acts: Both(
+            &[
+                TellRecords("ann", Some(2)),
+                TellRecord("ann", 1, Some(b'x')),
+            ],
+            &[(TellKeys(&[ANN, BEN]), &[])],
+        ),
     },
     // A copy does not show what is later done to a run's changes or asked through them.
     Case {
-        name: "a copy stays as it was",
+        name: "a copy is unchanged",
         files: &[("ann", 256)],
-        acts: &[
-            Write(ANN, 2, b'a', true),
-            Copy,
-            Write(ANN, 2, b'b', true),
-            Fill(ANN, 5, b'c', true),
-            Read(ANN, 0, Some(b'x')),
-            Exchange,
-        ],
-        rows: &[
-            (Records(ANN, Some(3)), ASKED),
-            (Read(ANN, 2, Some(b'a')), ASKED),
-            (Read(ANN, 1, Some(b'x')), READ_1),
-        ],
+        acts: Both(
+            &[
+                Write(ANN, 2, b'a', true),
+                Copy,
+                Write(ANN, 2, b'b', true),
+                Fill(ANN, 5, b'c', true),
+                Read(ANN, 0, Some(b'x')),
+                Exchange,
+            ],
+            &[
+                (Records(ANN, Some(3)), ASKED),
+                (Read(ANN, 2, Some(b'a')), ASKED),
+                (Read(ANN, 1, Some(b'x')), READ_1),
+            ],
+        ),
     },
     Case {
-        name: "a copy goes its own way",
+        name: "a copy changes on its own",
         files: &[("ann", 256)],
-        acts: &[
-            Write(ANN, 2, b'a', true),
-            Copy,
-            Exchange,
-            Fill(ANN, 4, b'd', true),
-            Delete(ANN, 1),
-            Has(ANN, false),
-            Exchange,
-        ],
-        rows: &[
-            (Records(ANN, Some(3)), ASKED),
-            (Read(ANN, 2, Some(b'a')), ASKED),
-            (Read(ANN, 3, None), ASKED),
-        ],
+        acts: Both(
+            &[
+                Write(ANN, 2, b'a', true),
+                Copy,
+                Exchange,
+                Fill(ANN, 4, b'd', true),
+                Delete(ANN, 1),
+                Has(ANN, false),
+                Exchange,
+            ],
+            &[
+                (Records(ANN, Some(3)), ASKED),
+                (Read(ANN, 2, Some(b'a')), ASKED),
+                (Read(ANN, 3, None), ASKED),
+            ],
+        ),
     },
     // What was done stays, and each question is taken out once.
     Case {
         name: "questions are taken one by one",
         files: &[("ann", 256)],
-        acts: &[
+        acts: Plain(&[
             Read(ANN, 1, Some(b'x')),
             Write(ANN, 0, b'a', true),
             Find(ALL, 0, &[(ANN, 0, 2)]),
             Take(4, 1111),
             Take(1, 0),
             Read(ANN, 0, Some(b'a')),
-        ],
-        rows: &[],
+        ]),
     },
 ];
 

@@ -3,6 +3,7 @@
 use cpmfiles::Ask;
 use std::test::Fail;
 use test_files::Act::{Delete, Find, Has, Make, Records, SetMany, Write};
+use test_files::Acts::{Asking, Both, Plain};
 use test_files::{ALL, ANN, B_ANN, BEN, CAT, Case, play};
 
 const MADE: &[Ask] = &[Ask::Has(CAT)];
@@ -16,8 +17,7 @@ const CASES: &[Case<'_>] = &[
     Case {
         name: "all files that match are deleted",
         files: &[("ann", 1), ("ben", 1), ("b:ann", 1)],
-        acts: &[],
-        rows: &[
+        acts: Asking(&[
             (Make(CAT, true), MADE),
             (Delete(*b"\0?A?        ", 1), ASKS),
             (Has(CAT, false), ASKS),
@@ -27,12 +27,12 @@ const CASES: &[Case<'_>] = &[
             (Has(BEN, false), ASKS),
             (Find(ALL, b'?', &[]), ASKS),
             (Find(B_ANN, b'?', &[(B_ANN, 0, 1)]), BOTH),
-        ],
+        ]),
     },
     Case {
         name: "a deletion keeps what does not match",
         files: &[("ann", 1), ("ben", 1), ("cat", 1)],
-        acts: &[
+        acts: Plain(&[
             Write(BEN, 4, b'a', true),
             Delete(*b"\0A??        ", 1),
             Delete(*b"\x01???????????", 0),
@@ -41,17 +41,18 @@ const CASES: &[Case<'_>] = &[
             Delete(*b"\0C?T        ", 1),
             Make(ANN, true),
             Find(ALL, 0, &[(ANN, 0, 0), (BEN, 0, 5)]),
-        ],
-        rows: &[],
+        ]),
     },
     Case {
         name: "a deletion by pattern takes 512 files",
         files: &[],
-        acts: &[SetMany(512)],
-        rows: &[
-            (Delete(*b"\x02F??????????", 128), &[Ask::Directory(2)]),
-            (Delete(*b"\x02???????????", 0), &[Ask::Directory(2)]),
-        ],
+        acts: Both(
+            &[SetMany(512)],
+            &[
+                (Delete(*b"\x02F??????????", 128), &[Ask::Directory(2)]),
+                (Delete(*b"\x02???????????", 0), &[Ask::Directory(2)]),
+            ],
+        ),
     },
 ];
 

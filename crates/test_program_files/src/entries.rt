@@ -3,6 +3,7 @@
 use cpmfiles::Key;
 use std::test::Fail;
 use test_files::Act::{Anew, Delete, Fill, Find, FindBytes, FindFull, Make, Rename, Write};
+use test_files::Acts::Plain;
 use test_files::{ALL, ANN, BEN, CAT, Case, play};
 
 const ANY_EXTENT: u8 = b'?';
@@ -19,18 +20,17 @@ const CASES: &[Case<'_>] = &[
     Case {
         name: "an entry has 32 bytes",
         files: &[("c:note.txt", 300)],
-        acts: &[FindBytes(
+        acts: Plain(&[FindBytes(
             *b"\x02???????????",
             0,
             b"\0NOTE    TXT\0\0\0\x03\0\0\0\0\0\0\0\0\0\0\0\0\0\0\0\0",
-        )],
-        rows: &[],
+        )]),
     },
     // A file with no record has an entry of extent 0, and a full extent is followed by none.
     Case {
         name: "each extent with a record has an entry",
         files: &[("a", 0), ("b", 1), ("c", 16_384), ("d", 16_385)],
-        acts: &[
+        acts: Plain(&[
             Find(
                 ALL,
                 ANY_EXTENT,
@@ -43,20 +43,18 @@ const CASES: &[Case<'_>] = &[
                 ],
             ),
             Find(ALL, 1, &[(*b"\0D          ", 1, 1)]),
-        ],
-        rows: &[],
+        ]),
     },
     Case {
         name: "the longest file has 512 entries",
         files: &[("ann", 8_388_608)],
-        acts: &[FindFull(ANN, 512)],
-        rows: &[],
+        acts: Plain(&[FindFull(ANN, 512)]),
     },
     // The byte is compared with the whole extent, though an entry shows the extent in two bytes; 63 is `?`.
     Case {
         name: "an extent byte finds one extent",
         files: &[("ann", 8_388_608)],
-        acts: &[
+        acts: Plain(&[
             Find(ANN, 0, &[(ANN, 0, 128)]),
             Find(ANN, 8, &[(ANN, 8, 128)]),
             Find(ANN, 40, &[(ANN, 40, 128)]),
@@ -68,14 +66,13 @@ const CASES: &[Case<'_>] = &[
                 40,
                 b"\0ANN        \x08\0\x01\x80\0\0\0\0\0\0\0\0\0\0\0\0\0\0\0\0",
             ),
-        ],
-        rows: &[],
+        ]),
     },
     // Entries after some calls, over a host file with two records.
     Case {
         name: "an extent of holes has no entry",
         files: &[("ann", 200)],
-        acts: &[
+        acts: Plain(&[
             Write(ANN, 400, 1, true),
             Find(ALL, ANY_EXTENT, &[(ANN, 0, 2), (ANN, 3, 17)]),
             Anew,
@@ -91,14 +88,13 @@ const CASES: &[Case<'_>] = &[
             Make(BEN, true),
             Write(BEN, 65_535, 1, true),
             Find(ALL, ANY_EXTENT, &[(ANN, 0, 2), (BEN, 511, 128)]),
-        ],
-        rows: &[],
+        ]),
     },
     // The count of an extent is its greatest index with a record, plus one.
     Case {
         name: "holes before a record are counted",
         files: &[("ann", 200)],
-        acts: &[
+        acts: Plain(&[
             Write(ANN, 5, 1, true),
             Write(ANN, 3, 1, true),
             Find(ALL, ANY_EXTENT, &[(ANN, 0, 6)]),
@@ -111,13 +107,12 @@ const CASES: &[Case<'_>] = &[
             Write(BEN, 5, 1, true),
             Write(BEN, 2, 1, true),
             Find(ALL, ANY_EXTENT, &[(ANN, 0, 2), (BEN, 0, 6)]),
-        ],
-        rows: &[],
+        ]),
     },
     Case {
         name: "a filled gap has entries",
         files: &[("ann", 200)],
-        acts: &[
+        acts: Plain(&[
             Fill(ANN, 256, 1, true),
             Find(
                 ALL,
@@ -128,13 +123,12 @@ const CASES: &[Case<'_>] = &[
             Write(ANN, 200, 1, true),
             Fill(ANN, 257, 1, true),
             Find(ALL, ANY_EXTENT, &[(ANN, 0, 2), (ANN, 1, 128), (ANN, 2, 2)]),
-        ],
-        rows: &[],
+        ]),
     },
     Case {
         name: "entries follow what was done",
         files: &[("ann", 200)],
-        acts: &[
+        acts: Plain(&[
             Delete(ANN, 1),
             Find(ALL, ANY_EXTENT, &[]),
             Anew,
@@ -148,14 +142,13 @@ const CASES: &[Case<'_>] = &[
             Rename(ANN, CAT, true),
             Make(BEN, true),
             Find(ALL, ANY_EXTENT, &[(BEN, 0, 0), (CAT, 0, 2)]),
-        ],
-        rows: &[],
+        ]),
     },
     // A `?` matches each byte of a name, even a blank. The drive must be equal, and an entry does not show it.
     Case {
         name: "patterns find files of one drive",
         files: &[("a.txt", 1), ("ab.txt", 1), ("b.txt", 1), ("b:a.txt", 1)],
-        acts: &[
+        acts: Plain(&[
             Find(ALL, 0, &[(A, 0, 1), (AB, 0, 1), (B, 0, 1)]),
             Find(*b"\0A?      TXT", 0, &[(A, 0, 1), (AB, 0, 1)]),
             Find(*b"\0?       TXT", 0, &[(A, 0, 1), (B, 0, 1)]),
@@ -165,8 +158,7 @@ const CASES: &[Case<'_>] = &[
             Find(*b"\x01???????????", 0, &[(OTHER, 0, 1)]),
             Find(*b"\x02???????????", 0, &[]),
             Find(*b"????????????", 0, &[]),
-        ],
-        rows: &[],
+        ]),
     },
 ];
 

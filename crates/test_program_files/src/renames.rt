@@ -4,6 +4,7 @@ use cpmfiles::Ask::{Length, Rec};
 use cpmfiles::{Ask, Key};
 use std::test::Fail;
 use test_files::Act::{Anew, Delete, Has, Make, Read, Records, Rename, Write};
+use test_files::Acts::{Asking, Plain};
 use test_files::{ANN, BEN, CAT, Case, play};
 
 // Whether both are there; then the length of the first, and records of it.
@@ -32,8 +33,7 @@ const CASES: &[Case<'_>] = &[
     Case {
         name: "a file is renamed away and back",
         files: &[("ann", 384)],
-        acts: &[],
-        rows: &[
+        acts: Asking(&[
             (Rename(ANN, BEN, true), BOTH),
             (Has(ANN, false), BOTH),
             (Has(BEN, true), BOTH),
@@ -44,13 +44,12 @@ const CASES: &[Case<'_>] = &[
             (Records(ANN, Some(3)), READ_1),
             (Read(ANN, 1, Some(b'x')), READ_1),
             (Read(ANN, 2, Some(b'x')), READ_2),
-        ],
+        ]),
     },
     Case {
         name: "a file is renamed onto a deleted key",
         files: &[("ann", 384), ("ben", 1)],
-        acts: &[],
-        rows: &[
+        acts: Asking(&[
             (Delete(BEN, 1), &[Ask::Has(BEN)]),
             (Rename(ANN, BEN, true), BOTH),
             (Has(ANN, false), BOTH),
@@ -59,14 +58,13 @@ const CASES: &[Case<'_>] = &[
             (Make(ANN, true), READ_1),
             (Records(ANN, Some(0)), READ_1),
             (Read(BEN, 2, Some(b'x')), READ_2),
-        ],
+        ]),
     },
     // What was written moves with the file, and so does its growth.
     Case {
         name: "a written file is renamed",
         files: &[("ann", 384)],
-        acts: &[],
-        rows: &[
+        acts: Asking(&[
             (Write(ANN, 4, b'a', true), &[Ask::Has(ANN), Length(ANN)]),
             (Rename(ANN, BEN, true), LONG),
             (Records(BEN, Some(5)), LONG),
@@ -76,13 +74,12 @@ const CASES: &[Case<'_>] = &[
             (Read(BEN, 0, Some(b'b')), LONG),
             (Read(BEN, 1, Some(b'x')), READ_1),
             (Records(ANN, None), READ_1),
-        ],
+        ]),
     },
     Case {
         name: "a made file is renamed",
         files: &[],
-        acts: &[],
-        rows: &[
+        acts: Asking(&[
             (Make(ANN, true), &[Ask::Has(ANN)]),
             (Write(ANN, 1, b'a', true), &[Ask::Has(ANN)]),
             (Rename(ANN, BEN, true), BOTH),
@@ -91,14 +88,13 @@ const CASES: &[Case<'_>] = &[
             (Read(BEN, 1, Some(b'a')), BOTH),
             (Make(ANN, true), BOTH),
             (Records(ANN, Some(0)), BOTH),
-        ],
+        ]),
     },
     // Both keys are asked for, whatever the first answer is.
     Case {
-        name: "a rename wants the old key and not the new",
+        name: "a rename needs the old key and not the new",
         files: &[("ann", 1), ("ben", 1)],
-        acts: &[],
-        rows: &[
+        acts: Asking(&[
             (Rename(ANN, BEN, false), BOTH),
             (Anew, &[]),
             (Rename(ANN, ANN, false), &[Ask::Has(ANN)]),
@@ -108,14 +104,13 @@ const CASES: &[Case<'_>] = &[
             (Rename(CAT, CAT, false), &[Ask::Has(CAT)]),
             (Anew, &[]),
             (Rename(BEN, CAT, true), ABSENT),
-        ],
+        ]),
     },
     // No question is asked if a key has a `?`, or if the new one is no valid name's.
     Case {
         name: "keys that no rename takes",
         files: &[("ann", 1)],
-        acts: &[],
-        rows: &[
+        acts: Asking(&[
             (Rename(ANY, BEN, false), &[]),
             (Anew, &[]),
             (Rename(ANN, ANY, false), &[]),
@@ -123,13 +118,13 @@ const CASES: &[Case<'_>] = &[
             (Rename(ANN, SMALL, false), &[]),
             (Anew, &[]),
             (Rename(SMALL, ANN, false), &[Ask::Has(ANN), Ask::Has(SMALL)]),
-        ],
+        ]),
     },
     // Each moves to the key that the one before left.
     Case {
         name: "two files change keys",
         files: &[("ann", 128), ("ben", 256)],
-        acts: &[
+        acts: Plain(&[
             Rename(ANN, CAT, true),
             Rename(BEN, ANN, true),
             Rename(CAT, BEN, true),
@@ -140,8 +135,7 @@ const CASES: &[Case<'_>] = &[
             Delete(BEN, 1),
             Records(ANN, Some(3)),
             Records(BEN, None),
-        ],
-        rows: &[],
+        ]),
     },
 ];
 

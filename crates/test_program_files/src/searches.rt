@@ -3,6 +3,7 @@
 use cpmfiles::Ask::Directory;
 use std::test::Fail;
 use test_files::Act::{Anew, Delete, Find, FindNext, Make, Rename, Write};
+use test_files::Acts::{Asking, Plain};
 use test_files::{ALL, ANN, Act, BEN, CAT, Case, Found, play};
 
 const ANN_0: Found = (ANN, 0, 1);
@@ -16,9 +17,9 @@ const LONGER: Act<'_> = Write(ANN, 256, 1, true);
 const CASES: &[Case<'_>] = &[
     // The search sees the current files: those made, extended, renamed and deleted since.
     Case {
-        name: "a search goes on from the entry given",
+        name: "a search continues from the given entry",
         files: &[("ann", 1), ("ben", 1)],
-        acts: &[
+        acts: Plain(&[
             Delete(ANN, 1),
             FindNext(ANN_0, Some(BEN_0)),
             Anew,
@@ -45,21 +46,19 @@ const CASES: &[Case<'_>] = &[
             Anew,
             Write(BEN, 0, 1, true),
             FindNext((ANN, 511, 128), Some(BEN_0)),
-        ],
-        rows: &[],
+        ]),
     },
     Case {
         name: "a search asks the directory of its drive",
         files: &[("ann", 1), ("b:ann", 1)],
-        acts: &[],
-        rows: &[
+        acts: Asking(&[
             (Find(ANN, 0, &[ANN_0]), &[Directory(0)]),
             (Find(ALL, b'?', &[ANN_0]), &[Directory(0)]),
             (
                 Find(*b"\x03???????????", 0, &[]),
                 &[Directory(0), Directory(3)],
             ),
-        ],
+        ]),
     },
 ];
 

@@ -4,6 +4,7 @@ use cpmfiles::Ask::{Length, Rec};
 use cpmfiles::{Ask, Key};
 use std::test::Fail;
 use test_files::Act::{Anew, Delete, Extent, Fill, Has, Make, Read, Records, Write};
+use test_files::Acts::{Asking, Plain};
 use test_files::{ANN, B_ANN, BEN, Case, play};
 
 // The questions about one file: whether it is there; its length too; and records of it.
@@ -29,8 +30,7 @@ const CASES: &[Case<'_>] = &[
     Case {
         name: "a made file answers for itself",
         files: &[],
-        acts: &[],
-        rows: &[
+        acts: Asking(&[
             (Make(ANN, true), THERE),
             (Make(ANN, false), THERE),
             (Has(ANN, true), THERE),
@@ -40,13 +40,12 @@ const CASES: &[Case<'_>] = &[
             (Write(ANN, 0, b'a', true), THERE),
             (Read(ANN, 0, Some(b'a')), THERE),
             (Records(ANN, Some(1)), THERE),
-        ],
+        ]),
     },
     Case {
         name: "a write past the end leaves holes",
         files: &[],
-        acts: &[],
-        rows: &[
+        acts: Asking(&[
             (Make(ANN, true), THERE),
             (Write(ANN, 2, b'a', true), THERE),
             (Records(ANN, Some(3)), THERE),
@@ -56,13 +55,12 @@ const CASES: &[Case<'_>] = &[
             (Read(ANN, 3, None), THERE),
             (Extent(ANN, 0, Some(3)), THERE),
             (Extent(ANN, 1, Some(0)), THERE),
-        ],
+        ]),
     },
     Case {
         name: "a gap is filled and older holes stay",
         files: &[],
-        acts: &[],
-        rows: &[
+        acts: Asking(&[
             (Make(ANN, true), THERE),
             (Write(ANN, 2, b'a', true), THERE),
             (Fill(ANN, 5, b'b', true), THERE),
@@ -74,13 +72,12 @@ const CASES: &[Case<'_>] = &[
             (Fill(ANN, 0, b'c', true), THERE),
             (Read(ANN, 1, None), THERE),
             (Records(ANN, Some(6)), THERE),
-        ],
+        ]),
     },
     Case {
         name: "a deleted file is gone until it is made",
         files: &[("ann", 300)],
-        acts: &[],
-        rows: &[
+        acts: Asking(&[
             (Delete(ANN, 1), THERE),
             (Delete(ANN, 0), THERE),
             (Has(ANN, false), THERE),
@@ -94,13 +91,12 @@ const CASES: &[Case<'_>] = &[
             (Write(ANN, 1, b'a', true), THERE),
             (Read(ANN, 0, None), THERE),
             (Read(ANN, 1, Some(b'a')), THERE),
-        ],
+        ]),
     },
     Case {
         name: "a made file is deleted and made again",
         files: &[],
-        acts: &[],
-        rows: &[
+        acts: Asking(&[
             (Make(ANN, true), THERE),
             (Write(ANN, 2, b'a', true), THERE),
             (Delete(ANN, 1), THERE),
@@ -110,14 +106,13 @@ const CASES: &[Case<'_>] = &[
             (Write(ANN, 3, b'b', true), THERE),
             (Read(ANN, 2, None), THERE),
             (Read(ANN, 3, Some(b'b')), THERE),
-        ],
+        ]),
     },
     // A record of a host file is asked for once; a record that was written is not asked for.
     Case {
         name: "a host file is asked for what was not written",
         files: &[("ann", 384)],
-        acts: &[],
-        rows: &[
+        acts: Asking(&[
             (Has(ANN, true), THERE),
             (Make(ANN, false), THERE),
             (Records(ANN, Some(3)), LONG),
@@ -128,14 +123,13 @@ const CASES: &[Case<'_>] = &[
             (Write(ANN, 2, b'a', true), READ_1),
             (Read(ANN, 2, Some(b'a')), READ_1),
             (Read(ANN, 0, Some(b'x')), READ_0),
-        ],
+        ]),
     },
     // If a write made the file longer, its host file's records are still asked for, but its length no longer is, and no hole.
     Case {
-        name: "a longer file still stands on its host file",
+        name: "a longer file still reads its host file",
         files: &[("ann", 384)],
-        acts: &[],
-        rows: &[
+        acts: Asking(&[
             (Write(ANN, 5, b'a', true), LONG),
             (Records(ANN, Some(6)), LONG),
             (Read(ANN, 3, None), LONG),
@@ -147,14 +141,13 @@ const CASES: &[Case<'_>] = &[
             (Read(ANN, 6, Some(0)), READ_0),
             (Read(ANN, 4, None), READ_0),
             (Read(ANN, 2, Some(b'x')), READ_ALL),
-        ],
+        ]),
     },
     // For a file that is not there, each call asks only whether it is.
     Case {
         name: "an absent file has no length",
         files: &[("ben", 1)],
-        acts: &[],
-        rows: &[
+        acts: Asking(&[
             (Has(ANN, false), THERE),
             (Anew, &[]),
             (Records(ANN, None), THERE),
@@ -168,24 +161,23 @@ const CASES: &[Case<'_>] = &[
             (Fill(ANN, 0, b'a', false), THERE),
             (Anew, &[]),
             (Delete(ANN, 0), THERE),
-        ],
+        ]),
     },
     // A key that is asked for may have any bytes; only a valid key is made.
     Case {
         name: "keys that no name has are asked but not made",
         files: &[("ann", 1)],
-        acts: &[],
-        rows: &[
+        acts: Asking(&[
             (Make(SMALL, false), &[]),
             (Make(*b"\x04ANN        ", false), &[]),
             (Has(SMALL, false), &[Ask::Has(SMALL)]),
             (Delete(SMALL, 0), &[Ask::Has(SMALL)]),
-        ],
+        ]),
     },
     Case {
         name: "drives keep their files apart",
         files: &[("ann", 1), ("b:ben", 1)],
-        acts: &[
+        acts: Plain(&[
             Has(B_ANN, false),
             Has(BEN, false),
             Make(B_ANN, true),
@@ -193,13 +185,12 @@ const CASES: &[Case<'_>] = &[
             Records(ANN, Some(1)),
             Delete(ANN, 1),
             Records(B_ANN, Some(4)),
-        ],
-        rows: &[],
+        ]),
     },
     Case {
-        name: "the last place can be written",
+        name: "the last record can be written",
         files: &[("ann", 1)],
-        acts: &[
+        acts: Plain(&[
             Write(ANN, 65_535, b'a', true),
             Records(ANN, Some(65_536)),
             Read(ANN, 65_535, Some(b'a')),
@@ -209,8 +200,7 @@ const CASES: &[Case<'_>] = &[
             Extent(ANN, 512, Some(0)),
             Extent(ANN, 510, Some(0)),
             Extent(ANN, 0, Some(1)),
-        ],
-        rows: &[],
+        ]),
     },
 ];
 

@@ -6,10 +6,13 @@ use machine::{Bytes, Cause, HostFiles, Meter, Session};
 use replay::{Edit, Options, Runner};
 use std::alloc::{AllocError, Global};
 use std::time::{CpuClock, Duration};
-use test_sessions::{Difference, name_of, runner_of};
+use test_sessions::{Difference, name_of, program, runner_of};
 
 // Opens the file of the tail and reads records until call 20 returns another value than 0.
-const READS: &[u8] = b"\x0e\x0f\x11\x5c\x00\xcd\x05\x00\x0e\x14\xcd\x05\x00\xb7\xca\x0a\x01\xc9";
+const READS: &[u8] = &program![
+    MVI C,15; LXI D,0x005c; CALL 5; MVI C,20;
+    CALL 5; ORA A; JZ 0x010a; RET; // CALL 5 is at 010AH
+];
 
 /// The largest number of bytes of a file, which are 65,536 records.
 const LENGTH: usize = 8_388_608;

@@ -1,5 +1,6 @@
 //! Runs sessions over `Runner`, each named by a word, and compares every result with the expected one. If an allocation fails,
-//! the runner must be unchanged, and the call is made again.
+//! the runner must be unchanged, and the call is made again: so this program has a player of its own for the acts of
+//! `test_sessions`, whose player ends at the first failure.
 //!
 //! - `sessions`: the sessions by their words
 //! - `playing`: the execution of a session, in which each call is made again if an allocation fails
@@ -43,7 +44,7 @@ fn answer_word(rt: &(impl Print + CpuClock), alloc: Global, word: &str) -> Resul
     if word == "copy" {
         return copying::copy(rt, alloc);
     }
-    sessions::carry_out(rt, alloc, word)
+    sessions::execute(rt, alloc, word)
 }
 
 // Executes the words. After `program` come the words of a session.

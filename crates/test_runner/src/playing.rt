@@ -82,7 +82,7 @@ fn run(
     was_whole: bool,
 ) -> Result<bool, Trouble> {
     match try_run(runner, act, was_whole) {
-        Ok(()) => return Ok(was_whole && runner.refusals() == 0),
+        Ok(()) => return Ok(was_whole && runner.alloc_failures() == 0),
         Err(Trouble::OutOfMemory) => println!(rt; "run: out of memory")?,
         Err(trouble) => return Err(trouble),
     }
@@ -117,7 +117,7 @@ fn tell(rt: &impl Print, act: Act<'_>) -> Result<(), Trouble> {
 }
 
 // Executes an act, and returns whether no allocation has failed in a run so far.
-fn carry_out(
+fn execute(
     rt: &impl Print,
     alloc: Global,
     runner: &mut Runner,
@@ -134,7 +134,7 @@ fn carry_out(
 }
 
 // Executes acts, prints their results, and returns whether no allocation failed in a run.
-fn carry_out_all(
+fn execute_all(
     rt: &impl Print,
     alloc: Global,
     runner: &mut Runner,
@@ -142,7 +142,7 @@ fn carry_out_all(
 ) -> Result<bool, Trouble> {
     let mut is_whole = true;
     for act in acts {
-        is_whole = carry_out(rt, alloc, runner, *act, is_whole)?;
+        is_whole = execute(rt, alloc, runner, *act, is_whole)?;
         tell(rt, *act)?;
     }
     Ok(is_whole)
@@ -154,7 +154,7 @@ fn play_on(
     runner: &mut Runner,
     acts: &[Act<'_>],
 ) -> Result<(), Trouble> {
-    if !carry_out_all(rt, alloc, runner, acts)? {
+    if !execute_all(rt, alloc, runner, acts)? {
         println!(rt; "checkpoints: out of memory")?;
     }
     Ok(())

@@ -43,7 +43,7 @@ pub fn list(rt: &impl Print) -> Result<(), Trouble> {
 }
 
 // Executes every session, each after printing its word.
-fn carry_out_all(rt: &impl Print, alloc: Global) -> Result<(), Trouble> {
+fn execute_all(rt: &impl Print, alloc: Global) -> Result<(), Trouble> {
     for (word, case) in SESSIONS {
         println!(rt; "{word}")?;
         play(rt, alloc, case)?;
@@ -52,9 +52,9 @@ fn carry_out_all(rt: &impl Print, alloc: Global) -> Result<(), Trouble> {
 }
 
 /// Executes the session of a word, or every session if the word is `every-session`.
-pub fn carry_out(rt: &impl Print, alloc: Global, wanted: &str) -> Result<(), Trouble> {
+pub fn execute(rt: &impl Print, alloc: Global, wanted: &str) -> Result<(), Trouble> {
     if wanted == "every-session" {
-        return carry_out_all(rt, alloc);
+        return execute_all(rt, alloc);
     }
     for (word, case) in SESSIONS {
         if word == wanted {

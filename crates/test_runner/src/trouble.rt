@@ -24,8 +24,6 @@ pub enum Trouble {
     EditLeftOther,
     /// A run that ran out of memory left another session, or lost a checkpoint.
     RunLeftOther,
-    /// A session begins with no run, but a run is needed to repeat it.
-    NoRunFirst,
     /// Something differs from the expected result.
     Differs(Difference),
 }
@@ -52,8 +50,7 @@ impl From<test_sessions::Trouble> for Trouble {
             test_sessions::Trouble::OutOfMemory => Trouble::OutOfMemory,
             test_sessions::Trouble::Refused => Trouble::Refused,
             test_sessions::Trouble::RefusedFileThere => Trouble::RefusedFileThere,
-            test_sessions::Trouble::NoRunFirst(_) => Trouble::NoRunFirst,
-            test_sessions::Trouble::Differs(_, _, difference) => Trouble::Differs(difference),
+            test_sessions::Trouble::Differs(_, difference) => Trouble::Differs(difference),
         }
     }
 }
@@ -61,14 +58,14 @@ impl From<test_sessions::Trouble> for Trouble {
 // Returns the message for something that differs.
 fn text_of(difference: Difference) -> &'static str {
     match difference {
-        Difference::Count => "a run carries out more steps, or fewer",
-        Difference::Cause => "a run ends by another cause",
+        Difference::Count => "a run executes more or fewer steps",
+        Difference::Cause => "a run stops for another cause",
         Difference::Steps => "a run ends after other steps",
         Difference::Registers => "a run ends with other registers",
         Difference::Text => "a run prints another text",
         Difference::Left => "a run leaves other cells or files",
-        Difference::Answer => "an edit is answered otherwise",
-        Difference::Checkpoints => "other checkpoints stand",
+        Difference::Answer => "an edit has another result",
+        Difference::Checkpoints => "other checkpoints are kept",
         Difference::Session => "it is another session",
     }
 }
@@ -77,15 +74,14 @@ impl Trouble {
     /// Returns the message.
     pub fn text(self) -> &'static str {
         match self {
-            Trouble::OutOfMemory => "memory was refused twice",
-            Trouble::Device => "a file or the standard output failed",
-            Trouble::Words => "these are no words of this program",
+            Trouble::OutOfMemory => "out of memory twice",
+            Trouble::Device => "a file or standard output failed",
+            Trouble::Words => "unknown words",
             Trouble::Refused => "a name, a host file, a session or its options are refused",
-            Trouble::RefusedFileThere => "a refused host file is there",
-            Trouble::EditWantsMemory => "an edit that takes no memory names want of it",
-            Trouble::EditLeftOther => "a refused edit changed something",
-            Trouble::RunLeftOther => "a run that was refused memory changed something",
-            Trouble::NoRunFirst => "a session begins with no run",
+            Trouble::RefusedFileThere => "a host file is there although memory for it ran out",
+            Trouble::EditWantsMemory => "an edit that needs no memory reports out of memory",
+            Trouble::EditLeftOther => "an edit that ran out of memory changed something",
+            Trouble::RunLeftOther => "a run that ran out of memory changed something",
             Trouble::Differs(difference) => text_of(difference),
         }
     }

@@ -1,212 +1,155 @@
 // Programs that read the console, and edits of the script that they read.
 
-use machine::{Cause, Regs};
+use std::alloc::Global;
+use std::test::Fail;
 use test_sessions::Act::{Edit, Keep, Leave, Refuse, Run};
 use test_sessions::Change::{Insert, Remove, Replace};
 use test_sessions::Left::Cells;
 use test_sessions::worked::{
-    LINE_TAKEN, LINE_WAITED_FOR, PRINTS, SAME_BYTE_BEFORE, SAYS_HI, SHORT_LINE, STATUS, TYPED_BYTE,
-    TYPED_LINE,
+    LINE_TAKEN, PRINTS, SAME_BYTE_BEFORE, SAYS_HI, SHORT_LINE, STATUS, TYPED_BYTE, TYPED_LINE,
 };
-use test_sessions::{Act, Case, EMPTY, Given, RETURNED, Trouble, Wanted, play, play_all};
-
-// Takes a byte by call 6.
-const TAKES_SILENTLY: [u8; 8] = [0x0e, 0x06, 0x1e, 0xff, 0xcd, 0x05, 0x00, 0xc9];
-
-// Takes a line by call 10 into 0109H and on; the last byte is its capacity.
-const LINE_OF_0: &[u8] = &[0x11, 0x09, 0x01, 0x0e, 0x0a, 0xcd, 0x05, 0x00, 0xc9, 0];
-
-const LINE_OF_3: &[u8] = &[0x11, 0x09, 0x01, 0x0e, 0x0a, 0xcd, 0x05, 0x00, 0xc9, 3];
-
-const LINE_OF_5: &[u8] = &[0x11, 0x09, 0x01, 0x0e, 0x0a, 0xcd, 0x05, 0x00, 0xc9, 5];
-
-// Takes a line of at most two bytes, twice, into 010CH and on.
-const TAKES_TWO_LINES: [u8; 13] = [
-    0x11, 0x0c, 0x01, 0x0e, 0x0a, 0xcd, 0x05, 0x00, 0xcd, 0x05, 0x00, 0xc9, 2,
-];
-
-#[test]
-fn a_byte_is_waited_for_and_taken(rt: HostRuntime) -> Result<(), Trouble> {
-    play(rt.alloc(), 0, &TYPED_BYTE)
-}
-
-#[test]
-fn an_insertion_that_leaves_the_looked_places_touches_nothing(
-    rt: HostRuntime,
-) -> Result<(), Trouble> {
-    play(rt.alloc(), 0, &SAME_BYTE_BEFORE)
-}
-
-#[test]
-fn a_question_for_the_status_is_a_look(rt: HostRuntime) -> Result<(), Trouble> {
-    play(rt.alloc(), 0, &STATUS)
-}
-
-#[test]
-fn a_line_is_taken_as_far_as_it_fits(rt: HostRuntime) -> Result<(), Trouble> {
-    play_all(rt.alloc(), &[TYPED_LINE, SHORT_LINE])
-}
-
-// A program that takes a line, the script, the printed text, and the cells of the count and the line.
-macro_rules! line {
-    ($program:expr, $script:expr, $text:expr, $cells:expr) => {
-        Case {
-            given: Given {
-                program: $program,
-                script: $script,
-                ..EMPTY
-            },
-            acts: &[
-                Run(
-                    7,
-                    Wanted {
-                        cause: Cause::WarmBoot,
-                        steps: 7,
-                        regs: LINE_TAKEN,
-                        text: $text,
-                    },
-                ),
-                Keep(&[4, 7]),
-                Leave(&[Cells(0x010a, $cells)]),
-                Keep(&[4, 7]),
-            ],
-        }
-    };
-}
-
-// The byte 03H begins a line, and leads to the warm start.
-const BREAKS: Wanted<'_> = Wanted {
-    cause: Cause::WarmBoot,
-    steps: 4,
-    regs: LINE_WAITED_FOR,
-    text: b"",
+use test_sessions::{
+    Act, Case, Given, Left, RETURNED, Trouble, Wanted, given, name_failure, play_acts, play_all,
+    program, takes_line, wanted,
 };
 
-const CORRECTED: &[Case<'_>] = &[
-    line!(LINE_OF_5, b"ab\x08c\r", b"ab\x08 \x08c\r", b"\x02ac"),
-    line!(LINE_OF_5, b"ab\x7fc\r", b"abbc\r", b"\x02ac"),
+const TAKES_NONE: Wanted<'_> = wanted!(WarmBoot, 7, { c: 0x06, e: 0xff, ..RETURNED });
+
+const TAKES_ONE: Wanted<'_> =
+    wanted!(WarmBoot, 7, { a: b'A', c: 0x06, e: 0xff, l: b'A', ..RETURNED });
+
+const SINGLE_BYTES: &[Case<'_>] = &[
+    TYPED_BYTE,
+    SAME_BYTE_BEFORE,
+    STATUS,
     Case {
-        given: Given {
-            program: LINE_OF_5,
-            script: b"\x03",
-            ..EMPTY
-        },
-        acts: &[Run(4, BREAKS), Keep(&[4])],
+        name: "call 6 takes a byte and prints none",
+        given: given!(program: &program![MVI C,6; MVI E,0xff; CALL 5; RET;]),
+        acts: &[
+            Run(7, TAKES_NONE),
+            Keep(&[4, 7]),
+            Run(0, TAKES_NONE),
+            Keep(&[4, 7]),
+            Edit(Insert(0, b"A")),
+            Keep(&[4]),
+            Run(3, TAKES_ONE),
+            Keep(&[4, 7]),
+            Run(0, TAKES_ONE),
+            Keep(&[4, 7]),
+        ],
     },
 ];
 
 #[test]
-fn a_line_is_corrected(rt: HostRuntime) -> Result<(), Trouble> {
-    play_all(rt.alloc(), CORRECTED)
+fn single_bytes_are_taken(rt: HostRuntime) -> Result<(), Fail> {
+    play_all(rt.alloc(), SINGLE_BYTES)
 }
 
-const EACH_BYTE: &[Case<'_>] = &[
-    line!(LINE_OF_0, b"", b"", b"\x00"),
+const TAKES_TWO: Wanted<'_> = wanted!(WarmBoot, 10, { e: 0x0c, ..LINE_TAKEN }, b"ab\r");
+
+const LINES: &[Case<'_>] = &[
+    TYPED_LINE,
+    SHORT_LINE,
+    Case {
+        name: "the end of a full line is the next line",
+        given: given!(
+            program: &program![LXI D,0x010c; MVI C,10; CALL 5; CALL 5; RET; DB 2;],
+            script: b"ab\r"
+        ),
+        acts: &[
+            Run(10, TAKES_TWO),
+            Keep(&[4, 8, 10]),
+            Leave(&[Cells(0x010c, b"\x02\x00ab")]),
+            Keep(&[4, 8, 10]),
+        ],
+    },
+    Case {
+        name: "03H at the beginning of a line leads to the warm start",
+        given: given!(program: &takes_line!(5), script: b"\x03"),
+        acts: &[
+            Run(
+                4,
+                wanted!(WarmBoot, 4, { sp: 0xfdfc, pc: 0xfe06, ..LINE_TAKEN }),
+            ),
+            Keep(&[4]),
+        ],
+    },
+];
+
+#[test]
+fn lines_are_taken(rt: HostRuntime) -> Result<(), Fail> {
+    play_all(rt.alloc(), LINES)
+}
+
+// The capacity of a line, the script, the printed text, and the cells of the count and the line.
+type Line<'a> = (u8, &'a [u8], &'a [u8], &'a [u8]);
+
+const EACH_BYTE: &[Line<'_>] = &[
+    (5, b"ab\x08c\r", b"ab\x08 \x08c\r", b"\x02ac"),
+    (5, b"ab\x7fc\r", b"abbc\r", b"\x02ac"),
+    (0, b"", b"", b"\x00"),
     // nothing is stored yet
-    line!(LINE_OF_3, b"\r", b"\r", b"\x00"),
-    line!(LINE_OF_3, b"\n", b"\r", b"\x00"),
-    line!(LINE_OF_3, b"\x08\r", b"\r", b"\x00"),
-    line!(LINE_OF_3, b"\x7f\r", b"\r", b"\x00"),
-    line!(LINE_OF_3, b"\x01\r", b"^A\r", b"\x01\x01"),
-    line!(LINE_OF_3, b"a\r", b"a\r", b"\x01a"),
+    (3, b"\r", b"\r", b"\x00"),
+    (3, b"\n", b"\r", b"\x00"),
+    (3, b"\x08\r", b"\r", b"\x00"),
+    (3, b"\x7f\r", b"\r", b"\x00"),
+    (3, b"\x01\r", b"^A\r", b"\x01\x01"),
+    (3, b"a\r", b"a\r", b"\x01a"),
     // one byte is stored, and there is room for two
-    line!(LINE_OF_3, b"a\n", b"a\r", b"\x01a"),
-    line!(LINE_OF_3, b"a\x08\r", b"a\x08 \x08\r", b"\x00"),
-    line!(LINE_OF_3, b"a\x7f\r", b"aa\r", b"\x00"),
-    line!(LINE_OF_3, b"\x01\x08\r", b"^A\x08 \x08\r", b"\x00"),
-    line!(LINE_OF_3, b"\x01\x7f\r", b"^A^A\r", b"\x00"),
-    line!(LINE_OF_3, b"a\x03\r", b"a^C\r", b"\x02a\x03"),
-    line!(LINE_OF_3, b"a\xff\r", b"a\xff\r", b"\x02a\xff"),
+    (3, b"a\n", b"a\r", b"\x01a"),
+    (3, b"a\x08\r", b"a\x08 \x08\r", b"\x00"),
+    (3, b"a\x7f\r", b"aa\r", b"\x00"),
+    (3, b"\x01\x08\r", b"^A\x08 \x08\r", b"\x00"),
+    (3, b"\x01\x7f\r", b"^A^A\r", b"\x00"),
+    (3, b"a\x03\r", b"a^C\r", b"\x02a\x03"),
+    (3, b"a\xff\r", b"a\xff\r", b"\x02a\xff"),
     // one byte more fits
-    line!(LINE_OF_3, b"ab\r", b"ab\r", b"\x02ab"),
-    line!(LINE_OF_3, b"ab\x08\r", b"ab\x08 \x08\r", b"\x01a"),
-    line!(LINE_OF_3, b"ab\x7f\r", b"abb\r", b"\x01a"),
-    line!(LINE_OF_3, b"ab\x03", b"ab^C", b"\x03ab\x03"),
-    line!(LINE_OF_3, b"ab\x1f", b"ab^_", b"\x03ab\x1f"),
-    line!(LINE_OF_3, b"abc", b"abc", b"\x03abc"),
+    (3, b"ab\r", b"ab\r", b"\x02ab"),
+    (3, b"ab\x08\r", b"ab\x08 \x08\r", b"\x01a"),
+    (3, b"ab\x7f\r", b"abb\r", b"\x01a"),
+    (3, b"ab\x03", b"ab^C", b"\x03ab\x03"),
+    (3, b"ab\x1f", b"ab^_", b"\x03ab\x1f"),
+    (3, b"abc", b"abc", b"\x03abc"),
 ];
 
-#[test]
-fn each_byte_of_a_line_has_its_effect(rt: HostRuntime) -> Result<(), Trouble> {
-    play_all(rt.alloc(), EACH_BYTE)
+fn alone(program: &[u8]) -> Given<'_> {
+    given!(program: program)
 }
 
-const TAKES_TWO: Wanted<'_> = Wanted {
-    cause: Cause::WarmBoot,
-    steps: 10,
-    regs: Regs {
-        e: 0x0c,
-        ..LINE_TAKEN
-    },
-    text: b"ab\r",
-};
-
-const FULL_LINE: Case<'_> = Case {
-    given: Given {
-        program: &TAKES_TWO_LINES,
-        script: b"ab\r",
-        ..EMPTY
-    },
-    acts: &[
-        Run(10, TAKES_TWO),
-        Keep(&[4, 8, 10]),
-        Leave(&[Cells(0x010c, b"\x02\x00ab")]),
-        Keep(&[4, 8, 10]),
-    ],
-};
-
-#[test]
-fn the_end_of_a_full_line_is_the_next_line(rt: HostRuntime) -> Result<(), Trouble> {
-    play(rt.alloc(), 0, &FULL_LINE)
+fn plays_line<'a>(
+    alloc: Global,
+    capacity: u8,
+    script: &[u8],
+    text: &'a [u8],
+    left: &'a [Left<'a>],
+) -> Result<(), Trouble> {
+    let acts = [
+        Run(7, wanted!(WarmBoot, 7, { ..LINE_TAKEN }, text)),
+        Keep(&[4, 7]),
+        Leave(left),
+        Keep(&[4, 7]),
+    ];
+    let program = takes_line!(capacity);
+    let given = Given {
+        script,
+        ..alone(&program)
+    };
+    play_acts(alloc, &given, &acts)
 }
 
-const TAKES_NONE: Wanted<'_> = Wanted {
-    cause: Cause::WarmBoot,
-    steps: 7,
-    regs: Regs {
-        c: 0x06,
-        e: 0xff,
-        ..RETURNED
-    },
-    text: b"",
-};
-
-const TAKES_ONE: Wanted<'_> = Wanted {
-    regs: Regs {
-        a: b'A',
-        c: 0x06,
-        e: 0xff,
-        l: b'A',
-        ..RETURNED
-    },
-    ..TAKES_NONE
-};
-
-const SILENT: Case<'_> = Case {
-    given: Given {
-        program: &TAKES_SILENTLY,
-        ..EMPTY
-    },
-    acts: &[
-        Run(7, TAKES_NONE),
-        Keep(&[4, 7]),
-        Run(0, TAKES_NONE),
-        Keep(&[4, 7]),
-        Edit(Insert(0, b"A")),
-        Keep(&[4]),
-        Run(3, TAKES_ONE),
-        Keep(&[4, 7]),
-        Run(0, TAKES_ONE),
-        Keep(&[4, 7]),
-    ],
-};
-
 #[test]
-fn call_6_takes_a_byte_and_prints_none(rt: HostRuntime) -> Result<(), Trouble> {
-    play(rt.alloc(), 0, &SILENT)
+fn each_byte_of_a_line_has_its_effect(rt: HostRuntime) -> Result<(), Fail> {
+    for (capacity, script, text, cells) in EACH_BYTE {
+        let left = [Cells(0x010a, cells)];
+        if let Err(trouble) = plays_line(rt.alloc(), *capacity, script, text, &left) {
+            return Err(Fail::new(format_args!("{script:?}: {trouble:?}")));
+        }
+    }
+    Ok(())
 }
 
 const PAST_THE_END: Case<'_> = Case {
+    name: "an edit past the end is refused",
     given: PRINTS,
     acts: &[
         Run(7, SAYS_HI),
@@ -227,8 +170,8 @@ const PAST_THE_END: Case<'_> = Case {
 };
 
 #[test]
-fn edits_past_the_end_are_refused(rt: HostRuntime) -> Result<(), Trouble> {
-    play(rt.alloc(), 0, &PAST_THE_END)
+fn edits_past_the_end_are_refused(rt: HostRuntime) -> Result<(), Fail> {
+    play_all(rt.alloc(), &[PAST_THE_END])
 }
 
 const FULL_SCRIPT: &[Act<'_>] = &[
@@ -239,16 +182,12 @@ const FULL_SCRIPT: &[Act<'_>] = &[
     Keep(&[]),
 ];
 
+fn fills_script(alloc: Global, script: &[u8]) -> Result<(), Trouble> {
+    play_acts(alloc, &given!(PRINTS, script: script), FULL_SCRIPT)
+}
+
 #[test]
-fn a_full_script_takes_no_more(rt: HostRuntime) -> Result<(), Trouble> {
+fn a_full_script_takes_no_more(rt: HostRuntime) -> Result<(), Fail> {
     let script = vec![in rt.alloc(); 0; 1_048_576]?;
-    let given = Given {
-        script: script.as_slice(),
-        ..PRINTS
-    };
-    let case = Case {
-        given,
-        acts: FULL_SCRIPT,
-    };
-    play(rt.alloc(), 0, &case)
+    name_failure("a full script", fills_script(rt.alloc(), script.as_slice()))
 }

@@ -42,6 +42,8 @@ pub enum Act<'a> {
 /// A session, and the acts on it.
 #[derive(Clone, Copy)]
 pub struct Case<'a> {
+    /// What the acts show.
+    pub name: &'a str,
     pub given: Given<'a>,
     pub acts: &'a [Act<'a>],
 }

@@ -3,16 +3,14 @@
 use crate::acts::Act::{Edit, Keep, Leave, Run};
 use crate::acts::Case;
 use crate::acts::Change::SetFile;
-use crate::given::{EMPTY, Given};
+use crate::given::Given;
 use crate::left::Left::{Cells, Changed, Gone, Record, Records};
 use crate::wanted::{RETURNED, Wanted};
-use machine::{Cause, Regs};
+use crate::{given, program, wanted};
+use machine::Regs;
 
-/// LXI D,5CH and MVI C,15 before CALL 5 and RET: opens the file of the first name.
-pub const OPENS: Given<'_> = Given {
-    program: &[0x0e, 0x0f, 0x11, 0x5c, 0x00, 0xcd, 0x05, 0x00, 0xc9],
-    ..EMPTY
-};
+/// Opens the file of the tail's first word.
+pub const OPENS: Given<'_> = given!(program: &program![MVI C,15; LXI D,0x005c; CALL 5; RET;]);
 
 /// The registers after a call for the control block at 005CH that returns 0, without the number of the call in C.
 pub const CALLED: Regs = Regs {
@@ -20,29 +18,13 @@ pub const CALLED: Regs = Regs {
     ..RETURNED
 };
 
-const FINDS: Wanted<'_> = Wanted {
-    cause: Cause::WarmBoot,
-    steps: 7,
-    regs: Regs { c: 0x0f, ..CALLED },
-    text: b"",
-};
+const FINDS: Wanted<'_> = wanted!(WarmBoot, 7, { c: 0x0f, ..CALLED });
 
-const FINDS_NOTHING: Wanted<'_> = Wanted {
-    regs: Regs {
-        a: 0xff,
-        c: 0x0f,
-        l: 0xff,
-        ..CALLED
-    },
-    ..FINDS
-};
+const FINDS_NOTHING: Wanted<'_> = wanted!(WarmBoot, 7, { a: 0xff, c: 0x0f, l: 0xff, ..CALLED });
 
-/// A file is set after it was not found.
 pub const OPENED_FILE: Case<'_> = Case {
-    given: Given {
-        tail: b"note.txt",
-        ..OPENS
-    },
+    name: "a file is set after it was not found",
+    given: given!(OPENS, tail: b"note.txt"),
     acts: &[
         Run(7, FINDS_NOTHING),
         Keep(&[4, 7]),
@@ -57,19 +39,15 @@ pub const OPENED_FILE: Case<'_> = Case {
     ],
 };
 
-const RENAMES: Wanted<'_> = Wanted {
-    regs: Regs { c: 0x17, ..CALLED },
-    ..FINDS
-};
+const RENAMES: Wanted<'_> = wanted!(WarmBoot, 7, { c: 0x17, ..CALLED });
 
-/// A renamed file has the records of its host file, which is set again.
 pub const RENAMED_FILE: Case<'_> = Case {
-    given: Given {
-        program: &[0x0e, 0x17, 0x11, 0x5c, 0x00, 0xcd, 0x05, 0x00, 0xc9],
+    name: "a renamed file has the records of its host file, which is set again",
+    given: given!(
+        program: &program![MVI C,23; LXI D,0x005c; CALL 5; RET;],
         tail: b"a.txt b.txt",
-        hosts: &[("a.txt", b"one")],
-        ..EMPTY
-    },
+        hosts: &[("a.txt", b"one")]
+    ),
     acts: &[
         Run(7, RENAMES),
         Keep(&[4, 7]),
@@ -92,29 +70,19 @@ pub const RENAMED_FILE: Case<'_> = Case {
 
 /// Makes a file, writes its last record, computes its size, and reads at a record number past it.
 pub const LONGEST_FILE: Case<'_> = Case {
-    given: Given {
-        program: &[
-            0x0e, 0x16, 0x11, 0x5c, 0x00, 0xcd, 0x05, 0x00, 0x21, 0xff, 0xff, 0x22, 0x7d, 0x00,
-            0x0e, 0x22, 0xcd, 0x05, 0x00, 0x0e, 0x23, 0xcd, 0x05, 0x00, 0x0e, 0x21, 0xcd, 0x05,
-            0x00, 0xc9,
+    name: "the longest file is written by one record",
+    given: given!(
+        program: &program![
+            MVI C,22; LXI D,0x005c; CALL 5;
+            LXI H,0xffff; SHLD 0x007d; MVI C,34; CALL 5;
+            MVI C,35; CALL 5; MVI C,33; CALL 5; RET;
         ],
-        tail: b"big",
-        ..EMPTY
-    },
+        tail: b"big"
+    ),
     acts: &[
         Run(
             21,
-            Wanted {
-                cause: Cause::WarmBoot,
-                steps: 21,
-                regs: Regs {
-                    a: 0x06,
-                    c: 0x21,
-                    l: 0x06,
-                    ..CALLED
-                },
-                text: b"",
-            },
+            wanted!(WarmBoot, 21, { a: 0x06, c: 0x21, l: 0x06, ..CALLED }),
         ),
         Keep(&[4, 8, 12, 16, 20, 21]),
         Leave(&[Cells(0x007d, &[0, 0, 1]), Changed(&["big"])]),

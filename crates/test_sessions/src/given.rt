@@ -30,7 +30,14 @@ pub const EMPTY: Given<'_> = Given {
     },
 };
 
-/// Returns a program, with everything else as in `EMPTY`.
-pub const fn alone(program: &[u8]) -> Given<'_> {
-    Given { program, ..EMPTY }
+/// The parts of a session that has some parts of its own, and all others of another session or of `EMPTY`.
+///
+/// ```
+/// const OPENS_NOTE: Given<'_> = given!(OPENS, tail: b"note.txt");
+/// const RETURNS: Given<'_> = given!(program: &program![RET;]);
+/// ```
+#[macro_export]
+macro_rules! given {
+    ($($part:ident: $value:expr),+) => { $crate::given!($crate::EMPTY, $($part: $value),+) };
+    ($others:expr, $($part:ident: $value:expr),+) => { $crate::Given { $($part: $value,)+ ..$others } };
 }

@@ -1,12 +1,14 @@
-// One runner, on which all acts are executed.
+// Cases executed act by act.
 
 use crate::acts::{Act, Case, Change};
 use crate::comparing::{difference, holds, keeps, keeps_due};
+use crate::given::Given;
 use crate::making::{edit_of, make};
 use crate::trouble::{Difference, Trouble};
 use machine::Meter;
 use replay::{EditError, Runner};
 use std::alloc::{AllocError, Global};
+use std::test::Fail;
 
 /// Returns how many steps the run of an act should execute, if the act says so.
 pub fn added_by(act: Act<'_>) -> Option<u64> {
@@ -64,7 +66,7 @@ pub fn compare(runner: &Runner, act: Act<'_>) -> Option<Difference> {
     match act {
         Act::Keep(kept) => unless(keeps(runner, kept), Difference::Checkpoints),
         Act::KeepDue(spacing, last) => unless(
-            keeps_due(runner, spacing, last) && runner.refusals() == 0,
+            keeps_due(runner, spacing, last) && runner.alloc_failures() == 0,
             Difference::Checkpoints,
         ),
         Act::Hold(given) => unless(holds(runner.session(), given), Difference::Session),
@@ -73,7 +75,7 @@ pub fn compare(runner: &Runner, act: Act<'_>) -> Option<Difference> {
 }
 
 // Executes an act, and returns what then differs, if anything does.
-fn carry_out(
+fn execute(
     alloc: Global,
     runner: &mut Runner,
     act: Act<'_>,
@@ -90,30 +92,35 @@ fn carry_out(
     }
 }
 
-fn play_on(
-    alloc: Global,
-    runner: &mut Runner,
-    number: usize,
-    acts: &[Act<'_>],
-) -> Result<(), Trouble> {
-    for i in 0..acts.len() {
-        if let Some(difference) = carry_out(alloc, runner, acts[i])? {
-            return Err(Trouble::Differs(number, i, difference));
+fn execute_all(alloc: Global, runner: &mut Runner, acts: &[Act<'_>]) -> Result<(), Trouble> {
+    let mut number: usize = 0;
+    for act in acts {
+        number = number.wrapping_add(1);
+        if let Some(difference) = execute(alloc, runner, *act)? {
+            return Err(Trouble::Differs(number, difference));
         }
     }
     Ok(())
 }
 
-/// Executes one case. `number` names the case in a failure.
-pub fn play(alloc: Global, number: usize, case: &Case<'_>) -> Result<(), Trouble> {
-    let mut runner = make(alloc, &case.given)?;
-    play_on(alloc, &mut runner, number, case.acts)
+/// Executes acts with one runner, for the session of these parts.
+pub fn play_acts(alloc: Global, given: &Given<'_>, acts: &[Act<'_>]) -> Result<(), Trouble> {
+    let mut runner = make(alloc, given)?;
+    execute_all(alloc, &mut runner, acts)
 }
 
-/// Executes one case after the other.
-pub fn play_all(alloc: Global, cases: &[Case<'_>]) -> Result<(), Trouble> {
-    for i in 0..cases.len() {
-        play(alloc, i, &cases[i])?;
+/// Returns the outcome of a case, with the name of the case in an error.
+pub fn name_failure(name: &str, outcome: Result<(), Trouble>) -> Result<(), Fail> {
+    match outcome {
+        Ok(()) => Ok(()),
+        Err(trouble) => Err(Fail::new(format_args!("{name}: {trouble:?}"))),
+    }
+}
+
+/// Executes the acts of each case. `Err` names the case, the act and what differs.
+pub fn play_all(alloc: Global, cases: &[Case<'_>]) -> Result<(), Fail> {
+    for case in cases {
+        name_failure(case.name, play_acts(alloc, &case.given, case.acts))?;
     }
     Ok(())
 }

@@ -3,59 +3,18 @@
 use crate::acts::Act::{Drop, Edit, Keep, Leave, Run};
 use crate::acts::Case;
 use crate::acts::Change::{Limit, Poke, Remove, RemoveFile, Replace};
-use crate::given::{EMPTY, Given};
+use crate::given::Given;
 use crate::left::Left::{Cells, Changed};
-use crate::wanted::{LOADED, NO_FLAGS, RETURNED, Wanted};
-use i8080::Flags;
-use machine::{Cause, Regs};
+use crate::wanted::{CALLING, LOADED, RETURNED, Wanted};
+use crate::{flags, given, program, wanted};
+use machine::Regs;
 use replay::Options;
 
-/// A program that prints `Hi` by call 9 and returns.
-pub const HI: [u8; 12] = *b"\x0e\x09\x11\x09\x01\xcd\x05\x00\xc9Hi$";
+/// The program that prints `Hi` by call 9 and returns.
+pub const PRINTS: Given<'_> =
+    given!(program: &program![MVI C,9; LXI D,0x0109; CALL 5; RET; DB b'H',b'i',b'$';]);
 
-/// The program that prints `Hi`.
-pub const PRINTS: Given<'_> = Given {
-    program: &HI,
-    ..EMPTY
-};
-
-/// Comes to the warm start after 7 steps, with `Hi` printed.
-pub const SAYS_HI: Wanted<'_> = Wanted {
-    cause: Cause::WarmBoot,
-    steps: 7,
-    regs: PRINTED,
-    text: b"Hi",
-};
-
-/// The same with `Ho`.
-pub const SAYS_HO: Wanted<'_> = Wanted {
-    text: b"Ho",
-    ..SAYS_HI
-};
-
-/// Stops at call 9, as there is no `$`.
-pub const FINDS_NO_DOLLAR: Wanted<'_> = Wanted {
-    cause: Cause::NoDollar,
-    steps: 4,
-    regs: AT_CALL,
-    text: b"",
-};
-
-/// Stops where it begins, as the limit allows no step.
-pub const STAYS: Wanted<'_> = Wanted {
-    cause: Cause::Limit,
-    steps: 0,
-    regs: LOADED,
-    text: b"",
-};
-
-/// Stops at the warm start, as the limit allows no further step.
-pub const SAYS_HI_AT_LIMIT: Wanted<'_> = Wanted {
-    cause: Cause::Limit,
-    ..SAYS_HI
-};
-
-/// The registers after the program that prints `Hi`.
+/// The registers after it.
 pub const PRINTED: Regs = Regs {
     c: 0x09,
     d: 0x01,
@@ -63,69 +22,46 @@ pub const PRINTED: Regs = Regs {
     ..RETURNED
 };
 
-/// The registers at its call.
-pub const AT_CALL: Regs = Regs {
-    sp: 0xfdfc,
-    pc: 0xfe06,
-    ..PRINTED
-};
+/// Reaches the warm start after 7 steps, with `Hi` printed.
+pub const SAYS_HI: Wanted<'_> = wanted!(WarmBoot, 7, { ..PRINTED }, b"Hi");
+
+/// The same with `Ho`.
+pub const SAYS_HO: Wanted<'_> = wanted!(WarmBoot, 7, { ..PRINTED }, b"Ho");
+
+/// Stops at call 9, as there is no `$`.
+pub const FINDS_NO_DOLLAR: Wanted<'_> =
+    wanted!(NoDollar, 4, { c: 0x09, d: 0x01, e: 0x09, ..CALLING });
+
+/// Stops at its first step, as the limit allows none.
+pub const STAYS: Wanted<'_> = wanted!(Limit, 0, { ..LOADED });
+
+/// Stops at the warm start, as the limit allows no further step.
+pub const SAYS_HI_AT_LIMIT: Wanted<'_> = wanted!(Limit, 7, { ..PRINTED }, b"Hi");
 
 /// Stops after the call, at step 5.
-pub const STOPS_BEHIND_CALL: Wanted<'_> = Wanted {
-    cause: Cause::Limit,
-    steps: 5,
-    regs: Regs {
-        sp: 0xfdfe,
-        pc: 0x0108,
-        ..PRINTED
-    },
-    text: b"Hi",
-};
+pub const STOPS_AFTER_CALL: Wanted<'_> =
+    wanted!(Limit, 5, { sp: 0xfdfe, pc: 0x0108, ..PRINTED }, b"Hi");
 
-// Runs through all of memory up to the system's area.
-const PASSES_MEMORY: Wanted<'_> = Wanted {
-    cause: Cause::SystemArea(0xfe00),
-    steps: 64_768,
-    regs: Regs {
-        pc: 0xfe00,
-        ..LOADED
-    },
-    text: b"",
-};
-
-/// NOPs up to the system's area.
 pub const EMPTY_PROGRAM: Case<'_> = Case {
-    given: Given {
-        options: Options {
-            spacing: 100_000,
-            slots: 64,
-        },
-        ..EMPTY
-    },
-    acts: &[Run(64_768, PASSES_MEMORY), Keep(&[64_768])],
-};
-
-/// RET.
-pub const RETURN_ALONE: Case<'_> = Case {
-    given: Given {
-        program: &[0xc9],
-        ..EMPTY
-    },
+    name: "NOPs lead through all of memory to the system's area",
+    given: given!(options: Options { spacing: 100_000, slots: 64 }),
     acts: &[
         Run(
-            2,
-            Wanted {
-                cause: Cause::WarmBoot,
-                steps: 2,
-                regs: RETURNED,
-                text: b"",
-            },
+            64_768,
+            wanted!(SystemArea(0xfe00), 64_768, { pc: 0xfe00, ..LOADED }),
         ),
-        Keep(&[2]),
+        Keep(&[64_768]),
     ],
 };
 
+pub const RETURN_ALONE: Case<'_> = Case {
+    name: "RET leads to the warm start",
+    given: given!(program: &program![RET;]),
+    acts: &[Run(2, wanted!(WarmBoot, 2, { ..RETURNED })), Keep(&[2])],
+};
+
 pub const PRINTED_TEXT: Case<'_> = Case {
+    name: "a text is printed",
     given: PRINTS,
     acts: &[
         Run(7, SAYS_HI),
@@ -135,8 +71,8 @@ pub const PRINTED_TEXT: Case<'_> = Case {
     ],
 };
 
-/// The second letter is replaced, and then set back.
 pub const REPLACED_LETTER: Case<'_> = Case {
+    name: "a letter is replaced and set back",
     given: PRINTS,
     acts: &[
         Run(7, SAYS_HI),
@@ -152,8 +88,8 @@ pub const REPLACED_LETTER: Case<'_> = Case {
     ],
 };
 
-/// The string loses its `$`.
 pub const LOST_DOLLAR: Case<'_> = Case {
+    name: "a string loses its $",
     given: PRINTS,
     acts: &[
         Run(7, SAYS_HI),
@@ -165,22 +101,11 @@ pub const LOST_DOLLAR: Case<'_> = Case {
     ],
 };
 
-const STORES_5: Wanted<'_> = Wanted {
-    cause: Cause::WarmBoot,
-    steps: 5,
-    regs: Regs {
-        a: 0x05,
-        ..RETURNED
-    },
-    text: b"",
-};
+const STORES_5: Wanted<'_> = wanted!(WarmBoot, 5, { a: 0x05, ..RETURNED });
 
-/// MVI A,5; STA 010AH; LDA 010AH; RET: a byte is replaced that the program wrote before it read it.
 pub const BYTE_WRITTEN_BEFORE: Case<'_> = Case {
-    given: Given {
-        program: b"\x3e\x05\x32\x0a\x01\x3a\x0a\x01\xc9\x00\x77",
-        ..EMPTY
-    },
+    name: "a byte is replaced that the program writes before it reads it",
+    given: given!(program: &program![MVI A,5; STA 0x010a; LDA 0x010a; RET; NOP; DB 0x77;]),
     acts: &[
         Run(5, STORES_5),
         Keep(&[4, 5]),
@@ -193,23 +118,15 @@ pub const BYTE_WRITTEN_BEFORE: Case<'_> = Case {
     ],
 };
 
-const HALTS: Wanted<'_> = Wanted {
-    cause: Cause::Halt,
-    steps: 3,
-    regs: Regs {
-        a: 0x76,
-        pc: 0x0106,
-        ..LOADED
-    },
-    text: b"",
-};
+/// Stores HLT over its NOP, and so never looks at the byte that was there.
+pub const STORES_HALT: Given<'_> = given!(program: &program![MVI A,0x76; STA 0x0106; NOP; NOP;]);
 
-/// MVI A,76H; STA 0106H: HLT is stored over a NOP. The byte that the program had there is never looked at.
+/// Ends at the HLT.
+pub const HALTS: Wanted<'_> = wanted!(Halt, 3, { a: 0x76, pc: 0x0106, ..LOADED });
+
 pub const HALT_WRITTEN: Case<'_> = Case {
-    given: Given {
-        program: b"\x3e\x76\x32\x06\x01\x00\x00",
-        ..EMPTY
-    },
+    name: "a byte is replaced that the program writes and executes",
+    given: STORES_HALT,
     acts: &[
         Run(3, HALTS),
         Keep(&[3]),
@@ -220,9 +137,9 @@ pub const HALT_WRITTEN: Case<'_> = Case {
     ],
 };
 
-/// A limit of 0, of the last step and of one more.
 pub const LIMIT_RAISED: Case<'_> = Case {
-    given: Given { limit: 0, ..PRINTS },
+    name: "a limit of 0, of the last step and of one more",
+    given: given!(PRINTS, limit: 0),
     acts: &[
         Run(0, STAYS),
         Keep(&[]),
@@ -237,15 +154,15 @@ pub const LIMIT_RAISED: Case<'_> = Case {
     ],
 };
 
-/// A limit before the last checkpoint, which stays.
 pub const LIMIT_LOWERED: Case<'_> = Case {
+    name: "a limit before the last checkpoint, which stays",
     given: PRINTS,
     acts: &[
         Run(7, SAYS_HI),
         Keep(&[4, 7]),
         Edit(Limit(5)),
         Keep(&[4, 7]),
-        Run(1, STOPS_BEHIND_CALL),
+        Run(1, STOPS_AFTER_CALL),
         Keep(&[4, 7]),
         Edit(Limit(100)),
         Keep(&[4, 7]),
@@ -255,50 +172,21 @@ pub const LIMIT_LOWERED: Case<'_> = Case {
 };
 
 pub const LIMIT_AFTER_CALL: Case<'_> = Case {
-    given: Given { limit: 5, ..PRINTS },
-    acts: &[Run(5, STOPS_BEHIND_CALL), Keep(&[4, 5])],
+    name: "a limit after a call",
+    given: given!(PRINTS, limit: 5),
+    acts: &[Run(5, STOPS_AFTER_CALL), Keep(&[4, 5])],
 };
 
-const SAYS_AB: Wanted<'_> = Wanted {
-    cause: Cause::WarmBoot,
-    steps: 11,
-    regs: Regs {
-        c: 0x02,
-        e: b'b',
-        ..RETURNED
-    },
-    text: b"ab",
-};
+const SAYS_AB: Wanted<'_> = wanted!(WarmBoot, 11, { c: 0x02, e: b'b', ..RETURNED }, b"ab");
 
 // Stops before the second call, at step 6.
-const SAYS_A: Wanted<'_> = Wanted {
-    cause: Cause::Limit,
-    steps: 6,
-    regs: Regs {
-        c: 0x02,
-        e: b'b',
-        pc: 0x0109,
-        ..LOADED
-    },
-    text: b"a",
-};
+const SAYS_A: Wanted<'_> = wanted!(Limit, 6, { c: 0x02, e: b'b', pc: 0x0109, ..LOADED }, b"a");
 
-const SAYS_AC: Wanted<'_> = Wanted {
-    regs: Regs {
-        c: 0x02,
-        e: b'c',
-        ..RETURNED
-    },
-    text: b"ac",
-    ..SAYS_AB
-};
+const SAYS_AC: Wanted<'_> = wanted!(WarmBoot, 11, { c: 0x02, e: b'c', ..RETURNED }, b"ac");
 
-/// MVI E,'a'; MVI C,2; CALL 5; MVI E,'b'; CALL 5; RET: a limit between both letters, and another second letter.
 pub const TWO_LETTERS: Case<'_> = Case {
-    given: Given {
-        program: b"\x1ea\x0e\x02\xcd\x05\x00\x1eb\xcd\x05\x00\xc9",
-        ..EMPTY
-    },
+    name: "a limit between two letters, and another second letter",
+    given: given!(program: &program![MVI E,b'a'; MVI C,2; CALL 5; MVI E,b'b'; CALL 5; RET;]),
     acts: &[
         Run(11, SAYS_AB),
         Keep(&[4, 8, 11]),
@@ -317,89 +205,40 @@ pub const TWO_LETTERS: Case<'_> = Case {
     ],
 };
 
-/// MVI A,3EH; SUB A; RET: SUB A sets Z, P and AC.
 pub const SUBTRACTION: Case<'_> = Case {
-    given: Given {
-        program: &[0x3e, 0x3e, 0x97, 0xc9],
-        ..EMPTY
-    },
+    name: "SUB A sets Z, P and AC",
+    given: given!(program: &program![MVI A,0x3e; SUB A; RET;]),
     acts: &[
         Run(
             4,
-            Wanted {
-                cause: Cause::WarmBoot,
-                steps: 4,
-                regs: Regs {
-                    flags: Flags {
-                        z: true,
-                        ac: true,
-                        p: true,
-                        ..NO_FLAGS
-                    },
-                    ..RETURNED
-                },
-                text: b"",
-            },
+            wanted!(WarmBoot, 4, { flags: flags!(z, ac, p), ..RETURNED }),
         ),
         Keep(&[4]),
     ],
 };
 
-/// MVI A,9BH; DAA; RET: DAA of 9BH returns 01H and sets AC and CY.
 pub const ADJUSTMENT: Case<'_> = Case {
-    given: Given {
-        program: &[0x3e, 0x9b, 0x27, 0xc9],
-        ..EMPTY
-    },
+    name: "DAA of 9BH returns 01H and sets AC and CY",
+    given: given!(program: &program![MVI A,0x9b; DAA; RET;]),
     acts: &[
         Run(
             4,
-            Wanted {
-                cause: Cause::WarmBoot,
-                steps: 4,
-                regs: Regs {
-                    a: 0x01,
-                    flags: Flags {
-                        ac: true,
-                        cy: true,
-                        ..NO_FLAGS
-                    },
-                    ..RETURNED
-                },
-                text: b"",
-            },
+            wanted!(WarmBoot, 4, { a: 0x01, flags: flags!(ac, cy), ..RETURNED }),
         ),
         Keep(&[4]),
     ],
 };
 
-/// A byte that is no instruction.
 pub const NO_OPCODE: Case<'_> = Case {
-    given: Given {
-        program: &[0x08],
-        ..EMPTY
-    },
-    acts: &[
-        Run(
-            0,
-            Wanted {
-                cause: Cause::Undefined(0x08),
-                steps: 0,
-                regs: LOADED,
-                text: b"",
-            },
-        ),
-        Keep(&[]),
-    ],
+    name: "a byte that is no opcode",
+    given: given!(program: &[0x08]),
+    acts: &[Run(0, wanted!(Undefined(0x08), 0, { ..LOADED })), Keep(&[])],
 };
 
-/// Edits that take no memory, and checkpoints that are dropped. The program looks at no script and at no file.
+/// The program looks at no script and at no file.
 pub const EDITS_WITHOUT_MEMORY: Case<'_> = Case {
-    given: Given {
-        script: b"abc",
-        hosts: &[("a", b"1"), ("b", b"2")],
-        ..PRINTS
-    },
+    name: "edits that take no memory, and checkpoints that are dropped",
+    given: given!(PRINTS, script: b"abc", hosts: &[("a", b"1"), ("b", b"2")]),
     acts: &[
         Run(7, SAYS_HI),
         Keep(&[4, 7]),

@@ -34,10 +34,8 @@ pub enum Trouble {
     Refused,
     /// A host file is there although memory for it ran out.
     RefusedFileThere,
-    /// The number of the case and of its act, each counted from 0, and what differs after that act.
-    Differs(usize, usize, Difference),
-    /// The first act of the case, counted from 0, is no run, but a run is needed to repeat it.
-    NoRunFirst(usize),
+    /// The number of an act, counted from 1, and what differs after it.
+    Differs(usize, Difference),
 }
 
 impl From<AllocError> for Trouble {

@@ -3,56 +3,24 @@
 use crate::acts::Act::{Edit, Keep, Leave, Run};
 use crate::acts::Case;
 use crate::acts::Change::{Insert, Remove, Replace};
-use crate::given::{EMPTY, Given};
+use crate::given::Given;
 use crate::left::Left::Cells;
-use crate::wanted::{RETURNED, Wanted};
-use machine::{Cause, Regs};
+use crate::wanted::{CALLING, RETURNED, Wanted};
+use crate::{given, program, wanted};
+use machine::Regs;
 
-/// MVI C,1; CALL 5; RET: takes a byte by call 1.
-pub const TAKES: Given<'_> = Given {
-    program: &[0x0e, 0x01, 0xcd, 0x05, 0x00, 0xc9],
-    ..EMPTY
-};
+/// Takes a byte by call 1.
+pub const TAKES: Given<'_> = given!(program: &program![MVI C,1; CALL 5; RET;]);
 
 // Waits for the byte of call 1.
-const WAITS: Wanted<'_> = Wanted {
-    cause: Cause::ConsoleExhausted,
-    steps: 3,
-    regs: Regs {
-        c: 0x01,
-        sp: 0xfdfc,
-        pc: 0xfe06,
-        ..RETURNED
-    },
-    text: b"",
-};
+const WAITS: Wanted<'_> = wanted!(ConsoleExhausted, 3, { c: 0x01, ..CALLING });
 
-const TAKES_X: Wanted<'_> = Wanted {
-    cause: Cause::WarmBoot,
-    steps: 6,
-    regs: Regs {
-        a: b'x',
-        c: 0x01,
-        l: b'x',
-        ..RETURNED
-    },
-    text: b"x",
-};
+const TAKES_X: Wanted<'_> = wanted!(WarmBoot, 6, { a: b'x', c: 0x01, l: b'x', ..RETURNED }, b"x");
 
-const TAKES_A: Wanted<'_> = Wanted {
-    cause: Cause::WarmBoot,
-    steps: 6,
-    regs: Regs {
-        a: b'a',
-        c: 0x01,
-        l: b'a',
-        ..RETURNED
-    },
-    text: b"a",
-};
+const TAKES_A: Wanted<'_> = wanted!(WarmBoot, 6, { a: b'a', c: 0x01, l: b'a', ..RETURNED }, b"a");
 
-/// The program waits for a byte, and takes it once it is there.
 pub const TYPED_BYTE: Case<'_> = Case {
+    name: "a program waits for a byte, and takes it once it is there",
     given: TAKES,
     acts: &[
         Run(3, WAITS),
@@ -68,12 +36,9 @@ pub const TYPED_BYTE: Case<'_> = Case {
     ],
 };
 
-/// The same byte is inserted before the one that was taken; then all bytes are removed.
 pub const SAME_BYTE_BEFORE: Case<'_> = Case {
-    given: Given {
-        script: b"aab",
-        ..TAKES
-    },
+    name: "the byte that was taken is inserted again; then all bytes are removed",
+    given: given!(TAKES, script: b"aab"),
     acts: &[
         Run(6, TAKES_A),
         Keep(&[4, 6]),
@@ -90,32 +55,13 @@ pub const SAME_BYTE_BEFORE: Case<'_> = Case {
     ],
 };
 
-const FINDS_NONE: Wanted<'_> = Wanted {
-    cause: Cause::WarmBoot,
-    steps: 6,
-    regs: Regs {
-        c: 0x0b,
-        ..RETURNED
-    },
-    text: b"",
-};
+const FINDS_NONE: Wanted<'_> = wanted!(WarmBoot, 6, { c: 0x0b, ..RETURNED });
 
-const FINDS_SOME: Wanted<'_> = Wanted {
-    regs: Regs {
-        a: 0xff,
-        c: 0x0b,
-        l: 0xff,
-        ..RETURNED
-    },
-    ..FINDS_NONE
-};
+const FINDS_SOME: Wanted<'_> = wanted!(WarmBoot, 6, { a: 0xff, c: 0x0b, l: 0xff, ..RETURNED });
 
-/// MVI C,11; CALL 5; RET: asks whether a byte is there.
 pub const STATUS: Case<'_> = Case {
-    given: Given {
-        program: &[0x0e, 0x0b, 0xcd, 0x05, 0x00, 0xc9],
-        ..EMPTY
-    },
+    name: "call 11 looks whether a byte is there",
+    given: given!(program: &program![MVI C,11; CALL 5; RET;]),
     acts: &[
         Run(6, FINDS_NONE),
         Keep(&[4, 6]),
@@ -132,11 +78,11 @@ pub const STATUS: Case<'_> = Case {
     ],
 };
 
-/// LXI D,0109H; MVI C,10; CALL 5; RET: takes a line of at most two bytes into 0109H and on.
-pub const TAKES_LINE: Given<'_> = Given {
-    program: &[0x11, 0x09, 0x01, 0x0e, 0x0a, 0xcd, 0x05, 0x00, 0xc9, 0x02],
-    ..EMPTY
-};
+/// The bytes of a program that takes a line by call 10 into 0109H and on; its last byte is the capacity.
+#[macro_export]
+macro_rules! takes_line {
+    ($capacity:expr) => { $crate::program![LXI D,0x0109; MVI C,10; CALL 5; RET; DB $capacity;] };
+}
 
 /// The registers after a line was taken.
 pub const LINE_TAKEN: Regs = Regs {
@@ -146,26 +92,15 @@ pub const LINE_TAKEN: Regs = Regs {
     ..RETURNED
 };
 
-/// The registers if no whole line is there.
-pub const LINE_WAITED_FOR: Regs = Regs {
-    sp: 0xfdfc,
-    pc: 0xfe06,
-    ..LINE_TAKEN
-};
+/// The end of a run if no whole line is there.
+pub const WAITS_FOR_LINE: Wanted<'_> =
+    wanted!(ConsoleExhausted, 4, { sp: 0xfdfc, pc: 0xfe06, ..LINE_TAKEN });
 
-const TAKES_AB: Wanted<'_> = Wanted {
-    cause: Cause::WarmBoot,
-    steps: 7,
-    regs: LINE_TAKEN,
-    text: b"ab",
-};
+const TAKES_AB: Wanted<'_> = wanted!(WarmBoot, 7, { ..LINE_TAKEN }, b"ab");
 
-/// A line is taken as far as it fits. No look reads what follows it.
 pub const TYPED_LINE: Case<'_> = Case {
-    given: Given {
-        script: b"abc",
-        ..TAKES_LINE
-    },
+    name: "a line is taken as far as it fits, and what follows it is not looked at",
+    given: given!(program: &takes_line!(2), script: b"abc"),
     acts: &[
         Run(7, TAKES_AB),
         Keep(&[4, 7]),
@@ -178,22 +113,11 @@ pub const TYPED_LINE: Case<'_> = Case {
     ],
 };
 
-/// A line that is not whole is left.
 pub const SHORT_LINE: Case<'_> = Case {
-    given: Given {
-        script: b"a",
-        ..TAKES_LINE
-    },
+    name: "a line that is not whole is left",
+    given: given!(program: &takes_line!(2), script: b"a"),
     acts: &[
-        Run(
-            4,
-            Wanted {
-                cause: Cause::ConsoleExhausted,
-                steps: 4,
-                regs: LINE_WAITED_FOR,
-                text: b"",
-            },
-        ),
+        Run(4, WAITS_FOR_LINE),
         Keep(&[4]),
         Leave(&[Cells(0x010a, b"\0")]),
         Keep(&[4]),

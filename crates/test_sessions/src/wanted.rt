@@ -12,6 +12,16 @@ pub const NO_FLAGS: Flags = Flags {
     cy: false,
 };
 
+/// The flags of these names, and no other.
+///
+/// ```
+/// const OF_ZERO: Flags = flags!(z, ac, p);
+/// ```
+#[macro_export]
+macro_rules! flags {
+    ($($flag:ident),+) => { $crate::Flags { $($flag: true,)+ ..$crate::NO_FLAGS } };
+}
+
 /// The registers with which each program begins.
 pub const LOADED: Regs = Regs {
     a: 0,
@@ -33,6 +43,13 @@ pub const RETURNED: Regs = Regs {
     ..LOADED
 };
 
+/// The registers at the system's entry, before the call that a `CALL 5` of the program makes.
+pub const CALLING: Regs = Regs {
+    sp: 0xfdfc,
+    pc: 0xfe06,
+    ..LOADED
+};
+
 /// The expected end of a run.
 #[derive(Clone, Copy)]
 pub struct Wanted<'a> {
@@ -42,4 +59,24 @@ pub struct Wanted<'a> {
     pub regs: Regs,
     /// All that was printed.
     pub text: &'a [u8],
+}
+
+/// The end of a run by its cause, its steps, its registers in the form of a struct, and its text, if it prints any.
+///
+/// ```
+/// const HALTS: Wanted<'_> = wanted!(Halt, 3, { a: 0x76, pc: 0x0106, ..LOADED });
+/// ```
+#[macro_export]
+macro_rules! wanted {
+    ($cause:ident $(($of:expr))?, $steps:expr, { $($regs:tt)* }) => {
+        $crate::wanted!($cause $(($of))?, $steps, { $($regs)* }, b"")
+    };
+    ($cause:ident $(($of:expr))?, $steps:expr, { $($regs:tt)* }, $text:expr) => {
+        $crate::Wanted {
+            cause: $crate::Cause::$cause $(($of))?,
+            steps: $steps,
+            regs: $crate::Regs { $($regs)* },
+            text: $text,
+        }
+    };
 }

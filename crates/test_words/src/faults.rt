@@ -1,27 +1,11 @@
 // Help, the version, and usage errors.
 
-use crate::fixtures::Wanted::{self, Refused, Told};
-use crate::fixtures::{Row, come_to};
+use crate::fixtures::Wanted::{self, Prints, Refused};
+use crate::fixtures::{Row, have_results};
 use command_words::ErrorClass;
 use std::test::Fail;
 
-const MISUSE: Wanted<'_> = Refused(ErrorClass::Misuse, &[]);
-
-const MISUSED: &[Row<'_>] = &[
-    (&[], MISUSE),
-    (&["--limit", "5"], MISUSE),
-    (&["p.com", "--unknown"], MISUSE),
-    (&["p.com", "a", "b"], MISUSE),
-    (&["p.com", "--limit"], MISUSE),
-    (&["p.com", "--limit", "5", "--limit", "6"], MISUSE),
-    (&["p.com", "--files-e", "dir"], MISUSE),
-    (&["p.com", "-x"], MISUSE),
-];
-
-#[test]
-fn words_that_are_a_fault_of_use(rt: HostRuntime) -> Result<(), Fail> {
-    come_to(&rt, rt.alloc(), MISUSED)
-}
+const MISUSE: Wanted<'_> = Refused(ErrorClass::UsageError, &[]);
 
 const HELP: Wanted<'_> = Refused(
     ErrorClass::Information,
@@ -41,29 +25,28 @@ const HELP: Wanted<'_> = Refused(
     ],
 );
 
-const HELPED: &[Row<'_>] = &[(&["--help"], HELP), (&["-h"], HELP)];
+const ROWS: &[Row<'_>] = &[
+    (&[], MISUSE),
+    (&["--limit", "5"], MISUSE),
+    (&["p.com", "--unknown"], MISUSE),
+    (&["p.com", "a", "b"], MISUSE),
+    (&["p.com", "--limit"], MISUSE),
+    (&["p.com", "--limit", "5", "--limit", "6"], MISUSE),
+    (&["p.com", "--files-e", "dir"], MISUSE),
+    (&["p.com", "-x"], MISUSE),
+    (
+        &["p.com", "--slots", "0"],
+        Refused(ErrorClass::UsageError, &["'0'", "--slots <N>"]),
+    ),
+    (&["--help"], HELP),
+    (&["-h"], HELP),
+    (
+        &["--version"],
+        Prints(ErrorClass::Information, "cpmrun 1.0.0\n"),
+    ),
+];
 
 #[test]
-fn help_names_each_option_and_status(rt: HostRuntime) -> Result<(), Fail> {
-    come_to(&rt, rt.alloc(), HELPED)
-}
-
-const VERSION: &[Row<'_>] = &[(
-    &["--version"],
-    Told(ErrorClass::Information, "cpmrun 1.0.0\n"),
-)];
-
-#[test]
-fn the_version_is_printed(rt: HostRuntime) -> Result<(), Fail> {
-    come_to(&rt, rt.alloc(), VERSION)
-}
-
-const NAMED: &[Row<'_>] = &[(
-    &["p.com", "--slots", "0"],
-    Refused(ErrorClass::Misuse, &["'0'", "--slots <N>"]),
-)];
-
-#[test]
-fn a_fault_of_use_names_the_word(rt: HostRuntime) -> Result<(), Fail> {
-    come_to(&rt, rt.alloc(), NAMED)
+fn help_version_and_usage_errors(rt: HostRuntime) -> Result<(), Fail> {
+    have_results(&rt, rt.alloc(), ROWS)
 }

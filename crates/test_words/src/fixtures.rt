@@ -29,7 +29,7 @@ pub enum Wanted<'a> {
     /// Words that are not read, with the meaning of their error, and parts of its text.
     Refused(ErrorClass, &'a [&'a str]),
     /// Words that are not read, with the meaning of their error, and its whole text.
-    Told(ErrorClass, &'a str),
+    Prints(ErrorClass, &'a str),
 }
 
 /// Words, and the expected result.
@@ -47,6 +47,18 @@ pub const PROGRAM: Fields<'_> = Fields {
     spacing: 10_000,
     slots: 64,
 };
+
+// Words that are read, with these values, and the others of the word `p.com` alone.
+macro_rules! read {
+    ($($field:ident: $value:expr),+) => {
+        $crate::fixtures::Wanted::Read(&$crate::fixtures::Fields {
+            $($field: $value,)+
+            ..$crate::fixtures::PROGRAM
+        })
+    };
+}
+
+pub(crate) use read;
 
 // Returns words that own their texts.
 fn owned(alloc: Global, words: &[&str]) -> Result<Vec<String>, AllocError> {
@@ -97,7 +109,7 @@ fn is_refused(outcome: ErrorClass, text: &str, wanted: Wanted<'_>) -> bool {
     match wanted {
         Wanted::Read(_) => false,
         Wanted::Refused(wanted, parts) => outcome == wanted && has_parts(text, parts),
-        Wanted::Told(wanted, told) => outcome == wanted && text == told,
+        Wanted::Prints(wanted, whole) => outcome == wanted && text == whole,
     }
 }
 
@@ -131,7 +143,7 @@ fn compare(
 }
 
 /// Checks that the words of each row have the expected result.
-pub fn come_to(rt: &impl Abort, alloc: Global, rows: &[Row<'_>]) -> Result<(), Fail> {
+pub fn have_results(rt: &impl Abort, alloc: Global, rows: &[Row<'_>]) -> Result<(), Fail> {
     for row in rows {
         let list = owned(alloc, row.0)?;
         compare(rt, alloc, list.as_slice(), row)?;

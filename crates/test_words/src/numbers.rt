@@ -1,63 +1,25 @@
-// Numbers at the ends of their ranges.
+// Numbers at the ends of their ranges, and past them.
 
-use crate::fixtures::Wanted::{self, Read, Refused};
-use crate::fixtures::{Fields, PROGRAM, Row, come_to};
+use crate::fixtures::Wanted::{self, Refused};
+use crate::fixtures::{Row, have_results, read};
 use command_words::ErrorClass;
 use std::test::Fail;
 
-const WITHIN: &[Row<'_>] = &[
-    (
-        &["p.com", "--limit", "0"],
-        Read(&Fields {
-            limit: 0,
-            ..PROGRAM
-        }),
-    ),
+const MISUSE: Wanted<'_> = Refused(ErrorClass::UsageError, &[]);
+
+const ROWS: &[Row<'_>] = &[
+    (&["p.com", "--limit", "0"], read!(limit: 0)),
     (
         &["p.com", "--limit", "4000000000"],
-        Read(&Fields {
-            limit: 4_000_000_000,
-            ..PROGRAM
-        }),
+        read!(limit: 4_000_000_000),
     ),
-    (
-        &["p.com", "--spacing", "1"],
-        Read(&Fields {
-            spacing: 1,
-            ..PROGRAM
-        }),
-    ),
+    (&["p.com", "--spacing", "1"], read!(spacing: 1)),
     (
         &["p.com", "--spacing", "1000000000"],
-        Read(&Fields {
-            spacing: 1_000_000_000,
-            ..PROGRAM
-        }),
+        read!(spacing: 1_000_000_000),
     ),
-    (
-        &["p.com", "--slots", "1"],
-        Read(&Fields {
-            slots: 1,
-            ..PROGRAM
-        }),
-    ),
-    (
-        &["p.com", "--slots", "4096"],
-        Read(&Fields {
-            slots: 4096,
-            ..PROGRAM
-        }),
-    ),
-];
-
-#[test]
-fn numbers_within_their_ranges(rt: HostRuntime) -> Result<(), Fail> {
-    come_to(&rt, rt.alloc(), WITHIN)
-}
-
-const MISUSE: Wanted<'_> = Refused(ErrorClass::Misuse, &[]);
-
-const PAST: &[Row<'_>] = &[
+    (&["p.com", "--slots", "1"], read!(slots: 1)),
+    (&["p.com", "--slots", "4096"], read!(slots: 4096)),
     (&["p.com", "--limit", "4000000001"], MISUSE),
     (&["p.com", "--limit", "18446744073709551616"], MISUSE),
     (&["p.com", "--limit", "many"], MISUSE),
@@ -71,6 +33,6 @@ const PAST: &[Row<'_>] = &[
 ];
 
 #[test]
-fn numbers_past_their_ranges(rt: HostRuntime) -> Result<(), Fail> {
-    come_to(&rt, rt.alloc(), PAST)
+fn numbers_have_ranges(rt: HostRuntime) -> Result<(), Fail> {
+    have_results(&rt, rt.alloc(), ROWS)
 }

@@ -1,16 +1,23 @@
 // How a run ends and what it leaves, at once and broken off after each of its steps.
 
+use crate::acts::Act::{Edit, Leave, Run, Stop};
+use crate::acts::Change::Limit;
+use crate::given::Given;
+use crate::left::Left;
+use crate::playing::{name_failure, play_acts};
+use crate::trouble::Trouble;
+use crate::wanted::Wanted;
 use std::alloc::Global;
-use test_sessions::Act::{Edit, Leave, Run, Stop};
-use test_sessions::Change::Limit;
-use test_sessions::{Case, Given, Left, Trouble, Wanted, play};
+use std::test::Fail;
 
 /// The largest number of steps of a run that is also broken off after each of them.
 const SHORT: u64 = 150;
 
-/// The session of a program, how its run ends, and what it leaves.
+/// A session, how its run ends, and what it leaves.
 #[derive(Clone, Copy)]
 pub struct Trial<'a> {
+    /// What the run shows.
+    pub name: &'a str,
     pub given: Given<'a>,
     pub wanted: Wanted<'a>,
     pub left: &'a [Left<'a>],
@@ -23,11 +30,11 @@ fn ends_at_once<'a>(
     left: &'a [Left<'a>],
 ) -> Result<(), Trouble> {
     let acts = [Run(wanted.steps, wanted), Leave(left)];
-    play(alloc, 0, &Case { given, acts: &acts })
+    play_acts(alloc, &given, &acts)
 }
 
 // Breaks a session off after a number of steps, sets its limit back, and resumes it from the checkpoint there.
-fn goes_on<'a>(
+fn ends_after_break<'a>(
     alloc: Global,
     given: Given<'_>,
     steps: u64,
@@ -44,14 +51,7 @@ fn goes_on<'a>(
         Run(wanted.steps.wrapping_sub(steps), wanted),
         Leave(left),
     ];
-    play(
-        alloc,
-        0,
-        &Case {
-            given: short,
-            acts: &acts,
-        },
-    )
+    play_acts(alloc, &short, &acts)
 }
 
 /// Runs a session at once. A short one is also broken off after each of its steps, and resumed from the checkpoint there. Each
@@ -65,13 +65,17 @@ pub fn ends<'a>(
     ends_at_once(alloc, given, wanted, left)?;
     if wanted.steps <= SHORT {
         for steps in 0..wanted.steps {
-            goes_on(alloc, given, steps, wanted, left)?;
+            ends_after_break(alloc, given, steps, wanted, left)?;
         }
     }
     Ok(())
 }
 
-/// Executes a trial, at once and broken off.
-pub fn comes_out(alloc: Global, trial: &Trial<'_>) -> Result<(), Trouble> {
-    ends(alloc, trial.given, trial.wanted, trial.left)
+/// Runs the session of each trial, at once and broken off. `Err` names the trial and what differs.
+pub fn all_end(alloc: Global, trials: &[Trial<'_>]) -> Result<(), Fail> {
+    for trial in trials {
+        let outcome = ends(alloc, trial.given, trial.wanted, trial.left);
+        name_failure(trial.name, outcome)?;
+    }
+    Ok(())
 }

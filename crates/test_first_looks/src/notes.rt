@@ -3,24 +3,24 @@
 use hostfiles::Ask::{Directory, Has, Length, Rec};
 use std::test::Fail;
 use test_files::Act::{Anew, EraseFrom, Note, StepOf};
+use test_files::Acts::Plain;
 use test_files::{ANN, B_ANN, BEN, Case, play};
 
 const CASES: &[Case<'_>] = &[
     Case {
         name: "no question has a step at first",
         files: &[],
-        acts: &[
+        acts: Plain(&[
             StepOf(Has(ANN), None),
             StepOf(Length(ANN), None),
             StepOf(Rec(ANN, 0), None),
             StepOf(Directory(0), None),
-        ],
-        rows: &[],
+        ]),
     },
     Case {
-        name: "the first step stands",
+        name: "the first step is noted",
         files: &[],
-        acts: &[
+        acts: Plain(&[
             Note(Has(ANN), 3),
             Note(Has(ANN), 5),
             StepOf(Has(ANN), Some(3)),
@@ -36,13 +36,12 @@ const CASES: &[Case<'_>] = &[
             Note(Directory(255), 3),
             Note(Directory(255), 5),
             StepOf(Directory(255), Some(3)),
-        ],
-        rows: &[],
+        ]),
     },
     Case {
         name: "each question has its own step",
         files: &[],
-        acts: &[
+        acts: Plain(&[
             Note(Has(ANN), 1),
             Note(Length(ANN), 2),
             Note(Rec(ANN, 0), 3),
@@ -59,13 +58,12 @@ const CASES: &[Case<'_>] = &[
             StepOf(Has(BEN), Some(6)),
             StepOf(Length(BEN), None),
             StepOf(Rec(BEN, 0), None),
-        ],
-        rows: &[],
+        ]),
     },
     Case {
-        name: "records have their own steps, in turn or not",
+        name: "records have their own steps, in order or not",
         files: &[],
-        acts: &[
+        acts: Plain(&[
             Note(Rec(ANN, 0), 1),
             Note(Rec(ANN, 1), 2),
             Note(Rec(ANN, 5), 3),
@@ -88,13 +86,12 @@ const CASES: &[Case<'_>] = &[
             StepOf(Rec(BEN, 1), None),
             Note(Rec(ANN, 2), 4),
             StepOf(Rec(ANN, 2), Some(4)),
-        ],
-        rows: &[],
+        ]),
     },
     Case {
         name: "steps from one on are erased",
         files: &[],
-        acts: &[
+        acts: Plain(&[
             Note(Has(ANN), 4),
             Note(Length(ANN), 4),
             Note(Rec(B_ANN, 7), 4),
@@ -114,8 +111,7 @@ const CASES: &[Case<'_>] = &[
             StepOf(Directory(3), None),
             Note(Has(BEN), 9),
             StepOf(Has(BEN), Some(9)),
-        ],
-        rows: &[],
+        ]),
     },
 ];
 

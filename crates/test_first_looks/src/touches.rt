@@ -3,6 +3,7 @@
 use hostfiles::Ask::{Directory, Has, Length, Rec};
 use std::test::Fail;
 use test_files::Act::{Anew, Note, SetNext, Touch};
+use test_files::Acts::{Both, Plain};
 use test_files::{ANN, Act, B_ANN, BEN, Case, play};
 
 const TWO_RECORDS: &[(&str, usize)] = &[("ann", 200)];
@@ -22,60 +23,67 @@ const CASES: &[Case<'_>] = &[
     Case {
         name: "equal bytes touch nothing",
         files: TWO_RECORDS,
-        acts: ASKED,
-        rows: &[
-            (SetNext("ann", &[(b'x', 200)]), &[]),
-            (Touch(9, ANN, 9), &[]),
-            (SetNext("ann", &[(b'x', 200), (0x1a, 56)]), &[]),
-            (Touch(9, ANN, 9), &[]),
-        ],
+        acts: Both(
+            ASKED,
+            &[
+                (SetNext("ann", &[(b'x', 200)]), &[]),
+                (Touch(9, ANN, 9), &[]),
+                (SetNext("ann", &[(b'x', 200), (0x1a, 56)]), &[]),
+                (Touch(9, ANN, 9), &[]),
+            ],
+        ),
     },
     Case {
         name: "a record touches the step that read it",
         files: TWO_RECORDS,
-        acts: ASKED,
-        rows: &[
-            (SetNext("ann", &[(b'x', 127), (b'y', 1), (b'x', 72)]), &[]),
-            (Touch(9, ANN, 7), &[]),
-            (SetNext("ann", &[(b'x', 128), (b'y', 1), (b'x', 71)]), &[]),
-            (Touch(9, ANN, 6), &[]),
-            (SetNext("ann", &[(b'y', 200)]), &[]),
-            (Touch(9, ANN, 6), &[]),
-        ],
+        acts: Both(
+            ASKED,
+            &[
+                (SetNext("ann", &[(b'x', 127), (b'y', 1), (b'x', 72)]), &[]),
+                (Touch(9, ANN, 7), &[]),
+                (SetNext("ann", &[(b'x', 128), (b'y', 1), (b'x', 71)]), &[]),
+                (Touch(9, ANN, 6), &[]),
+                (SetNext("ann", &[(b'y', 200)]), &[]),
+                (Touch(9, ANN, 6), &[]),
+            ],
+        ),
     },
     Case {
-        name: "records that were read in turn touch the first that differs",
+        name: "records that were read in order touch the first that differs",
         files: TWO_RECORDS,
-        acts: &[Note(Rec(ANN, 0), 3), Note(Rec(ANN, 1), 4)],
-        rows: &[
-            (SetNext("ann", &[(b'x', 128), (b'y', 1), (b'x', 71)]), &[]),
-            (Touch(9, ANN, 4), &[]),
-            (SetNext("ann", &[(b'y', 200)]), &[]),
-            (Touch(9, ANN, 3), &[]),
-        ],
+        acts: Both(
+            &[Note(Rec(ANN, 0), 3), Note(Rec(ANN, 1), 4)],
+            &[
+                (SetNext("ann", &[(b'x', 128), (b'y', 1), (b'x', 71)]), &[]),
+                (Touch(9, ANN, 4), &[]),
+                (SetNext("ann", &[(b'y', 200)]), &[]),
+                (Touch(9, ANN, 3), &[]),
+            ],
+        ),
     },
     Case {
         name: "another length touches length and directory",
         files: TWO_RECORDS,
-        acts: ASKED,
-        rows: &[
-            (SetNext("ann", &[(b'x', 128)]), &[]),
-            (Touch(9, ANN, 3), &[]),
-            (SetNext("ann", &[(b'x', 300)]), &[]),
-            (Touch(9, ANN, 3), &[]),
-        ],
+        acts: Both(
+            ASKED,
+            &[
+                (SetNext("ann", &[(b'x', 128)]), &[]),
+                (Touch(9, ANN, 3), &[]),
+                (SetNext("ann", &[(b'x', 300)]), &[]),
+                (Touch(9, ANN, 3), &[]),
+            ],
+        ),
     },
     Case {
         name: "a removed file touches presence",
         files: TWO_RECORDS,
-        acts: ASKED,
-        rows: &[(Touch(9, ANN, 2), &[])],
+        acts: Both(ASKED, &[(Touch(9, ANN, 2), &[])]),
     },
     // Each time a single question was asked at step 4.
     Case {
         name: "a new file touches all that asked of it",
         files: &[],
-        acts: &[
+        acts: Plain(&[
             SetNext("ann", &[(b'x', 1)]),
             SetNext("b:ann", &[]),
             Note(Has(ANN), 4),
@@ -110,19 +118,17 @@ const CASES: &[Case<'_>] = &[
             Anew,
             Note(Directory(0), 4),
             Touch(9, B_ANN, 9),
-        ],
-        rows: &[],
+        ]),
     },
     Case {
         name: "nothing past the least is touched",
         files: &[("ann", 1)],
-        acts: &[
+        acts: Plain(&[
             Note(Has(ANN), 4),
             Touch(3, ANN, 3),
             Touch(4, ANN, 4),
             Touch(5, ANN, 4),
-        ],
-        rows: &[],
+        ]),
     },
 ];
 
