@@ -9,7 +9,7 @@ MAKEFLAGS += --no-builtin-rules --no-print-directory --jobs=$(LANES)
 CRATES := $(notdir $(wildcard crates/*))
 # A build takes as long as its longest chain of crates. These are in no long chain: each gets one job, and the time that is left. Every
 # other crate gets as many jobs as there are lanes.
-SIDE := $(filter records command_words command_tail folders loading report_lines file_steps,$(CRATES))
+SIDE := $(filter records command_words command_tail folders loading report_lines,$(CRATES))
 
 # how many crates the program needs
 export NEEDED := $(shell tac crates.txt | awk -F '[: ]+' \

@@ -21,7 +21,7 @@ ALLOWED = {
     'machine::step': 'one step',
     'replay::Runner::session': 'the session as it is now',
     'replay::Runner::kept': 'the steps of the checkpoints',
-    'replay::Runner::refusals': 'how often memory for a checkpoint was refused',
+    'replay::Runner::alloc_failures': 'how often memory for a checkpoint was refused',
 }
 """The functions that only users call, each with what it is for."""
 

@@ -75,7 +75,7 @@ def item(crates: str, names: str) -> str:
 
 METER = r'\bMeter>?::|\bMeter as\b|\b(type|impl|for)\b.*\bMeter\b'
 EXECUTE = item('i8080', 'execute')
-CALL = item('console_calls|bdos', 'calls?')
+CALL = item('console_calls|bdos', 'console_call|calls?')
 STEPS = rf'\brun_from\b|{item("machine", "step")}'
 COMMAND = 'crates/cpmrun/src/command_line.rt'
 LOOP = 'crates/replay/src/run.rt'
@@ -149,7 +149,7 @@ loading::tail_of
 one_run::report_stop
 one_run::run_and_report
 one_run::run_once
-replay::note_all
+first_looks::note
 replay::number
 '''.split())
 """The functions of the product that report out of memory themselves, not by `?` or in a `From`. Any function that may fail so could claim it,
