@@ -6,7 +6,7 @@ from helpers import PROGRAM, ProgramTest
 
 APART = [
     'machine::stretch::run_from',
-    'replay::first_looks::FirstLooks::note',
+    'machine::state::State::note_looks',
     'pagemem::page::Slot::own',
     'pagemem::overlay::Overlay::look',
     'i8080::instructions::call_if_apart',
