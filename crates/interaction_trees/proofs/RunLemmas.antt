@@ -35,7 +35,7 @@ module _ {St X : Type 0} (outcome : St → Outcome St X) where
       let (b, at, went) = step_before (after outcome start n) st e in
       more n b st at (holds_after start P first more n b at) went
 
-  -- A run goes on from each state that it reaches.
+  -- A run continues from each state that it reaches.
   reached : (limit : X) (start : St) (steps k n : ℕ) (st : St) → k + n ≡ steps → after outcome start n ≡ Some st → run_on outcome limit k n st ≡ run_on outcome limit steps 0 start
   unfolding after
   reached limit start steps k zero st e a = let same : start ≡ st = cc in let all : k ≡ steps = omega arith in rw (← same, all) refl
