@@ -3,7 +3,7 @@
 use crate::acts::Act::{self, Changed, ChangedAfter, Same, TellKeys, TellRecord, TellRecords};
 use crate::contents::filled;
 use cpmfiles::{Changes, HostFiles, Key, Name};
-use hostfiles::{ChangedFile, FileView, next_changed};
+use hostfiles::{FileView, next_changed};
 use std::test::Fail;
 
 /// Names that are listed, in order.
@@ -47,9 +47,10 @@ fn next_name(
     match names {
         Names::Host => host.next(after),
         Names::All => host.next_with(changes, after),
-        Names::Changed => next_changed(host, &changes.journal, after).map(|changed: ChangedFile<
-            '_,
-        >| changed.name),
+        Names::Changed => match next_changed(host, &changes.journal, after) {
+            Some(changed) => Some(changed.name),
+            None => None,
+        },
     }
 }
 
