@@ -40,7 +40,7 @@ fn all_are_kept(alloc: Global, cases: &[Case<'_>]) -> Result<(), Fail> {
     Ok(())
 }
 
-// The cases stand in four functions, since a table costs its check more than its rows do apart.
+// The cases are in four functions, since one table of all of them costs more to check than four.
 
 fn single_runs_are_kept(alloc: Global) -> Result<(), Fail> {
     const ONCE: &[Case<'_>] = &[
