@@ -11,7 +11,8 @@ use Rattle.std.specs.FinMap.{is_sorted, get, entries, entries_sorted, get-entrie
 use Rattle.std.specs.FinMap as finmap
 use Rattle.std.specs.FinMap.Entries.{below_all}
 use Rattle.filenames.specs.Names.{Key}
-use Rattle.keymaps.specs.Order.{is_above}
+use Rattle.keymaps.specs.Order.{is_above, EachAbove, IsNextAbove}
+use Rattle.keymaps.specs.Walks.{IsAbsent}
 use Rattle.keymaps.proofs.Views.{same_key}
 use Rattle.keymaps.proofs.Left.{all_pass, rises}
 use Rattle.directory.specs.declared.entry.Entry.{Entry}
@@ -277,15 +278,14 @@ first_with k e (Some n) xs = refl
 pub extent_turn : (k : Key) (v : Option Shape) (n : ℕ) → n < 512 → slice_get (file_entries_from k v n) 0 ≡ or_else (entry_with_count k n (count_if_any v n)) (slice_get (file_entries_from k v (n + 1)) 0)
 extent_turn k v n l = ap (λ es. slice_get es 0) (chunk_more k v n l) ∙ first_with k n (count_if_any v n) (file_entries_from k v (n + 1))
 
-pub key_turn : (m : Shapes) (pattern : Key) (ex : ℕ) (after : Option Key) (k : Key) → is_above after k ≡ true
-    → ((x : Key) → is_above after x ≡ true → slice_cmp nat_cmp x k ≡ Less → get m x ≡ None)
+pub key_turn : (m : Shapes) (pattern : Key) (ex : ℕ) (after : Option Key) (k : Key) → IsNextAbove after (IsAbsent m) (Some k)
     → find (matches pattern ex) (entries_above after m) ≡ or_else (find (matches pattern ex) (file_entries_from k (get m k) 0)) (find (matches pattern ex) (entries_above (Some k) m))
 unfolding entries_above
-key_turn m pattern ex after k pk none =
-    turn m (matches pattern ex) (is_above after) (rises after) k pk none
+key_turn m pattern ex after k least =
+    turn m (matches pattern ex) (is_above after) (rises after) k least.0 least.1
     ∙ ap (λ c. or_else (find (matches pattern ex) c) (find (matches pattern ex) (listing_entries (filter (λ e. is_above (Some k) e.0) (entries m))))) (chunk_start k (get m k))
 
-pub key_end : (m : Shapes) (pattern : Key) (ex : ℕ) (after : Option Key) → ((x : Key) → is_above after x ≡ true → get m x ≡ None) → find (matches pattern ex) (entries_above after m) ≡ None
+pub key_end : (m : Shapes) (pattern : Key) (ex : ℕ) (after : Option Key) → EachAbove after (IsAbsent m) → find (matches pattern ex) (entries_above after m) ≡ None
 unfolding entries_above
 key_end m pattern ex after none = past_all m (matches pattern ex) (is_above after) none
 

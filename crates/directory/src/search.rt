@@ -1,10 +1,10 @@
 // Directory searches.
 
-ghost use Rattle.std.specs.Prelude.{◌≡◌, ◌<◌, ◌≤◌, ℕ, List, Option, true, false, None, Some, IfSome, IfNone};
+ghost use Rattle.std.specs.Prelude.{◌≡◌, ◌<◌, ◌≤◌, ℕ, List, Option, true, false, None, Some, IfSome, option_map};
 ghost use Rattle.std.specs.List.{slice_get};
 ghost use Rattle.std.specs.FinMap.{get};
-ghost use Rattle.keymaps.specs.Order.{is_above};
-ghost use Rattle.keymaps.specs.Walks.{EachAbove, EachBetween, IsAbsent};
+ghost use Rattle.keymaps.specs.Order.{IsNextAbove};
+ghost use Rattle.keymaps.specs.Walks.{IsAbsent};
 ghost use Rattle.directory.specs.Entries.{Shape, Shapes, count_if_any, first_match, is_match, next_entry};
 ghost use Rattle.directory.specs.Parts.{entries_from, file_entries_from, entry_with_count, entries_above};
 
@@ -53,11 +53,9 @@ pub trait DirectoryFiles {
     /// Returns a key above `after` with its file, such that no file's key is between the two, or `None` if no file's key is
     /// above `after`. There may be no file with the returned key. Every key is above `None`.
     fn next_file(&self, after: Option<Key>) -> Option<KeyedFile<Self::File>>
-        ensures above { IfSome result (λ e. is_above after e.key ≡ true) }
         ensures file { IfSome result (λ e. Self.File.shape e.file ≡ get (files self.now) e.key) }
-        ensures least { IfSome result (λ e. EachBetween after e.key (IsAbsent (files self.now))) }
-        ensures fewer { IfSome result (λ e. left self.now (Some e.key) < left self.now after) }
-        ensures none { IfNone result (EachAbove after (IsAbsent (files self.now))) };
+        ensures least { IsNextAbove after (IsAbsent (files self.now)) (option_map (λ e. e.key) result) }
+        ensures fewer { IfSome result (λ e. left self.now (Some e.key) < left self.now after) };
 
     /// Finds the file with a key.
     fn file(&self, key: &Key) -> Self::File

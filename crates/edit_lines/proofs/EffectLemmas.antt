@@ -1,5 +1,5 @@
 -- The effect of one more line, one more byte and the end of the input on a runner and a meter.
-use Rattle.std.proofs.Common.{◌≡◌, ℕ, ◌+◌, ◌-◌, ◌<◌, List, [], ◌∷◌, ◌++◌, length, refl, sym, ap, subst, ◌∙◌, arith, append_assoc, length-append, inl, inr, Result, Ok, Err}
+use Rattle.std.proofs.Common.{◌≡◌, ℕ, ◌+◌, ◌-◌, ◌<◌, List, [], ◌∷◌, ◌++◌, length, sym, ap, subst, ◌∙◌, arith, append_assoc, length-append, inl, inr, Err}
 use Rattle.std.proofs.lemmas.List.{append-nil}
 use Rattle.report_lines.specs.Streams.{Output}
 use Rattle.replay.specs.RunnerView.{RunnerView}

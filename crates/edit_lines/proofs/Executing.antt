@@ -1,5 +1,5 @@
--- What a command and a line did: the session, the options, and the result of a line from that of its command.
-use Rattle.std.proofs.Common.{◌≡◌, ℕ, ◌+◌, ◌≤◌, ◌⊎◌, List, refl, ap, subst, sym, ◌∙◌, inl, inr, Result, Ok, Err}
+-- The effects of a command and of a line: the session, the options, and the result of a line from that of its command.
+use Rattle.std.proofs.Common.{◌≡◌, ℕ, ◌+◌, ◌≤◌, ◌⊎◌, List, refl, ap, subst, ◌∙◌, inl, inr, Result, Ok, Err}
 use Rattle.report_lines.specs.Streams.{Output, WritesPart, WritesWhole}
 use Rattle.machine.specs.Inputs.{Session}
 use Rattle.machine.specs.PlainState.{PlainRun, plain_run}
@@ -58,7 +58,7 @@ options_at_fault first begun bytes now meter Write h = options_after h.1.effects
 options_at_fault first begun bytes now meter OutOfMemory (inl h) = options_after h.1.effects
 options_at_fault first begun bytes now meter OutOfMemory (inr h) = SameOptions-trans _ _ _ (options_after h.effects) h.part.options
 
--- ---- what a command did
+-- ---- the effect of a command
 
 -- A command had its effect, and this reply to it was written.
 pub replied : (c : Command) (old : RunnerView) (meter : ℕ) (new : RunnerView) (metered : ℕ) (before after : Output) (text : List ℕ) (r : Result (Unit {0}) ReplayFault)
@@ -85,7 +85,7 @@ run_effect old meter new metered run is session options ticked made =
       counted = subst (λ (k : ℕ). RestartsCount old new k) steps made.2;
     }
 
--- ---- what a line did, from what its command did
+-- ---- the effect of a line, from that of its command
 
 pub executes_line : (U : Type 0) (n : ℕ) (line : List ℕ) (c : Command) (old : RunnerView) (meter : ℕ) (before : Output) (new : RunnerView) (metered : ℕ) (after : Output) (r : Result U ReplayFault)
     → n ≤ LINES_LIMIT → EditLine line c → ExecutesCommand c old meter before new metered after r → ExecutesLine n line old meter before new metered after r

@@ -3,7 +3,6 @@ use Rattle.std.specs.Prelude.{◌≡◌, ℕ, ◌+◌, ◌<◌, ◌≤◌, ◌�
 use Rattle.std.specs.List.{All, concat}
 use Rattle.std.specs.Io.KnownBytes.{IsAtEnd}
 use Rattle.report_lines.specs.Streams.{Output, WritesPart, WritesWhole}
-use Rattle.machine.specs.Inputs.{Session}
 use Rattle.replay.specs.RunnerView.{RunnerView}
 use Rattle.edit_lines.specs.declared.line.Command.{Command}
 use Rattle.edit_lines.specs.declared.line.Command.TheVariants.{Run}

@@ -96,7 +96,8 @@ in_order_more steps steps' looks c order below here others = record { noted = no
       | inr other ↦ has_more looks c k m (order.noted k m (sym (others k (λ same. let yes = eq-eqb k c.index same in let both : false ≡ true = sym other ∙ yes in cc)) ∙ e))
     ]
 
-kept_below : (from : ℕ) (o : Option ℕ) (m : ℕ) → step_below from o ≡ Some m → (o ≡ Some m) × (m < from)
+-- What is left is below.
+pub kept_below : (from : ℕ) (o : Option ℕ) (m : ℕ) → step_below from o ≡ Some m → (o ≡ Some m) × (m < from)
 kept_below from None m e = absurd (cc)
 kept_below from (Some n) m e = elim (cases_lt n from) [
   | inl low ↦ grind (arith, nat_tests)

@@ -27,9 +27,13 @@ step_within (Some steps) number = step_in steps.entries number
 abbrev pub step_of_record : RecordNotes → Key → ℕ → Option ℕ
 step_of_record notes key number = step_within (steps_of notes.files key) number
 
--- No step is later than this one.
+-- No step of one file is later than n.
+abbrev pub IsWithin : ℕ → Steps → Type 0
+IsWithin n steps = (steps.latest ≤ n) × ((index step : ℕ) → step_in steps.entries index ≡ Some step → step ≤ n)
+
+-- No step of any file is later than n.
 abbrev pub AreWithin : ℕ → List (Key × Steps) → Type 0
-AreWithin n files = (key : Key) (steps : Steps) → steps_of files key ≡ Some steps → steps.latest ≤ n
+AreWithin n files = (key : Key) (steps : Steps) → steps_of files key ≡ Some steps → IsWithin n steps
 
 -- A record has this step, unless it had one before, and all other steps are unchanged.
 abbrev pub NotesRecord : RecordNotes → Key → ℕ → ℕ → RecordNotes → Type 0

@@ -84,12 +84,15 @@ impl RecordSteps {
         Ok(())
     }
 
-    /// Erases every step from `from` on. Allocates nothing.
+    /// Erases every step from `from` on. Visits no file if no step is that late. Allocates nothing.
     pub fn erase_from(&mut self, from: u64)
         ensures entries { ErasesRecords from self.old self.new }
         ensures latest { (self.new.latest ≤ self.old.latest) × (self.new.latest ≤ from) }
     {
-        self.latest = self.latest.min(from);
+        if self.latest < from {
+            return;
+        }
+        self.latest = from;
         self.files.retain(|_, steps| {
             steps.erase_from(from);
             true

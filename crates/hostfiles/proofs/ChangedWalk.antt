@@ -4,8 +4,8 @@ use Rattle.std.specs.Ordering.{nat_cmp}
 use Rattle.std.specs.Cmp.Lexicographic.{slice_cmp, nat_list_cmp_total}
 use Rattle.std.specs.List.{filter}
 use Rattle.std.specs.FinMap.{FinMap, find, get, keys, entries, entries_sorted, get-entries, get-retain_keys}
-use Rattle.keymaps.specs.Order.{is_above}
-use Rattle.keymaps.specs.Walks.{EachAbove, EachBetween, IsAbsent}
+use Rattle.keymaps.specs.Order.{is_above, EachAbove, IsNextAbove, IsLeastAbove}
+use Rattle.keymaps.specs.Walks.{IsAbsent}
 use Rattle.keymaps.proofs.Views.{same_key}
 use Rattle.keymaps.proofs.Left.{all_pass, rises}
 use Rattle.keymaps.proofs.Rising.{here, begins, ends}
@@ -48,10 +48,10 @@ head_of k None es h = cc
 head_of k (Some v) es h = refl
 
 -- They begin at the least one.
-pub keys_above_least : {X : Type 0} (m : FinMap (slice_cmp nat_cmp) X) (after : Option Key) (k : Key) → is_above after k ≡ true → is_some (get m k) ≡ true
-    → EachBetween after k (IsAbsent m) → keys_above m after ≡ k ∷ keys_above m (Some k)
-keys_above_least m after k up there none =
-    ap (λ es. map (λ e. e.0) es) (begins nat_list_cmp_total same_key (is_above after) (rises after) k up (entries m) (entries_sorted m) (λ x a l. sym (get-entries m x) ∙ none x a l))
+pub keys_above_least : {X : Type 0} (m : FinMap (slice_cmp nat_cmp) X) (after : Option Key) (k : Key) → is_some (get m k) ≡ true
+    → IsNextAbove after (IsAbsent m) (Some k) → keys_above m after ≡ k ∷ keys_above m (Some k)
+keys_above_least m after k there least =
+    ap (λ es. map (λ e. e.0) es) (begins nat_list_cmp_total same_key (is_above after) (rises after) k least.0 (entries m) (entries_sorted m) (λ x a l. sym (get-entries m x) ∙ least.1 x a l))
     ∙ head_of k (find (slice_cmp nat_cmp) k (entries m)) (filter (λ e. is_above (Some k) e.0) (entries m)) (ap is_some (sym (get-entries m k)) ∙ there)
 
 pub keys_above_end : {X : Type 0} (m : FinMap (slice_cmp nat_cmp) X) (after : Option Key) → EachAbove after (IsAbsent m) → keys_above m after ≡ []
@@ -61,12 +61,11 @@ lacks : (host : Host) (own : OwnFiles) (key : Key) → is_changed_name host own 
 lacks host own key h = get_changed host own key ∙ ap (λ b. cond b (get own key) None) h
 
 -- The changed keys above a bound begin at the least changed name above it.
-pub changed_next : (host : Host) (own : OwnFiles) (after : Option Key) (k : Key) → is_above after k ≡ true → is_changed_name host own k ≡ true
-    → EachBetween after k (λ x. is_changed_name host own x ≡ false)
+pub changed_next : (host : Host) (own : OwnFiles) (after : Option Key) (k : Key) → IsLeastAbove after (is_changed_name host own) (Some k)
     → keys_above (changed_names host own) after ≡ k ∷ keys_above (changed_names host own) (Some k)
-changed_next host own after k up here none =
-    keys_above_least (changed_names host own) after k up (all_changed host own k ∙ here) (λ x a l. lacks host own x (none x a l))
+changed_next host own after k least =
+    keys_above_least (changed_names host own) after k (all_changed host own k ∙ least.1) (least.0, λ x a l. lacks host own x (least.2 x a l))
 
-pub changed_none : (host : Host) (own : OwnFiles) (after : Option Key) → EachAbove after (λ x. is_changed_name host own x ≡ false)
+pub changed_none : (host : Host) (own : OwnFiles) (after : Option Key) → IsLeastAbove after (is_changed_name host own) None
     → keys_above (changed_names host own) after ≡ []
 changed_none host own after none = keys_above_end (changed_names host own) after (λ x a. lacks host own x (none x a))

@@ -7,8 +7,8 @@ use Rattle.std.specs.Ordering.{nat_cmp, eq_by_cmp, is_lt, is_eq, ordering_revers
 use Rattle.std.specs.Cmp.Lexicographic.{slice_cmp, nat_list_cmp_total}
 use Rattle.std.specs.List.{filter}
 use Rattle.std.specs.FinMap.{get, get-insert, entries, entries_sorted, get-entries}
-use Rattle.keymaps.specs.Order.{is_above}
-use Rattle.keymaps.specs.Walks.{EachAbove, EachBetween, IsInNeither}
+use Rattle.keymaps.specs.Order.{is_above, EachAbove, IsNextAbove}
+use Rattle.keymaps.specs.Walks.{IsInNeither}
 use Rattle.keymaps.proofs.Views.{same_key, key_of}
 use Rattle.keymaps.proofs.Rising.{here, begins, ends}
 use Rattle.keymaps.proofs.Left.{all_pass, rises}
@@ -61,15 +61,15 @@ counted_start host own pattern =
 -- ---- the next key
 
 -- A key above k was above the bound before; a key below k that was above that bound has no file.
-passed_on : (host : Host) (own : OwnFiles) (after : Option Key) (k q : Key) → is_above after k ≡ true → EachBetween after k (IsInNeither host own) → slice_cmp nat_cmp k q ≢ Equal
+passed_on : (host : Host) (own : OwnFiles) (after : Option Key) (k q : Key) → IsNextAbove after (IsInNeither host own) (Some k) → slice_cmp nat_cmp k q ≢ Equal
     → (has host own q && is_passed (Some k) q) ≡ (has host own q && is_passed after q)
-passed_on host own after k q up none apart =
+passed_on host own after k q least apart =
     elim (slice_cmp nat_cmp k q) as (λ r. slice_cmp nat_cmp k q ≡ r → (has host own q && not (is_lt r)) ≡ (has host own q && is_passed after q)) [
-      | Less ↦ λ r. ap (λ b. has host own q && not b) (sym (rises after k q up r))
+      | Less ↦ λ r. ap (λ b. has host own q && not b) (sym (rises after k q least.0 r))
       | Equal ↦ λ r. absurd (apart r)
       | Greater ↦ λ r. elim (is_above after q) as (λ b. is_above after q ≡ b → (has host own q && true) ≡ (has host own q && not b)) [
         | true ↦ λ b.
-            let gone = not_there host own q (none q b (nat_list_cmp_total.antisymm q k ∙ ap ordering_reverse r)) in
+            let gone = not_there host own q (least.1 q b (nat_list_cmp_total.antisymm q k ∙ ap ordering_reverse r)) in
             ap (λ h. h && true) gone ∙ sym (ap (λ h. h && false) gone)
         | false ↦ λ b. refl
       ] refl
@@ -79,10 +79,10 @@ regrouped : (a b c : Bool) → (a && b && c) ≡ (a && (b && c))
 regrouped true b c = refl
 regrouped false b c = refl
 
-all_passed_on : (host : Host) (own : OwnFiles) (pattern : Key) (after : Option Key) (k q : Key) → is_above after k ≡ true → EachBetween after k (IsInNeither host own) → slice_cmp nat_cmp k q ≢ Equal
+all_passed_on : (host : Host) (own : OwnFiles) (pattern : Key) (after : Option Key) (k q : Key) → IsNextAbove after (IsInNeither host own) (Some k) → slice_cmp nat_cmp k q ≢ Equal
     → (is_match pattern q && has host own q && is_passed (Some k) q) ≡ (is_match pattern q && has host own q && is_passed after q)
-all_passed_on host own pattern after k q up none apart =
-    regrouped (is_match pattern q) (has host own q) (is_passed (Some k) q) ∙ ap (λ b. is_match pattern q && b) (passed_on host own after k q up none apart)
+all_passed_on host own pattern after k q least apart =
+    regrouped (is_match pattern q) (has host own q) (is_passed (Some k) q) ∙ ap (λ b. is_match pattern q && b) (passed_on host own after k q least apart)
     ∙ sym (regrouped (is_match pattern q) (has host own q) (is_passed after q))
 
 same_as_itself : (q : Key) → eq_by_cmp (slice_cmp nat_cmp) q q ≡ true
@@ -95,15 +95,15 @@ apart_of k q h e =
     cc
 
 -- If the key has no file that matches, nothing changes.
-pub deleted_past : (host : Host) (own : OwnFiles) (pattern : Key) (after : Option Key) (k : Key) (left : OwnFiles) → is_above after k ≡ true → EachBetween after k (IsInNeither host own) → (is_match pattern k && has host own k) ≡ false
+pub deleted_past : (host : Host) (own : OwnFiles) (pattern : Key) (after : Option Key) (k : Key) (left : OwnFiles) → IsNextAbove after (IsInNeither host own) (Some k) → (is_match pattern k && has host own k) ≡ false
     → DeletedTo host own pattern after left → DeletedTo host own pattern (Some k) left
-deleted_past host own pattern after k left up none unmatched h q =
+deleted_past host own pattern after k left least unmatched h q =
     elim (eq_by_cmp (slice_cmp nat_cmp) q k) as (λ b. eq_by_cmp (slice_cmp nat_cmp) q k ≡ b → get left q ≡ cond (is_match pattern q && has host own q && is_passed (Some k) q) (Some gone_entry) (get own q)) [
       | true ↦ λ b.
           let same : k ≡ q = sym (key_of same_key q k b) in
           let none_here : (is_match pattern q && has host own q) ≡ false = ap (λ x. is_match pattern x && has host own x) (sym same) ∙ unmatched in
           h q ∙ ap (λ m. cond (m && is_passed after q) (Some gone_entry) (get own q)) none_here ∙ sym (ap (λ m. cond (m && is_passed (Some k) q) (Some gone_entry) (get own q)) none_here)
-      | false ↦ λ b. h q ∙ ap (λ m. cond m (Some gone_entry) (get own q)) (sym (all_passed_on host own pattern after k q up none (apart_of k q b)))
+      | false ↦ λ b. h q ∙ ap (λ m. cond m (Some gone_entry) (get own q)) (sym (all_passed_on host own pattern after k q least (apart_of k q b)))
     ] refl
 
 not_above_itself : (k : Key) → is_passed (Some k) k ≡ true
@@ -115,9 +115,9 @@ not_above_itself k =
     ] refl
 
 -- If it has one, the file is deleted.
-pub deleted_here : (host : Host) (own : OwnFiles) (pattern : Key) (after : Option Key) (k : Key) (left m : OwnFiles) → is_above after k ≡ true → EachBetween after k (IsInNeither host own) → (is_match pattern k && has host own k) ≡ true
+pub deleted_here : (host : Host) (own : OwnFiles) (pattern : Key) (after : Option Key) (k : Key) (left m : OwnFiles) → IsNextAbove after (IsInNeither host own) (Some k) → (is_match pattern k && has host own k) ≡ true
     → DeletedTo host own pattern after left → m ≡ after_delete left k → DeletedTo host own pattern (Some k) m
-deleted_here host own pattern after k left m up none matched h e q =
+deleted_here host own pattern after k left m least matched h e q =
     ap (λ x. get x q) e ∙ get-insert nat_list_cmp_total left k gone_entry q
     ∙ elim (eq_by_cmp (slice_cmp nat_cmp) q k) as (λ b. eq_by_cmp (slice_cmp nat_cmp) q k ≡ b → cond b (Some gone_entry) (get left q) ≡ cond (is_match pattern q && has host own q && is_passed (Some k) q) (Some gone_entry) (get own q)) [
       | true ↦ λ b.
@@ -125,7 +125,7 @@ deleted_here host own pattern after k left m up none matched h e q =
           let all : (is_match pattern q && has host own q && is_passed (Some k) q) ≡ true =
           ap (λ x. is_match pattern x && has host own x && is_passed (Some k) x) (sym same) ∙ ap (λ m. m && is_passed (Some k) k) matched ∙ not_above_itself k in
           sym (ap (λ m. cond m (Some gone_entry) (get own q)) all)
-      | false ↦ λ b. h q ∙ ap (λ m. cond m (Some gone_entry) (get own q)) (sym (all_passed_on host own pattern after k q up none (apart_of k q b)))
+      | false ↦ λ b. h q ∙ ap (λ m. cond m (Some gone_entry) (get own q)) (sym (all_passed_on host own pattern after k q least (apart_of k q b)))
     ] refl
 
 -- ---- counting
@@ -157,18 +157,18 @@ matched_here pattern k (Some s) es =
       yes true = refl
       yes false = refl
 
-begin_here : (host : Host) (own : OwnFiles) (after : Option Key) (k : Key) → is_above after k ≡ true → EachBetween after k (IsInNeither host own)
+begin_here : (host : Host) (own : OwnFiles) (after : Option Key) (k : Key) → IsNextAbove after (IsInNeither host own) (Some k)
     → filter (λ e. is_above after e.0) (entries (shapes host own)) ≡ here k (get (shapes host own) k) ++ filter (λ e. is_above (Some k) e.0) (entries (shapes host own))
-begin_here host own after k up none =
-    begins nat_list_cmp_total same_key (is_above after) (rises after) k up (entries (shapes host own)) (entries_sorted (shapes host own))
-    (λ x a l. sym (get-entries (shapes host own) x) ∙ nothing_listed host own x (none x a l))
+begin_here host own after k least =
+    begins nat_list_cmp_total same_key (is_above after) (rises after) k least.0 (entries (shapes host own)) (entries_sorted (shapes host own))
+    (λ x a l. sym (get-entries (shapes host own) x) ∙ nothing_listed host own x (least.1 x a l))
     ∙ ap (λ v. here k v ++ filter (λ e. is_above (Some k) e.0) (entries (shapes host own))) (sym (get-entries (shapes host own) k))
 
-pub counted_here : (host : Host) (own : OwnFiles) (pattern : Key) (after : Option Key) (k : Key) (count : ℕ) (b : Bool) → is_above after k ≡ true → EachBetween after k (IsInNeither host own) → (is_match pattern k && has host own k) ≡ b
+pub counted_here : (host : Host) (own : OwnFiles) (pattern : Key) (after : Option Key) (k : Key) (count : ℕ) (b : Bool) → IsNextAbove after (IsInNeither host own) (Some k) → (is_match pattern k && has host own k) ≡ b
     → CountedTo host own pattern after count → CountedTo host own pattern (Some k) (count + cond b 1 0)
-counted_here host own pattern after k count b up none e h =
+counted_here host own pattern after k count b least e h =
     let rest = matched pattern (filter (λ e. is_above (Some k) e.0) (entries (shapes host own))) in
-    let split = ap (matched pattern) (begin_here host own after k up none) ∙ matched_here pattern k (get (shapes host own) k) _ ∙ ap (λ t. cond (is_match pattern k && t) 1 0 + rest) (there host own k) ∙ ap (λ t. cond t 1 0 + rest) e in
+    let split = ap (matched pattern) (begin_here host own after k least) ∙ matched_here pattern k (get (shapes host own) k) _ ∙ ap (λ t. cond (is_match pattern k && t) 1 0 + rest) (there host own k) ∙ ap (λ t. cond t 1 0 + rest) e in
     let grouped : count + cond b 1 0 + rest ≡ count + (cond b 1 0 + rest) = omega arith in
     grouped ∙ ap (λ n. count + n) (sym split) ∙ h
 

@@ -3,9 +3,8 @@
 ghost use Rattle.std.specs.Prelude.{◌≡◌, ◌<◌, ◌≤◌, ◌&&◌, ℕ, List, true, false, None, Some, filter, length};
 ghost use Rattle.std.specs.Prelude.{if◌then◌else◌, IfOk, IfSome, IfNone, option_copied};
 ghost use Rattle.std.specs.FinMap as finmap;
-ghost use Rattle.keymaps.specs.Order.{is_above};
 ghost use Rattle.directory.specs.Entries.{is_match};
-ghost use Rattle.keymaps.specs.Walks.{EachAbove, EachBetween};
+ghost use Rattle.keymaps.specs.Order.{IsLeastAbove};
 ghost use Rattle.hostfiles.specs.Files.{has, is_listed, gone_entry, shapes};
 ghost use Rattle.hostfiles.specs.FileView.{is_view_there, view_own};
 
@@ -89,12 +88,8 @@ impl HostFiles {
     /// Returns the least name above `after`, by key, of a file after these changes, or `None` if there is none. Every name is
     /// above `None`. Skips files whose keys are not valid. Marks no look.
     pub fn next_with(&self, changes: &Changes, after: Option<&Name>) -> Option<Name>
-        ensures above { IfSome result (λ k. is_above (option_copied after.entry) k ≡ true) }
-        ensures there { IfSome result (λ k. is_listed self.now changes.now.journal.entries k ≡ true) }
-        ensures least { IfSome result (λ k. EachBetween (option_copied after.entry) k
-            (λ x. is_listed self.now changes.now.journal.entries x ≡ false)) }
-        ensures none { IfNone result (EachAbove (option_copied after.entry)
-            (λ x. is_listed self.now changes.now.journal.entries x ≡ false)) }
+        ensures { IsLeastAbove (option_copied after.entry)
+            (is_listed self.now changes.now.journal.entries) result }
     {
         let journal = &changes.journal;
         let mut low = key_if_any(after);

@@ -1,11 +1,10 @@
 // The host files of a session.
 
-ghost use Rattle.std.specs.Prelude.{◌≡◌, ◌<◌, ◌≤◌, ◌*◌, true, false, None, length, slice_get, option_copied};
-ghost use Rattle.std.specs.Prelude.{IfOk, OnOk, OnErr, IfSome, IfNone};
+ghost use Rattle.std.specs.Prelude.{◌≡◌, ◌<◌, ◌≤◌, ◌*◌, true, length, slice_get, option_copied};
+ghost use Rattle.std.specs.Prelude.{IfOk, OnOk, OnErr};
 ghost use Rattle.std.specs.Option.{option_map, option_and_then};
 ghost use Rattle.std.specs.FinMap as finmap;
-ghost use Rattle.keymaps.specs.Order.{is_above};
-ghost use Rattle.keymaps.specs.Walks.{EachAbove, EachBetween};
+ghost use Rattle.keymaps.specs.Order.{IsLeastAbove};
 ghost use Rattle.hostfiles.specs.Files.{file_contents};
 ghost use Rattle.hostfiles.specs.Hosts.{records_in, record_in, padded_record, refusal_of, has_room, IsHost};
 
@@ -266,12 +265,7 @@ impl HostFiles {
 
     /// Returns the least name above `after`, by key, or `None` if there is none. Every name is above `None`.
     pub fn next(&self, after: Option<&Name>) -> Option<Name>
-        ensures above { IfSome result (λ k. is_above (option_copied after.entry) k ≡ true) }
-        ensures there { IfSome result (λ k. finmap.contains_key self.now k ≡ true) }
-        ensures least { IfSome result (λ k. EachBetween (option_copied after.entry) k
-            (λ x. finmap.get self.now x ≡ None)) }
-        ensures none { IfNone result (EachAbove (option_copied after.entry)
-            (λ x. finmap.get self.now x ≡ None)) }
+        ensures { IsLeastAbove (option_copied after.entry) (finmap.contains_key self.now) result }
     {
         let Some(key) = self.files.next_key(key_if_any(after)) else {
             return None;

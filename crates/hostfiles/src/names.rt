@@ -1,8 +1,7 @@
 // The changed files, in the order of their names.
 
-ghost use Rattle.std.specs.Prelude.{◌≡◌, true, false, IfSome, IfNone, option_copied};
-ghost use Rattle.keymaps.specs.Order.{is_above};
-ghost use Rattle.keymaps.specs.Walks.{EachAbove, EachBetween};
+ghost use Rattle.std.specs.Prelude.{◌≡◌, true, false, IfSome, IfNone, option_map, option_copied};
+ghost use Rattle.keymaps.specs.Order.{IsLeastAbove};
 ghost use Rattle.hostfiles.specs.Changed.{is_changed_name, AreAllChanged};
 ghost use Rattle.hostfiles.specs.FileView.{view_own};
 
@@ -30,12 +29,8 @@ pub fn next_changed<'a>(
 ) -> Option<ChangedFile<'a>>
     ensures host { IfSome result (λ c. c.file.host ≡ host.entry) }
     ensures journal { IfSome result (λ c. c.file.journal ≡ journal.entry) }
-    ensures above { IfSome result (λ c. is_above (option_copied after.entry) c.name ≡ true) }
-    ensures changed { IfSome result (λ c. is_changed_name host.now journal.now.entries c.name ≡ true) }
-    ensures least { IfSome result (λ c. EachBetween (option_copied after.entry) c.name
-        (λ x. is_changed_name host.now journal.now.entries x ≡ false)) }
-    ensures none { IfNone result (EachAbove (option_copied after.entry)
-        (λ x. is_changed_name host.now journal.now.entries x ≡ false)) }
+    ensures least { IsLeastAbove (option_copied after.entry) (is_changed_name host.now journal.now.entries)
+        (option_map (λ c. c.name) result) }
 {
     let mut low = key_if_any(after);
     while let Some((key, entry)) = journal.entries.next_key_value(low) {

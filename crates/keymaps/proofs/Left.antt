@@ -3,14 +3,14 @@ use Rattle.std.proofs.Common.{◌≡◌, ◌+◌, ◌<◌, ◌≤◌, arith, Boo
 use Rattle.std.specs.declared.cmp.Ordering.{Ordering}
 use Rattle.std.specs.declared.cmp.Ordering.TheVariants.{Less, Equal, Greater}
 use Rattle.std.specs.Ordering.{is_lt, nat_cmp, ordering_reverse}
-use Rattle.std.specs.Option.{IfSome}
+use Rattle.std.specs.Option.{IfSome, option_map}
 use Rattle.std.specs.Borrow.{Bor}
 use Rattle.std.specs.Cmp.Lexicographic.{slice_cmp, nat_list_cmp_total}
 use Rattle.std.specs.List.{filter}
 use Rattle.std.specs.FinMap.{FinMap, find, get, len, len-entries, entries, entries_sorted, get-entries}
 use Rattle.filenames.specs.Names.{Key}
-use Rattle.keymaps.specs.Order.{is_above}
-use Rattle.keymaps.specs.Walks.{EachBetween, IsAbsent, count_above}
+use Rattle.keymaps.specs.Order.{is_above, IsNextAbove}
+use Rattle.keymaps.specs.Walks.{IsAbsent, count_above}
 use Rattle.keymaps.proofs.Rising.{here, begins}
 use Rattle.keymaps.proofs.Views.{same_key}
 
@@ -66,15 +66,10 @@ fewer_by_second m n after k above fewer = let more = no_more m after k above in 
 pub turned : (x y : Key) → slice_cmp nat_cmp x y ≡ Greater → slice_cmp nat_cmp y x ≡ Less
 turned x y greater = nat_list_cmp_total.antisymm y x ∙ ap ordering_reverse greater
 
--- Without a bound, every key counts as above it.
-pub every : {X : Type 0} (r : Option (Bor Key × X)) → IfSome r (λ e. is_above None e.0.now ≡ true)
-every None = tt
-every (Some e) = refl
-
-pub fewer_past : {X : Type 0} (m : FinMap (slice_cmp nat_cmp) X) (after : Option Key) (r : Option (Bor Key × Bor X)) → IfSome r (λ e. is_above after e.0.now ≡ true) → IfSome r (λ e. get m e.0.now ≡ Some e.1.now)
-    → IfSome r (λ e. EachBetween after e.0.now (IsAbsent m)) → IfSome r (λ e. count_above m (Some e.0.now) < count_above m after)
-fewer_past m after None above there none = tt
-fewer_past m after (Some e) above there none = fewer m after e.0.now above (ap is_some there) none
+pub fewer_past : {X : Type 0} (m : FinMap (slice_cmp nat_cmp) X) (after : Option Key) (r : Option (Bor Key × Bor X)) → IfSome r (λ e. get m e.0.now ≡ Some e.1.now)
+    → IsNextAbove after (IsAbsent m) (option_map (λ e. e.0.now) r) → IfSome r (λ e. count_above m (Some e.0.now) < count_above m after)
+fewer_past m after None there least = tt
+fewer_past m after (Some e) there least = fewer m after e.0.now least.0 (ap is_some there) least.1
 
 -- A test that all pass.
 pub all_pass : {X : Type 0} (es : List (Key × X)) → filter (λ e. true) es ≡ es

@@ -1,7 +1,6 @@
 -- The keys that a walk over a map passes, in the order of the keys. (This project's own.)
-use Rattle.std.specs.Prelude.{◌≡◌, ℕ, true, Option, Some, None, if◌then◌else◌, length, nat_lt}
+use Rattle.std.specs.Prelude.{◌≡◌, ℕ, Option, Some, None, if◌then◌else◌, length, nat_lt}
 use Rattle.std.specs.declared.cmp.Ordering.{Ordering}
-use Rattle.std.specs.declared.cmp.Ordering.TheVariants.{Less}
 use Rattle.std.specs.Ordering.{nat_cmp}
 use Rattle.std.specs.List.{filter}
 use Rattle.std.specs.Cmp.Lexicographic.{slice_cmp}
@@ -16,14 +15,6 @@ IsAbsent m x = get m x ≡ None
 -- A key is in neither of two maps.
 abbrev pub IsInNeither : {X Y : Type 0} → FinMap (slice_cmp nat_cmp) X → FinMap (slice_cmp nat_cmp) Y → Key → Type 0
 IsInNeither first second x = IsAbsent first x × IsAbsent second x
-
--- A fact holds for each key above `after`. Every key is above `None`.
-abbrev pub EachAbove : Option Key → (Key → Type 0) → Type 0
-EachAbove after Fact = (x : Key) → is_above after x ≡ true → Fact x
-
--- A fact holds for each key above `after` and below k.
-abbrev pub EachBetween : Option Key → Key → (Key → Type 0) → Type 0
-EachBetween after k Fact = (x : Key) → is_above after x ≡ true → slice_cmp nat_cmp x k ≡ Less → Fact x
 
 -- The number of keys of a map that are above `after`.
 unfoldable pub count_above : {X : Type 0} → FinMap (slice_cmp nat_cmp) X → Option Key → ℕ

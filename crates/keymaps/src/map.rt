@@ -1,10 +1,10 @@
 // Maps with keys of files.
 
-ghost use Rattle.std.specs.Prelude.{◌≡◌, ◌<◌, ◌+◌, ℕ, List, true, IfOk, OnOk, OnErr, IfSome, IfNone, IsSome, None, Some, option_copied};
+ghost use Rattle.std.specs.Prelude.{◌≡◌, ◌<◌, ◌+◌, ℕ, List, true, IfOk, OnOk, OnErr, IfSome, IfNone, IsSome, None, Some, option_map, option_copied};
 ghost use Rattle.std.specs.FinMap as finmap;
 ghost use Rattle.std.specs.Fn.{FnOnceReturnsAtMut};
-ghost use Rattle.keymaps.specs.Order.{is_above};
-ghost use Rattle.keymaps.specs.Walks.{EachAbove, EachBetween, IsAbsent, IsInNeither, count_above, if_below};
+ghost use Rattle.keymaps.specs.Order.{IsNextAbove, IsLeastAbove};
+ghost use Rattle.keymaps.specs.Walks.{IsAbsent, IsInNeither, count_above, if_below};
 
 use crate::ordered::OrderedKey;
 use filenames::Key;
@@ -156,8 +156,7 @@ impl<V: Drop> KeyMap<V> {
     // Returns the least key and its value.
     fn first(&self) -> Option<(&Key, &V)>
         ensures there { IfSome result (λ e. finmap.get self.now e.0.now ≡ Some e.1.now) }
-        ensures least { IfSome result (λ e. EachBetween None e.0.now (IsAbsent self.now)) }
-        ensures none { IfNone result (EachAbove None (IsAbsent self.now)) }
+        ensures least { IsNextAbove None (IsAbsent self.now) (option_map (λ e. e.0.now) result) }
     {
         let mut all = self.map.range(..);
         match all.next() {
@@ -168,10 +167,8 @@ impl<V: Drop> KeyMap<V> {
 
     // Returns the least key above `low` and its value.
     fn above(&self, low: Key) -> Option<(&Key, &V)>
-        ensures above { IfSome result (λ e. is_above (Some low) e.0.now ≡ true) }
         ensures there { IfSome result (λ e. finmap.get self.now e.0.now ≡ Some e.1.now) }
-        ensures least { IfSome result (λ e. EachBetween (Some low) e.0.now (IsAbsent self.now)) }
-        ensures none { IfNone result (EachAbove (Some low) (IsAbsent self.now)) }
+        ensures least { IsNextAbove (Some low) (IsAbsent self.now) (option_map (λ e. e.0.now) result) }
     {
         let past = Bound::Excluded(OrderedKey::new(low));
         let mut rest = self.map.range((past, Bound::Unbounded));
@@ -183,12 +180,10 @@ impl<V: Drop> KeyMap<V> {
 
     /// Returns the least key above `after` and its value, or `None` if there is no such key. Every key is above `None`.
     pub fn next_key_value(&self, after: Option<Key>) -> Option<(&Key, &V)>
-        ensures above { IfSome result (λ e. is_above after e.0.now ≡ true) }
         ensures there { IfSome result (λ e. finmap.get self.now e.0.now ≡ Some e.1.now) }
-        ensures least { IfSome result (λ e. EachBetween after e.0.now (IsAbsent self.now)) }
+        ensures least { IsNextAbove after (IsAbsent self.now) (option_map (λ e. e.0.now) result) }
         ensures fewer { IfSome result
             (λ e. count_above self.now (Some e.0.now) < count_above self.now after) }
-        ensures none { IfNone result (EachAbove after (IsAbsent self.now)) }
     {
         match after {
             None => self.first(),
@@ -198,11 +193,8 @@ impl<V: Drop> KeyMap<V> {
 
     /// Returns the least key above `after`, or `None` if there is no such key. Every key is above `None`.
     pub fn next_key(&self, after: Option<Key>) -> Option<Key>
-        ensures above { IfSome result (λ k. is_above after k ≡ true) }
-        ensures there { IfSome result (λ k. finmap.contains_key self.now k ≡ true) }
-        ensures least { IfSome result (λ k. EachBetween after k (IsAbsent self.now)) }
+        ensures least { IsLeastAbove after (finmap.contains_key self.now) result }
         ensures fewer { IfSome result (λ k. count_above self.now (Some k) < count_above self.now after) }
-        ensures none { IfNone result (EachAbove after (IsAbsent self.now)) }
     {
         match self.next_key_value(after) {
             Some((key, _)) => Some(*key),
@@ -251,15 +243,13 @@ pub fn next_of_both<'a, V: Drop, W: Drop>(
     second: &'a KeyMap<W>,
     after: Option<Key>,
 ) -> Option<KeyOfBoth<'a, V, W>>
-    ensures above { IfSome result (λ e. is_above after e.key ≡ true) }
     ensures first { IfSome result (λ e. option_copied e.first ≡ finmap.get first.entry.now e.key) }
     ensures second { IfSome result (λ e. option_copied e.second ≡ finmap.get second.entry.now e.key) }
-    ensures least { IfSome result (λ e.
-        EachBetween after e.key (IsInNeither first.entry.now second.entry.now)) }
+    ensures least { IsNextAbove after (IsInNeither first.entry.now second.entry.now)
+        (option_map (λ e. e.key) result) }
     ensures fewer { IfSome result (λ e.
         count_above first.entry.now (Some e.key) + count_above second.entry.now (Some e.key)
         < count_above first.entry.now after + count_above second.entry.now after) }
-    ensures none { IfNone result (EachAbove after (IsInNeither first.entry.now second.entry.now)) }
 {
     let Some((x, v)) = first.next_key_value(after) else {
         let (y, w) = second.next_key_value(after)?;

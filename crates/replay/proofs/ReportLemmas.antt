@@ -1,10 +1,7 @@
 -- What a report returns, by the run that it reports.
-use Rattle.std.proofs.Common.{◌≡◌, Bool, true, false, cond, is_some, Option, Some, None, IfSome, IfNone, refl, sym, ap, subst, ◌∙◌}
-use Rattle.std.specs.declared.cmp.Ordering.TheVariants.{Less}
-use Rattle.std.specs.Ordering.{nat_cmp}
-use Rattle.std.specs.Cmp.Lexicographic.{slice_cmp}
+use Rattle.std.proofs.Common.{◌≡◌, Bool, true, false, cond, is_some, Option, Some, None, refl, sym, ap, ◌∙◌}
 use Rattle.std.specs.FinMap.{contains_key}
-use Rattle.hostfiles.specs.Order.{is_above}
+use Rattle.hostfiles.specs.Order.{IsLeastAbove}
 use Rattle.hostfiles.specs.Hosts.{Key, Host}
 use Rattle.hostfiles.specs.Files.{OwnFiles, entry_at, file_of, files, has, file_contents}
 use Rattle.hostfiles.specs.Changed.{is_changed_name}
@@ -25,3 +22,14 @@ module _ (host : Host) (own : OwnFiles) (all : Files) (is : files host own ≡ a
 
   pub changed_is : (key : Key) → is_changed_name_in host all key ≡ is_changed_name host own key
   changed_is key = ap (λ (m : Files). is_changed_name_in host m key) (sym is) ∙ changed_name_laid host own key
+
+-- The least changed name of a run's own files is that of the files at its end.
+pub least_left_changed : (host : Host) (own : OwnFiles) (first : Host) (all : Files) → host ≡ first → files first own ≡ all → (after key : Option Key)
+    → IsLeastAbove after (is_changed_name host own) key → IsLeastAbove after (is_changed_name_in first all) key
+least_left_changed host own first all same laid = by where
+  is : (x : Key) → is_changed_name_in first all x ≡ is_changed_name host own x
+  is x = ap (λ (h : Host). is_changed_name_in h all x) (sym same) ∙ changed_is host own all (ap (λ (h : Host). files h own) same ∙ laid) x
+
+  by : (after key : Option Key) → IsLeastAbove after (is_changed_name host own) key → IsLeastAbove after (is_changed_name_in first all) key
+  by after None none = λ x a. is x ∙ none x a
+  by after (Some k) least = (least.0, is k ∙ least.1, λ x a l. is x ∙ least.2 x a l)

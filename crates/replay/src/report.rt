@@ -1,10 +1,7 @@
-ghost use Rattle.std.specs.Prelude.{◌≡◌, ◌≤◌, List, ℕ, IfNone, IfSome, IsSome, false, length, option_copied, slice_get, slice_index, true};
+ghost use Rattle.std.specs.Prelude.{◌≡◌, ◌≤◌, IsSome, length, option_copied, slice_get, slice_index};
 ghost use Rattle.std.specs.Option.{option_and_then, option_map};
-ghost use Rattle.std.specs.declared.cmp.Ordering.TheVariants.{Less};
-ghost use Rattle.std.specs.Ordering.{nat_cmp};
-ghost use Rattle.std.specs.Cmp.Lexicographic.{slice_cmp};
 ghost use Rattle.std.specs.FinMap.{contains_key};
-ghost use Rattle.hostfiles.specs.Order.{is_above};
+ghost use Rattle.hostfiles.specs.Order.{IsLeastAbove};
 ghost use Rattle.hostfiles.specs.Files.{files};
 ghost use Rattle.hostfiles.specs.FileView.{view_own};
 ghost use Rattle.machine.specs.ChangedFiles.{contents_in};
@@ -128,13 +125,7 @@ impl Report<'_> {
     /// }
     /// ```
     pub fn next_changed(&self, after: Option<&Name>) -> Option<Name>
-        ensures above { IfSome result (λ k. is_above (option_copied after.entry) k ≡ true) }
-        ensures changed { IfSome result (λ k. is_left_changed self.now k ≡ true) }
-        ensures least { IfSome result
-            (λ k. (x : List ℕ) → is_above (option_copied after.entry) x ≡ true
-            → slice_cmp nat_cmp x k ≡ Less → is_left_changed self.now x ≡ false) }
-        ensures none { IfNone result ((x : List ℕ) → is_above (option_copied after.entry) x ≡ true
-            → is_left_changed self.now x ≡ false) }
+        ensures { IsLeastAbove (option_copied after.entry) (is_left_changed self.now) result }
     {
         match next_changed(self.files(), self.journal(), after) {
             Some(changed) => Some(changed.name),

@@ -27,7 +27,7 @@ loop-key-preserved g c =
     let files = (g.S.FileSystem.files c.args.system.now).bytes in
     let ok = c.in_ok-read_one.ensures in (
       same_files ok.unchanged ∙ c.loop-key.invariant.0,
-      one_more (WantedOf files c.args.folder.now listed) _ _ _ _ _ _ c.loop-key.invariant.1 c.in-Some.ensures.least (ap is_some c.in-Some.ensures.there)
+      one_more (WantedOf files c.args.folder.now listed) _ _ _ _ _ _ c.loop-key.invariant.1 c.in-Some.ensures.least.1 (ap is_some c.in-Some.ensures.there)
           (subst (λ (n : Key). (k : Key) → k ≢ n → get now k ≡ get c.loop-key.files k) same c.read_one.ensures.others)
           (read_as files c.args.folder.now (get listed key) c.in-Some.file.now (get now key) c.in-Some.ensures.there
           (subst (λ (n : Key). contains_key now n ≡ true) same ok.there)
@@ -54,7 +54,7 @@ returns-in_err-read_one-clause-fault g c =
     let host : Host = c.loop-key.files in
     rw (left.1, left.2, c.in_err-read_one.ensures.err)
     (listed_fails files folder listed c.args.files.now c.loop-key.after host c.in-Some.key.now c.in-Some.file.now failure c.loop-key.invariant.1
-    c.in-Some.ensures.least c.in-Some.ensures.there
+    c.in-Some.ensures.least.1 c.in-Some.ensures.there
     (subst (λ (text : Path). FailsBy (FailsFile files (path_text folder text) host c.in-Some.key.now) failure) c.as_str.ensures.value
     (subst (λ (n : Key). FailsBy (FailsFile files (path_text folder c.as_str.result.now) host n) failure) c.from_valid_key.ensures
     (rw c.loop-key.invariant.0 at c.in_err-read_one.ensures.fault))))
@@ -65,7 +65,7 @@ returns g c =
     let files = (g.S.FileSystem.files c.args.system.now).bytes in record {
       others = c.loop-key.invariant.1.others;
       read = all_read files c.args.folder.now listed c.loop-key.files
-          (all_set (WantedOf files c.args.folder.now listed) listed c.args.files.now c.loop-key.after c.loop-key.files c.loop-key.invariant.1 c.in_default.ensures.none);
+          (all_set (WantedOf files c.args.folder.now listed) listed c.args.files.now c.loop-key.after c.loop-key.files c.loop-key.invariant.1 c.in_default.ensures.least);
       fault = tt;
       unchanged = keeps_same _ _ _ _ c.loop-key.invariant.0;
     }

@@ -16,28 +16,28 @@ loop-next-init c =
 
 pub loop-next-preserved-in_ok-delete : goal.loop-next-preserved-in_ok-delete
 loop-next-preserved-in_ok-delete c =
-    let none = rw c.files-in-loop-next.ensures at c.in-Some.ensures.least in
+    let least = rw c.files-in-loop-next.ensures at c.in-Some.ensures.least in
     let fewer = rw c.files-in-loop-next.ensures at c.in-Some.ensures.fewer in
     let bound = c.loop-next.invariant.0 in
     let found : (is_match c.args.pattern.now c.from_search.result.key && has c.from_search.result.host.now c.from_search.result.journal.now.entries c.from_search.result.key) ≡ true = sym c.is_deleted.ensures ∙ c.if-is_deleted.true in
     let matched = rw (c.from_search.ensures.host, c.from_search.ensures.journal, c.from_search.ensures.key) at found in (
       omega arith,
-      deleted_here c.args.host.now c.args.journal.now.entries c.args.pattern.now c.loop-next.after c.in-Some.next.key c.loop-next.left.entries _ c.in-Some.ensures.above none matched c.loop-next.invariant.1 c.in_ok-delete.ensures.ok,
-      counted_here c.args.host.now c.args.journal.now.entries c.args.pattern.now c.loop-next.after c.in-Some.next.key c.loop-next.count true c.in-Some.ensures.above none matched c.loop-next.invariant.2,
+      deleted_here c.args.host.now c.args.journal.now.entries c.args.pattern.now c.loop-next.after c.in-Some.next.key c.loop-next.left.entries _ least matched c.loop-next.invariant.1 c.in_ok-delete.ensures.ok,
+      counted_here c.args.host.now c.args.journal.now.entries c.args.pattern.now c.loop-next.after c.in-Some.next.key c.loop-next.count true least matched c.loop-next.invariant.2,
     )
 
 pub loop-next-preserved : goal.loop-next-preserved
 loop-next-preserved c =
-    let none = rw c.files-in-loop-next.ensures at c.in-Some.ensures.least in
+    let least = rw c.files-in-loop-next.ensures at c.in-Some.ensures.least in
     let fewer = rw c.files-in-loop-next.ensures at c.in-Some.ensures.fewer in
     let bound = c.loop-next.invariant.0 in
     let found : (is_match c.args.pattern.now c.from_search.result.key && has c.from_search.result.host.now c.from_search.result.journal.now.entries c.from_search.result.key) ≡ false = sym c.is_deleted.ensures ∙ c.if-is_deleted.false in
     let unmatched = rw (c.from_search.ensures.host, c.from_search.ensures.journal, c.from_search.ensures.key) at found in
     let same : c.loop-next.count + 0 ≡ c.loop-next.count = omega arith in (
       omega arith,
-      deleted_past c.args.host.now c.args.journal.now.entries c.args.pattern.now c.loop-next.after c.in-Some.next.key c.loop-next.left.entries c.in-Some.ensures.above none unmatched c.loop-next.invariant.1,
-      rw same at (counted_here c.args.host.now c.args.journal.now.entries c.args.pattern.now c.loop-next.after c.in-Some.next.key c.loop-next.count false c.in-Some.ensures.above none unmatched c.loop-next.invariant.2),
+      deleted_past c.args.host.now c.args.journal.now.entries c.args.pattern.now c.loop-next.after c.in-Some.next.key c.loop-next.left.entries least unmatched c.loop-next.invariant.1,
+      rw same at (counted_here c.args.host.now c.args.journal.now.entries c.args.pattern.now c.loop-next.after c.in-Some.next.key c.loop-next.count false least unmatched c.loop-next.invariant.2),
     )
 
 pub returns-clause-count : goal.returns-clause-count
-returns-clause-count c = counted_end c.args.host.now c.args.journal.now.entries c.args.pattern.now c.loop-next.after c.loop-next.count (rw c.files-in-loop-next.ensures at c.in_default.ensures.none) c.loop-next.invariant.2
+returns-clause-count c = counted_end c.args.host.now c.args.journal.now.entries c.args.pattern.now c.loop-next.after c.loop-next.count (rw c.files-in-loop-next.ensures at c.in_default.ensures.least) c.loop-next.invariant.2

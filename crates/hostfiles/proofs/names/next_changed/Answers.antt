@@ -1,9 +1,8 @@
 use Rattle.std.proofs.Common.{◌≡◌, sym, ap, ◌∙◌, option_copied}
-use Rattle.std.specs.Ordering.{nat_cmp}
-use Rattle.std.specs.Cmp.Lexicographic.{slice_cmp}
+use Rattle.keymaps.specs.Walks.{IsAbsent}
 use Rattle.hostfiles.specs.Changed.{is_changed_name}
 use Rattle.hostfiles.proofs.ChangedWalk.{unchanged}
-use Rattle.hostfiles.proofs.KeyWalk.{passed_none, below_least, passed_more, passed_end}
+use Rattle.hostfiles.proofs.KeyWalk.{passed_none, passed_least, passed_more, passed_end}
 use Rattle.hostfiles.proofs.names.next_changed.Goals as goal
 
 pub loop-key-init : goal.loop-key-init
@@ -15,18 +14,18 @@ returns-in-Some-changed_file-clause-least c =
     let own = c.args.journal.now.entries in
     let changed = c.in-Some-changed_file.changed in
     let name : changed.name ≡ c.in-Some.key.now = sym changed.named ∙ ap (λ f. f.key) c.in-Some-changed_file.ensures.file ∙ c.with_entry-file.ensures.key in
-    λ x a l. below_least (is_changed_name host own) (option_copied c.args.after) c.loop-key.low c.in-Some.key.now c.loop-key.invariant (λ y b m. unchanged host own y (c.in-Some.ensures.least y b m)) x a
-    (ap (slice_cmp nat_cmp x) (sym name) ∙ l)
+    rw name (passed_least (is_changed_name host own) (IsAbsent own) (unchanged host own) _ _ c.loop-key.invariant _ c.in-Some.ensures.least
+    (rw (c.with_entry-file.ensures.host, c.with_entry-file.ensures.journal, c.with_entry-file.ensures.key) at c.in-Some-changed_file.ensures.some))
 
 pub loop-key-preserved : goal.loop-key-preserved
 loop-key-preserved c =
     let host = c.args.host.now in
     let own = c.args.journal.now.entries in
-    passed_more (is_changed_name host own) (option_copied c.args.after) c.loop-key.low c.in-Some.key.now c.loop-key.invariant c.in-Some.ensures.above (λ x a l. unchanged host own x (c.in-Some.ensures.least x a l))
+    passed_more (is_changed_name host own) (IsAbsent own) (unchanged host own) _ _ c.loop-key.invariant _ c.in-Some.ensures.least
     (rw (c.with_entry-file.ensures.host, c.with_entry-file.ensures.journal, c.with_entry-file.ensures.key) at c.in_default-changed_file.ensures.none)
 
-pub returns-clause-none : goal.returns-clause-none
-returns-clause-none c =
+pub returns-clause-least : goal.returns-clause-least
+returns-clause-least c =
     let host = c.args.host.now in
     let own = c.args.journal.now.entries in
-    passed_end (is_changed_name host own) (option_copied c.args.after) c.loop-key.low c.loop-key.invariant (λ x a. unchanged host own x (c.in_default.ensures.none x a))
+    passed_end (is_changed_name host own) (IsAbsent own) (unchanged host own) _ _ c.loop-key.invariant c.in_default.ensures.least

@@ -32,7 +32,7 @@ loop-changed-smaller g c =
     let own = c.args.journal.now.entries in
     let low = c.loop-changed.after in
     let name = c.in-Some.changed.name in
-    let split = changed_next host own low name (rw c.as_ref.ensures.value at c.in-Some.ensures.above) c.in-Some.ensures.changed (rw c.as_ref.ensures.value at c.in-Some.ensures.least) in
+    let split = changed_next host own low name (rw c.as_ref.ensures.value at c.in-Some.ensures.least) in
     fewer_keys host own low name split
 
 pub loop-changed-preserved : goal.loop-changed-preserved
@@ -41,7 +41,7 @@ loop-changed-preserved g c =
     let own = c.args.journal.now.entries in
     let low = c.loop-changed.after in
     let name = c.in-Some.changed.name in
-    let split = changed_next host own low name (rw c.as_ref.ensures.value at c.in-Some.ensures.above) c.in-Some.ensures.changed (rw c.as_ref.ensures.value at c.in-Some.ensures.least) in
+    let split = changed_next host own low name (rw c.as_ref.ensures.value at c.in-Some.ensures.least) in
     let folders = c.args.folders.now in
     let file = c.in-Some.changed.file in
     let same_host : file.host.now ≡ host = ap (λ h. h.now) c.in-Some.ensures.host in
@@ -71,7 +71,7 @@ returns-in_err-write_to_drive g c =
     let own = c.args.journal.now.entries in
     let low = c.loop-changed.after in
     let name = c.in-Some.changed.name in
-    let split = changed_next host own low name (rw c.as_ref.ensures.value at c.in-Some.ensures.above) c.in-Some.ensures.changed (rw c.as_ref.ensures.value at c.in-Some.ensures.least) in
+    let split = changed_next host own low name (rw c.as_ref.ensures.value at c.in-Some.ensures.least) in
     let folders = c.args.folders.now in
     let file = c.in-Some.changed.file in
     let same_host : file.host.now ≡ host = ap (λ h. h.now) c.in-Some.ensures.host in
@@ -93,7 +93,7 @@ returns g c =
     let host = c.args.host.now in
     let own = c.args.journal.now.entries in
     let low = c.loop-changed.after in
-    let none = changed_none host own low (rw c.as_ref.ensures.value at c.in_default.ensures.none) in record {
+    let none = changed_none host own low (rw c.as_ref.ensures.value at c.in_default.ensures.least) in record {
       written = ends c.args.folders.now host own (g.S.FileSystem.files c.args.system.now).bytes low (g.S.FileSystem.files c.loop-changed.system).bytes c.loop-changed.invariant.1 none;
       fault = tt;
       failures = c.loop-changed.invariant.0;

@@ -15,7 +15,7 @@ returns-in_err-write_filtered g c =
     let own = c.args.journal.now.entries in
     let low = c.loop-changed.after in
     let name = c.in-Some.changed.name in
-    let split = changed_next host own low name (rw c.as_ref.ensures.value at c.in-Some.ensures.above) c.in-Some.ensures.changed (rw c.as_ref.ensures.value at c.in-Some.ensures.least) in
+    let split = changed_next host own low name (rw c.as_ref.ensures.value at c.in-Some.ensures.least) in
     let text = c.loop-changed.invariant.text in
     let line = ap (line_of_file c.args.filter name) (same_contents (ap (λ h. h.now) c.in-Some.ensures.host) (ap (λ j. j.now.entries) c.in-Some.ensures.journal) c.in-Some.changed.named) in
     writes_same _ _ ((text ++ own_line c.args.filter host own name) ++ parts_above (own_line c.args.filter host own) host own (Some name)) (lines_of_files c.args.filter host (files host own)) c.from_residual.result
@@ -30,7 +30,7 @@ loop-changed-smaller g c =
     let own = c.args.journal.now.entries in
     let low = c.loop-changed.after in
     let name = c.in-Some.changed.name in
-    let split = changed_next host own low name (rw c.as_ref.ensures.value at c.in-Some.ensures.above) c.in-Some.ensures.changed (rw c.as_ref.ensures.value at c.in-Some.ensures.least) in
+    let split = changed_next host own low name (rw c.as_ref.ensures.value at c.in-Some.ensures.least) in
     fewer_keys host own low name split
 
 pub loop-changed-preserved : goal.loop-changed-preserved
@@ -39,7 +39,7 @@ loop-changed-preserved g c =
     let own = c.args.journal.now.entries in
     let low = c.loop-changed.after in
     let name = c.in-Some.changed.name in
-    let split = changed_next host own low name (rw c.as_ref.ensures.value at c.in-Some.ensures.above) c.in-Some.ensures.changed (rw c.as_ref.ensures.value at c.in-Some.ensures.least) in
+    let split = changed_next host own low name (rw c.as_ref.ensures.value at c.in-Some.ensures.least) in
     let text = c.loop-changed.invariant.text in
     let line = ap (line_of_file c.args.filter name) (same_contents (ap (λ h. h.now) c.in-Some.ensures.host) (ap (λ j. j.now.entries) c.in-Some.ensures.journal) c.in-Some.changed.named) in
     let more = whole_then text (own_line c.args.filter host own name) c.loop-changed.invariant.written (subst (WritesWhole _ _) line c.in_ok-write_filtered.ensures) in
@@ -50,5 +50,5 @@ returns g c =
     let host = c.args.host.now in
     let own = c.args.journal.now.entries in
     let low = c.loop-changed.after in
-    let none = changed_none host own low (rw c.as_ref.ensures.value at c.in_default.ensures.none) in
+    let none = changed_none host own low (rw c.as_ref.ensures.value at c.in_default.ensures.least) in
     subst (WritesWhole _ _) (parts_end (own_line c.args.filter host own) host own low c.loop-changed.invariant.text none c.loop-changed.invariant.left ∙ lines_laid c.args.filter host own) c.loop-changed.invariant.written

@@ -1,4 +1,5 @@
-use Rattle.std.proofs.Common.{sym}
+use Rattle.std.proofs.Common.{sym, ap}
+use Rattle.std.specs.Ordering.{is_lt}
 use Rattle.std.specs.Cmp.Lexicographic.{nat_list_cmp_total}
 use Rattle.keymaps.proofs.Views.{seen_at, below_least}
 use Rattle.keymaps.proofs.Left.{is_less}
@@ -10,9 +11,12 @@ returns-in-Some-clause-there g c =
     rw c.key.ensures (seen_at nat_list_cmp_total _ _ c.self.view_is _ _ h.1)
 
 pub returns-in-Some-clause-least : goal.returns-in-Some-clause-least
-returns-in-Some-clause-least g c = rw (c.key.ensures, sym c.new.ensures) (λ x low high.
-    let h = rw c.in-Some.ensures.steps at (c.range-rest.ensures.in_range tt).2 x (is_less _ low, tt) in
-    below_least nat_list_cmp_total _ _ c.self.view_is _ x h high)
+returns-in-Some-clause-least g c = rw (c.key.ensures, sym c.new.ensures) (
+  ap is_lt (rw c.in-Some.ensures.steps at (c.range-rest.ensures.in_range tt).1).0.0,
+  λ x low high.
+      let h = rw c.in-Some.ensures.steps at (c.range-rest.ensures.in_range tt).2 x (is_less _ low, tt) in
+      below_least nat_list_cmp_total _ _ c.self.view_is _ x h high,
+)
 
-pub returns-in-None-clause-none : goal.returns-in-None-clause-none
-returns-in-None-clause-none g c = rw (sym c.new.ensures) (λ x low. seen_at nat_list_cmp_total _ _ c.self.view_is x _ ((c.range-rest.ensures.in_range tt).5 c.in-None.ensures.steps.0 x (is_less _ low, tt)))
+pub returns-in-None-clause-least : goal.returns-in-None-clause-least
+returns-in-None-clause-least g c = rw (sym c.new.ensures) (λ x low. seen_at nat_list_cmp_total _ _ c.self.view_is x _ ((c.range-rest.ensures.in_range tt).5 c.in-None.ensures.steps.0 x (is_less _ low, tt)))
