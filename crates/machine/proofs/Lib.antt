@@ -11,6 +11,11 @@ pub mod ChangedFileLemmas
 pub mod WholeLemmas
 pub mod TextLemmas
 pub mod SpliceLemmas
+pub mod FirstLemmas
+pub mod AskedLemmas
+pub mod NoteLemmas
+pub mod StretchNotes
+pub mod ColdLemmas
 pub use Rattle.i8080.proofs.LookLemmas
 pub use Rattle.interaction_trees.proofs.RunLemmas
 pub use Rattle.interaction_trees.proofs.DependenceLemmas

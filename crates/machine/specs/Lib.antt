@@ -6,6 +6,7 @@ pub mod SessionError
 pub mod Step
 pub mod Machine
 pub mod TakesQuestion
+pub mod FirstLooks
 pub mod SavedState
 pub mod TakesStep
 pub mod Stretch

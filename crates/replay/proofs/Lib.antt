@@ -1,6 +1,4 @@
-pub mod ColdLemmas
 pub mod ReportLemmas
-pub mod FirstLemmas
 pub mod RingLemmas
 pub mod StartLemmas
 pub mod TouchLemmas
@@ -8,8 +6,6 @@ pub mod LeastLemmas
 pub mod PokeLemmas
 pub mod SpliceLemmas
 pub mod RunnerLemmas
-pub mod LookLemmas
-pub mod StretchNotes
 pub mod OutcomeLemmas
 pub mod KeepingLemmas
 pub mod StepsLemmas

@@ -5,7 +5,7 @@ use Rattle.std.proofs.lemmas.Bool.{cases_lt}
 use Rattle.std.proofs.lemmas.Bool.Decides.{eqb_tells}
 use Rattle.machine.specs.StateView.{AllLooks}
 use Rattle.first_looks.specs.FirstLooks.{FirstLooksView, with_seen}
-use Rattle.replay.specs.FirstLooks.{NotesSeenStep, ForgetsSeenStep}
+use Rattle.machine.specs.FirstLooks.{NotesSeenStep, ForgetsSeenStep}
 use Rattle.replay.specs.AllocFailures.{CountsThisRun, FailsLooksOnce}
 
 -- None is counted yet.

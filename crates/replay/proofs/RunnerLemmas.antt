@@ -1,46 +1,27 @@
 -- What always holds for the parts of a runner, through edits and drops.
 use Rattle.std.proofs.Common.{◌≡◌, ◌==◌, ◌||◌, Bool, true, false, cond, nat_lt, ℕ, zero, suc, ◌-◌, ◌<◌, ◌≤◌, List, [], ◌∷◌, length, map, Option, Some, None, sym, ◌∙◌, refl, ap, arith}
-use Rattle.std.specs.Prelude.{slice_get, slice_index_or}
+use Rattle.std.specs.Prelude.{slice_get}
 use Rattle.std.proofs.lemmas.Bool.{eqb-false, ltb-false}
 use Rattle.circular_buffer.specs.Buffer.{Buffer, buffer, keep_last}
 use Rattle.machine.specs.Inputs.{Session}
-use Rattle.hostfiles.specs.declared.looks.Ask.{Ask}
-use Rattle.first_looks.specs.FileSteps.{step_of_ask}
 use Rattle.first_looks.specs.declared.question.Question.{Question}
-use Rattle.first_looks.specs.declared.question.Question.TheVariants.{Cell, Script, Host as OfHost}
 use Rattle.machine.specs.Machine.{Answers, session_answers, looks}
 use Rattle.replay.specs.declared.ring.Checkpoint.{Checkpoint as KeptCheckpoint}
 use Rattle.replay.specs.declared.ring.Checkpoints.{Checkpoints}
-use Rattle.first_looks.specs.FirstLooks.{FirstLooksView, step_of, step_below}
-use Rattle.replay.specs.FirstLooks.{first_look, IsFirstLooks}
+use Rattle.first_looks.specs.FirstLooks.{step_of, step_below}
 use Rattle.replay.specs.declared.options.Options.{Options}
 use Rattle.replay.specs.Options.{refusal_of}
 use Rattle.replay.specs.Ring.{Each, IsValidFor, DropsPast}
 use Rattle.replay.specs.Touch.{IsNotedTouch}
 use Rattle.replay.specs.RunnerView.{IsSoundRunner, IsStateAfterStep, KeepsUntouched, checkpoint_with_text}
 use Rattle.replay.proofs.RingLemmas.{Rising-left, Rising-drop, Each-left, Each-keep_last}
+use Rattle.machine.proofs.FirstLemmas.{IsEmpty, nothing_noted}
 use Rattle.replay.proofs.TouchLemmas.{untouched, edited_known, keeps_untouched, still_stand}
 
 -- Each checkpoint is the state of the session after its step.
 pub all_stand : (f : Answers) (text : List ℕ) (xs : List KeptCheckpoint) → Each (IsValidFor f text) xs → Each (IsStateAfterStep f) (map (checkpoint_with_text text) xs)
 all_stand f text [] h = tt
 all_stand f text (x ∷ xs) h = (record { later = h.0.later; state = h.0.state }, all_stand f text xs h.1)
-
--- Nothing is noted, and no step is seen.
-pub record IsEmpty (looks : FirstLooksView) : Type 0 where
-  pub cells : looks.cells ≡ []
-  pub offsets : looks.offsets ≡ []
-  pub files : (a : Ask) → step_of_ask looks.files a ≡ None
-  pub seen : looks.seen ≡ 0
-
-nothing_noted : (f : Answers) (looks : FirstLooksView) → IsEmpty looks → IsFirstLooks f looks
-unfolding first_look
-nothing_noted f looks e = record { entry = λ q. empty q ∙ ap (first_look f q) (sym e.seen) }
-  where
-    empty : (q : Question) → step_of looks q ≡ None
-    empty (Cell a) = ap (λ (steps : List (Option ℕ)). slice_index_or steps a None) e.cells
-    empty (Script k) = ap (λ (steps : List (Option ℕ)). slice_index_or steps k None) e.offsets
-    empty (OfHost a) = e.files a
 
 -- Options that are not refused have a spacing within its range.
 pub spacing_within : (o : Options) → refusal_of o ≡ None → (0 < o.spacing) × (o.spacing ≤ 1000000000)

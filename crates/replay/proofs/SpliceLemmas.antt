@@ -12,12 +12,12 @@ use Rattle.first_looks.specs.declared.question.Question.TheVariants.{Cell, Scrip
 use Rattle.machine.specs.Machine.{session_answers}
 use Rattle.machine.specs.Session.{splice}
 use Rattle.first_looks.specs.FirstLooks.{FirstLooksView, step_of}
-use Rattle.replay.specs.FirstLooks.{IsFirstLooks}
+use Rattle.machine.specs.FirstLooks.{IsFirstLooks}
 use Rattle.first_looks.specs.FirstSteps.{step_in}
 use Rattle.first_looks.specs.SequentialSteps.{IsEarliestFrom}
 use Rattle.replay.specs.Edits.{with_splice}
 use Rattle.replay.specs.Touch.{IsNotedTouch}
-use Rattle.replay.proofs.FirstLemmas.{noted_below}
+use Rattle.machine.proofs.FirstLemmas.{noted_below}
 use Rattle.replay.proofs.LeastLemmas.{IsLeast, more_same, more_changed}
 
 -- ---- a byte that stays

@@ -6,7 +6,7 @@ use Rattle.machine.specs.StateView.{StateView}
 use Rattle.machine.specs.Machine.{Answers, session_answers, after}
 use Rattle.replay.specs.declared.run_notes.RunNotes.{RunNotes}
 use Rattle.replay.specs.declared.ring.Checkpoints.{Checkpoints}
-use Rattle.replay.specs.FirstLooks.{AllNoted}
+use Rattle.machine.specs.FirstLooks.{AllNoted}
 use Rattle.replay.specs.RunnerView.{AreCheckpoints}
 use Rattle.replay.specs.AllocFailures.{CountsThisRun, FailsLooksOnce}
 use Rattle.replay.specs.Ring.{IsValid, SomeStep, Adds, AddsAll, start_step}

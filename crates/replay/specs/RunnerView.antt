@@ -8,7 +8,7 @@ use Rattle.machine.specs.SavedState.{state_with_text}
 use Rattle.replay.specs.declared.ring.Checkpoint.{Checkpoint as KeptCheckpoint}
 use Rattle.replay.specs.declared.ring.Checkpoints.{Checkpoints}
 use Rattle.replay.specs.declared.options.Options.{Options}
-use Rattle.replay.specs.FirstLooks.{IsFirstLooks}
+use Rattle.machine.specs.FirstLooks.{IsFirstLooks}
 use Rattle.replay.specs.AllocFailures.{CountsThisRun}
 use Rattle.replay.specs.Ring.{Each, Rising, RisingBy, IsValidFor, AddsBy, AddsAllBy, start_by}
 use Rattle.replay.specs.Touch.{Untouched}

@@ -2,7 +2,7 @@
 
 ghost use Rattle.std.specs.Prelude.{◌≡◌, ◌+◌, nat_lt, Err, IfOk, IfErr, OnOk, OnErr};
 ghost use Rattle.machine.specs.Machine.{session_answers};
-ghost use Rattle.replay.specs.FirstLooks.{IsFirstLooks};
+ghost use Rattle.machine.specs.FirstLooks.{IsFirstLooks};
 ghost use Rattle.replay.specs.declared.edit.Edit.TheVariants as of_edit;
 ghost use Rattle.replay.specs.Edits.{edited};
 ghost use Rattle.replay.specs.EditAnswers.{EditAllocates, Refuses, edit_error_number};

@@ -3,7 +3,7 @@ ghost use Rattle.machine.specs.Outcome.{Stop};
 ghost use Rattle.machine.specs.Machine.{HasNoQuestions, session_answers, after, outcome, looks_from};
 ghost use Rattle.machine.specs.Machine.{cold_run};
 ghost use Rattle.first_looks.specs.FirstLooks.{with_seen};
-ghost use Rattle.replay.specs.FirstLooks.{AllNoted, IsFirstLooks, AreFirstLooksAt, NotesSeenStep, ForgetsSeenStep};
+ghost use Rattle.machine.specs.FirstLooks.{AllNoted, IsFirstLooks, AreFirstLooksAt, NotesSeenStep, ForgetsSeenStep};
 ghost use Rattle.replay.specs.Resuming.{CountsLooks, IsResumePoint, AreCheckpointsOf, AddsWhileResumed};
 ghost use Rattle.replay.specs.Ring.{Each, IsNewest};
 

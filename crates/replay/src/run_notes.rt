@@ -1,7 +1,7 @@
 ghost use Rattle.std.specs.Prelude.{◌≡◌, ◌+◌, ◌^◌, ◌<◌, ◌≤◌, ◌⊎◌, IfSome, IsSome, IsNone, length};
 ghost use Rattle.machine.specs.Machine.{HasNoQuestions, looks_from};
 ghost use Rattle.machine.specs.SavedState.{saved_state_of};
-ghost use Rattle.replay.specs.FirstLooks.{NotesSeenStep, ForgetsSeenStep};
+ghost use Rattle.machine.specs.FirstLooks.{NotesSeenStep, ForgetsSeenStep};
 
 use first_looks::FirstLooks;
 use machine::{STEP_LIMIT, SavedState, State};

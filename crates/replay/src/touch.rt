@@ -4,7 +4,7 @@ ghost use Rattle.first_looks.specs.declared.question.Question.TheVariants.{Cell,
 ghost use Rattle.machine.specs.Machine.{session_answers};
 ghost use Rattle.machine.specs.Session.{splice};
 ghost use Rattle.first_looks.specs.FirstLooks.{step_of};
-ghost use Rattle.replay.specs.FirstLooks.{IsFirstLooks};
+ghost use Rattle.machine.specs.FirstLooks.{IsFirstLooks};
 ghost use Rattle.replay.specs.Edits.{with_host_file, with_poke, with_splice};
 ghost use Rattle.replay.specs.Touch.{IsNotedTouch};
 

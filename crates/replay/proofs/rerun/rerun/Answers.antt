@@ -6,7 +6,7 @@ use Rattle.replay.specs.declared.ring.Checkpoints.{Checkpoints}
 use Rattle.replay.specs.Resuming.{AddsDue}
 use Rattle.replay.specs.Ring.{start_step}
 use Rattle.replay.proofs.StartLemmas.{start_within, start_reached}
-use Rattle.replay.proofs.LookLemmas.{none_looked}
+use Rattle.machine.proofs.NoteLemmas.{none_looked}
 use Rattle.replay.proofs.KeepingLemmas.{stands_valid, Left, left}
 use Rattle.replay.proofs.OutcomeLemmas.{match_err}
 use Rattle.replay.proofs.RefusalLemmas.{counts_none}

@@ -7,8 +7,8 @@ use Rattle.machine.specs.Machine.{session_answers}
 use Rattle.machine.specs.Stretch.{LooksAtNothingNew, RunsStretch}
 use Rattle.replay.specs.declared.run_notes.RunNotes.{RunNotes}
 use Rattle.first_looks.specs.FirstLooks.{FirstLooksView}
-use Rattle.replay.specs.FirstLooks.{IsFirstLooks}
-use Rattle.replay.proofs.StretchNotes.{stretch_kept, passed}
+use Rattle.machine.specs.FirstLooks.{IsFirstLooks}
+use Rattle.machine.proofs.StretchNotes.{stretch_kept, passed}
 use Rattle.replay.proofs.OutcomeLemmas.{match_err}
 use Rattle.replay.proofs.RefusalLemmas.{none_counted, once_on, once_at_stop}
 use Rattle.replay.proofs.run.advance.Goals as goal

@@ -1,7 +1,7 @@
 use Rattle.std.proofs.Common.{◌≡◌, ◌+◌, ◌*◌, ◌-◌, ◌/◌, ◌%◌, ◌<◌, ◌≤◌, ◌⊎◌, max, Some}
 use Rattle.machine.specs.declared.session.TheConstants.{STEP_LIMIT}
 use Rattle.machine.specs.Machine.{session_answers, after}
-use Rattle.replay.specs.FirstLooks.{AllNoted, IsFirstLooks}
+use Rattle.machine.specs.FirstLooks.{AllNoted, IsFirstLooks}
 use Rattle.replay.specs.Ring.{Each, IsValid}
 use Rattle.replay.proofs.RingLemmas.{Adding}
 use Rattle.replay.proofs.CompleteLemmas.{AddingAll}

@@ -2,7 +2,7 @@ use Rattle.std.proofs.Common.{◌≡◌, ◌+◌, arith, length}
 use Rattle.first_looks.specs.declared.question.Question.TheVariants.{Cell}
 use Rattle.machine.specs.Machine.{session_answers}
 use Rattle.replay.specs.Edits.{with_poke}
-use Rattle.replay.proofs.FirstLemmas.{noted_below}
+use Rattle.machine.proofs.FirstLemmas.{noted_below}
 use Rattle.replay.proofs.LeastLemmas.{least_of_none, least_more}
 use Rattle.replay.proofs.PokeLemmas.{IsPoked, none_poked, one_more_poked, poke_touched, changes}
 use Rattle.replay.proofs.touch.poke_touch.Goals as goal

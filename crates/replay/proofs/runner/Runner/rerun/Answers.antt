@@ -1,6 +1,6 @@
 use Rattle.std.proofs.Common.{◌≡◌, refl, sym, ap, subst}
 use Rattle.machine.specs.PlainState.{PlainRun, plain_run}
-use Rattle.replay.proofs.ColdLemmas.{reports_run}
+use Rattle.machine.proofs.ColdLemmas.{reports_run}
 use Rattle.replay.proofs.RingLemmas.{on_err}
 use Rattle.replay.proofs.OutcomeLemmas.{if_err, match_err}
 use Rattle.replay.proofs.RunnerLemmas.{all_stand}

@@ -1,9 +1,13 @@
 -- The table of first looks, as it grows and is erased.
-use Rattle.std.proofs.Common.{ap, sym, ◌≡◌, ℕ, zero, suc, ◌<◌, ◌≤◌, refl, ◌∙◌, arith, Bool, true, false, Option, Some, None, inl, inr}
+use Rattle.std.proofs.Common.{ap, sym, ◌≡◌, ℕ, zero, suc, ◌<◌, ◌≤◌, refl, ◌∙◌, arith, Bool, true, false, List, [], Option, Some, None, inl, inr}
+use Rattle.std.specs.Prelude.{slice_index_or}
 use Rattle.std.proofs.lemmas.Bool.{lt-ltb}
 use Rattle.std.proofs.lemmas.Bool.Decides.{nat_tests}
 use Rattle.std.proofs.Math.Nat.{eq-or-lt_of_le}
+use Rattle.hostfiles.specs.declared.looks.Ask.{Ask}
+use Rattle.first_looks.specs.FileSteps.{step_of_ask}
 use Rattle.first_looks.specs.declared.question.Question.{Question}
+use Rattle.first_looks.specs.declared.question.Question.TheVariants.{Cell, Script, Host as OfHost}
 use Rattle.machine.specs.Tree.{AgreeOn}
 use Rattle.machine.specs.Dependence as dependence
 use Rattle.machine.proofs.DependenceLemmas as lemmas
@@ -12,7 +16,7 @@ use Rattle.machine.specs.Step.{next}
 use Rattle.first_looks.specs.Questions.{is_in}
 use Rattle.machine.specs.Machine.{Answers, session_tree, outcome_with, start, looks_at, looks, after}
 use Rattle.first_looks.specs.FirstLooks.{FirstLooksView, or_else, step_if, step_below, step_of}
-use Rattle.replay.specs.FirstLooks.{first_look, IsFirstLooks}
+use Rattle.machine.specs.FirstLooks.{first_look, IsFirstLooks}
 
 -- A step in an entry is below n.
 abbrev pub IsBelow : ℕ → Option ℕ → Type 0
@@ -75,6 +79,22 @@ same_first f g q (suc n) h =
 pub looks_here : (f : Answers) (n : ℕ) (st : PartialState) → after f n ≡ Some st → looks f n ≡ looks_at f st
 unfolding dependence.looks
 looks_here f n st a = ap (λ (o : Option PartialState). dependence.looks_if_any session_tree (λ (st : PartialState). st.own) (λ (st : PartialState). next st.core) outcome_with start f o) a
+
+-- Nothing is noted, and no step is seen.
+pub record IsEmpty (looks : FirstLooksView) : Type 0 where
+  pub cells : looks.cells ≡ []
+  pub offsets : looks.offsets ≡ []
+  pub files : (a : Ask) → step_of_ask looks.files a ≡ None
+  pub seen : looks.seen ≡ 0
+
+pub nothing_noted : (f : Answers) (looks : FirstLooksView) → IsEmpty looks → IsFirstLooks f looks
+unfolding first_look
+nothing_noted f looks e = record { entry = λ q. empty q ∙ ap (first_look f q) (sym e.seen) }
+  where
+    empty : (q : Question) → step_of looks q ≡ None
+    empty (Cell a) = ap (λ (steps : List (Option ℕ)). slice_index_or steps a None) e.cells
+    empty (Script k) = ap (λ (steps : List (Option ℕ)). slice_index_or steps k None) e.offsets
+    empty (OfHost a) = e.files a
 
 -- A failed note leaves a table of first looks.
 pub erased_known : (f : Answers) (old new : FirstLooksView) → IsFirstLooks f old → ((q : Question) → step_of new q ≡ step_below old.seen (step_of old q)) → new.seen ≡ old.seen → IsFirstLooks f new

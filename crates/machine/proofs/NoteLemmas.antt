@@ -12,9 +12,9 @@ use Rattle.first_looks.specs.declared.question.Question.TheVariants.{Cell, Scrip
 use Rattle.first_looks.specs.Questions.{is_in}
 use Rattle.machine.specs.Machine.{Answers, is_looked_at, HasNoLooks, HasNoQuestions, looks_from, KeepsLooks, after, looks_at}
 use Rattle.first_looks.specs.FirstLooks.{FirstLooksView, step_of, or_else, step_if}
-use Rattle.replay.specs.FirstLooks.{first_look, IsFirstLooks, AllNoted, NotesSeenStep, ForgetsSeenStep}
-use Rattle.replay.proofs.FirstLemmas.{first-suc, looks_here, erased_known}
-use Rattle.replay.proofs.TouchLemmas.{noted_by}
+use Rattle.machine.specs.FirstLooks.{first_look, IsFirstLooks, AllNoted, NotesSeenStep, ForgetsSeenStep}
+use Rattle.machine.proofs.FirstLemmas.{first-suc, looks_here, erased_known}
+use Rattle.machine.proofs.AskedLemmas.{noted_by}
 
 -- Noting the new looks alone has the same result as noting all.
 same_mark : (o : Option ℕ) (before more all asked : Bool) (n : ℕ) → (before ≡ true → o ≡ None → ⊥) → all ≡ (before || more) → all ≡ (before || asked) → or_else o (step_if more n) ≡ or_else o (step_if asked n)

@@ -11,9 +11,9 @@ use Rattle.machine.specs.Machine.{Answers, session_answers, outcome, after, is_l
 use Rattle.machine.specs.Stretch.{LooksAtNothingNew, RunsStretch}
 use Rattle.machine.proofs.RunLemmas.{step_before}
 use Rattle.first_looks.specs.FirstLooks.{FirstLooksView, or_else, step_if, with_seen}
-use Rattle.replay.specs.FirstLooks.{first_look, IsFirstLooks, AllNoted, NotesSeenStep, ForgetsSeenStep}
-use Rattle.replay.proofs.FirstLemmas.{first-suc, looks_here}
-use Rattle.replay.proofs.LookLemmas.{Notes, looks_kept}
+use Rattle.machine.specs.FirstLooks.{first_look, IsFirstLooks, AllNoted, NotesSeenStep, ForgetsSeenStep}
+use Rattle.machine.proofs.FirstLemmas.{first-suc, looks_here}
+use Rattle.machine.proofs.NoteLemmas.{Notes, looks_kept}
 
 kept_by : (o : Option ℕ) (b : Bool) (n : ℕ) → (b ≡ true → o ≡ None → ⊥) → or_else o (step_if b n) ≡ o
 kept_by (Some m) b n h = refl
