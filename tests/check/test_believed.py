@@ -33,6 +33,8 @@ GROUPS = {
     CHECKPOINTS: [
         ('replay', 'runner', ['Runner::new', 'Runner::edit', 'Runner::rerun', 'prefix_dependence', 'plain_run_is_cold']),
         ('machine', 'laws', ['plain_machine_is_laid']),
+        ('dependencies', 'dependencies', ['Dependencies::of_run']),
+        ('dependencies', 'laws', ['dependencies_decide']),
         ('replay', 'report', ['Report::journal']),
         ('edit_lines', 'stream', ['replay']),
     ],

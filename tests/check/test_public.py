@@ -11,8 +11,11 @@ from helpers import Crate, read_crates
 from sources import Function, RuleTest, code_of, functions_of
 
 ALLOWED = {
+    'dependencies::Dependencies::of_run': 'what a run depends on',
+    'dependencies::next_range': 'indexes in a row that a run asked for',
     'filenames::Fcb::dr': 'the drive byte of a control block',
     'filenames::Fcb::set_place': 'sets the place of a control block',
+    'first_looks::FirstLooks::offsets': 'the first steps of the script offsets',
     'hostfiles::HostFiles::records_with': 'how many records a file has after a run',
     'hostfiles::HostFiles::record_with': 'a record of a file after a run',
     'hostfiles::HostFiles::next_with': 'the names after a run',

@@ -79,6 +79,7 @@ CALL = item('console_calls|bdos', 'console_call|calls?')
 STEPS = rf'\brun_from\b|{item("machine", "step")}'
 COMMAND = 'crates/cpmrun/src/command_line.rt'
 LOOP = 'crates/replay/src/run.rt'
+DEPENDENCIES = 'crates/dependencies/src/dependencies.rt'
 
 
 def struct_lines(path: str, name: str) -> list[Line]:
@@ -170,7 +171,7 @@ class SourcesTest(RuleTest):
         self.assertEqual(count_in_code(pattern, path), count, f'matches of {pattern} in {path}')
 
     def test_only_command_the_tests_and_the_example_make_a_meter(self) -> None:
-        self.refuse(in_code(METER, COMMAND, 'crates/machine/src/meter.rt', 'crates/embedding/'))
+        self.refuse(in_code(METER, COMMAND, DEPENDENCIES, 'crates/machine/src/meter.rt', 'crates/embedding/'))
 
     def test_command_makes_one_meter(self) -> None:
         self.expect_count(1, METER, COMMAND)
@@ -187,11 +188,12 @@ class SourcesTest(RuleTest):
         self.refuse(line for line in code_lines() if line.path.startswith('crates/machine/') and exports.match(line.text))
 
     def test_only_the_loop_of_a_run_and_the_tests_execute_steps(self) -> None:
-        self.refuse(in_code(STEPS, LOOP, 'crates/machine/'))
+        self.refuse(in_code(STEPS, LOOP, DEPENDENCIES, 'crates/machine/'))
 
     def test_the_loop_of_a_run_executes_steps_in_one_place(self) -> None:
-        self.expect_count(2, STEPS, LOOP)
-        self.expect_count(1, r'\brun_from\(', LOOP)
+        for loop in (LOOP, DEPENDENCIES):
+            self.expect_count(2, STEPS, loop)
+            self.expect_count(1, r'\brun_from\(', loop)
 
     def test_no_crate_has_another_name(self) -> None:
         self.refuse(in_code(r'\bextern crate\b'))

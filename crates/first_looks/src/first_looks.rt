@@ -87,6 +87,20 @@ impl FirstLooks {
         }
     }
 
+    /// Returns the first steps of the cells, by address.
+    pub fn cells(&self) -> &FirstSteps
+        ensures { result.now.entries ≡ self.now.cells }
+    {
+        &self.cells
+    }
+
+    /// Returns the first steps of the script offsets.
+    pub fn offsets(&self) -> &SequentialSteps
+        ensures { result.now.entries ≡ self.now.offsets }
+    {
+        &self.offsets
+    }
+
     /// Returns the end of the noted script offsets: no noted look is at this offset or past it.
     pub fn script_end(&self) -> usize
         ensures { result ≡ length self.now.offsets }

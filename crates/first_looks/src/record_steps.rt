@@ -1,6 +1,7 @@
 // The first steps of the records of files.
 
-ghost use Rattle.std.specs.Prelude.{◌≡◌, ◌≤◌, ◌<◌, [], OnOk, OnErr, option_copied};
+ghost use Rattle.std.specs.Prelude.{◌≡◌, ◌≤◌, ◌<◌, [], Some, None, IfSome, OnOk, OnErr, option_copied, option_map};
+ghost use Rattle.keymaps.specs.Order.{IsNextAbove};
 ghost use Rattle.first_looks.specs.RecordSteps.{ErasesRecords, NotesRecord, SameRecordSteps, step_of_record, steps_of};
 
 use crate::sequential_steps::SequentialSteps;
@@ -8,6 +9,7 @@ use hostfiles::Key;
 use std::alloc::{AllocError, Global};
 use std::collections::BTreeMap;
 use std::marker::Model;
+use std::ops::Bound;
 
 /// For each record of a file that was asked for, the first step that asked for it.
 #[derive(Drop)]
@@ -59,6 +61,21 @@ impl RecordSteps {
             Some(steps) => steps.get(number as usize),
             None => None,
         }
+    }
+
+    /// Returns the least key with steps above `after`, and its steps, or `None` if there is none. Every key is above `None`.
+    pub fn next_file(&self, after: Option<Key>) -> Option<(&Key, &SequentialSteps)>
+        ensures there { IfSome result (λ e. steps_of self.now.files e.0.now ≡ Some e.1.now) }
+        ensures least { IsNextAbove after (λ x. steps_of self.now.files x ≡ None)
+            (option_map (λ e. e.0.now) result) }
+    {
+        let start = match after {
+            Some(key) => Bound::Excluded(key),
+            None => Bound::Unbounded,
+        };
+        let mut rest = self.files.range((start, Bound::Unbounded));
+        let (key, steps) = rest.next()?;
+        Some((key, steps))
     }
 
     /// Notes a step for a record; a record that has a step keeps it. The step is below 4,294,967,295, and no step that was

@@ -3,12 +3,13 @@
 //! `test_sessions`, whose player ends at the first failure.
 //!
 //! - `sessions`: the sessions by their words
-//! - `playing`: the execution of a session, in which each call is made again if an allocation fails
+//! - `playing`, `depending`: the execution of a session, and what it depends on; each call is made again if an allocation fails
 //! - `standing`, `trouble`: a snapshot of a runner; why a session is given up
 //! - `programs`, `copying`: sessions of programs in files; the longest file, read to its end, changed and read again
 #![tactic(auto)]
 
 mod copying;
+mod depending;
 mod playing;
 mod programs;
 mod sessions;

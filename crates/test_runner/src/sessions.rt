@@ -1,5 +1,6 @@
 // The sessions by their words.
 
+use crate::depending::depends;
 use crate::playing::play;
 use crate::trouble::Trouble;
 use std::alloc::Global;
@@ -46,6 +47,7 @@ pub fn list(rt: &impl Print) -> Result<(), Trouble> {
 fn execute_all(rt: &impl Print, alloc: Global) -> Result<(), Trouble> {
     for (word, case) in SESSIONS {
         println!(rt; "{word}")?;
+        depends(rt, alloc, case)?;
         play(rt, alloc, case)?;
     }
     Ok(())
@@ -58,6 +60,7 @@ pub fn execute(rt: &impl Print, alloc: Global, wanted: &str) -> Result<(), Troub
     }
     for (word, case) in SESSIONS {
         if word == wanted {
+            depends(rt, alloc, case)?;
             return play(rt, alloc, case);
         }
     }

@@ -1,0 +1,3 @@
+pub mod StepNotes
+pub mod DecideLemmas
+pub mod RangeLemmas
