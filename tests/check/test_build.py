@@ -58,9 +58,10 @@ class Build(unittest.TestCase):
     def start(self, mode='w'):
         for notes in 'log', 'processes':
             open(self.notes / notes, mode).close()
+        # what runs in the background or by nohup ignores some signals, and so would the build
+        words = ['env', '--default-signal', self.tree / 'cpmrun', '--build']
         with open(self.work / 'err', 'w') as err:
-            return subprocess.Popen([self.tree / 'cpmrun', '--build'], env={'PATH': self.path, 'NOTES': str(self.notes)}, stderr=err,
-                                    stdout=subprocess.PIPE, text=True)
+            return subprocess.Popen(words, env={'PATH': self.path, 'NOTES': str(self.notes)}, stderr=err, stdout=subprocess.PIPE, text=True)
 
     def start_until(self, crate):
         build = self.start()
