@@ -1,34 +1,61 @@
 -- What is read of the matches of a parse.
-use Rattle.std.proofs.Common.{◌≡◌, ◌∙◌, ◌≤◌, ◌<◌, ◌^◌, ℕ, List, [], ◌∷◌, map, unwrap_or, Option, Some, None, sym, ap, subst, refl, true}
+use Rattle.std.proofs.Common.{◌≡◌, ◌∙◌, ◌≤◌, ◌<◌, ◌^◌, ℕ, List, [], ◌∷◌, Bool, map, unwrap_or, Option, Some, None, sym, ap, subst, refl, true, false, codes}
 use Rattle.std.specs.Prelude.{IfNone, Result, Ok, Err, option_map}
 use Rattle.std.specs.Borrow.{Bor}
-use Rattle.std.specs.Str.Parse.{ParsesUnsigned}
-use Rattle.clap.specs.Words.{App, FailsBy, HasKind, ReadsOne, Row, Text, fault_of, first_of, first_value, is_simple, matches_of, one_text, rows_of}
+use Rattle.std.specs.Str.Parse.{ParsesBool, ParsesUnsigned}
+use Rattle.clap.specs.Words.{App, FailsBy, HasKind, Kinds, ReadsOne, Row, Text, fault_of, first_of, first_value, is_simple, matches_of, one_of, one_text, rows_of}
 use Rattle.clap.specs.Faults.{is_simple_and_free}
 use Rattle.clap.specs.declared.error.Error.{Error}
 use Rattle.clap.specs.declared.parser.matches.Found.{Found}
 use Rattle.clap.proofs.OnLiterals.{clap_on_literals}
 use Rattle.clap.proofs.WalkLemmas.{first_value-rows, one_text-rows}
-use Rattle.command_words.specs.CommandLine.{AreWordsOf, IsNumberOf, command_line, faults_at, matches_at, text_of}
-use Rattle.command_words.specs.declared.words.Words.{Words}
+use Rattle.command_words.specs.CommandLine.{IsNumberOf, text_of}
+use Rattle.command_words.specs.RunLine.{run_faults, run_line, run_matches}
+use Rattle.command_words.specs.DependencyLine.{IsFlagOf, dependency_faults, dependency_line, dependency_matches}
 
-pub is_simple_line : is_simple command_line ≡ true
+is_simple_run : is_simple run_line ≡ true
 unfolding clap_on_literals
-is_simple_line = refl
+is_simple_run = refl
 
-pub is_free_line : is_simple_and_free command_line ≡ true
+is_free_run : is_simple_and_free run_line ≡ true
 unfolding clap_on_literals
-is_free_line = refl
+is_free_run = refl
 
--- The matches of a command equal to the command line are the matches of the command line.
-pub at_line : (a : App) (words : List Text) (rows : List Row) → a ≡ command_line → (is_simple a ≡ true → rows ≡ matches_of a words) → rows ≡ matches_at words
-unfolding matches_at
-at_line a words rows same h = h (ap is_simple same ∙ is_simple_line) ∙ ap (λ x. matches_of x words) same
+is_simple_dependency : is_simple dependency_line ≡ true
+unfolding clap_on_literals
+is_simple_dependency = refl
 
-pub fails_at_line : {T : Type 0} (a : App) (words : List Text) (r : Result T Error) → a ≡ command_line → (is_simple_and_free a ≡ true → FailsBy (fault_of a words) r)
-    → FailsBy (faults_at words) r
-unfolding faults_at
-fails_at_line a words r same h = subst (λ x. FailsBy (fault_of x words) r) same (h (ap is_simple_and_free same ∙ is_free_line))
+is_free_dependency : is_simple_and_free dependency_line ≡ true
+unfolding clap_on_literals
+is_free_dependency = refl
+
+-- The matches of a command equal to a command line are the matches of that command line, and so are the kinds of its errors.
+matches_at : (line a : App) (words : List Text) (rows : List Row) → is_simple line ≡ true → a ≡ line → (is_simple a ≡ true → rows ≡ matches_of a words)
+    → rows ≡ matches_of line words
+matches_at line a words rows simple same h = h (ap is_simple same ∙ simple) ∙ ap (λ x. matches_of x words) same
+
+faults_at : {T : Type 0} (line a : App) (words : List Text) (r : Result T Error) → is_simple_and_free line ≡ true → a ≡ line
+    → (is_simple_and_free a ≡ true → FailsBy (fault_of a words) r) → FailsBy (fault_of line words) r
+faults_at line a words r free same h = subst (λ x. FailsBy (fault_of x words) r) same (h (ap is_simple_and_free same ∙ free))
+
+pub at_run_line : (a : App) (words : List Text) (rows : List Row) → a ≡ run_line → (is_simple a ≡ true → rows ≡ matches_of a words) → rows ≡ run_matches words
+unfolding run_matches
+at_run_line a words rows = matches_at run_line a words rows is_simple_run
+
+pub fails_at_run_line : {T : Type 0} (a : App) (words : List Text) (r : Result T Error) → a ≡ run_line
+    → (is_simple_and_free a ≡ true → FailsBy (fault_of a words) r) → FailsBy (run_faults words) r
+unfolding run_faults
+fails_at_run_line a words r = faults_at run_line a words r is_free_run
+
+pub at_dependency_line : (a : App) (words : List Text) (rows : List Row) → a ≡ dependency_line → (is_simple a ≡ true → rows ≡ matches_of a words)
+    → rows ≡ dependency_matches words
+unfolding dependency_matches
+at_dependency_line a words rows = matches_at dependency_line a words rows is_simple_dependency
+
+pub fails_at_dependency_line : {T : Type 0} (a : App) (words : List Text) (r : Result T Error) → a ≡ dependency_line
+    → (is_simple_and_free a ≡ true → FailsBy (fault_of a words) r) → FailsBy (dependency_faults words) r
+unfolding dependency_faults
+fails_at_dependency_line a words r = faults_at dependency_line a words r is_free_dependency
 
 -- A text that was read is the text of the row.
 pub text_said : (f : Found) (id : Text) (rows : List Row) (r : Option (Bor Text)) → rows_of f ≡ rows → option_map (λ s. s.now) r ≡ first_value f id
@@ -70,17 +97,34 @@ pub four_texts : (a b c d : Option (Bor Text)) (w x y z : Option Text) → text_
 four_texts a b c d w x y z p q r s = cc
 
 -- What holds for the rows holds for equal rows.
-pub says_at : (rows others : List Row) (words : Words) → rows ≡ others → AreWordsOf rows words → AreWordsOf others words
-says_at rows others words same h = subst (λ r. AreWordsOf r words) same h
+pub says_at : {W : Type 0} (Are : List Row → W → Type 0) (rows others : List Row) (words : W) → rows ≡ others → Are rows words → Are others words
+says_at Are rows others words same h = subst (λ r. Are r words) same h
 
 -- A parse that returned matches had no error.
-pub no_fault : {T : Type 0} (words : List Text) (r : Result T Error) (x : T) → r ≡ Ok x → FailsBy (faults_at words) r → faults_at words ≡ []
-no_fault words (Ok y) x e h = h
-no_fault words (Err y) x e h = cc
+pub no_fault : {T : Type 0} (faults : Kinds) (r : Result T Error) (x : T) → r ≡ Ok x → FailsBy faults r → faults ≡ []
+no_fault faults (Ok y) x e h = h
+no_fault faults (Err y) x e h = cc
 
 -- The error of a parse is passed on.
-pub fault_on : {T U : Type 0} (words : List Text) (r : Result T Error) (s : Result U Error) (e : Error) → r ≡ Err e → s ≡ Err e → FailsBy (faults_at words) r → FailsBy (faults_at words) s
-fault_on words (Ok y) s e p q h = cc
-fault_on {U = U} words (Err y) s e p q h =
+pub fault_on : {T U : Type 0} (faults : Kinds) (r : Result T Error) (s : Result U Error) (e : Error) → r ≡ Err e → s ≡ Err e → FailsBy faults r → FailsBy faults s
+fault_on faults (Ok y) s e p q h = cc
+fault_on {U = U} faults (Err y) s e p q h =
     let same : y ≡ e = cc in
-    subst (λ (x : Result U Error). FailsBy (faults_at words) x) (sym q) (subst (HasKind (faults_at words)) same h)
+    subst (λ (x : Result U Error). FailsBy faults x) (sym q) (subst (HasKind faults) same h)
+
+-- A flag that was read is set exactly if the text of the row is "true".
+pub flag_said : (E : Type 0) (f : Found) (id : Text) (r : Option Bool) (flag : Bool) → flag ≡ unwrap_or r false → (one_text f id ≡ None → r ≡ None)
+    → ((t : List ℕ) → one_text f id ≡ Some t → ReadsOne {E = E} ParsesBool t r) → IsFlagOf (rows_of f) id flag
+flag_said E f id r flag is none value = subst (IsFlagOf (rows_of f) id) (sym is) (by_text (one_text f id) refl) where
+  by_value : (t : Text) → one_of id (rows_of f) ≡ Some t → (r : Option Bool) → ReadsOne {E = E} ParsesBool t r → IsFlagOf (rows_of f) id (unwrap_or r false)
+  by_value t e (Some true) h = e ∙ ap Some h
+  by_value t e (Some false) h = λ same. let bad : Some (codes "false") ≡ Some (codes "true") = sym (e ∙ ap Some h) ∙ same in cc
+  by_value t e None h = λ same. let bad : Some t ≡ Some (codes "true") = sym e ∙ same in absurd (h.1.0 cc)
+
+  by_none : (r : Option Bool) → r ≡ None → one_of id (rows_of f) ≡ None → IsFlagOf (rows_of f) id (unwrap_or r false)
+  by_none (Some b) e h = cc
+  by_none None e h = λ same. let bad : None ≡ Some (codes "true") = sym h ∙ same in cc
+
+  by_text : (o : Option Text) → one_text f id ≡ o → IsFlagOf (rows_of f) id (unwrap_or r false)
+  by_text None e = by_none r (none e) (sym (one_text-rows f id) ∙ e)
+  by_text (Some t) e = by_value t (sym (one_text-rows f id) ∙ e) r (value t e)

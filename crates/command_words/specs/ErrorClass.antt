@@ -1,9 +1,8 @@
 -- What a program is to do with an error of clap. (Over clap's own definitions; the rest: this project's own.)
-use Rattle.std.specs.Prelude.{◌≡◌, List}
-use Rattle.clap.specs.Words.{IsAmong, Text}
+use Rattle.std.specs.Prelude.{◌≡◌}
+use Rattle.clap.specs.Words.{IsAmong, Kinds}
 use Rattle.clap.specs.declared.error.kind.ErrorKind.{ErrorKind}
 use Rattle.clap.specs.declared.error.kind.ErrorKind.TheVariants as kind
-use Rattle.command_words.specs.CommandLine.{faults_at}
 use Rattle.command_words.specs.declared.error_classes.ErrorClass.{ErrorClass}
 use Rattle.command_words.specs.declared.error_classes.ErrorClass.TheVariants.{Information, UsageError, OutOfMemory}
 
@@ -14,6 +13,6 @@ error_class kind.DisplayHelp = Information
 error_class kind.DisplayVersion = Information
 error_class other = UsageError
 
--- Words can have this outcome: clap's definitions give them an error of a kind that has it.
-abbrev pub HasErrorClass : List Text → ErrorClass → Type 0
-HasErrorClass words outcome = (kind : ErrorKind) × IsAmong kind (faults_at words) × (error_class kind ≡ outcome)
+-- Words whose errors have these kinds can have this outcome: one of the kinds has it.
+abbrev pub HasErrorClass : Kinds → ErrorClass → Type 0
+HasErrorClass faults outcome = (kind : ErrorKind) × IsAmong kind faults × (error_class kind ≡ outcome)

@@ -1,2 +1,4 @@
 pub mod ErrorClass
 pub mod CommandLine
+pub mod RunLine
+pub mod DependencyLine

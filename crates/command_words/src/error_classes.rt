@@ -5,7 +5,7 @@ ghost use Rattle.command_words.specs.ErrorClass.{error_class};
 use clap::Error;
 use clap::error::ErrorKind;
 
-/// What a program is to do with an error of `read_words`.
+/// What a program is to do with an error of `read_words` or `read_dependency_words`.
 #[derive(Clone, Copy, Debug, PartialEq, Eq)]
 pub enum ErrorClass {
     /// A request for help or the version. The error's text goes to standard output; the status is 0.
@@ -16,7 +16,7 @@ pub enum ErrorClass {
     OutOfMemory,
 }
 
-/// Returns what an error of `read_words` means for the program, by its kind.
+/// Returns what an error of `clap` means for the program, by its kind.
 pub fn error_class(error: &Error) -> ErrorClass
     ensures { result ≡ error_class (kind_of error.now) }
 {

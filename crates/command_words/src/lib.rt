@@ -1,12 +1,14 @@
-//! The words of the command line of `cpmrun`.
+//! The words of the command lines of `cpmrun` and `cpmdeps`.
 //!
-//! - `words`, `options`: `read_words`; the command line as a command of `clap`
+//! - `words`: `read_words`, `read_dependency_words`, and the words that both programs share
+//! - `options`, `help`: the command lines as commands of `clap`; the texts of their help
 //! - `error_classes`: what an error of `clap` means for the program: information, a usage error, or out of memory
 #![tactic(auto)]
 
 mod error_classes;
+mod help;
 mod options;
 mod words;
 
 pub use error_classes::{ErrorClass, error_class};
-pub use words::{Words, read_words};
+pub use words::{DependencyWords, SessionWords, Words, read_dependency_words, read_words};

@@ -1,39 +1,13 @@
 ghost use Rattle.std.specs.Prelude.{◌≡◌, false, codes, IfOk, map};
 ghost use Rattle.clap.specs.Words.{app_of, rule_of};
-ghost use Rattle.command_words.specs.CommandLine.{command_line, number_rule, number_rules, option_rule, positional_rules, with_default, with_rules};
+ghost use Rattle.command_words.specs.CommandLine.{limit_rule, number_rule, option_rule, plain_command};
+ghost use Rattle.command_words.specs.CommandLine.{positional_rules, with_default, with_input_rules, with_rules};
+ghost use Rattle.command_words.specs.RunLine.{run_line, run_number_rules};
+ghost use Rattle.command_words.specs.DependencyLine.{dependency_line, flag_rule};
 
-use clap::{Arg, Command, value_parser};
+use crate::help::{DEPENDENCY_ABOUT, DEPENDENCY_AFTER_HELP, RUN_ABOUT, RUN_AFTER_HELP, VERSION};
+use clap::{Arg, ArgAction, Command, value_parser};
 use std::alloc::{AllocError, Global};
-
-/// The version that `--version` prints.
-const VERSION: &str = "1.0.0";
-
-const ABOUT: &str = "Runs a CP/M 2.2 program, or replays edit lines over its session.";
-
-const AFTER_HELP: &str = "\
-Example:
-  cpmrun hello.com \"note.txt\" --files disk --out changed
-      runs hello.com with the tail note.txt and the host files in the folder disk, and writes
-      the changed files to the folder changed
-
-Quote a TAIL of several words: 'a.txt b.txt'. Put a TAIL that begins with '-' last, after '--'.
-
-Exit status:
-  0   the program stopped by WarmBoot, the edit lines were replayed, or help was printed
-  1   usage error, I/O error, invalid host files, or a limit exceeded
-  2   an edit line is malformed or too long
-  3   the program stopped by Limit
-  4   by Halt
-  5   by Undefined
-  6   by SystemArea
-  7   by ConsoleExhausted
-  8   by NoDollar
-  9   by Unsupported
-  10  by BadDrive
-  12  out of memory
-
-The manual has every message, edit line and reply, and the meaning of each refusal's number: docs/MANUAL.md,
-or share/doc/cpmrun/MANUAL.md of an installed program.";
 
 /// An option whose value is a path, with the name of the value and the help text.
 struct PathOption<'a> {
@@ -42,8 +16,8 @@ struct PathOption<'a> {
     help: &'a str,
 }
 
-/// The options for the folders of the host files, the single files, and the folders for changed files.
-const PATHS: &[PathOption<'_>] = &[
+/// The options for the folders of the host files and for the script.
+const INPUT_PATHS: &[PathOption<'_>] = &[
     PathOption {
         name: "files",
         value: "DIR",
@@ -69,6 +43,10 @@ const PATHS: &[PathOption<'_>] = &[
         value: "FILE",
         help: "The console input, at most 1,048,576 bytes [default: empty]",
     },
+];
+
+/// The options of `cpmrun` for the edit lines and for the folders of changed files.
+const RUN_PATHS: &[PathOption<'_>] = &[
     PathOption {
         name: "edits",
         value: "FILE",
@@ -95,6 +73,13 @@ const PATHS: &[PathOption<'_>] = &[
         help: "The same for drive D",
     },
 ];
+
+/// The option of `cpmdeps` for the target of a rule for make.
+const MAKE: PathOption<'_> = PathOption {
+    name: "make",
+    value: "TARGET",
+    help: "Print a rule for make with this target instead of the listing",
+};
 
 /// Returns the argument for an option whose value is a path.
 fn path_argument<'a>(alloc: Global, option: &PathOption<'a>) -> Arg<'a>
@@ -150,7 +135,7 @@ fn number_argument<'a>(alloc: Global, name: &'a str, default: &'a str) -> Arg<'a
 
 /// Returns the option for the limit of steps.
 fn limit_option<'a>(alloc: Global) -> Arg<'a>
-    ensures rule { rule_of result ≡ number_rule (codes "limit") 0 4000000000 (codes "1000000") }
+    ensures rule { rule_of result ≡ limit_rule }
     ensures local { result.global ≡ false }
 {
     number_argument(alloc, "limit", "1000000")
@@ -180,9 +165,9 @@ fn slots_option<'a>(alloc: Global) -> Arg<'a>
         .help("The most checkpoints, 1 to 4,096")
 }
 
-/// Adds the options whose values are numbers to a command.
-fn with_numbers<'a>(alloc: Global, command: Command<'a>) -> Result<Command<'a>, AllocError>
-    ensures { IfOk result (λ c. app_of c ≡ with_rules (app_of command.entry) number_rules) }
+/// Adds the options of `cpmrun` whose values are numbers to a command.
+fn with_run_numbers<'a>(alloc: Global, command: Command<'a>) -> Result<Command<'a>, AllocError>
+    ensures { IfOk result (λ c. app_of c ≡ with_rules (app_of command.entry) run_number_rules) }
 {
     command
         .arg(limit_option(alloc))?
@@ -190,16 +175,58 @@ fn with_numbers<'a>(alloc: Global, command: Command<'a>) -> Result<Command<'a>, 
         .arg(slots_option(alloc))
 }
 
-/// Returns the command line of `cpmrun`; its words begin after the program's name.
-pub fn command<'a>(alloc: Global) -> Result<Command<'a>, AllocError>
-    ensures { IfOk result (λ c. app_of c ≡ command_line) }
+/// Returns the flag that gives each step a line of its own.
+fn by_step_flag<'a>(alloc: Global) -> Arg<'a>
+    ensures rule { rule_of result ≡ flag_rule (codes "by-step") }
+    ensures local { result.global ≡ false }
 {
-    let command = Command::new(alloc, "cpmrun")
+    Arg::new(alloc, "by-step")
+        .long("by-step")
+        .action(ArgAction::SetTrue)
+        .help("Print neighbours that different steps asked for first on separate lines")
+}
+
+/// Returns a command without arguments, whose words begin after the program's name.
+fn plain_command<'a>(
+    alloc: Global,
+    name: &'a str,
+    about: &'a str,
+    after_help: &'a str,
+) -> Command<'a>
+    ensures { app_of result ≡ plain_command name.entry.now }
+{
+    Command::new(alloc, name)
         .no_binary_name(true)
         .version(VERSION)
-        .about(ABOUT)
-        .after_help(AFTER_HELP);
+        .about(about)
+        .after_help(after_help)
+}
+
+/// Adds the arguments for the program, the tail, and what is read to a plain command.
+fn with_inputs<'a>(alloc: Global, command: Command<'a>) -> Result<Command<'a>, AllocError>
+    ensures { IfOk result (λ c. app_of c ≡ with_input_rules (app_of command.entry)) }
+{
     let command = with_positionals(alloc, command)?;
-    let command = with_paths(alloc, command, PATHS)?;
-    with_numbers(alloc, command)
+    with_paths(alloc, command, INPUT_PATHS)
+}
+
+/// Returns the command line of `cpmrun`.
+pub fn run_command<'a>(alloc: Global) -> Result<Command<'a>, AllocError>
+    ensures { IfOk result (λ c. app_of c ≡ run_line) }
+{
+    let command = plain_command(alloc, "cpmrun", RUN_ABOUT, RUN_AFTER_HELP);
+    let command = with_inputs(alloc, command)?;
+    let command = with_paths(alloc, command, RUN_PATHS)?;
+    with_run_numbers(alloc, command)
+}
+
+/// Returns the command line of `cpmdeps`.
+pub fn dependency_command<'a>(alloc: Global) -> Result<Command<'a>, AllocError>
+    ensures { IfOk result (λ c. app_of c ≡ dependency_line) }
+{
+    let command = plain_command(alloc, "cpmdeps", DEPENDENCY_ABOUT, DEPENDENCY_AFTER_HELP);
+    with_inputs(alloc, command)?
+        .arg(limit_option(alloc))?
+        .arg(by_step_flag(alloc))?
+        .arg(path_argument(alloc, &MAKE))
 }

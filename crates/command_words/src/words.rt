@@ -1,12 +1,29 @@
 ghost use Rattle.std.specs.Prelude.{◌≤◌, IfOk, IfSome, IfNone, map, string_bytes};
 ghost use Rattle.clap.specs.Words.{FailsBy, found_of, rows_of};
-ghost use Rattle.command_words.specs.CommandLine.{HasNoNumberWithin, LacksWords, AreWordsOf, IsNumberOf, faults_at, matches_at};
+ghost use Rattle.command_words.specs.CommandLine.{AreSessionWordsOf, HasNoNumberWithin, IsNumberOf, LacksSessionWords};
+ghost use Rattle.command_words.specs.RunLine.{AreWordsOf, LacksWords, run_faults, run_matches};
+ghost use Rattle.command_words.specs.DependencyLine.{AreDependencyWordsOf, IsFlagOf, dependency_faults, dependency_matches};
 
-use crate::options::command;
+use crate::options::{dependency_command, run_command};
 use clap::{ArgMatches, Error};
 use std::alloc::{AllocError, Global};
 
-/// The words of the command line. Paths are unchanged.
+/// The words of a command line that describe a session. Paths are unchanged.
+#[derive(Clone, Copy)]
+pub struct SessionWords<'a> {
+    /// The path of the program.
+    pub program: &'a str,
+    /// The command tail, empty by default.
+    pub tail: &'a str,
+    /// The folder of the host files of each drive, A to D.
+    pub files: [Option<&'a str>; 4],
+    /// The path of the script, or `None` for an empty script.
+    pub console: Option<&'a str>,
+    /// The limit of steps, 0 to 4,000,000,000.
+    pub limit: u64,
+}
+
+/// The words of the command line of `cpmrun`. Paths are unchanged.
 #[derive(Drop)]
 pub struct Words<'a> {
     /// The path of the program.
@@ -29,6 +46,35 @@ pub struct Words<'a> {
     pub slots: usize,
 }
 
+impl<'a> Words<'a> {
+    ghost use Rattle.std.specs.Prelude.{◌≡◌};
+    ghost use Rattle.command_words.specs.RunLine.{session_words};
+
+    /// Returns the words that describe the session.
+    pub fn session(&self) -> SessionWords<'a>
+        ensures { result ≡ session_words self.now }
+    {
+        SessionWords {
+            program: self.program,
+            tail: self.tail,
+            files: self.files,
+            console: self.console,
+            limit: self.limit,
+        }
+    }
+}
+
+/// The words of the command line of `cpmdeps`. Paths are unchanged.
+#[derive(Drop)]
+pub struct DependencyWords<'a> {
+    /// The words that describe the session.
+    pub session: SessionWords<'a>,
+    /// The target of the rule for make, or `None` for the listing.
+    pub target: Option<&'a str>,
+    /// Whether places that different steps asked for first have lines of their own.
+    pub by_step: bool,
+}
+
 /// Returns the number of an option, if the option is there and in its range.
 fn number(matches: &ArgMatches<'_>, id: &str, least: u64, most: u64) -> Option<u64>
     ensures said { IfSome result (IsNumberOf (rows_of (found_of matches.now)) id.now) }
@@ -42,15 +88,20 @@ fn number(matches: &ArgMatches<'_>, id: &str, least: u64, most: u64) -> Option<u
     }
 }
 
-/// Returns the words of the matches, or `None` if a required one is missing or a number is out of its range.
-fn words_of<'a>(matches: &ArgMatches<'a>) -> Option<Words<'a>>
-    ensures says { IfSome result (AreWordsOf (rows_of (found_of matches.now))) }
-    ensures limit { IfSome result (λ w. w.limit ≤ 4000000000) }
-    ensures spacing { IfSome result (λ w. (1 ≤ w.spacing) × (w.spacing ≤ 1000000000)) }
-    ensures slots { IfSome result (λ w. (1 ≤ w.slots) × (w.slots ≤ 4096)) }
-    ensures none { IfNone result (LacksWords (rows_of (found_of matches.now))) }
+/// Returns whether a flag is set.
+fn flag(matches: &ArgMatches<'_>, id: &str) -> bool
+    ensures { IsFlagOf (rows_of (found_of matches.now)) id.now result }
 {
-    Some(Words {
+    matches.get_one::<bool>(id).unwrap_or(false)
+}
+
+/// Returns the words that describe a session, or `None` if the program is missing or the limit is out of its range.
+fn session_words_of<'a>(matches: &ArgMatches<'a>) -> Option<SessionWords<'a>>
+    ensures says { IfSome result (AreSessionWordsOf (rows_of (found_of matches.now))) }
+    ensures limit { IfSome result (λ w. w.limit ≤ 4000000000) }
+    ensures none { IfNone result (LacksSessionWords (rows_of (found_of matches.now))) }
+{
+    Some(SessionWords {
         program: matches.get_str("PROGRAM")?,
         tail: matches.get_str("TAIL").unwrap_or(""),
         files: [
@@ -61,6 +112,24 @@ fn words_of<'a>(matches: &ArgMatches<'a>) -> Option<Words<'a>>
         ],
         console: matches.get_str("console"),
         limit: number(matches, "limit", 0, 4_000_000_000)?,
+    })
+}
+
+/// Returns the words of `cpmrun`, or `None` if a required one is missing or a number is out of its range.
+fn words_of<'a>(matches: &ArgMatches<'a>) -> Option<Words<'a>>
+    ensures says { IfSome result (AreWordsOf (rows_of (found_of matches.now))) }
+    ensures limit { IfSome result (λ w. w.limit ≤ 4000000000) }
+    ensures spacing { IfSome result (λ w. (1 ≤ w.spacing) × (w.spacing ≤ 1000000000)) }
+    ensures slots { IfSome result (λ w. (1 ≤ w.slots) × (w.slots ≤ 4096)) }
+    ensures none { IfNone result (LacksWords (rows_of (found_of matches.now))) }
+{
+    let session = session_words_of(matches)?;
+    Some(Words {
+        program: session.program,
+        tail: session.tail,
+        files: session.files,
+        console: session.console,
+        limit: session.limit,
         out: [
             matches.get_str("out"),
             matches.get_str("out-b"),
@@ -73,6 +142,19 @@ fn words_of<'a>(matches: &ArgMatches<'a>) -> Option<Words<'a>>
     })
 }
 
+/// Returns the words of `cpmdeps`, or `None` if the program is missing or the limit is out of its range.
+fn dependency_words_of<'a>(matches: &ArgMatches<'a>) -> Option<DependencyWords<'a>>
+    ensures says { IfSome result (AreDependencyWordsOf (rows_of (found_of matches.now))) }
+    ensures limit { IfSome result (λ w. w.session.limit ≤ 4000000000) }
+    ensures none { IfNone result (LacksSessionWords (rows_of (found_of matches.now))) }
+{
+    Some(DependencyWords {
+        session: session_words_of(matches)?,
+        target: matches.get_str("make"),
+        by_step: flag(matches, "by-step"),
+    })
+}
+
 /// Parses the words after the program's name with the command line of `cpmrun`.
 ///
 /// # Errors
@@ -80,15 +162,38 @@ fn words_of<'a>(matches: &ArgMatches<'a>) -> Option<Words<'a>>
 /// Returns the error of `clap`; `error_class` says whether help was asked for, the words are a usage error, or an allocation
 /// failed.
 pub fn read_words<'a>(alloc: Global, words: &'a [String]) -> Result<Words<'a>, Error>
-    ensures says { IfOk result (AreWordsOf (matches_at (map string_bytes words.entry.now))) }
-    ensures fails { FailsBy (faults_at (map string_bytes words.entry.now)) result }
+    ensures says { IfOk result (AreWordsOf (run_matches (map string_bytes words.entry.now))) }
+    ensures fails { FailsBy (run_faults (map string_bytes words.entry.now)) result }
     ensures limit { IfOk result (λ w. w.limit ≤ 4000000000) }
     ensures spacing { IfOk result (λ w. (1 ≤ w.spacing) × (w.spacing ≤ 1000000000)) }
     ensures slots { IfOk result (λ w. (1 ≤ w.slots) × (w.slots ≤ 4096)) }
 {
-    let mut command = command(alloc)?;
+    let mut command = run_command(alloc)?;
     let matches = command.try_get_matches_from_mut(words)?;
     match words_of(&matches) {
+        Some(words) => Ok(words),
+        // clap has checked that each is there and in its range, so this is never reached.
+        None => Err(Error::from(AllocError)),
+    }
+}
+
+/// Parses the words after the program's name with the command line of `cpmdeps`.
+///
+/// # Errors
+///
+/// Returns the error of `clap`, as `read_words` does.
+pub fn read_dependency_words<'a>(
+    alloc: Global,
+    words: &'a [String],
+) -> Result<DependencyWords<'a>, Error>
+    ensures says { IfOk result
+        (AreDependencyWordsOf (dependency_matches (map string_bytes words.entry.now))) }
+    ensures fails { FailsBy (dependency_faults (map string_bytes words.entry.now)) result }
+    ensures limit { IfOk result (λ w. w.session.limit ≤ 4000000000) }
+{
+    let mut command = dependency_command(alloc)?;
+    let matches = command.try_get_matches_from_mut(words)?;
+    match dependency_words_of(&matches) {
         Some(words) => Ok(words),
         // clap has checked that each is there and in its range, so this is never reached.
         None => Err(Error::from(AllocError)),

@@ -5,12 +5,12 @@ use Rattle.command_words.specs.declared.words.Words.{Words}
 use Rattle.machine.specs.Inputs.{Session}
 use Rattle.replay.specs.RunnerView.{with_no_checkpoint}
 use Rattle.folders.specs.FileSystem.{text_at}
-use Rattle.cpmrun.specs.declared.fault.Fault.{Fault}
-use Rattle.cpmrun.specs.Requests.{AreWords}
+use Rattle.requests.specs.declared.fault.Fault.{Fault}
+use Rattle.cpmrun.specs.AreWords.{AreWords}
 use Rattle.one_run.specs.RawRun.{BreaksRun, RunsOnce}
 use Rattle.one_run.specs.declared.fault.RunFault.{RunFault}
 use Rattle.one_run.specs.World.{World}
-use Rattle.cpmrun.specs.FaultReports.{of_run}
+use Rattle.requests.specs.FaultReports.{of_run}
 use Rattle.cpmrun.specs.Ends.{BreaksReplay, FaultOf, IsSessionOf}
 use Rattle.cpmrun.specs.MeteredEnds.{MeteredEnds, WritesReplayBy, options_of}
 

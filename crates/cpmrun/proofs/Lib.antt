@@ -1,4 +1,3 @@
-mod Telling
 mod Choosing
 mod Writing
 mod Unmetered

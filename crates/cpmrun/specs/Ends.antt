@@ -1,24 +1,26 @@
 -- The ways in which the program ends. (This project's profile.)
-use Rattle.std.specs.Prelude.{◌≡◌, ℕ, ◌+◌, ◌⊎◌, List, Option, Result, IfSome, MatchOption}
+use Rattle.std.specs.Prelude.{◌≡◌, ℕ, ◌⊎◌, List, Option, IfSome, MatchOption}
 use Rattle.std.specs.Io.KnownBytes.{Consumes}
+use Rattle.command_words.specs.RunLine.{run_faults, session_words}
 use Rattle.command_words.specs.ErrorClass.{HasErrorClass}
 use Rattle.command_words.specs.declared.error_classes.ErrorClass.TheVariants.{Information}
 use Rattle.command_words.specs.declared.words.Words.{Words}
 use Rattle.machine.specs.Inputs.{Session}
 use Rattle.edit_lines.specs.declared.ending.ReplayFault.{ReplayFault}
 use Rattle.edit_lines.specs.declared.ending.ReplayFault.TheVariants as replay_fault
-use Rattle.cpmrun.specs.declared.fault.Fault.{Fault}
-use Rattle.cpmrun.specs.declared.fault.Fault.TheVariants.{Usage, NotText, CannotRead, CannotWrite, Folders, Refused, Malformed, TooLong, OutOfMemory}
-use Rattle.cpmrun.specs.Requests.{AreWords, FailsToParse}
-use Rattle.loading.specs.Loading.{FailsToLoad, IsLoadedFrom}
-use Rattle.loading.specs.declared.fault.LoadFault.{LoadFault}
+use Rattle.requests.specs.declared.fault.Fault.{Fault}
+use Rattle.requests.specs.declared.fault.Fault.TheVariants.{Usage, NotText, CannotRead, CannotWrite, Folders, Refused, Malformed, TooLong, LineEnd, OutOfMemory}
+use Rattle.requests.specs.declared.tool.Tool.TheVariants.{Cpmrun}
+use Rattle.requests.specs.Requests.{FailsToInform, FailsToLoadSession, FailsToParse, WritesNothing}
+use Rattle.cpmrun.specs.AreWords.{AreWords}
+use Rattle.loading.specs.Loading.{IsLoadedFrom}
 use Rattle.one_run.specs.RawRun.{BreaksRun, RunsOnce}
 use Rattle.one_run.specs.World.{World}
-use Rattle.report_lines.specs.Streams.{Output, WritesPart, WritesText, WritesWhole}
+use Rattle.report_lines.specs.Streams.{Output, WritesWhole}
 use Rattle.one_run.specs.declared.fault.RunFault.{RunFault}
 use Rattle.folders.specs.FileSystem.{text_at}
 use Rattle.edit_lines.specs.Pieces.{lines_of}
-use Rattle.cpmrun.specs.FaultReports.{ReportsFaultOrMemory, file_failures, of_load, of_run}
+use Rattle.requests.specs.FaultReports.{EndsWithFault, of_run}
 use Rattle.edit_lines.specs.Faults.{Faults}
 use Rattle.edit_lines.specs.Replay.{Finished, Replays}
 
@@ -51,15 +53,12 @@ BreaksReplay path source s old new (Folders f) = ⊥
 BreaksReplay path source s old new (Refused n) = ⊥
 BreaksReplay path source s old new (Malformed k) = BreaksOffWith (replay_fault.Malformed k) source s old new
 BreaksReplay path source s old new (TooLong k) = BreaksOffWith (replay_fault.LineTooLong k) source s old new
+BreaksReplay path source s old new LineEnd = ⊥
 BreaksReplay path source s old new OutOfMemory = (new ≡ old) ⊎ BreaksOffWith replay_fault.OutOfMemory source s old new
-
--- Some text, as help or the version, was written, or a prefix of it if the result is an error.
-abbrev pub WritesSomeText : {T E : Type 0} → Output → Output → Result T E → Type 0
-WritesSomeText before after r = (text : List ℕ) × WritesText before after text r
 
 -- The session that the words describe, loaded from these files and folders.
 abbrev pub IsSessionOf : World → Words → Session → Type 0
-IsSessionOf before w s = IsLoadedFrom before.files w s
+IsSessionOf before w s = IsLoadedFrom before.files (session_words w) s
 
 -- How a session that the words describe is completed: it is run once, or the edit lines are replayed to their end. `IsReplayed`
 -- holds for the path of the edit lines.
@@ -72,7 +71,7 @@ Completes IsReplayed w s status before after = MatchOption w.edits
 -- failed. `IsReplayed` holds for a replay.
 abbrev pub EndsBy : (Words → Session → List ℕ → Type 0) → List (List ℕ) → ℕ → World → World → Type 0
 EndsBy IsReplayed words status before after = (after.files.failures ≡ before.files.failures) × (
-    (HasErrorClass words Information × (status ≡ 0) × (after.err ≡ before.err) × (after.files.bytes ≡ before.files.bytes) × ((text : List ℕ) × WritesWhole before.out after.out text))
+    (HasErrorClass (run_faults words) Information × (status ≡ 0) × (after.err ≡ before.err) × (after.files.bytes ≡ before.files.bytes) × ((text : List ℕ) × WritesWhole before.out after.out text))
     ⊎ ((w : Words) × AreWords words w × ((s : Session) × IsSessionOf before w s × Completes (IsReplayed w s) w s status before after)))
 
 -- The same, with a replay that writes the text of its lines.
@@ -86,23 +85,15 @@ StopsByFault w s before after fault = MatchOption w.edits
     (λ path. BreaksReplay path.now (text_at before.files.bytes path.now) s before.out after.out fault
     × (after.files.bytes ≡ before.files.bytes))
 
--- Nothing was written.
-abbrev pub WritesNothing : World → World → Type 0
-WritesNothing before after = (after.out ≡ before.out) × (after.files.bytes ≡ before.files.bytes)
-
 -- An error of these words, and what it leaves: an error of the words themselves, of writing help, of loading the session, or of
 -- its run or replay.
 abbrev pub FaultOf : List (List ℕ) → World → World → Fault → Type 0
 FaultOf words before after fault =
-    (FailsToParse words fault × WritesNothing before after)
-    ⊎ (HasErrorClass words Information × (fault ≡ CannotWrite) × ((text : List ℕ) × WritesPart before.out after.out text) × (after.files.bytes ≡ before.files.bytes))
-    ⊎ ((w : Words) × AreWords words w × (((f : LoadFault) × (fault ≡ of_load f) × FailsToLoad before.files w f × WritesNothing before after)
+    (FailsToParse (HasErrorClass (run_faults words)) fault × WritesNothing before after)
+    ⊎ FailsToInform (HasErrorClass (run_faults words)) before after fault
+    ⊎ ((w : Words) × AreWords words w × (FailsToLoadSession (session_words w) before after fault
     ⊎ ((s : Session) × IsSessionOf before w s × StopsByFault w s before after fault)))
 
--- An error occurred and was reported with its status, or "out of memory" if there was no memory to put its value into the
--- message. A call of the file system failed exactly if the error reports that.
-pub record EndsByFault (words : List (List ℕ)) (status : ℕ) (before after : World) : Type 0 where
-  pub fault : Fault
-  pub comes : FaultOf words before after fault
-  pub failed : after.files.failures ≡ before.files.failures + file_failures fault
-  pub telling : ReportsFaultOrMemory fault status before.err after.err
+-- An error of these words occurred and was reported.
+abbrev pub EndsByFault : List (List ℕ) → ℕ → World → World → Type 0
+EndsByFault words status before after = EndsWithFault Cpmrun (FaultOf words before after) status before after

@@ -1,4 +1,3 @@
-pub mod FaultReports
-pub mod Requests
+pub mod AreWords
 pub mod Ends
 pub mod MeteredEnds

@@ -5,15 +5,15 @@ ghost use Rattle.machine.specs.Inputs.{Session};
 ghost use Rattle.replay.specs.Options.{refusal_of};
 ghost use Rattle.replay.specs.RunnerView.{with_no_checkpoint};
 ghost use Rattle.folders.specs.Failures.{CountsFailures, KeepsFiles};
-ghost use Rattle.cpmrun.specs.FaultReports.{file_failures};
-ghost use Rattle.cpmrun.specs.Ends.{BreaksOffWith, BreaksReplay, EndsWithoutFault, EndsByFault, FaultOf, WritesSomeText};
+ghost use Rattle.requests.specs.FaultReports.{file_failures};
+ghost use Rattle.cpmrun.specs.Ends.{BreaksOffWith, BreaksReplay, EndsWithoutFault, EndsByFault, FaultOf};
 ghost use Rattle.cpmrun.specs.MeteredEnds.{MeteredEnds, WritesReplayBy, options_of};
 ghost use Rattle.one_run.specs.World.{world};
 ghost use Rattle.folders.specs.FileSystem.{text_at};
 
 use crate::edit_file::EditFile;
-use crate::fault::{Fault, report_fault};
-use crate::request::{Request, read_request};
+use crate::fault::report_fault;
+use crate::request::read_request;
 use command_words::Words;
 use edit_lines::{Ending, Reader, ReplayFault, Writer, replay};
 use folders::FileSystem;
@@ -21,7 +21,7 @@ use loading::{load, open};
 use machine::{Meter, Session};
 use one_run::run_once;
 use replay::{Options, Runner};
-use report_lines::write_all;
+use requests::{Fault, Request, print_information};
 use std::alloc::Global;
 
 /// Returns the options for checkpoints in the words.
@@ -95,18 +95,6 @@ fn replay_file<'a, S: FileSystem, O: Writer>(
     }
 }
 
-/// Writes help or the version.
-fn print_information<'a, O: Writer>(text: &str, out: &mut O) -> Result<(), Fault<'a>>
-    requires { (O.output out.old).failures < 2 ^ 63 }
-    ensures writes { WritesSomeText (O.output out.old) (O.output out.new) result }
-    ensures fault { IfErr result (λ f. f ≡ Fault.CannotWrite) }
-{
-    match write_all(out, text.as_bytes()) {
-        Ok(()) => Ok(()),
-        Err(_) => Err(Fault::CannotWrite),
-    }
-}
-
 /// Executes the command that the words describe, and returns the exit status if there was no error.
 fn run<'a, S: FileSystem, O: Writer, E: Writer>(
     system: &mut S,
@@ -135,7 +123,7 @@ fn run<'a, S: FileSystem, O: Writer, E: Writer>(
             return Ok(0);
         }
     };
-    let session = load(system, &words)?;
+    let session = load(system, &words.session())?;
     let Some(path) = words.edits else {
         return Ok(run_once(system, &words.out, session, meter, out, err)?);
     };

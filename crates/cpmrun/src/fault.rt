@@ -1,148 +1,17 @@
-ghost use Rattle.std.specs.Prelude.{◌≡◌, ◌^◌, ◌<◌, IfOk, IfSome, IfNone, string_bytes};
-ghost use Rattle.cpmrun.specs.FaultReports.{ReportsFaultOrMemory};
-ghost use Rattle.report_lines.specs.Streams.{WritesOrFails};
+// The errors of the program.
 
-use loading::LoadFault;
-use one_run::RunFault;
-use report_lines::{Writer, write_all};
-use std::alloc::{AllocError, Global};
+ghost use Rattle.std.specs.Prelude.{◌^◌, ◌<◌};
+ghost use Rattle.requests.specs.FaultReports.{ReportsFaultOrMemory};
 
-/// The error with which the program ends, if its status is 1, 2 or 12.
-#[derive(Drop)]
-pub enum Fault<'a> {
-    /// A usage error in the words of the command line, with its message.
-    Usage(String),
-    /// A word of the command line is not UTF-8.
-    NotText,
-    /// The file of this path could not be read.
-    CannotRead(&'a str),
-    /// Standard output could not be written.
-    CannotWrite,
-    /// Folders were not read, or a changed file was not written.
-    Folders(folders::Fault),
-    /// The session was refused, with this number.
-    Refused(u8),
-    /// The edit line of this number is malformed.
-    Malformed(u64),
-    /// The edit line of this number is too long.
-    TooLong(u64),
-    /// An allocation failed.
-    OutOfMemory,
-}
-
-impl<'a> From<LoadFault<'a>> for Fault<'a> {
-    ghost use Rattle.std.specs.Prelude.{◌≡◌};
-    ghost use Rattle.cpmrun.specs.FaultReports.{of_load};
-
-    ghost from_gives = { λ load fault. fault ≡ of_load load };
-
-    fn from(fault: LoadFault<'a>) -> Self {
-        match fault {
-            LoadFault::CannotRead(path) => Fault::CannotRead(path),
-            LoadFault::Folders(fault) => Fault::Folders(fault),
-            LoadFault::Refused(number) => Fault::Refused(number),
-            LoadFault::OutOfMemory => Fault::OutOfMemory,
-        }
-    }
-}
-
-impl From<RunFault> for Fault<'_> {
-    ghost use Rattle.std.specs.Prelude.{◌≡◌};
-    ghost use Rattle.cpmrun.specs.FaultReports.{of_run};
-
-    ghost from_gives = { λ run fault. fault ≡ of_run run };
-
-    fn from(fault: RunFault) -> Self {
-        match fault {
-            RunFault::CannotWrite => Fault::CannotWrite,
-            RunFault::Folders(fault) => Fault::Folders(fault),
-            RunFault::OutOfMemory => Fault::OutOfMemory,
-        }
-    }
-}
-
-/// The message of `clap` for a word that is not UTF-8. `read_words` takes only strings, so it never returns this message.
-const NOT_TEXT: &str = "\
-error: invalid UTF-8 was detected in one or more arguments
-
-Usage: cpmrun [OPTIONS] <PROGRAM> [TAIL]
-
-For more information, try '--help'.
-";
-
-impl Fault<'_> {
-    ghost use Rattle.cpmrun.specs.FaultReports.{NamesAValue, message_of, status_of};
-
-    /// Returns the exit status: 1 for a usage error, an I/O error, invalid host files or a refused session, 2 for an edit line,
-    /// 12 for out of memory.
-    pub fn status(&self) -> u8
-        ensures { result ≡ status_of self.now }
-    {
-        match self {
-            Fault::Malformed(_) | Fault::TooLong(_) => 2,
-            Fault::OutOfMemory => 12,
-            _ => 1,
-        }
-    }
-
-    // Returns the message, if no path, name or number has to be put into it.
-    fn fixed_message(&self) -> Option<&str>
-        ensures some { IfSome result (λ s. s.now ≡ message_of self.now) }
-        ensures none { IfNone result (NamesAValue self.now) }
-    {
-        match self {
-            Fault::Usage(text) => Some(text.as_str()),
-            Fault::NotText => Some(NOT_TEXT),
-            Fault::CannotWrite => Some("cpmrun: cannot write standard output\n"),
-            Fault::OutOfMemory => Some("cpmrun: out of memory\n"),
-            _ => None,
-        }
-    }
-
-    /// Returns the message, each of its lines with its 0AH. It is one line, except for a usage error.
-    pub fn message(&self, alloc: Global) -> Result<String, AllocError>
-        ensures { IfOk result (λ s. string_bytes s ≡ message_of self.now) }
-    {
-        match self {
-            Fault::Usage(text) => String::from_str(alloc, text.as_str()),
-            Fault::NotText => String::from_str(alloc, NOT_TEXT),
-            Fault::CannotRead(path) => format!(in alloc; "cpmrun: cannot read {path}\n"),
-            Fault::CannotWrite => String::from_str(alloc, "cpmrun: cannot write standard output\n"),
-            Fault::Folders(fault) => format!(in alloc; "cpmrun: {fault}\n"),
-            Fault::Refused(number) => format!(in alloc; "cpmrun: session refused {number}\n"),
-            Fault::Malformed(line) => format!(in alloc; "cpmrun: line {line} is malformed\n"),
-            Fault::TooLong(line) => format!(in alloc; "cpmrun: line {line} is too long\n"),
-            Fault::OutOfMemory => String::from_str(alloc, "cpmrun: out of memory\n"),
-        }
-    }
-}
-
-/// Writes a text. A failure of the writer is ignored.
-fn write_message<E: Writer>(err: &mut E, text: &[u8])
-    requires { (E.output err.old).failures < 2 ^ 63 }
-    ensures { WritesOrFails (E.output err.old) (E.output err.new) text.now }
-{
-    let _ = write_all(err, text);
-}
+use report_lines::Writer;
+use requests::{Fault, Tool};
+use std::alloc::Global;
 
 /// Writes the message of an error and returns the status. If there is no memory to put a path, name or number into the message,
 /// it reports out of memory instead. A failure of the writer is ignored.
 pub fn report_fault<E: Writer>(alloc: Global, fault: Fault<'_>, err: &mut E) -> u8
     requires { (E.output err.old).failures < 2 ^ 63 }
-    ensures { ReportsFaultOrMemory fault.entry result (E.output err.old) (E.output err.new) }
+    ensures { ReportsFaultOrMemory Tool.Cpmrun fault.entry result (E.output err.old) (E.output err.new) }
 {
-    if let Some(text) = fault.fixed_message() {
-        write_message(err, text.as_bytes());
-        return fault.status();
-    }
-    match fault.message(alloc) {
-        Ok(text) => {
-            write_message(err, text.as_bytes());
-            fault.status()
-        }
-        Err(AllocError) => {
-            write_message(err, b"cpmrun: out of memory\n".as_slice());
-            Fault::OutOfMemory.status()
-        }
-    }
+    requests::report_fault(alloc, Tool::Cpmrun, fault, err)
 }

@@ -1,8 +1,7 @@
 //! The program except its `main`: the words of its command line, one run or a replay of edit lines, and its errors.
 //!
 //! - `request`: the request in the words of the command line
-//! - `command_line`, `edit_file`, `fault`: the command; the file of its edit lines as a reader; its errors, with their statuses
-//!   and messages
+//! - `command_line`, `edit_file`, `fault`: the command; the file of its edit lines as a reader; the report of its errors
 #![tactic(auto)]
 
 mod command_line;
@@ -15,6 +14,7 @@ pub use command_words::{Words, read_words};
 pub use edit_lines::{
     Command, Ending, Failed, Over, Reader, ReplayFault, Writer, parse_line, refused_line, replay,
 };
-pub use fault::{Fault, report_fault};
+pub use fault::report_fault;
 pub use folders::{FileSystem, SystemFiles};
 pub use report_lines::cause_text;
+pub use requests::Fault;

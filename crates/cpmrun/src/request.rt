@@ -1,39 +1,24 @@
 // The request in the words of the command line.
 
 ghost use Rattle.std.specs.Prelude.{◌≡◌, IfOk, IfErr, map, string_bytes};
-ghost use Rattle.cpmrun.specs.Requests.{IsRequestOf, FailsToParse};
+ghost use Rattle.command_words.specs.RunLine.{run_faults};
+ghost use Rattle.command_words.specs.ErrorClass.{HasErrorClass};
+ghost use Rattle.requests.specs.Requests.{IsRequestOf, FailsToParse};
+ghost use Rattle.cpmrun.specs.AreWords.{AreWords};
 
-use crate::fault::Fault;
-use command_words::{ErrorClass, Words, error_class, read_words};
+use command_words::{Words, error_class, read_words};
+use requests::{Fault, Request, request_of_error};
 use std::alloc::Global;
 
-/// The request in words that are no usage error.
-#[derive(Drop)]
-pub enum Request<'a> {
-    /// A session to be replayed or run once.
-    Session(Words<'a>),
-    /// Help or the version, with the text.
-    Information(String),
-}
-
 /// Returns the request in the words after the program's name.
-pub fn read_request<'a>(alloc: Global, words: &'a [String]) -> Result<Request<'a>, Fault<'a>>
-    ensures request { IfOk result (IsRequestOf (map string_bytes words.entry.now)) }
-    ensures fault { IfErr result (FailsToParse (map string_bytes words.entry.now)) }
+pub fn read_request<'a>(alloc: Global, words: &'a [String]) -> Result<Request<Words<'a>>, Fault<'a>>
+    ensures request { let texts = map string_bytes words.entry.now in
+        IfOk result (IsRequestOf (AreWords texts) (HasErrorClass (run_faults texts))) }
+    ensures fault { IfErr result
+        (FailsToParse (HasErrorClass (run_faults (map string_bytes words.entry.now)))) }
 {
-    let error = match read_words(alloc, words) {
-        Ok(words) => return Ok(Request::Session(words)),
-        Err(error) => error,
-    };
-    let outcome = error_class(&error);
-    if outcome == ErrorClass::OutOfMemory {
-        return Err(Fault::OutOfMemory);
-    }
-    let Ok(text) = format!(in alloc; "{error}") else {
-        return Err(Fault::OutOfMemory);
-    };
-    match outcome {
-        ErrorClass::Information => Ok(Request::Information(text)),
-        _ => Err(Fault::Usage(text)),
+    match read_words(alloc, words) {
+        Ok(words) => Ok(Request::Session(words)),
+        Err(error) => request_of_error(error_class(&error), format!(in alloc; "{error}")),
     }
 }

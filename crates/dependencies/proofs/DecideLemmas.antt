@@ -20,7 +20,7 @@ use Rattle.machine.proofs.ColdLemmas.{cold_ends, cold_stop, cold_limit}
 use Rattle.machine.proofs.WholeLemmas.{plain_machine_is_laid}
 use Rattle.first_looks.specs.declared.question.Question.{Question}
 use Rattle.first_looks.specs.FirstLooks.{FirstLooksView}
-use Rattle.dependencies.specs.Dependencies.{asking_steps, first_asked, AreDependencies, AnswersAlike, RunsAlike, DependenciesDecide}
+use Rattle.dependencies.specs.Dependencies.{asking_steps, first_asked, AreDependencies, AnswersAlike, HasSameRun, DependenciesDecide}
 
 -- ---- the dependencies of a run that ended
 
@@ -79,8 +79,8 @@ module _ (s t : Session) (limits : t.limit ≡ s.limit) (alike : AnswersAlike s 
       ap (first_look (session_answers t) q) (ap (λ (r : RunResult PartialState Cause). asking_steps r.steps t.limit) same_cold ∙ ap (asking_steps (cold_run s).steps) limits)
       ∙ same_first (session_answers s) (session_answers t) q (asking_steps (cold_run s).steps s.limit) agree
 
-  runs_alike : IsSession s → IsSession t → RunsAlike s t
-  runs_alike within other_within = record {
+  has_same_run : IsSession s → IsSession t → HasSameRun s t
+  has_same_run within other_within = record {
     run = same_cold;
     plain = plain_machine_is_laid.runs s within;
     other_plain = plain_machine_is_laid.runs t other_within ∙ ap (plain_run_of t) same_cold;
@@ -88,4 +88,4 @@ module _ (s t : Session) (limits : t.limit ≡ s.limit) (alike : AnswersAlike s 
   }
 
 pub dependencies_decide : DependenciesDecide
-dependencies_decide s t within other_within limits alike = runs_alike s t limits alike within other_within
+dependencies_decide s t within other_within limits alike = has_same_run s t limits alike within other_within

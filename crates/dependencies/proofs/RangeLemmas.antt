@@ -1,53 +1,160 @@
 -- Rows of indexes that have steps.
-use Rattle.std.proofs.Common.{◌≡◌, ℕ, zero, suc, ◌+◌, ◌≤◌, ◌⊎◌, List, [], ◌∷◌, length, Option, Some, None, inl, inr, refl, sym, subst, arith}
-use Rattle.std.proofs.Math.Nat.{eq-or-lt_of_le}
+use Rattle.std.proofs.Common.{◌≡◌, ℕ, ◌+◌, ◌<◌, ◌≤◌, ◌==◌, ◌&&◌, true, false, min, cond, List, [], ◌∷◌, drop, length, Option, Some, None, inl, inr, refl, sym, ap, ◌∙◌, arith}
+use Rattle.std.specs.Prelude.{⊤}
+use Rattle.std.proofs.lemmas.Bool.{cases_lt, eq-eqb, ne_eqb, eqb-true, lt-ltb, le-ltb, and_left, and_right, and_from, and_parts, true≢false}
+use Rattle.std.proofs.lemmas.List.{drop_more, drop_all}
 use Rattle.first_looks.specs.FirstSteps.{step_in}
-use Rattle.dependencies.specs.Ranges.{IsRow, IsNextRange, NoneBetween}
+use Rattle.dependencies.specs.Ranges.{IsFirstRow, earlier, joins, range, before_rows, rows_of, rows_from}
 use Rattle.dependencies.specs.declared.ranges.LookRange.{LookRange}
+use Rattle.dependencies.specs.declared.ranges.Rows.{Rows}
+use Rattle.dependencies.specs.declared.ranges.Rows.TheVariants.{Joined, ByStep}
 
--- No index past the last one has a step.
-pub none_past : (entries : List (Option ℕ)) (k : ℕ) → length entries ≤ k → step_in entries k ≡ None
-none_past [] k past = refl
-none_past (e ∷ entries) zero past = absurd (omega (arith, past))
-none_past (e ∷ entries) (suc k) past = none_past entries k (omega (arith, past))
+-- ---- the lesser of two steps
 
-module _ (entries : List (Option ℕ)) where
-  pub one_row : (first step : ℕ) → step_in entries first ≡ Some step → IsRow entries (record { first = first; last = first; step = step })
-  one_row first step there = record {
-    order = omega arith;
-    each = λ k low high. let here : first ≡ k = omega (arith, low, high) in (step, subst (λ (j : ℕ). step_in entries j ≡ Some step) here there, omega arith);
-    least = (first, omega arith, omega arith, there);
-  }
+lower : (m n : ℕ) → m < n → earlier m n ≡ m
+lower m n l = ap (λ b. cond b m n) (lt-ltb m n l)
 
-  -- A row with one more index.
-  pub longer_row : (r : LookRange) (next m step : ℕ) → IsRow entries r → r.last + 1 ≡ next → step_in entries next ≡ Some m → step ≤ r.step → step ≤ m → (step ≡ r.step) ⊎ (step ≡ m)
-      → IsRow entries (record { first = r.first; last = next; step = step })
-  longer_row r next m step row at there low below which = record {
-    order = omega (arith, row.order, at);
-    each = λ k from upto. elim (eq-or-lt_of_le {n = k} {m = next} upto) [
-      | inl here ↦ (m, subst (λ (j : ℕ). step_in entries j ≡ Some m) (sym here) there, below)
-      | inr before ↦ let (n, has, least) = row.each k from (omega (arith, before, at)) in (n, has, omega (arith, low, least))
-    ];
-    least = elim which [
-      | inl same ↦ let (k, from, upto, has) = row.least in (k, from, omega (arith, upto, at), subst (λ (n : ℕ). step_in entries k ≡ Some n) (sym same) has)
-      | inr same ↦ (next, omega (arith, row.order, at), omega arith, subst (λ (n : ℕ). step_in entries next ≡ Some n) (sym same) there)
-    ];
-  }
+higher : (m n : ℕ) → n ≤ m → earlier m n ≡ n
+higher m n l = ap (λ b. cond b m n) (le-ltb m n l)
 
-  -- A row that ends is the next one from its first index on.
-  pub ended_row : (r : LookRange) (first next : ℕ) → IsRow entries r → r.first ≡ first → r.last + 1 ≡ next → step_in entries next ≡ None → IsNextRange entries first r
-  ended_row r first next row begins at none = record {
-    row = row;
-    from_on = omega (arith, begins);
-    before = λ k low high. absurd (omega (arith, low, high, begins));
-    after = subst (λ (k : ℕ). step_in entries k ≡ None) (sym at) none;
-  }
+pub earlier_is_min : (m n s : ℕ) → s ≡ min m n → s ≡ earlier m n
+earlier_is_min m n s e = elim (cases_lt m n) [
+  | inl l ↦ let a = lower m n l in omega (arith, a, l, e)
+  | inr l ↦ let a = higher m n l in omega (arith, a, l, e)
+]
 
-  -- It is also the next one from an earlier index on, if none between has a step.
-  pub from_before : (r : LookRange) (from first : ℕ) → IsNextRange entries first r → r.first ≡ first → from ≤ first → NoneBetween entries from first → IsNextRange entries from r
-  from_before r from first next begins low none = record {
-    row = next.row;
-    from_on = omega (arith, begins, low);
-    before = λ k above below. none k above (omega (arith, below, begins));
-    after = next.after;
-  }
+earlier_same : (m n : ℕ) → m ≡ n → earlier m n ≡ n
+earlier_same m n e = higher m n (omega (arith, e))
+
+least_of_three : (l m n : ℕ) → earlier l (earlier m n) ≡ earlier (earlier l m) n
+least_of_three l m n = elim (cases_lt m n) [
+  | inl mn ↦ elim (cases_lt l m) [
+    | inl lm ↦ ap (earlier l) (lower m n mn) ∙ lower l m lm ∙ sym (ap (λ k. earlier k n) (lower l m lm) ∙ lower l n (omega (arith, lm, mn)))
+    | inr lm ↦ ap (earlier l) (lower m n mn) ∙ higher l m lm ∙ sym (ap (λ k. earlier k n) (higher l m lm) ∙ lower m n mn)
+  ]
+  | inr mn ↦ elim (cases_lt l m) [
+    | inl lm ↦ ap (earlier l) (higher m n mn) ∙ sym (ap (λ k. earlier k n) (lower l m lm))
+    | inr lm ↦ ap (earlier l) (higher m n mn) ∙ higher l n (omega (arith, lm, mn)) ∙ sym (ap (λ k. earlier k n) (higher l m lm) ∙ higher m n mn)
+  ]
+]
+
+-- ---- rows before others
+
+-- The first of some rows begins at k or behind it.
+abbrev pub BeginsFrom : ℕ → List LookRange → Type 0
+BeginsFrom k [] = ⊤
+BeginsFrom k (q ∷ qs) = k ≤ q.first
+
+before_begins : (rows : Rows) (r : LookRange) (qs : List LookRange) → BeginsFrom r.first (before_rows rows r qs)
+before_begins rows r [] = omega arith
+before_begins rows r (q ∷ qs) = elim (q.first == r.end && joins rows r.step q.step)
+    as (λ b. BeginsFrom r.first (cond b (range r.first q.end (earlier r.step q.step) ∷ qs) (r ∷ q ∷ qs))) [
+      | true ↦ omega arith
+      | false ↦ omega arith
+    ]
+
+later : (k : ℕ) (qs : List LookRange) → BeginsFrom (k + 1) qs → BeginsFrom k qs
+later k [] h = h
+later k (q ∷ qs) h = omega (arith, h)
+
+pub begins : (rows : Rows) (k : ℕ) (steps : List (Option ℕ)) → BeginsFrom k (rows_of rows k steps)
+begins rows k [] = tt
+begins rows k (None ∷ steps) = later k (rows_of rows (k + 1) steps) (begins rows (k + 1) steps)
+begins rows k (Some n ∷ steps) = before_begins rows (range k (k + 1) n) (rows_of rows (k + 1) steps)
+
+-- A row is not joined with rows that begin further behind it.
+pub apart : (rows : Rows) (r : LookRange) (k : ℕ) (qs : List LookRange) → r.end < k → BeginsFrom k qs → before_rows rows r qs ≡ r ∷ qs
+apart rows r k [] far h = refl
+apart rows r k (q ∷ qs) far h =
+    ap (λ b. cond b (range r.first q.end (earlier r.step q.step) ∷ qs) (r ∷ q ∷ qs))
+    (and_left (q.first == r.end) (joins rows r.step q.step) (ne_eqb q.first r.end (λ e. absurd (omega (arith, e, far, h)))))
+
+-- A row is not joined with a row of another step.
+pub unjoined : (rows : Rows) (r : LookRange) (k m : ℕ) (qs : List LookRange) → joins rows r.step m ≡ false
+    → before_rows rows r (before_rows rows (range k (k + 1) m) qs) ≡ r ∷ before_rows rows (range k (k + 1) m) qs
+unjoined Joined r k m qs other = absurd (true≢false other)
+unjoined ByStep r k m [] other =
+    ap (λ b. cond b (range r.first (k + 1) (earlier r.step m) ∷ []) (r ∷ range k (k + 1) m ∷ [])) (and_right (k == r.end) (r.step == m) other)
+unjoined ByStep r k m (q ∷ qs) other = elim (q.first == k + 1 && (m == q.step))
+    as (λ b. (q.first == k + 1 && (m == q.step)) ≡ b → before_rows ByStep r (cond b (range k q.end (earlier m q.step) ∷ qs) (range k (k + 1) m ∷ q ∷ qs)) ≡ r ∷ cond b (range k q.end (earlier m q.step) ∷ qs) (range k (k + 1) m ∷ q ∷ qs)) [
+      | true ↦ λ e. let same : m ≡ q.step = eqb-true m q.step ((and_parts (q.first == k + 1) (m == q.step) e).1) in
+          ap (λ b. cond b (range r.first q.end (earlier r.step (earlier m q.step)) ∷ qs) (r ∷ range k q.end (earlier m q.step) ∷ qs))
+          (and_right (k == r.end) (r.step == earlier m q.step) (ap (λ n. r.step == n) (earlier_same m q.step same ∙ sym same) ∙ other))
+      | false ↦ λ e. ap (λ b. cond b (range r.first (k + 1) (earlier r.step m) ∷ q ∷ qs) (r ∷ range k (k + 1) m ∷ q ∷ qs)) (and_right (k == r.end) (r.step == m) other)
+    ] refl
+
+-- A step that joins another one joins the same as that one does, and the lesser of the two likewise.
+joins_same : (rows : Rows) (n m s : ℕ) → joins rows n m ≡ true → joins rows (earlier n m) s ≡ joins rows m s
+joins_same Joined n m s h = refl
+joins_same ByStep n m s h = ap (λ k. k == s) (earlier_same n m (eqb-true n m h))
+
+joins_all : (rows : Rows) (n m s : ℕ) → joins rows n m ≡ true → joins rows m s ≡ true → joins rows n (earlier m s) ≡ true
+joins_all Joined n m s h more = refl
+joins_all ByStep n m s h more = let e = eqb-true n m h in let f = eqb-true m s more in let g = earlier_same m s f in eq-eqb n (earlier m s) (omega (arith, e, f, g))
+
+-- A row grows by the next index, whose step joins.
+pub longer : (rows : Rows) (r : LookRange) (k m : ℕ) (qs : List LookRange) → r.end ≡ k → joins rows r.step m ≡ true
+    → before_rows rows r (before_rows rows (range k (k + 1) m) qs) ≡ before_rows rows (range r.first (k + 1) (earlier r.step m)) qs
+longer rows r k m [] at joined =
+    ap (λ b. cond b (range r.first (k + 1) (earlier r.step m) ∷ []) (r ∷ range k (k + 1) m ∷ [])) (and_from (k == r.end) (joins rows r.step m) (eq-eqb k r.end (sym at)) joined)
+longer rows r k m (q ∷ qs) at joined = elim (q.first == k + 1 && joins rows m q.step)
+    as (λ b. (q.first == k + 1 && joins rows m q.step) ≡ b
+    → before_rows rows r (cond b (range k q.end (earlier m q.step) ∷ qs) (range k (k + 1) m ∷ q ∷ qs)) ≡ before_rows rows (range r.first (k + 1) (earlier r.step m)) (q ∷ qs)) [
+      | true ↦ λ e. let parts = and_parts (q.first == k + 1) (joins rows m q.step) e in
+          ap (λ b. cond b (range r.first q.end (earlier r.step (earlier m q.step)) ∷ qs) (r ∷ range k q.end (earlier m q.step) ∷ qs))
+          (and_from (k == r.end) (joins rows r.step (earlier m q.step)) (eq-eqb k r.end (sym at)) (joins_all rows r.step m q.step joined parts.1))
+          ∙ ap (λ s. range r.first q.end s ∷ qs) (least_of_three r.step m q.step)
+          ∙ sym (ap (λ b. cond b (range r.first q.end (earlier (earlier r.step m) q.step) ∷ qs) (range r.first (k + 1) (earlier r.step m) ∷ q ∷ qs))
+          (ap (λ b. q.first == k + 1 && b) (joins_same rows r.step m q.step joined) ∙ e))
+      | false ↦ λ e.
+          ap (λ b. cond b (range r.first (k + 1) (earlier r.step m) ∷ q ∷ qs) (r ∷ range k (k + 1) m ∷ q ∷ qs)) (and_from (k == r.end) (joins rows r.step m) (eq-eqb k r.end (sym at)) joined)
+          ∙ sym (ap (λ b. cond b (range r.first q.end (earlier (earlier r.step m) q.step) ∷ qs) (range r.first (k + 1) (earlier r.step m) ∷ q ∷ qs))
+          (ap (λ b. q.first == k + 1 && b) (joins_same rows r.step m q.step joined) ∙ e))
+    ] refl
+
+-- ---- the rows from an index on
+
+-- No index past the last one is in a row.
+pub none_past : (rows : Rows) (entries : List (Option ℕ)) (k : ℕ) → length entries ≤ k → rows_from rows entries k ≡ []
+none_past rows entries k past = ap (rows_of rows k) (drop_all k entries past)
+
+-- An index without a step begins no row.
+pub past_none : (rows : Rows) (entries : List (Option ℕ)) (k : ℕ) → k < length entries → step_in entries k ≡ None → rows_from rows entries k ≡ rows_from rows entries (k + 1)
+past_none rows entries k below none = ap (rows_of rows k) (drop_more entries k None below ∙ ap (λ e. e ∷ drop (k + 1) entries) none)
+
+-- An index with a step is a row before the others.
+pub at_some : (rows : Rows) (entries : List (Option ℕ)) (k n : ℕ) → k < length entries → step_in entries k ≡ Some n
+    → rows_from rows entries k ≡ before_rows rows (range k (k + 1) n) (rows_from rows entries (k + 1))
+at_some rows entries k n below some = ap (rows_of rows k) (drop_more entries k None below ∙ ap (λ e. e ∷ drop (k + 1) entries) some)
+
+-- ---- the row that begins at an index
+
+module _ (rows : Rows) (entries : List (Option ℕ)) (r : LookRange) where
+  -- A row is the first one, if nothing behind it joins it.
+  pub ended : (first : ℕ) → rows_from rows entries first ≡ before_rows rows r (rows_from rows entries r.end) → first < r.end → r.end ≤ length entries
+      → before_rows rows r (rows_from rows entries r.end) ≡ r ∷ rows_from rows entries r.end → IsFirstRow rows entries first r
+  ended first left low within alone = record { first = left ∙ alone; from_on = low; within = within }
+
+  pub alone_past : length entries ≤ r.end → before_rows rows r (rows_from rows entries r.end) ≡ r ∷ rows_from rows entries r.end
+  alone_past past = let none = none_past rows entries r.end past in ap (before_rows rows r) none ∙ ap (λ qs. r ∷ qs) (sym none)
+
+  pub alone_none : r.end < length entries → None ≡ step_in entries r.end → before_rows rows r (rows_from rows entries r.end) ≡ r ∷ rows_from rows entries r.end
+  alone_none below none =
+      let next = past_none rows entries r.end below (sym none) in
+      ap (before_rows rows r) next
+      ∙ apart rows r (r.end + 1) (rows_from rows entries (r.end + 1)) (omega arith) (begins rows (r.end + 1) (drop (r.end + 1) entries))
+      ∙ ap (λ qs. r ∷ qs) (sym next)
+
+  pub alone_other : (m : ℕ) → r.end < length entries → Some m ≡ step_in entries r.end → false ≡ joins rows r.step m
+      → before_rows rows r (rows_from rows entries r.end) ≡ r ∷ rows_from rows entries r.end
+  alone_other m below some other =
+      let here = at_some rows entries r.end m below (sym some) in
+      ap (before_rows rows r) here ∙ unjoined rows r r.end m (rows_from rows entries (r.end + 1)) (sym other) ∙ ap (λ qs. r ∷ qs) (sym here)
+
+  -- The row has one more index.
+  pub grown : (first m s : ℕ) → rows_from rows entries first ≡ before_rows rows r (rows_from rows entries r.end) → r.end < length entries → Some m ≡ step_in entries r.end
+      → true ≡ joins rows r.step m → s ≡ min r.step m → rows_from rows entries first ≡ before_rows rows (range r.first (r.end + 1) s) (rows_from rows entries (r.end + 1))
+  grown first m s left below some joined least =
+      left ∙ ap (before_rows rows r) (at_some rows entries r.end m below (sym some))
+      ∙ longer rows r r.end m (rows_from rows entries (r.end + 1)) refl (sym joined)
+      ∙ ap (λ n. before_rows rows (range r.first (r.end + 1) n) (rows_from rows entries (r.end + 1))) (sym (earlier_is_min r.step m s least))

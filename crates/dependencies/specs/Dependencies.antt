@@ -42,7 +42,7 @@ AnswersAlike s t = (q : Question) (step : ℕ) → first_asked s q ≡ Some step
 
 -- Both sessions have the same run: the same registers, text and other state of the console, the same bytes written to the same cells,
 -- the same done to the files, the same number of steps and the same cause.
-pub record RunsAlike (s t : Session) : Type 0 where
+pub record HasSameRun (s t : Session) : Type 0 where
   pub run : cold_run t ≡ cold_run s
   -- On the plain machine, memory and files at the end are what this run wrote, laid over its own session.
   pub plain : plain_run s ≡ plain_run_of s (cold_run s)
@@ -52,4 +52,4 @@ pub record RunsAlike (s t : Session) : Type 0 where
 
 -- A run depends on nothing else than what it asks.
 abbrev pub DependenciesDecide : Type 0
-DependenciesDecide = (s t : Session) → IsSession s → IsSession t → t.limit ≡ s.limit → AnswersAlike s t → RunsAlike s t
+DependenciesDecide = (s t : Session) → IsSession s → IsSession t → t.limit ≡ s.limit → AnswersAlike s t → HasSameRun s t

@@ -11,4 +11,4 @@ mod ranges;
 
 pub use dependencies::Dependencies;
 pub use laws::dependencies_decide;
-pub use ranges::{LookRange, StepTable, next_range};
+pub use ranges::{LookRange, Rows, StepTable, next_range};

@@ -1,8 +1,8 @@
 // Indexes in a row that were asked for.
 
-ghost use Rattle.std.specs.Prelude.{◌≡◌, ◌≤◌, ◌<◌, ℕ, Some, None, IfSome, IfNone, length};
+ghost use Rattle.std.specs.Prelude.{◌≡◌, ◌<◌, [], Some, IfSome, IfNone, length};
 ghost use Rattle.first_looks.specs.FirstSteps.{step_in};
-ghost use Rattle.dependencies.specs.Ranges.{IsNextRange, NoneBetween};
+ghost use Rattle.dependencies.specs.Ranges.{IsFirstRow, joins, rows_from};
 
 use first_looks::{FirstSteps, SequentialSteps};
 
@@ -11,10 +11,31 @@ use first_looks::{FirstSteps, SequentialSteps};
 pub struct LookRange {
     /// The first index.
     pub first: usize,
-    /// The last index.
-    pub last: usize,
+    /// The index behind the last one.
+    pub end: usize,
     /// The first step that asked for one of them.
     pub step: u64,
+}
+
+/// Which neighbours belong to one row.
+#[derive(Clone, Copy, Debug, PartialEq, Eq)]
+pub enum Rows {
+    /// All of them.
+    Joined,
+    /// Those that the same step asked for first.
+    ByStep,
+}
+
+impl Rows {
+    // Returns whether neighbours with these steps belong to one row.
+    fn join(self, first: u64, second: u64) -> bool
+        ensures { result ≡ joins self first second }
+    {
+        match self {
+            Rows::Joined => true,
+            Rows::ByStep => first == second,
+        }
+    }
 }
 
 /// For each index of one kind the first step that asked for it, if there is one.
@@ -56,44 +77,42 @@ impl StepTable for SequentialSteps {
     }
 }
 
-/// Returns the next indexes in a row, from `from` on, that were asked for, as many as there are; `None` if no index from `from` on
-/// was asked for.
-pub fn next_range<T: StepTable>(table: &T, from: usize) -> Option<LookRange>
-    ensures some { IfSome result (λ r. IsNextRange (T.steps table.now) from r) }
-    ensures none { IfNone result (NoneBetween (T.steps table.now) from (length (T.steps table.now))) }
+/// Returns the first row of the indexes from `from` on; `None` if no index from `from` on was asked for.
+pub fn next_range<T: StepTable>(table: &T, rows: Rows, from: usize) -> Option<LookRange>
+    ensures some { IfSome result (λ r. IsFirstRow rows (T.steps table.now) from r) }
+    ensures none { IfNone result (rows_from rows (T.steps table.now) from ≡ []) }
 {
     let end = table.end();
     let mut first = from;
     while first < end {
         if let Some(step) = table.step_at(first) {
-            return Some(range_from(table, first, step, end));
+            return Some(range_from(table, rows, first, step, end));
         }
         first += 1;
     }
     None
 }
 
-// Returns the indexes in a row that begin with this one, which `step` asked for first.
-fn range_from<T: StepTable>(table: &T, first: usize, step: u64, end: usize) -> LookRange
+// Returns the row that begins with this index, which `step` asked for first.
+fn range_from<T: StepTable>(table: &T, rows: Rows, first: usize, step: u64, end: usize) -> LookRange
     requires end { end ≡ length (T.steps table.now) }
     requires first { first < end }
     requires there { step_in (T.steps table.now) first ≡ Some step }
-    ensures first { result.first ≡ first }
-    ensures range { IsNextRange (T.steps table.now) first result }
+    ensures { IsFirstRow rows (T.steps table.now) first result }
 {
     let mut range = LookRange {
         first,
-        last: first,
+        end: first + 1,
         step,
     };
-    let mut next = first + 1;
-    while next < end {
-        let Some(step) = table.step_at(next) else {
-            return range;
-        };
-        range.last = next;
-        range.step = range.step.min(step);
-        next += 1;
+    while range.end < end {
+        match table.step_at(range.end) {
+            Some(step) if rows.join(range.step, step) => {
+                range.end += 1;
+                range.step = range.step.min(step);
+            }
+            _ => return range,
+        }
     }
     range
 }

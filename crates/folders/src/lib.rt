@@ -13,9 +13,9 @@ mod listing;
 mod reading;
 mod writing;
 
-pub use fault::{Failure, Fault};
+pub use fault::{Failure, Fault, read_failure};
 pub use file_system::{Contents, FileSystem, InputFile, SystemFile, SystemFiles};
 pub use folder_names::{file_name, name_in_folder, path_in, temporary_name};
 pub use listing::Listing;
-pub use reading::{read_folder, read_folders};
+pub use reading::{list, read_folder, read_folders};
 pub use writing::{write_file, write_to_drive};

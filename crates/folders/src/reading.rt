@@ -84,8 +84,8 @@ fn add_file<S: FileSystem>(
     Ok(())
 }
 
-// Returns the host files in the folder of a drive.
-fn list<S: FileSystem>(system: &mut S, drive: Drive, folder: &str) -> io::Result<Listing>
+/// Lists the host files in the folder of a drive, by their names.
+pub fn list<S: FileSystem>(system: &mut S, drive: Drive, folder: &str) -> io::Result<Listing>
     requires { (S.files system.old).failures < 2 ^ 63 }
     ensures drive { IfOk result (λ listing. listing.drive ≡ drive) }
     ensures lists { IfOk result (λ listing. IfSome (S.files system.old).bytes (λ stored.

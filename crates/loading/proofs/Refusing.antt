@@ -1,7 +1,7 @@
 -- A session that is made or refused, by the words.
 use Rattle.std.proofs.Common.{◌≡◌, ◌∙◌, ℕ, List, Some, None, Result, Ok, Err, IfErr, inr, refl, sym, ap}
 use Rattle.command_words.specs.CommandLine.{text_of}
-use Rattle.command_words.specs.declared.words.Words.{Words}
+use Rattle.command_words.specs.declared.words.SessionWords.{SessionWords}
 use Rattle.hostfiles.specs.Hosts.{Host}
 use Rattle.machine.specs.Inputs.{Session}
 use Rattle.machine.specs.Session.{session_or_refusal}
@@ -13,7 +13,7 @@ use Rattle.loading.specs.declared.fault.LoadFault.TheVariants.{CannotRead, Folde
 use Rattle.loading.specs.Loading.{IsProgramOf, IsScriptOf, MadeOrRefused, FailsToLoad, IsReadFaultOf, IsReadFaultIfAny}
 
 -- A refusal of the session is a refusal of the words.
-pub refused_of_words : (stored : StoredFiles) (w : Words) (program : List ℕ) (files : Host) (script : List ℕ) (r : Result Session LoadFault)
+pub refused_of_words : (stored : StoredFiles) (w : SessionWords) (program : List ℕ) (files : Host) (script : List ℕ) (r : Result Session LoadFault)
     → IsProgramOf stored w program → AreFromFolders stored w.files files → IsScriptOf stored w script
     → MadeOrRefused (session_or_refusal program w.tail.now files script w.limit) r → IfErr r (FailsToLoad stored w)
 refused_of_words stored w program files script (Ok s) p a b h = tt
@@ -24,7 +24,7 @@ refused_of_words stored w program files script (Err (Refused n)) p a b h =
 refused_of_words stored w program files script (Err OutOfMemory) p a b h = absurd h
 
 -- If the script cannot be read, no session is loaded.
-pub script_unread : (stored : StoredFiles) (w : Words) (f : LoadFault) → IsReadFaultIfAny (text_of w.console) f → FailsToLoad stored w f
+pub script_unread : (stored : StoredFiles) (w : SessionWords) (f : LoadFault) → IsReadFaultIfAny (text_of w.console) f → FailsToLoad stored w f
 script_unread stored w f h = by_path (text_of w.console) refl h where
   by_fault : (path : Path) → text_of w.console ≡ Some path → (f : LoadFault) → IsReadFaultOf path f → FailsToLoad stored w f
   by_fault path e (CannotRead p) h = inr (e ∙ ap Some (sym h))

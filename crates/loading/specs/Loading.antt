@@ -1,7 +1,7 @@
 -- The session that is loaded from the files of the command line, and why none is. (This project's profile.)
 use Rattle.std.specs.Prelude.{◌≡◌, ◌+◌, ℕ, ◌⊎◌, List, [], Option, Some, None, Result, Ok, Err}
 use Rattle.command_words.specs.CommandLine.{text_of}
-use Rattle.command_words.specs.declared.words.Words.{Words}
+use Rattle.command_words.specs.declared.words.SessionWords.{SessionWords}
 use Rattle.hostfiles.specs.Hosts.{Host}
 use Rattle.folders.specs.FileSystem.{FileBytes, ReadsFile, StoredFiles}
 use Rattle.folders.specs.Folders.{AreFromFolders, FailsFolders}
@@ -13,7 +13,7 @@ use Rattle.loading.specs.declared.fault.LoadFault.{LoadFault}
 use Rattle.loading.specs.declared.fault.LoadFault.TheVariants.{CannotRead, Folders, Refused, OutOfMemory}
 
 -- The bytes of a program: the file PROGRAM, of which at most one byte more is read than a session takes.
-abbrev pub IsProgramOf : StoredFiles → Words → List ℕ → Type 0
+abbrev pub IsProgramOf : StoredFiles → SessionWords → List ℕ → Type 0
 IsProgramOf files w program = ReadsFile files.bytes w.program.now (PROGRAM_LIMIT + 1) program
 
 -- The bytes of a script: none without a path, or else its file, of which at most one byte more is read than a session takes.
@@ -21,11 +21,11 @@ abbrev pub IsScriptAt : Option FileBytes → Option (List ℕ) → List ℕ → 
 IsScriptAt files None script = script ≡ []
 IsScriptAt files (Some path) script = ReadsFile files path (SCRIPT_LIMIT + 1) script
 
-abbrev pub IsScriptOf : StoredFiles → Words → List ℕ → Type 0
+abbrev pub IsScriptOf : StoredFiles → SessionWords → List ℕ → Type 0
 IsScriptOf files w script = IsScriptAt files.bytes (text_of w.console) script
 
 -- The session of the files that the words name, with the tail and the limit of the words.
-pub record IsLoadedFrom (stored : StoredFiles) (w : Words) (s : Session) : Type 0 where
+pub record IsLoadedFrom (stored : StoredFiles) (w : SessionWords) (s : Session) : Type 0 where
   pub program : IsProgramOf stored w s.program
   pub tail : s.tail ≡ w.tail.now
   pub files : AreFromFolders stored w.files s.files
@@ -33,7 +33,7 @@ pub record IsLoadedFrom (stored : StoredFiles) (w : Words) (s : Session) : Type 
   pub limit : s.limit ≡ w.limit
 
 -- Such a session is refused with this number.
-pub record IsSessionRefusal (stored : StoredFiles) (w : Words) (n : ℕ) : Type 0 where
+pub record IsSessionRefusal (stored : StoredFiles) (w : SessionWords) (n : ℕ) : Type 0 where
   pub program : List ℕ
   pub files : Host
   pub script : List ℕ
@@ -63,7 +63,7 @@ IsReadFaultIfAny None f = ⊥
 IsReadFaultIfAny (Some path) f = IsReadFaultOf path f
 
 -- Why no session is loaded from the files of the words.
-abbrev pub FailsToLoad : StoredFiles → Words → LoadFault → Type 0
+abbrev pub FailsToLoad : StoredFiles → SessionWords → LoadFault → Type 0
 FailsToLoad files w (CannotRead p) = (p.now ≡ w.program.now) ⊎ (text_of w.console ≡ Some p.now)
 FailsToLoad files w (Folders f) = FailsFolders files w.files (AtFault f)
 FailsToLoad files w (Refused n) = IsSessionRefusal files w n

@@ -9,7 +9,7 @@ ghost use Rattle.loading.specs.Faults.{load_failures};
 ghost use Rattle.loading.specs.Loading.{IsLoadedFrom, IsScriptAt, MadeOrRefused, FailsToLoad, IsReadFaultOf, IsReadFaultIfAny};
 
 use crate::fault::LoadFault;
-use command_words::Words;
+use command_words::SessionWords;
 use folders::{FileSystem, read_folders};
 use hostfiles::HostFiles;
 use machine::{PROGRAM_LIMIT, SCRIPT_LIMIT, Session};
@@ -89,7 +89,7 @@ fn script_at<'a, S: FileSystem>(
 }
 
 /// Returns a copy of the command tail.
-fn tail_of<'a>(alloc: Global, words: &Words<'a>) -> Result<Vec<u8>, LoadFault<'a>>
+fn tail_of<'a>(alloc: Global, words: &SessionWords<'a>) -> Result<Vec<u8>, LoadFault<'a>>
     ensures tail { IfOk result (λ tail. tail.items ≡ words.now.tail.now) }
     ensures memory { IfErr result (λ fault. fault ≡ LoadFault.OutOfMemory) }
 {
@@ -120,7 +120,10 @@ fn session_of<'a>(
 /// # Errors
 ///
 /// Returns `Err` if a file or a folder cannot be read or is refused, if the session is refused, or if an allocation fails.
-pub fn load<'a, S: FileSystem>(system: &mut S, words: &Words<'a>) -> Result<Session, LoadFault<'a>>
+pub fn load<'a, S: FileSystem>(
+    system: &mut S,
+    words: &SessionWords<'a>,
+) -> Result<Session, LoadFault<'a>>
     requires { (S.files system.old).failures < 2 ^ 63 }
     ensures session { IfOk result (IsLoadedFrom (S.files system.old) words.now) }
     ensures fault { IfErr result (FailsToLoad (S.files system.old) words.now) }

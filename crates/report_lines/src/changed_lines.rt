@@ -86,8 +86,8 @@ fn write_changed<W: Writer>(writer: &mut W, changed: &ChangedFile<'_>) -> Result
     write_all(writer, b"\n")
 }
 
-// Writes a word with its blank, and then a name.
-fn write_head<W: Writer>(writer: &mut W, word: &[u8], name: &Name) -> Result<(), Failed>
+/// Writes a word with its blank, and then a name. If the writer fails, a prefix of this is written.
+pub fn write_head<W: Writer>(writer: &mut W, word: &[u8], name: &Name) -> Result<(), Failed>
     requires { (W.output writer.old).failures < 2 ^ 63 }
     ensures { WritesText (W.output writer.old) (W.output writer.new)
         (word.now ++ display_text name.now) result }

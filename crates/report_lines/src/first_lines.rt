@@ -34,7 +34,7 @@ fn push_byte<const N: usize>(text: &mut ArrayString<N>, value: u8)
 }
 
 /// Appends the four digits of a word, the high byte first.
-fn push_word<const N: usize>(text: &mut ArrayString<N>, value: u16)
+pub fn push_word<const N: usize>(text: &mut ArrayString<N>, value: u16)
     requires { array_string_len text.old + 4 ≤ N }
     ensures digits { text.new.bytes ≡ text.old.bytes ++ word_text value }
     ensures len { array_string_len text.new ≡ array_string_len text.old + 4 }
@@ -44,7 +44,7 @@ fn push_word<const N: usize>(text: &mut ArrayString<N>, value: u16)
 }
 
 /// Returns the name of a cause with its value, as a report has it.
-fn cause_words(cause: Cause) -> ArrayString<64>
+pub fn cause_words(cause: Cause) -> ArrayString<64>
     ensures { result.bytes ≡ texts.cause_text cause }
 {
     let mut text = ArrayString::new();

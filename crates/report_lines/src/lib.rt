@@ -10,6 +10,7 @@ mod first_lines;
 mod hex_writer;
 mod streams;
 
-pub use changed_lines::{FileFilter, write_changed_files};
-pub use first_lines::{cause_text, report_head, write_text};
+pub use changed_lines::{FileFilter, write_changed_files, write_head};
+pub use first_lines::{cause_text, cause_words, push_word, report_head, write_text};
+pub use hex_writer::write_hex;
 pub use streams::{Failed, Over, Reader, Writer, write_all};

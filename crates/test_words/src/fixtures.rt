@@ -60,8 +60,8 @@ macro_rules! read {
 
 pub(crate) use read;
 
-// Returns words that own their texts.
-fn owned(alloc: Global, words: &[&str]) -> Result<Vec<String>, AllocError> {
+/// Returns words that own their texts.
+pub fn owned(alloc: Global, words: &[&str]) -> Result<Vec<String>, AllocError> {
     let mut list = Vec::new(alloc);
     for word in words {
         list.push(String::from_str(alloc, word)?)?;
@@ -96,7 +96,8 @@ fn is_read(words: &Words<'_>, wanted: Wanted<'_>) -> bool {
     }
 }
 
-fn has_parts(text: &str, parts: &[&str]) -> bool {
+/// Whether a text has each of these parts.
+pub fn has_parts(text: &str, parts: &[&str]) -> bool {
     for part in parts {
         if !text.contains(*part) {
             return false;

@@ -1,9 +1,12 @@
-//! The tests of the words of the command line.
+//! The tests of the words of the command lines.
 //!
 //! - `options`, `numbers`, `faults`: tests of each option, of numbers at the ends of their ranges, of help and of usage errors
+//! - `dependency_words`: the same for `cpmdeps`
 //! - `fixtures`: the results of words that a caller gives
 #![tactic(auto)]
 
+#[cfg(test)]
+mod dependency_words;
 #[cfg(test)]
 mod faults;
 #[cfg(test)]

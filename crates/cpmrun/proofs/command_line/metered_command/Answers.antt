@@ -1,5 +1,6 @@
 use Rattle.std.proofs.Common.{inr}
-use Rattle.cpmrun.proofs.Telling.{faults_are_told}
+use Rattle.requests.specs.declared.tool.Tool.TheVariants.{Cpmrun}
+use Rattle.requests.proofs.Statuses.{faults_are_told}
 use Rattle.cpmrun.proofs.command_line.metered_command.Goals as goal
 
 pub returns-in-Err-clause-ends : goal.returns-in-Err-clause-ends
@@ -11,4 +12,4 @@ returns-in-Err-clause-ends g c = inr (record {
 })
 
 pub returns-in-Err-clause-done : goal.returns-in-Err-clause-done
-returns-in-Err-clause-done g c zero = absurd (faults_are_told c.in-Err.fault c.report_fault.result _ _ c.report_fault.ensures zero)
+returns-in-Err-clause-done g c zero = absurd (faults_are_told Cpmrun c.in-Err.fault c.report_fault.result _ _ c.report_fault.ensures zero)

@@ -11,7 +11,7 @@ returns-in_default-clause-done g c =
     ran_once _ c.in-Session.words are c.in_ok-session.session
     (world (g.S.FileSystem.files c.args.system.now) (g.O.Writer.output c.args.out.now) (g.E.Writer.output c.args.err.now))
     (world (g.S.FileSystem.files c.run_once.new.system) (g.O.Writer.output c.run_once.new.out) (g.E.Writer.output c.run_once.new.err))
-    c.run_once.new.meter c.in_ok-session.ensures.session c.in_ok-run_once.field-0 c.in_default.is
+    c.run_once.new.meter (rw c.session.ensures at c.in_ok-session.ensures.session) c.in_ok-run_once.field-0 c.in_default.is
     (c.in_ok-run_once.ensures.failures ∙ c.in_ok-session.ensures.unchanged.failures) (rw (same_files c.in_ok-session.ensures.unchanged) at c.in_ok-run_once.ensures.done)
 
 pub returns-in_err-run_once-clause-fault : goal.returns-in_err-run_once-clause-fault
@@ -21,7 +21,7 @@ returns-in_err-run_once-clause-fault g c =
     run_broken _ c.in-Session.words are c.in_ok-session.session
     (world (g.S.FileSystem.files c.args.system.now) (g.O.Writer.output c.args.out.now) (g.E.Writer.output c.args.err.now))
     (world (g.S.FileSystem.files c.run_once.new.system) (g.O.Writer.output c.run_once.new.out) (g.E.Writer.output c.run_once.new.err))
-    0 c.in_ok-session.ensures.session _ c.in_err-run_once.field-0.0 (left.1 ∙ ap Err left.2) c.in_default.is
+    0 (rw c.session.ensures at c.in_ok-session.ensures.session) _ c.in_err-run_once.field-0.0 (left.1 ∙ ap Err left.2) c.in_default.is
     (rw (same_files c.in_ok-session.ensures.unchanged) at c.in_err-run_once.ensures.fault)
 
 pub returns-in_err-replay_file-clause-fault : goal.returns-in_err-replay_file-clause-fault
@@ -31,7 +31,7 @@ returns-in_err-replay_file-clause-fault g c =
     replay_broken _ c.in-Session.words are c.in_ok-session.session
     (world (g.S.FileSystem.files c.args.system.now) (g.O.Writer.output c.args.out.now) (g.E.Writer.output c.args.err.now))
     (world (g.S.FileSystem.files c.replay_file.new.system) (g.O.Writer.output c.replay_file.new.out) (g.E.Writer.output c.args.err.now))
-    0 c.in_ok-session.ensures.session _ c.in_err-replay_file.field-0.0 c.in-Some.path
+    0 (rw c.session.ensures at c.in_ok-session.ensures.session) _ c.in_err-replay_file.field-0.0 c.in-Some.path
     (left.1 ∙ ap Err left.2) c.in-Some.is (c.replay_file.ensures.unchanged.bytes ∙ c.load.ensures.unchanged.bytes)
     (rw c.load.ensures.unchanged.bytes at c.in_err-replay_file.ensures.fault)
 
@@ -41,6 +41,6 @@ returns-clause-done g c =
     replayed _ c.in-Session.words are c.in_ok-session.session
     (world (g.S.FileSystem.files c.args.system.now) (g.O.Writer.output c.args.out.now) (g.E.Writer.output c.args.err.now))
     (world (g.S.FileSystem.files c.replay_file.new.system) (g.O.Writer.output c.replay_file.new.out) (g.E.Writer.output c.args.err.now))
-    c.replay_file.new.meter c.in_ok-session.ensures.session c.in-Some.path c.in-Some.is refl (c.replay_file.ensures.unchanged.bytes ∙ c.load.ensures.unchanged.bytes)
+    c.replay_file.new.meter (rw c.session.ensures at c.in_ok-session.ensures.session) c.in-Some.path c.in-Some.is refl (c.replay_file.ensures.unchanged.bytes ∙ c.load.ensures.unchanged.bytes)
     (c.in_ok-replay_file.ensures.unchanged.failures ∙ c.in_ok-session.ensures.unchanged.failures)
     (rw (c.load.ensures.unchanged.bytes, c.options.ensures) at c.in_ok-replay_file.ensures.done)

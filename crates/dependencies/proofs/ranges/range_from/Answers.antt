@@ -1,40 +1,40 @@
-use Rattle.std.proofs.Common.{inl, inr, refl, sym, arith}
-use Rattle.std.proofs.lemmas.Bool.{cases_lt}
-use Rattle.dependencies.proofs.RangeLemmas.{one_row, longer_row, ended_row, none_past}
+use Rattle.std.proofs.Common.{refl, arith}
+use Rattle.dependencies.proofs.RangeLemmas.{alone_none, alone_other, alone_past, at_some, ended, grown}
 use Rattle.dependencies.proofs.ranges.range_from.Goals as goal
 
-pub loop-next-init : goal.loop-next-init
-loop-next-init g c = record {
-  row = one_row _ c.args.first c.args.step c.requires.there;
-  at = refl;
+pub loop-range-init : goal.loop-range-init
+loop-range-init g c = record {
+  left = at_some _ _ c.args.first c.args.step (omega (arith, c.requires.first, c.requires.end)) c.requires.there;
   begins = refl;
+  low = omega arith;
   within = omega (arith, c.requires.first);
 }
 
-pub returns-in_default-clause-first : goal.returns-in_default-clause-first
-returns-in_default-clause-first g c = c.loop-next.invariant.begins
-
-pub returns-in_default-clause-range : goal.returns-in_default-clause-range
-returns-in_default-clause-range g c =
-    let i = c.loop-next.invariant in
-    ended_row _ c.loop-next.range c.args.first c.loop-next.next i.row i.begins i.at (sym c.in_default.ensures)
-
-pub loop-next-preserved : goal.loop-next-preserved
-loop-next-preserved g c =
-    let i = c.loop-next.invariant in
+pub loop-range-preserved : goal.loop-range-preserved
+loop-range-preserved g c =
+    let i = c.loop-range.invariant in
     record {
-      row = longer_row _ c.loop-next.range c.loop-next.next c.in-Some.step c.min.result i.row i.at (sym c.in-Some.ensures)
-          (omega (arith, c.min.ensures)) (omega (arith, c.min.ensures))
-          (elim (cases_lt c.min.result c.loop-next.range.step) [ inl l ↦ inr (omega (arith, l, c.min.ensures)) | inr l ↦ inl (omega (arith, l, c.min.ensures)) ]);
-      at = refl;
+      left = grown _ _ c.loop-range.range c.args.first c.in-Some.step c.min.result i.left (omega (arith, c.loop-range-test.true, c.requires.end))
+          c.in-Some.ensures c.if-join.ensures c.min.ensures;
       begins = i.begins;
-      within = omega (arith, c.loop-next-test.true);
+      low = omega (arith, i.low);
+      within = omega (arith, c.loop-range-test.true);
     }
 
-pub returns-clause-first : goal.returns-clause-first
-returns-clause-first g c = c.loop-next.invariant.begins
+pub returns-in_default-2 : goal.returns-in_default-2
+returns-in_default-2 g c =
+    let i = c.loop-range.invariant in
+    ended _ _ c.loop-range.range c.args.first i.left i.low (omega (arith, c.loop-range-test.true, c.requires.end))
+    (alone_none _ _ c.loop-range.range (omega (arith, c.loop-range-test.true, c.requires.end)) c.in_default.ensures)
 
-pub returns-clause-range : goal.returns-clause-range
-returns-clause-range g c =
-    let i = c.loop-next.invariant in
-    ended_row _ c.loop-next.range c.args.first c.loop-next.next i.row i.begins i.at (none_past _ c.loop-next.next (omega (arith, c.requires.end)))
+pub returns-in_default : goal.returns-in_default
+returns-in_default g c =
+    let i = c.loop-range.invariant in
+    ended _ _ c.loop-range.range c.args.first i.left i.low (omega (arith, c.loop-range-test.true, c.requires.end))
+    (alone_other _ _ c.loop-range.range c.in-Some.step (omega (arith, c.loop-range-test.true, c.requires.end)) c.in-Some.ensures c.if-join.ensures)
+
+pub returns : goal.returns
+returns g c =
+    let i = c.loop-range.invariant in
+    ended _ _ c.loop-range.range c.args.first i.left i.low (omega (arith, i.within, c.requires.end))
+    (alone_past _ _ c.loop-range.range (omega (arith, c.requires.end)))

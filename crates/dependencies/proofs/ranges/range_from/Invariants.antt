@@ -1,14 +1,14 @@
-use Rattle.std.proofs.Common.{◌≡◌, ◌+◌, ◌-◌, ◌≤◌}
-use Rattle.dependencies.specs.Ranges.{IsRow}
+use Rattle.std.proofs.Common.{◌≡◌, ◌-◌, ◌<◌, ◌≤◌}
+use Rattle.dependencies.specs.Ranges.{before_rows, rows_from}
 use Rattle.dependencies.proofs.ranges.range_from.Given as goal
 
-abbrev pub invariant-loop-next : goal.invariant-loop-next
-invariant-loop-next g l = record {
-  row : IsRow (g.T.StepTable.steps l.table) l.range;
-  at : l.range.last + 1 ≡ l.next;
+abbrev pub invariant-loop-range : goal.invariant-loop-range
+invariant-loop-range g l = record {
+  left : rows_from l.rows (g.T.StepTable.steps l.table) l.first ≡ before_rows l.rows l.range (rows_from l.rows (g.T.StepTable.steps l.table) l.range.end);
   begins : l.range.first ≡ l.first;
-  within : l.next ≤ l.end;
+  low : l.first < l.range.end;
+  within : l.range.end ≤ l.end;
 }
 
-abbrev pub decreases-loop-next : goal.decreases-loop-next
-decreases-loop-next g l = l.end - l.next
+abbrev pub decreases-loop-range : goal.decreases-loop-range
+decreases-loop-range g l = l.end - l.range.end

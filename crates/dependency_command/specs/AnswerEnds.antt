@@ -1,0 +1,55 @@
+-- The ways in which `cpmdeps` ends. (This project's profile.)
+use Rattle.std.specs.Prelude.{◌≡◌, ℕ, ◌⊎◌, true, false, List}
+use Rattle.command_words.specs.DependencyLine.{dependency_faults}
+use Rattle.command_words.specs.ErrorClass.{HasErrorClass}
+use Rattle.command_words.specs.declared.error_classes.ErrorClass.TheVariants.{Information}
+use Rattle.command_words.specs.declared.words.DependencyWords.{DependencyWords}
+use Rattle.folders.specs.FileSystem.{StoredFiles}
+use Rattle.loading.specs.Loading.{IsLoadedFrom}
+use Rattle.machine.specs.Inputs.{Session}
+use Rattle.make_rules.specs.Drives.{FailsToListAny}
+use Rattle.one_run.specs.World.{World}
+use Rattle.report_lines.specs.Streams.{WritesWhole}
+use Rattle.requests.specs.FaultReports.{EndsWithFault}
+use Rattle.requests.specs.Requests.{FailsToInform, FailsToLoadSession, FailsToParse, WritesNothing}
+use Rattle.requests.specs.declared.fault.Fault.{Fault}
+use Rattle.requests.specs.declared.fault.Fault.TheVariants.{LineEnd}
+use Rattle.requests.specs.declared.tool.Tool.TheVariants.{Cpmdeps}
+use Rattle.dependency_command.specs.AreDependencyWords.{AreDependencyWords}
+use Rattle.dependency_command.specs.Answers.{BreaksAnswer, IsAnswer, WritesAnswer}
+use Rattle.dependency_command.specs.LineEnds.{refuses_rule}
+
+-- The answer about a session by its words and the files that they name.
+abbrev pub IsAnswerFor : StoredFiles → DependencyWords → Session → List ℕ → Type 0
+IsAnswerFor files w s = IsAnswer w files.bytes files.names s
+
+-- The answer about the session of these words was written.
+abbrev pub AnswersWords : List (List ℕ) → World → World → Type 0
+AnswersWords words before after = (w : DependencyWords) × AreDependencyWords words w × (refuses_rule w ≡ false)
+    × ((s : Session) × IsLoadedFrom before.files w.session s × WritesAnswer (IsAnswerFor before.files w s) before.out after.out)
+
+-- How the program ends without an error: it wrote help or the version, or the answer. No call of the file system failed.
+pub record EndsWithAnswer (words : List (List ℕ)) (status : ℕ) (before after : World) : Type 0 where
+  pub zero : status ≡ 0
+  pub err : after.err ≡ before.err
+  pub failures : after.files.failures ≡ before.files.failures
+  pub writes : (HasErrorClass (dependency_faults words) Information × ((text : List ℕ) × WritesWhole before.out after.out text))
+      ⊎ AnswersWords words before after
+
+-- A rule for make is asked for whose target or path has a line end, and nothing was written.
+abbrev pub RefusesRule : DependencyWords → World → World → Fault → Type 0
+RefusesRule w before after fault = (refuses_rule w ≡ true) × (fault ≡ LineEnd) × WritesNothing before after
+
+-- An error of these words, and what it leaves: an error of the words themselves, of writing help, of a path with a line end, of loading
+-- the session, or of the answer about its run.
+abbrev pub FaultOf : List (List ℕ) → World → World → Fault → Type 0
+FaultOf words before after fault =
+    (FailsToParse (HasErrorClass (dependency_faults words)) fault × WritesNothing before after)
+    ⊎ FailsToInform (HasErrorClass (dependency_faults words)) before after fault
+    ⊎ ((w : DependencyWords) × AreDependencyWords words w × (RefusesRule w before after fault ⊎ FailsToLoadSession w.session before after fault
+    ⊎ ((s : Session) × IsLoadedFrom before.files w.session s
+    × BreaksAnswer (IsAnswerFor before.files w s) (FailsToListAny w.session.files) before.out after.out fault)))
+
+-- An error of these words occurred and was reported.
+abbrev pub EndsByFault : List (List ℕ) → ℕ → World → World → Type 0
+EndsByFault words status before after = EndsWithFault Cpmdeps (FaultOf words before after) status before after

@@ -1,0 +1,4 @@
+pub mod AreDependencyWords
+pub mod LineEnds
+pub mod Answers
+pub mod AnswerEnds

@@ -1,0 +1,179 @@
+// The whole program except its `main`.
+
+ghost use Rattle.std.specs.Prelude.{◌≡◌, ◌⊎◌, ◌^◌, ◌<◌, ℕ, IfErr, OnOk, map, string_bytes};
+ghost use Rattle.folders.specs.Failures.{KeepsFiles};
+ghost use Rattle.one_run.specs.World.{world};
+ghost use Rattle.report_lines.specs.Streams.{Output};
+ghost use Rattle.requests.specs.FaultReports.{file_failures};
+ghost use Rattle.make_rules.specs.Drives.{FailsToListAny};
+ghost use Rattle.dependency_command.specs.Answers.{BreaksAnswer, IsListing, IsRule, WritesAnswer, rows_of};
+ghost use Rattle.dependency_command.specs.AnswerEnds.{EndsByFault, EndsWithAnswer, FaultOf, IsAnswerFor};
+
+use crate::line_ends::refuses_rule;
+use crate::request::read_request;
+use command_words::{DependencyWords, SessionWords};
+use dependencies::{Dependencies, Rows};
+use dependency_lines::write_dependencies;
+use folders::{Failure, FileSystem};
+use loading::load;
+use machine::Session;
+use make_rules::{RuleWords, list_folders, make_rule};
+use report_lines::{Writer, write_all};
+use requests::{Fault, Request, Tool, print_information, report_fault};
+use std::alloc::Global;
+
+/// Returns which neighbours the words put into one row.
+fn rows(words: &DependencyWords<'_>) -> Rows
+    ensures { result ≡ rows_of words.now }
+{
+    if words.by_step {
+        Rows::ByStep
+    } else {
+        Rows::Joined
+    }
+}
+
+/// Writes what the run of a session asked for.
+fn write_listing<'a, O: Writer>(
+    alloc: Global,
+    session: &Session,
+    rows: Rows,
+    out: &mut O,
+) -> Result<(), Fault<'a>>
+    requires { (O.output out.old).failures < 2 ^ 63 }
+    ensures done { OnOk result
+        (WritesAnswer (IsListing rows session.now) (O.output out.old) (O.output out.new)) }
+    ensures fault { IfErr result
+        (BreaksAnswer (IsListing rows session.now) (λ f. ⊥) (O.output out.old) (O.output out.new)) }
+{
+    let Ok(dependencies) = Dependencies::of_run(alloc, session) else {
+        return Err(Fault::OutOfMemory);
+    };
+    match write_dependencies(out, rows, session, &dependencies) {
+        Ok(()) => Ok(()),
+        Err(_) => Err(Fault::CannotWrite),
+    }
+}
+
+/// Writes the rule for make with the files on which the run of a session depends.
+fn write_rule<'a, S: FileSystem, O: Writer>(
+    system: &mut S,
+    session: &Session,
+    words: &SessionWords<'a>,
+    target: &'a str,
+    out: &mut O,
+) -> Result<(), Fault<'a>>
+    requires system { (S.files system.old).failures < 2 ^ 63 }
+    requires out { (O.output out.old).failures < 2 ^ 63 }
+    ensures done { let files = S.files system.old in OnOk result
+        (WritesAnswer (IsRule words.now target.entry files.bytes files.names session.now)
+        (O.output out.old) (O.output out.new)) }
+    ensures fault { let files = S.files system.old in IfErr result
+        (BreaksAnswer (IsRule words.now target.entry files.bytes files.names session.now)
+        (FailsToListAny words.now.files) (O.output out.old) (O.output out.new)) }
+    ensures unchanged { KeepsFiles file_failures result (S.files system.old) (S.files system.new) }
+{
+    let Ok(dependencies) = Dependencies::of_run(system.alloc(), session) else {
+        return Err(Fault::OutOfMemory);
+    };
+    let drives = match list_folders(system, &words.files) {
+        Ok(drives) => drives,
+        Err(Failure::AtFault(fault)) => return Err(Fault::Folders(fault)),
+        Err(Failure::OutOfMemory) => return Err(Fault::OutOfMemory),
+    };
+    let rule_words = RuleWords {
+        target,
+        program: words.program,
+        console: words.console,
+    };
+    let Ok(text) = make_rule(
+        system.alloc(),
+        &rule_words,
+        &drives,
+        session,
+        &dependencies.looks,
+    ) else {
+        return Err(Fault::OutOfMemory);
+    };
+    match write_all(out, text.as_slice()) {
+        Ok(()) => Ok(()),
+        Err(_) => Err(Fault::CannotWrite),
+    }
+}
+
+/// Runs a session, and writes what the run asked for as the words ask for it.
+fn write_answer<'a, S: FileSystem, O: Writer>(
+    system: &mut S,
+    session: &Session,
+    words: &DependencyWords<'a>,
+    out: &mut O,
+) -> Result<(), Fault<'a>>
+    requires system { (S.files system.old).failures < 2 ^ 63 }
+    requires out { (O.output out.old).failures < 2 ^ 63 }
+    ensures done { OnOk result
+        (WritesAnswer (IsAnswerFor (S.files system.old) words.now session.now)
+        (O.output out.old) (O.output out.new)) }
+    ensures fault { IfErr result
+        (BreaksAnswer (IsAnswerFor (S.files system.old) words.now session.now)
+        (FailsToListAny words.now.session.files) (O.output out.old) (O.output out.new)) }
+    ensures unchanged { KeepsFiles file_failures result (S.files system.old) (S.files system.new) }
+{
+    match words.target {
+        Some(target) => write_rule(system, session, &words.session, target, out),
+        None => write_listing(system.alloc(), session, rows(words), out),
+    }
+}
+
+/// Executes the command that the words describe.
+fn run<'a, S: FileSystem, O: Writer>(
+    system: &mut S,
+    words: &'a [String],
+    out: &mut O,
+) -> Result<(), Fault<'a>>
+    requires system { (S.files system.old).failures < 2 ^ 63 }
+    requires out { (O.output out.old).failures < 2 ^ 63 }
+    ensures done { OnOk result ((err : Output) → EndsWithAnswer (map string_bytes words.entry.now) 0
+        (world (S.files system.old) (O.output out.old) err)
+        (world (S.files system.new) (O.output out.new) err)) }
+    ensures fault { IfErr result (λ fault. (err : Output) → FaultOf (map string_bytes words.entry.now)
+        (world (S.files system.old) (O.output out.old) err)
+        (world (S.files system.new) (O.output out.new) err) fault) }
+    ensures unchanged { KeepsFiles file_failures result (S.files system.old) (S.files system.new) }
+{
+    let words = match read_request(system.alloc(), words)? {
+        Request::Session(words) => words,
+        Request::Information(text) => return print_information(text.as_str(), out),
+    };
+    if refuses_rule(&words) {
+        return Err(Fault::LineEnd);
+    }
+    let session = load(system, &words.session)?;
+    write_answer(system, &session, &words, out)
+}
+
+/// Prints what the run of a session depends on, for the words after the program's name and over the files of a file system, and
+/// returns the exit status. The status is 0 if the listing, the rule or help was written to `out`; the run may have stopped by any cause.
+/// Otherwise it is 1 or 12, and `err` reports the error. No file changes.
+pub fn dependency_command<S: FileSystem, O: Writer, E: Writer>(
+    system: &mut S,
+    words: &[String],
+    out: &mut O,
+    err: &mut E,
+) -> u8
+    requires system { (S.files system.old).failures < 2 ^ 63 }
+    requires out { (O.output out.old).failures < 2 ^ 63 }
+    requires err { (E.output err.old).failures < 2 ^ 63 }
+    ensures ends { let before = world (S.files system.old) (O.output out.old) (E.output err.old) in
+        let after = world (S.files system.new) (O.output out.new) (E.output err.new) in
+        EndsWithAnswer (map string_bytes words.now) result before after
+        ⊎ EndsByFault (map string_bytes words.now) result before after }
+    ensures done { result ≡ 0 → EndsWithAnswer (map string_bytes words.now) result
+        (world (S.files system.old) (O.output out.old) (E.output err.old))
+        (world (S.files system.new) (O.output out.new) (E.output err.new)) }
+    ensures files { (S.files system.new).bytes ≡ (S.files system.old).bytes }
+{
+    match run(system, words, out) {
+        Ok(()) => 0,
+        Err(fault) => report_fault(system.alloc(), Tool::Cpmdeps, fault, err),
+    }
+}

@@ -1,0 +1,27 @@
+// The request in the words of the command line.
+
+ghost use Rattle.std.specs.Prelude.{◌≡◌, IfOk, IfErr, map, string_bytes};
+ghost use Rattle.command_words.specs.DependencyLine.{dependency_faults};
+ghost use Rattle.command_words.specs.ErrorClass.{HasErrorClass};
+ghost use Rattle.requests.specs.Requests.{IsRequestOf, FailsToParse};
+ghost use Rattle.dependency_command.specs.AreDependencyWords.{AreDependencyWords};
+
+use command_words::{DependencyWords, error_class, read_dependency_words};
+use requests::{Fault, Request, request_of_error};
+use std::alloc::Global;
+
+/// Returns the request in the words after the program's name.
+pub fn read_request<'a>(
+    alloc: Global,
+    words: &'a [String],
+) -> Result<Request<DependencyWords<'a>>, Fault<'a>>
+    ensures request { let texts = map string_bytes words.entry.now in
+        IfOk result (IsRequestOf (AreDependencyWords texts) (HasErrorClass (dependency_faults texts))) }
+    ensures fault { IfErr result
+        (FailsToParse (HasErrorClass (dependency_faults (map string_bytes words.entry.now)))) }
+{
+    match read_dependency_words(alloc, words) {
+        Ok(words) => Ok(Request::Session(words)),
+        Err(error) => request_of_error(error_class(&error), format!(in alloc; "{error}")),
+    }
+}

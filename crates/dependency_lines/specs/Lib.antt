@@ -1,0 +1,5 @@
+pub mod Words
+pub mod Heads
+pub mod Places
+pub mod Names
+pub mod Listing

@@ -1,0 +1,74 @@
+// Places, rows and steps as short texts.
+
+ghost use Rattle.std.specs.Prelude.{◌≡◌, ◌+◌, ◌^◌, ◌<◌, ◌≤◌, ◌++◌};
+ghost use Rattle.arrayvec.specs.ArrayString.{array_string_len};
+ghost use Rattle.report_lines.specs.Streams.{WritesText};
+ghost use Rattle.dependency_lines.specs.Words as texts;
+
+use arrayvec::ArrayString;
+use dependencies::LookRange;
+use itoa::Buffer;
+use report_lines::{Failed, Writer, push_word, write_all};
+
+/// How a place is printed.
+#[derive(Clone, Copy)]
+pub enum Place {
+    /// The address of a cell, as four hexadecimal digits.
+    Cell,
+    /// An offset of the script or the number of a record, in decimal.
+    Number,
+}
+
+// Appends a place.
+fn push_place(text: &mut ArrayString<128>, place: Place, index: usize)
+    requires { array_string_len text.old ≤ 64 }
+    ensures place { text.new.bytes ≡ text.old.bytes ++ texts.place_text place index }
+    ensures len { array_string_len text.new ≤ array_string_len text.old + 20 }
+{
+    match place {
+        Place::Cell => push_word(text, (index % 65_536) as u16),
+        Place::Number => text.push_str(Buffer::new().format(index)),
+    }
+}
+
+// Returns a row, after a blank: its first place, and its last one if it has more.
+fn row_text(place: Place, range: LookRange) -> ArrayString<128>
+    ensures { result.bytes ≡ texts.row_text place range }
+{
+    let mut text = ArrayString::new();
+    text.push_str(" ");
+    push_place(&mut text, place, range.first);
+    let last = range.end.saturating_sub(1);
+    if range.first < last {
+        text.push_str("-");
+        push_place(&mut text, place, last);
+    }
+    text
+}
+
+// Returns the end of a line: the first step, with the line's end.
+fn step_end(step: u64) -> ArrayString<64>
+    ensures { result.bytes ≡ texts.step_end step }
+{
+    let mut text = ArrayString::new();
+    text.push_str(" step ");
+    text.push_str(Buffer::new().format(step));
+    text.push_str("\n");
+    text
+}
+
+/// Writes a row, after a blank: its first place, and its last one if it has more. If the writer fails, a prefix of this is written.
+pub fn write_row<W: Writer>(writer: &mut W, place: Place, range: LookRange) -> Result<(), Failed>
+    requires { (W.output writer.old).failures < 2 ^ 63 }
+    ensures { WritesText (W.output writer.old) (W.output writer.new) (texts.row_text place range) result }
+{
+    write_all(writer, row_text(place, range).as_bytes())
+}
+
+/// Writes the end of a line: the first step, with the line's end. If the writer fails, a prefix of this is written.
+pub fn write_step<W: Writer>(writer: &mut W, step: u64) -> Result<(), Failed>
+    requires { (W.output writer.old).failures < 2 ^ 63 }
+    ensures { WritesText (W.output writer.old) (W.output writer.new) (texts.step_end step) result }
+{
+    write_all(writer, step_end(step).as_bytes())
+}

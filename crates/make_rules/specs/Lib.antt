@@ -1,0 +1,4 @@
+pub mod Escapes
+pub mod Drives
+pub mod Files
+pub mod Rule

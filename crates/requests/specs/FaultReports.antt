@@ -1,0 +1,107 @@
+-- The exit status and the message of each error. (This project's own.)
+use Rattle.std.specs.Prelude.{◌≡◌, ℕ, ◌+◌, List, [], ◌⊎◌, ◌++◌, codes, string_bytes}
+use Rattle.std.specs.Fmt.{decimal}
+use Rattle.folders.specs.Faults.{fault_failures, text_of}
+use Rattle.loading.specs.declared.fault.LoadFault.{LoadFault}
+use Rattle.loading.specs.declared.fault.LoadFault.TheVariants as load
+use Rattle.one_run.specs.declared.fault.RunFault.{RunFault}
+use Rattle.one_run.specs.declared.fault.RunFault.TheVariants as run
+use Rattle.requests.specs.declared.fault.Fault.{Fault}
+use Rattle.requests.specs.declared.fault.Fault.TheVariants.{Usage, NotText, CannotRead, CannotWrite, Folders, Refused, Malformed, TooLong, LineEnd, OutOfMemory}
+use Rattle.requests.specs.declared.tool.Tool.{Tool}
+use Rattle.requests.specs.declared.tool.Tool.TheVariants.{Cpmrun, Cpmdeps}
+use Rattle.one_run.specs.World.{World}
+use Rattle.report_lines.specs.FirstLines.{line}
+use Rattle.report_lines.specs.Streams.{Output, WritesOrFails}
+
+-- The program's error for an error of loading, and for an error of the run.
+abbrev pub of_load : LoadFault → Fault
+of_load (load.CannotRead path) = CannotRead path
+of_load (load.Folders f) = Folders f
+of_load (load.Refused n) = Refused n
+of_load load.OutOfMemory = OutOfMemory
+
+abbrev pub of_run : RunFault → Fault
+of_run run.CannotWrite = CannotWrite
+of_run (run.Folders f) = Folders f
+of_run run.OutOfMemory = OutOfMemory
+
+-- The failures of the file system that an error reports: one if a file or a folder could not be read or written.
+abbrev pub file_failures : Fault → ℕ
+file_failures (Usage text) = 0
+file_failures NotText = 0
+file_failures (CannotRead path) = 1
+file_failures CannotWrite = 0
+file_failures (Folders f) = fault_failures f
+file_failures (Refused n) = 0
+file_failures (Malformed k) = 0
+file_failures (TooLong k) = 0
+file_failures LineEnd = 0
+file_failures OutOfMemory = 0
+
+-- The exit status of an error.
+abbrev pub status_of : Fault → ℕ
+status_of (Usage text) = 1
+status_of NotText = 1
+status_of (CannotRead path) = 1
+status_of CannotWrite = 1
+status_of (Folders f) = 1
+status_of (Refused n) = 1
+status_of (Malformed k) = 2
+status_of (TooLong k) = 2
+status_of LineEnd = 1
+status_of OutOfMemory = 12
+
+-- The name of a program, as its messages begin with it.
+abbrev pub name_of : Tool → List ℕ
+name_of Cpmrun = codes "cpmrun"
+name_of Cpmdeps = codes "cpmdeps"
+
+-- A line of a program's messages.
+abbrev pub message_line : Tool → List ℕ → List ℕ
+message_line tool text = name_of tool ++ codes ": " ++ line text
+
+-- The message of an error: clap's lines for a usage error, and one line for every other.
+abbrev pub message_of : Tool → Fault → List ℕ
+message_of tool (Usage text) = string_bytes text
+message_of tool NotText =
+    line (codes "error: invalid UTF-8 was detected in one or more arguments") ++ line []
+    ++ codes "Usage: " ++ name_of tool ++ line (codes " [OPTIONS] <PROGRAM> [TAIL]") ++ line []
+    ++ line (codes "For more information, try '--help'.")
+message_of tool (CannotRead path) = message_line tool (codes "cannot read " ++ path.now)
+message_of tool CannotWrite = message_line tool (codes "cannot write standard output")
+message_of tool (Folders f) = message_line tool (text_of f)
+message_of tool (Refused n) = message_line tool (codes "session refused " ++ decimal n)
+message_of tool (Malformed k) = name_of tool ++ codes ": line " ++ decimal k ++ line (codes " is malformed")
+message_of tool (TooLong k) = name_of tool ++ codes ": line " ++ decimal k ++ line (codes " is too long")
+message_of tool LineEnd = message_line tool (codes "a rule for make cannot have a path with a line end")
+message_of tool OutOfMemory = message_line tool (codes "out of memory")
+
+-- The status is this error's, and its message was written, or a prefix of it if writing failed.
+abbrev pub ReportsFault : Tool → Fault → ℕ → Output → Output → Type 0
+ReportsFault tool f status before after = (status ≡ status_of f) × WritesOrFails before after (message_of tool f)
+
+-- The message has a path, a name or a number put into it, and so needs memory.
+abbrev pub NamesAValue : Fault → Type 0
+NamesAValue (Usage text) = ⊥
+NamesAValue NotText = ⊥
+NamesAValue (CannotRead path) = Unit {0}
+NamesAValue CannotWrite = ⊥
+NamesAValue (Folders f) = Unit {0}
+NamesAValue (Refused n) = Unit {0}
+NamesAValue (Malformed k) = Unit {0}
+NamesAValue (TooLong k) = Unit {0}
+NamesAValue LineEnd = ⊥
+NamesAValue OutOfMemory = ⊥
+
+-- The error was reported, or out of memory if there was no memory to put a value into its message.
+abbrev pub ReportsFaultOrMemory : Tool → Fault → ℕ → Output → Output → Type 0
+ReportsFaultOrMemory tool f status before after = ReportsFault tool f status before after ⊎ (NamesAValue f × ReportsFault tool OutOfMemory status before after)
+
+-- An error occurred and was reported with its status, or "out of memory" if there was no memory to put its value into the
+-- message. A call of the file system failed exactly if the error reports that. `Comes` holds for the errors that can occur here.
+pub record EndsWithFault (tool : Tool) (Comes : Fault → Type 0) (status : ℕ) (before after : World) : Type 0 where
+  pub fault : Fault
+  pub comes : Comes fault
+  pub failed : after.files.failures ≡ before.files.failures + file_failures fault
+  pub telling : ReportsFaultOrMemory tool fault status before.err after.err

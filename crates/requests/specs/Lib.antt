@@ -1,0 +1,2 @@
+pub mod FaultReports
+pub mod Requests

@@ -1,0 +1,50 @@
+-- The request in the words of a command line. (This project's own.)
+use Rattle.std.specs.Prelude.{◌≡◌, ℕ, List, Result}
+use Rattle.command_words.specs.declared.words.SessionWords.{SessionWords}
+use Rattle.command_words.specs.declared.error_classes.ErrorClass.{ErrorClass}
+use Rattle.command_words.specs.declared.error_classes.ErrorClass.TheVariants as outcome
+use Rattle.loading.specs.Loading.{FailsToLoad}
+use Rattle.loading.specs.declared.fault.LoadFault.{LoadFault}
+use Rattle.one_run.specs.World.{World}
+use Rattle.report_lines.specs.Streams.{Output, WritesPart, WritesText}
+use Rattle.requests.specs.FaultReports.{of_load}
+use Rattle.requests.specs.declared.request.Request.{Request}
+use Rattle.requests.specs.declared.request.Request.TheVariants.{Session, Information}
+use Rattle.requests.specs.declared.fault.Fault.{Fault}
+use Rattle.requests.specs.declared.fault.Fault.TheVariants.{Usage, NotText, CannotRead, CannotWrite, Folders, Refused, Malformed, TooLong, LineEnd, OutOfMemory}
+
+-- The request: a session, or help or the version. `Are` holds for the words of the session, and `Has` for the classes of the errors
+-- that the words can have.
+abbrev pub IsRequestOf : {W : Type 0} → (W → Type 0) → (ErrorClass → Type 0) → Request W → Type 0
+IsRequestOf Are Has (Session w) = Are w
+IsRequestOf Are Has (Information text) = Has outcome.Information
+
+-- Why words have no request: they are a usage error, or an allocation failed.
+abbrev pub FailsToParse : (ErrorClass → Type 0) → Fault → Type 0
+FailsToParse Has (Usage text) = Has outcome.UsageError
+FailsToParse Has NotText = ⊥
+FailsToParse Has (CannotRead path) = ⊥
+FailsToParse Has CannotWrite = ⊥
+FailsToParse Has (Folders f) = ⊥
+FailsToParse Has (Refused n) = ⊥
+FailsToParse Has (Malformed k) = ⊥
+FailsToParse Has (TooLong k) = ⊥
+FailsToParse Has LineEnd = ⊥
+FailsToParse Has OutOfMemory = Unit {0}
+
+-- Some text, as help or the version, was written, or a prefix of it if the result is an error.
+abbrev pub WritesSomeText : {T E : Type 0} → Output → Output → Result T E → Type 0
+WritesSomeText before after r = (text : List ℕ) × WritesText before after text r
+
+-- Nothing was written.
+abbrev pub WritesNothing : World → World → Type 0
+WritesNothing before after = (after.out ≡ before.out) × (after.files.bytes ≡ before.files.bytes)
+
+-- Help or the version was asked for and could not be written.
+abbrev pub FailsToInform : (ErrorClass → Type 0) → World → World → Fault → Type 0
+FailsToInform Has before after fault =
+    Has outcome.Information × (fault ≡ CannotWrite) × ((text : List ℕ) × WritesPart before.out after.out text) × (after.files.bytes ≡ before.files.bytes)
+
+-- The session that the words describe could not be loaded, for this error, and nothing was written.
+abbrev pub FailsToLoadSession : SessionWords → World → World → Fault → Type 0
+FailsToLoadSession w before after fault = (f : LoadFault) × (fault ≡ of_load f) × FailsToLoad before.files w f × WritesNothing before after

@@ -1,0 +1,13 @@
+//! What both programs make of their command lines: the request in the words, and the errors with which a program ends.
+//!
+//! - `request`: the request in the words of a command line
+//! - `fault`, `tool`: the errors, with their statuses and messages; the programs whose names the messages begin with
+#![tactic(auto)]
+
+mod fault;
+mod request;
+mod tool;
+
+pub use fault::{Fault, report_fault};
+pub use request::{Request, print_information, request_of_error};
+pub use tool::Tool;

@@ -1,0 +1,54 @@
+// The request in the words of a command line.
+
+ghost use Rattle.std.specs.Prelude.{◌≡◌, ◌<◌, ◌^◌, IfOk, IfErr};
+ghost use Rattle.requests.specs.Requests.{FailsToParse, IsRequestOf, WritesSomeText};
+
+use crate::fault::Fault;
+use command_words::ErrorClass;
+use report_lines::{Writer, write_all};
+use std::alloc::AllocError;
+
+/// The request in words that are no usage error.
+#[derive(Drop)]
+pub enum Request<W> {
+    /// A session, with the words that describe it and what is to be done with it.
+    Session(W),
+    /// Help or the version, with the text.
+    Information(String),
+}
+
+/// Returns the request of words that were not read, by the class of their error and by its text, which is an error if there was no
+/// memory for it.
+///
+/// # Errors
+///
+/// Returns `Err` if the words are a usage error or an allocation failed.
+pub fn request_of_error<'a, W>(
+    class: ErrorClass,
+    text: Result<String, AllocError>,
+) -> Result<Request<W>, Fault<'a>>
+    ensures request { IfOk result (IsRequestOf (λ w. ⊥) (λ outcome. class ≡ outcome)) }
+    ensures fault { IfErr result (FailsToParse (λ outcome. class ≡ outcome)) }
+{
+    match (class, text) {
+        (ErrorClass::Information, Ok(text)) => Ok(Request::Information(text)),
+        (ErrorClass::UsageError, Ok(text)) => Err(Fault::Usage(text)),
+        _ => Err(Fault::OutOfMemory),
+    }
+}
+
+/// Writes help or the version.
+///
+/// # Errors
+///
+/// Returns `Err` if writing fails.
+pub fn print_information<'a, O: Writer>(text: &str, out: &mut O) -> Result<(), Fault<'a>>
+    requires { (O.output out.old).failures < 2 ^ 63 }
+    ensures writes { WritesSomeText (O.output out.old) (O.output out.new) result }
+    ensures fault { IfErr result (λ f. f ≡ Fault.CannotWrite) }
+{
+    match write_all(out, text.as_bytes()) {
+        Ok(()) => Ok(()),
+        Err(_) => Err(Fault::CannotWrite),
+    }
+}
