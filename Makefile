@@ -1,24 +1,26 @@
-# make                          proves and builds the program
+# make                          proves and builds cpmrun and cpmdeps
 # make check                    proves everything, and runs all tests
 # make install PREFIX=/usr/local DESTDIR=
-#                               installs the program, its man page, its completion for bash, and its pages and examples
+#                               installs both programs, their man pages, their completion for bash, and their pages and examples
 # make uninstall                removes these files
 # make dist                     packs them for machines without the Rattle kit
-# make bench                    measures how fast the program is
+# make bench                    measures how fast both programs are
 # make clean                    removes what was proved and built
 PREFIX = /usr/local
 DESTDIR =
 PROGRAM = crates/executable/out/executable
+DEPENDENCIES_PROGRAM = crates/cpmdeps/out/cpmdeps
 # what is installed, as it lies below PREFIX
 STAGE = crates/executable/out/stage
 DOC = share/doc/cpmrun
 # An installed page says `cpmrun` for `./cpmrun`.
-PAGE = s,(\.\./)+cpmrun,cpmrun,g; s,\./cpmrun,cpmrun,g; s,tests/programs/,programs/,g
+PAGE = s,(\.\./)+(cpmrun|cpmdeps),\2,g; s,\./(cpmrun|cpmdeps),\1,g; s,tests/programs/,programs/,g
 
 .PHONY: all check stage install uninstall dist bench clean
 
 all:
 	@./cpmrun --build > /dev/null
+	@./cpmdeps --build > /dev/null
 
 check:
 	@./check
@@ -26,8 +28,10 @@ check:
 stage: all
 	@rm -rf $(STAGE) && mkdir -p $(STAGE)/$(DOC)
 	@install -D $(PROGRAM) $(STAGE)/bin/cpmrun
-	@install -D -m 644 docs/cpmrun.1 $(STAGE)/share/man/man1/cpmrun.1
-	@install -D -m 644 scripts/completion $(STAGE)/share/bash-completion/completions/cpmrun
+	@install -D $(DEPENDENCIES_PROGRAM) $(STAGE)/bin/cpmdeps
+	@for name in cpmrun cpmdeps; do \
+	    install -D -m 644 docs/$$name.1 $(STAGE)/share/man/man1/$$name.1 && \
+	    install -D -m 644 scripts/completion $(STAGE)/share/bash-completion/completions/$$name || exit; done
 	@cp -R examples tests/programs $(STAGE)/$(DOC) && rm -rf $(STAGE)/$(DOC)/examples/built
 	@find $(STAGE) -name __pycache__ -prune -exec rm -rf {} +
 	@cp docs/MANUAL.md docs/WALKS.md $(STAGE)/$(DOC)
@@ -35,7 +39,7 @@ stage: all
 
 install: stage
 	@mkdir -p '$(DESTDIR)$(PREFIX)' && cp -R $(STAGE)/. '$(DESTDIR)$(PREFIX)'
-	@echo 'installed bin/cpmrun, its man page, its completion for bash, and $(DOC) in $(DESTDIR)$(PREFIX)'
+	@echo 'installed bin/cpmrun, bin/cpmdeps, their man pages and completion for bash, and $(DOC) in $(DESTDIR)$(PREFIX)'
 
 uninstall: stage
 	@cd $(STAGE) && find . -type f | (cd '$(DESTDIR)$(PREFIX)' && xargs -d '\n' rm -f)
@@ -48,6 +52,7 @@ bench: all
 	@tests/measure/benchmark $(PROGRAM)
 	@tests/measure/calls $(PROGRAM)
 	@tests/measure/edits $(PROGRAM)
+	@tests/measure/listings $(DEPENDENCIES_PROGRAM) $(PROGRAM)
 
 clean:
 	@rm -rf crates/*/out

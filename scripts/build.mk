@@ -1,5 +1,10 @@
-# Proves the crates that the program needs, independent ones in parallel, and builds the program: `make -f scripts/build.mk`, at the
-# top of the repository. `cpmrun` calls it. A line of crates.txt reads as a rule: a crate is made after those that it uses.
+# Proves the crates that a program needs, independent ones in parallel, and builds the program: `make -f scripts/build.mk`, at the top of
+# the repository, builds `cpmrun`. `scripts/run` calls it. A line of crates.txt reads as a rule: a crate is made after those that it uses.
+
+# the program, and the crate with its `main`
+NAME = cpmrun
+MAIN = executable
+export NAME MAIN
 
 # A proof takes at most 3,000 MB with one job, and 1,500 MB more for each further job.
 MEMORY := $(shell awk '/^MemAvailable:/ { print int($$2 / 1024) }' /proc/meminfo)
@@ -13,11 +18,11 @@ SIDE := $(filter records command_words command_tail folders loading report_lines
 
 # how many crates the program needs
 export NEEDED := $(shell tac crates.txt | awk -F '[: ]+' \
-    '$$1 == "executable" || $$1 in used { count++; for (i = 2; i <= NF; i++) used[$$i] } END { print count }')
+    '$$1 == "$(MAIN)" || $$1 in used { count++; for (i = 2; i <= NF; i++) used[$$i] } END { print count }')
 
 .PHONY: program $(CRATES)
 
-program: $(filter i8080,$(CRATES)) executable
+program: $(filter i8080,$(CRATES)) $(MAIN)
 
 include crates.txt
 

@@ -33,6 +33,9 @@ class FailureTest(ProgramTest):
 
     library: str
     environment: dict[str, str] = {}
+    program = PROGRAM
+    name = 'cpmrun'
+    """The name of the program in its messages."""
 
     @classmethod
     def setUpClass(cls) -> None:
@@ -57,7 +60,7 @@ class FailureTest(ProgramTest):
         for at in range(1, 100_001):
             for name in wanted.files if wanted.older is not None else ():
                 (self.work / 'written' / name).write_bytes(wanted.older)
-            done = self.run_with_failure(at, PROGRAM, *words, **how)
+            done = self.run_with_failure(at, self.program, *words, **how)
             count, are_whole = self.take_written(wanted)
             with self.subTest(request=at, words=[str(word) for word in words]):
                 self.assertTrue(are_whole, 'a file is cut off, gone, or one that is not wanted')
@@ -75,7 +78,7 @@ class FailureTest(ProgramTest):
             self.assertEqual((done.stdout, done.stderr, count), (wanted.out, wanted.err, len(wanted.files)))
             return
         self.assertEqual(done.returncode, wanted.fault_status)
-        self.assertIn(done.stderr.decode(), [f'cpmrun: {message}\n' for message in wanted.messages])
+        self.assertIn(done.stderr.decode(), [f'{self.name}: {message}\n' for message in wanted.messages])
         if count or (done.stdout and not wanted.may_be_cut):
             self.assertEqual(done.stdout, wanted.out)
         else:

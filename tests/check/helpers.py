@@ -1,4 +1,4 @@
-"""What the tests share. The environment variable PROGRAM names the built program."""
+"""What the tests share. The environment variables PROGRAM and DEPENDENCIES_PROGRAM name the built programs, cpmrun and cpmdeps."""
 import contextlib
 import os
 import shutil
@@ -11,6 +11,7 @@ from pathlib import Path
 
 TOP = Path(__file__).resolve().parents[2]
 PROGRAM = Path(os.environ.get('PROGRAM', TOP / 'crates/executable/out/executable')).resolve()
+DEPENDENCIES_PROGRAM = Path(os.environ.get('DEPENDENCIES_PROGRAM', TOP / 'crates/cpmdeps/out/cpmdeps')).resolve()
 HI = TOP / 'examples/hi/hi.com'
 OUT_OF_MEMORY = 'cpmrun: out of memory\n'
 

@@ -38,6 +38,7 @@ GROUPS = {
         ('replay', 'report', ['Report::journal']),
         ('edit_lines', 'stream', ['replay']),
     ],
+    'What `cpmdeps` prints': [('dependency_command', 'command_line', ['dependency_command'])],
 }
 """The functions of each group, by crate, source and name. A key is the heading of a part of the page."""
 

@@ -1,4 +1,4 @@
-"""Has `cpmrun` build a tree of small crates, with a stand-in for rt that sleeps in place of a proof."""
+"""Has `cpmrun` and `cpmdeps` build a tree of small crates, with a stand-in for rt that sleeps in place of a proof."""
 import os
 import shutil
 import signal
@@ -17,6 +17,8 @@ right: ground thiserror
 far:
 top: left right far
 executable: top
+list: right
+cpmdeps: list
 test_top: top
 '''
 ALL = ['executable', 'far', 'ground', 'left', 'right', 'top']
@@ -32,7 +34,7 @@ sleep 0.6 & echo "$$ $!" >> "$NOTES/processes"
 wait "$!"
 echo worked >> out/incremental/worked
 [ ! -e "$NOTES/fails-$crate" ] || { echo "no proof of $crate"; exit 1; }
-[ "$1" = lib ] || { printf '#!/bin/sh\necho built\n' > out/executable; chmod +x out/executable; }
+[ "$1" = lib ] || { printf '#!/bin/sh\necho built\n' > "out/$crate"; chmod +x "out/$crate"; }
 echo "$sum" > out/rlib/sum
 echo "ends $crate" >> "$NOTES/log"
 '''
@@ -43,7 +45,7 @@ class Build(unittest.TestCase):
         self.work = Path(tempfile.mkdtemp())
         self.addCleanup(shutil.rmtree, self.work)
         self.tree, self.notes, self.crates = self.work / 'tree', self.work / 'notes', self.work / 'tree/crates'
-        for crate in *ALL, 'test_top':
+        for crate in *ALL, 'list', 'cpmdeps', 'test_top':
             (self.crates / crate / 'src').mkdir(parents=True)
             (self.crates / crate / 'src/lib.rt').write_text(f'// {crate}\n')
         for folder in self.notes, self.work / 'bin', self.tree / 'examples':
@@ -51,25 +53,26 @@ class Build(unittest.TestCase):
         (self.tree / 'crates.txt').write_text(CRATES)
         (self.work / 'bin/rt').write_text(RT)
         (self.work / 'bin/rt').chmod(0o755)
-        shutil.copy(TOP / 'cpmrun', self.tree)
+        for name in 'cpmrun', 'cpmdeps':
+            shutil.copy(TOP / name, self.tree)
         shutil.copytree(TOP / 'scripts', self.tree / 'scripts')
         self.path = f'{self.work}/bin:{os.environ["PATH"]}'
 
-    def start(self, mode='w'):
+    def start(self, mode='w', name='cpmrun'):
         for notes in 'log', 'processes':
             open(self.notes / notes, mode).close()
         # what runs in the background or by nohup ignores some signals, and so would the build
-        words = ['env', '--default-signal', self.tree / 'cpmrun', '--build']
+        words = ['env', '--default-signal', self.tree / name, '--build']
         with open(self.work / 'err', 'w') as err:
             return subprocess.Popen(words, env={'PATH': self.path, 'NOTES': str(self.notes)}, stderr=err, stdout=subprocess.PIPE, text=True)
 
-    def start_until(self, crate):
-        build = self.start()
+    def start_until(self, crate, name='cpmrun'):
+        build = self.start(name=name)
         while f'begins {crate}' not in (self.notes / 'log').read_text():
             time.sleep(0.02)
         return build
 
-    def end(self, build, status):
+    def end(self, build, status, crate='executable'):
         """Waits for a build, which leaves no process and no room, and returns what it printed and the crates that it proved."""
         printed = build.communicate()[0]
         self.errors = (self.work / 'err').read_text()
@@ -82,9 +85,9 @@ class Build(unittest.TestCase):
                 os.kill(int(process), 0)
         self.log = (self.notes / 'log').read_text().splitlines()
         if status == 0:
-            self.assertEqual(printed, f'{self.crates}/executable/out/executable\n')
+            self.assertEqual(printed, f'{self.crates}/{crate}/out/{crate}\n')
         else:
-            self.assertFalse((self.crates / 'executable/out/executable').exists())
+            self.assertFalse((self.crates / crate / 'out' / crate).exists())
         return sorted(line[5:] for line in self.log if line.startswith('ends '))
 
     def change(self, crate):
@@ -127,6 +130,24 @@ class Build(unittest.TestCase):
         build.kill()
         build.communicate()
         self.assertEqual(self.end(self.start('a'), 0), ALL)
+
+    def test_each_program_builds_only_what_it_needs(self):
+        self.assertEqual(self.end(self.start(), 0), ALL)
+        self.assertEqual(self.end(self.start(name='cpmdeps'), 0, 'cpmdeps'), ['cpmdeps', 'list'])
+        self.assertEqual(self.errors.splitlines()[-1], 'cpmdeps: proved cpmdeps, 0 crates left')
+        self.assertEqual(subprocess.check_output([self.tree / 'cpmdeps', 'x']), b'built\n')
+        self.change('far')
+        self.assertEqual(self.end(self.start(), 0), ['executable', 'far', 'top'])
+
+    def test_the_second_program_can_be_built_first(self):
+        self.assertEqual(self.end(self.start(name='cpmdeps'), 0, 'cpmdeps'), ['cpmdeps', 'ground', 'list', 'right'])
+        (self.notes / 'fails-top').touch()
+        self.assertEqual(self.end(self.start(), 1), ['far', 'left'])
+
+    def test_a_build_continues_an_interrupted_one_of_the_other_program(self):
+        build = self.start_until('right', 'cpmdeps')
+        build.send_signal(signal.SIGTERM)
+        self.assertEqual(sorted(self.end(build, -signal.SIGTERM, 'cpmdeps') + self.end(self.start(), 0)), ALL)
 
     def test_rt_must_be_on_the_path(self):
         self.path = '/usr/bin:/bin'

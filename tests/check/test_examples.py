@@ -1,12 +1,13 @@
 """Runs the examples and compares all that they print and write, by `make -C examples test`; runs the commands of the table in their README;
-and checks that each folder of a program is among them, and that a changed byte in each expected file is reported."""
+and checks that each folder of a program is among them, and that a changed byte in each expected file is reported. Builds by the rules of
+examples/rebuild, and copies files by examples/fixture."""
 import os
 import re
 import shutil
 import subprocess
 from pathlib import Path
 
-from helpers import PROGRAM, TOP, ProgramTest
+from helpers import DEPENDENCIES_PROGRAM, PROGRAM, TOP, ProgramTest
 
 EXAMPLES = TOP / 'examples'
 NAMES = sorted(path.stem for path in EXAMPLES.glob('*/*.asm') if path.stem == path.parent.name)
@@ -51,3 +52,69 @@ class ExamplesTest(ProgramTest):
                 copy.write_bytes(path.read_bytes() + b'x')
                 self.assertNotEqual(self.make_examples(self.work / 'examples', f'test-{name.parts[0]}').returncode, 0)
                 copy.write_bytes(path.read_bytes())
+
+
+class RebuildTest(ProgramTest):
+    """The Makefile whose rules cpmdeps writes."""
+
+    def build(self) -> list[str]:
+        """Returns the programs that make assembles."""
+        env = {name: value for name, value in os.environ.items() if name not in ('MAKEFLAGS', 'MAKELEVEL')}
+        words = ['make', '-s', '-f', EXAMPLES / 'rebuild/Makefile', f'CPMRUN={PROGRAM}', f'CPMDEPS={DEPENDENCIES_PROGRAM}',
+                 'ASSEMBLER=assemble.com', 'PROGRAMS=HI LETTERS']
+        done = self.run_command(*words, cwd=self.work, env=env)
+        self.assertEqual((done.returncode, done.stderr), (0, b''))
+        return done.stdout.decode().replace('assembling ', '').split()
+
+    def change(self, name: str, *words: bytes) -> None:
+        """Replaces the first text by the second in a file, which is then newer than all that was made."""
+        path = self.work / name
+        path.write_bytes(path.read_bytes().replace(*words))
+        newest = max(each.stat().st_mtime_ns for each in (self.work / 'made').iterdir())
+        os.utime(path, ns=(newest + 1000,) * 2)
+
+    def test_only_what_was_read_is_assembled_again(self) -> None:
+        shutil.copytree(EXAMPLES / 'assemble/files', self.work / 'source')
+        shutil.copy2(EXAMPLES / 'assemble/assemble.com', self.work)
+        self.put('source/notes.txt', 'not read')
+        self.assertEqual(self.build(), ['HI', 'LETTERS'])
+        self.assertEqual(self.build(), [])
+        self.change('source/notes.txt', b'not', b'never')
+        self.assertEqual(self.build(), [])
+        self.change('source/hi.hex', b'"Hi$"', b'"Ho$"')
+        self.assertEqual(self.build(), ['HI'])
+        self.expect(0, 'Ho', 'stop WarmBoot\n', self.work / 'made/HI.COM')
+        self.change('assemble.com', b'', b'')
+        self.assertEqual(self.build(), ['HI', 'LETTERS'])
+        self.assertEqual(self.build(), [])
+
+
+class FixtureTest(ProgramTest):
+    """The script that copies only the files that a run asks for."""
+
+    OPEN_TWO = bytes.fromhex('0E0F 116C00 CD0500 0E0F 115C00 CD0500 C9')
+    """Opens both names of its tail: MVI C,15; LXI D,6CH; CALL 5; MVI C,15; LXI D,5CH; CALL 5; RET."""
+
+    def least(self, *words: object) -> subprocess.CompletedProcess:
+        (self.work / 'disk').mkdir(exist_ok=True)
+        for name in 'One.txt', 'two.', 'three.txt', 'four':
+            self.put(f'disk/{name}', name)
+        env = {**os.environ, 'CPMDEPS': str(DEPENDENCIES_PROGRAM)}
+        return self.run_command(EXAMPLES / 'fixture/least', 'disk', 'new', *words, cwd=self.work, env=env)
+
+    def test_files_that_were_asked_for_are_copied(self) -> None:
+        done = self.least(self.put('open.com', self.OPEN_TWO), 'one.txt two')
+        self.assertEqual((done.returncode, done.stdout, done.stderr), (0, b'', b''))
+        self.expect_names(self.work / 'new', 'One.txt', 'two.')
+        self.assertEqual((self.work / 'new/One.txt').read_text(), 'One.txt')
+
+    def test_other_drives_and_missing_files_are_not_copied(self) -> None:
+        self.least(self.put('open.com', self.OPEN_TWO), 'b:one.txt none', '--files-b', 'disk')
+        self.expect_names(self.work / 'new')
+
+    def test_a_directory_is_an_error(self) -> None:
+        done = self.least(self.put('search.com', bytes.fromhex('0E11 115C00 CD0500 C9')), '*.txt')
+        self.assertEqual((done.returncode, done.stdout), (1, b''))
+        self.assertEqual(done.stderr.decode(), 'least: the run asked for the directory of drive A, so it depends on each name there\n')
+        self.expect_names(self.work, 'disk', 'search.com')
+        self.assertEqual(self.least('none.com').stderr, b'cpmdeps: cannot read none.com\n')

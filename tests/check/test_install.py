@@ -1,4 +1,4 @@
-"""Tests `make install`, `make uninstall` and `make dist`, the completion for bash, and the man page."""
+"""Tests `make install`, `make uninstall` and `make dist`, the completion for bash, and the man pages."""
 import os
 import re
 import shutil
@@ -7,10 +7,11 @@ import tempfile
 import unittest
 from pathlib import Path
 
-from helpers import PROGRAM, TOP
+from helpers import DEPENDENCIES_PROGRAM, PROGRAM, TOP
 from test_pages import wrong_blocks
 
-HELP = subprocess.check_output([PROGRAM, '--help'], text=True)
+PROGRAMS = {'cpmrun': PROGRAM, 'cpmdeps': DEPENDENCIES_PROGRAM}
+HELP = {name: subprocess.check_output([program, '--help'], text=True) for name, program in PROGRAMS.items()}
 
 
 def run(*words, **how):
@@ -38,9 +39,10 @@ class Install(unittest.TestCase):
         (prefix / 'bin/other').write_text('not ours')
         self.make('install', f'PREFIX={prefix}')
         doc = prefix / 'share/doc/cpmrun'
-        self.assertEqual((prefix / 'bin/cpmrun').read_bytes(), PROGRAM.read_bytes())
+        for name, program in PROGRAMS.items():
+            self.assertEqual((prefix / 'bin' / name).read_bytes(), program.read_bytes())
         for page in doc.rglob('*.md'):
-            self.assertNotRegex(page.read_text(), r'\./cpmrun|tests/programs', page)
+            self.assertNotRegex(page.read_text(), r'\./cpm(run|deps)|tests/programs', page)
         env = {**os.environ, 'PATH': f'{prefix}/bin:{os.environ["PATH"]}'}
         found = []
         for page in 'WALKS.md', 'MANUAL.md', 'examples/README.md':
@@ -69,29 +71,39 @@ class Install(unittest.TestCase):
         self.assertEqual(run('tar', '-C', self.work, '-xzf', TOP / name).returncode, 0)
         self.assertEqual(files_below(self.work / name.removesuffix('.tar.gz')), files_below(self.work / 'a root/usr'))
 
-    def completions(self, *words):
-        script = 'source "$0"; COMP_WORDS=("$@"); COMP_CWORD=$(($# - 1)); _cpmrun 2> /dev/null; echo "${COMPREPLY[*]}"'
-        return subprocess.check_output(['bash', '-c', script, TOP / 'scripts/completion', 'cpmrun', *words], cwd=self.work, text=True).split()
+    def completions(self, name, *words):
+        script = 'source "$0"; COMP_WORDS=("$@"); COMP_CWORD=$(($# - 1)); "_$1" 2> /dev/null; echo "${COMPREPLY[*]}"'
+        return subprocess.check_output(['bash', '-c', script, TOP / 'scripts/completion', name, *words], cwd=self.work, text=True).split()
 
     def test_bash_completes_options_folders_and_files(self):
         (self.work / 'disk').mkdir()
         (self.work / 'digits.com').touch()
         for words, wanted in [('--s',), '--spacing --slots'], [('--files', 'di'), 'disk'], [('--files', '=', 'di'), 'disk'], \
                 [('dig',), 'digits.com'], [('--edits', 'dig'), 'digits.com'], [('--limit', 'd'), '']:
-            self.assertEqual(self.completions(*words), wanted.split(), words)
-        self.assertEqual(sorted(self.completions('--')), sorted(re.findall(r'(?m)^ +(?:-., )?(--[a-z-]+)', HELP)))
-        self.assertEqual(run('bash', '-c', 'source "$0" && complete -p cpmrun', TOP / 'scripts/completion').stdout, 'complete -F _cpmrun cpmrun\n')
+            self.assertEqual(self.completions('cpmrun', *words), wanted.split(), words)
+        for name in PROGRAMS:
+            self.assertEqual(sorted(self.completions(name, '--')), sorted(re.findall(r'(?m)^ +(?:-., )?(--[a-z-]+)', HELP[name])))
+            shown = run('bash', '-c', f'source "$0" && complete -p {name}', TOP / 'scripts/completion').stdout
+            self.assertEqual(shown, f'complete -F _{name} {name}\n')
+        self.assertEqual(self.completions('cpmdeps', '--make', 'dig'), ['digits.com'])
 
-    def test_the_man_page_says_what_help_says(self):
-        page = subprocess.run(['groff', '-ww', '-man', '-Tascii', '-P-c', TOP / 'docs/cpmrun.1'], capture_output=True)
+    def test_the_man_pages_say_what_help_says(self):
+        for name in PROGRAMS:
+            with self.subTest(name):
+                self.expect_man_page(name, HELP[name])
+
+    def expect_man_page(self, name, said):
+        source = TOP / f'docs/{name}.1'
+        page = subprocess.run(['groff', '-ww', '-man', '-Tascii', '-P-c', source], capture_output=True)
         self.assertEqual(page.stderr, b'')
         text = re.sub(r'([a-z])-\n *', r'\1', subprocess.run(['col', '-bx'], input=page.stdout, stdout=subprocess.PIPE).stdout.decode())
-        options = re.findall(r'(?m)^ +(--[a-z-]+ )<([A-Z]+)>', HELP) + re.findall(r'(?m)^ +(-[hV], )(--[a-z]+)', HELP)
-        self.assertEqual(sorted(re.findall(r'(?m)^ {7}(-\S.*?) *$', text)), sorted(a + b for a, b in options))
+        options = [f'{short}{long}' for short, long in re.findall(r'(?m)^ +(-[hV], )?(--[a-z-]+(?: <[A-Z]+>)?)', said)]
+        shown = re.findall(r'(?m)^ {7}(-\S.*?) *$', text)
+        self.assertEqual(sorted(shown), sorted(option.replace('<', '').replace('>', '') for option in options))
         line = ' '.join(text.split())
-        said = re.findall(r'\[default: [^]]*\]', HELP) + [f'{a} {b}' for a, b in re.findall(r'(?m)^  (\d+) +(.*)', HELP.split('Exit status:')[1])]
-        for words in said + re.findall(r'(?m)^  <(PROGRAM)>  (.*)', HELP):
-            self.assertIn(' '.join(words) if isinstance(words, tuple) else words, line)
-        version = subprocess.check_output([PROGRAM, '--version'], text=True).strip()
-        self.assertIn(f'.TH CPMRUN 1 "" "{version}"', (TOP / 'docs/cpmrun.1').read_text())
-
+        defaults = re.findall(r'\[default: [^]]*\]', said)
+        statuses = [f'{a} {b}' for a, b in re.findall(r'(?m)^  (\d+) +(.*)', said.split('Exit status:')[1])]
+        for words in defaults + statuses + [' '.join(each) for each in re.findall(r'(?m)^  <(PROGRAM)>  (.*)', said)]:
+            self.assertIn(words, line)
+        version = subprocess.check_output([PROGRAMS[name], '--version'], text=True).strip()
+        self.assertIn(f'.TH {name.upper()} 1 "" "{version}"', source.read_text())

@@ -1,4 +1,4 @@
-"""Runs the commands of the pages in a copy of the tree with the built program, and compares what they print with the pages.
+"""Runs the commands of the pages in a copy of the tree with the built programs, and compares what they print with the pages.
 
 A block of commands is fenced by ```sh, and bash runs it at the top of the copy. The next block, if it is fenced by ```text, is what the
 commands print on standard output and standard error, without carriage returns; if there is none, they may print anything. Every block must
@@ -8,23 +8,24 @@ import shutil
 import subprocess
 from pathlib import Path
 
-from helpers import PROGRAM, TOP, ProgramTest
+from helpers import DEPENDENCIES_PROGRAM, PROGRAM, TOP, ProgramTest
 
-PARTS = ['cpmrun', 'crates.txt', 'scripts', 'examples', 'tests', 'docs']
-"""What the commands may name. Of the crates they may name only the built program."""
+PARTS = ['cpmrun', 'cpmdeps', 'crates.txt', 'scripts', 'examples', 'tests', 'docs']
+"""What the commands may name. Of the crates they may name only the built programs."""
 
 BLOCKS = re.compile(r'^```sh\n(?P<commands>.*?)^```\n(?:\n?```text\n(?P<text>.*?)^```$)?', re.MULTILINE | re.DOTALL)
 
 
 def copy_tree(copy: Path) -> None:
-    """Copies what the commands may name, and the program to where `cpmrun` looks for it."""
+    """Copies what the commands may name, and the programs to where `cpmrun` and `cpmdeps` look for them."""
     for part in PARTS:
         if (TOP / part).is_dir():
             shutil.copytree(TOP / part, copy / part, ignore=shutil.ignore_patterns('__pycache__', 'built'))
         else:
             shutil.copy2(TOP / part, copy / part)
-    (copy / 'crates/executable/out').mkdir(parents=True)
-    shutil.copy2(PROGRAM, copy / 'crates/executable/out/executable')
+    for program, crate in (PROGRAM, 'executable'), (DEPENDENCIES_PROGRAM, 'cpmdeps'):
+        (copy / 'crates' / crate / 'out').mkdir(parents=True)
+        shutil.copy2(program, copy / 'crates' / crate / 'out' / crate)
 
 
 def wrong_blocks(page: Path, copy: Path, env: dict[str, str] | None = None) -> list[str]:

@@ -11,18 +11,14 @@ from helpers import Crate, read_crates
 from sources import Function, RuleTest, code_of, functions_of
 
 ALLOWED = {
-    'dependencies::Dependencies::of_run': 'what a run depends on',
-    'dependencies::next_range': 'indexes in a row that a run asked for',
     'filenames::Fcb::dr': 'the drive byte of a control block',
     'filenames::Fcb::set_place': 'sets the place of a control block',
-    'first_looks::FirstLooks::offsets': 'the first steps of the script offsets',
     'hostfiles::HostFiles::records_with': 'how many records a file has after a run',
     'hostfiles::HostFiles::record_with': 'a record of a file after a run',
     'hostfiles::HostFiles::next_with': 'the names after a run',
     'machine::Meter::tick': 'counts one step',
     'machine::Session::tail': "part of the library's surface, as the other parts of a session are",
     'machine::step': 'one step',
-    'replay::Runner::session': 'the session as it is now',
     'replay::Runner::kept': 'the steps of the checkpoints',
     'replay::Runner::alloc_failures': 'how often memory for a checkpoint was refused',
 }
@@ -41,10 +37,11 @@ AMBIGUOUS = {
     'machine::State::load': 'the loaded state of a session',
     'pagemem::Overlay::looked': 'whether a cell was looked at',
     'pagemem::Overlay::snapshot': 'a copy of an overlay',
+    'replay::Runner::session': 'the session as it is now',
 }
 """The same, for methods whose names other types have too: a call of that name may be of another method. The calls of a program ask by
-`cpmfiles::asking` and change the journal under the table, a run is loaded over marks that are used again, and a checkpoint shares the cells
-and copies the journal."""
+`cpmfiles::asking` and change the journal under the table, a run is loaded over marks that are used again, a checkpoint shares the cells and
+copies the journal, and a program loads the session of its words."""
 
 
 @cache

@@ -1,14 +1,14 @@
-"""Runs the tests of the client for Python and of the programs over it, examples/python, with the built program."""
+"""Runs the tests of the clients for Python and of the programs over them, examples/python, with the built programs."""
 import os
 import sys
 
-from helpers import PROGRAM, TOP, ProgramTest
+from helpers import DEPENDENCIES_PROGRAM, PROGRAM, TOP, ProgramTest
 
 
 class PythonTest(ProgramTest):
 
-    def test_the_tests_of_the_client_pass(self) -> None:
-        env = {**os.environ, 'CPMRUN': str(PROGRAM)}
+    def test_the_tests_of_the_clients_pass(self) -> None:
+        env = {**os.environ, 'CPMRUN': str(PROGRAM), 'CPMDEPS': str(DEPENDENCIES_PROGRAM)}
         words = [sys.executable, '-B', '-W', 'error', '-m', 'unittest']
         done = self.run_with_children(*words, cwd=TOP / 'examples/python', env=env, timeout=600)
         self.assertEqual(done.returncode, 0, done.stderr.decode())

@@ -127,13 +127,12 @@ def other_citations() -> Iterator[Line]:
 
 MAY_REPORT_OUT_OF_MEMORY = set('''
 command_words::error_class
+command_words::read_dependency_words
 command_words::read_words
-cpmrun::report_fault
-cpmrun::fixed_message
-cpmrun::message
-cpmrun::read_request
+cpmdeps::main
 cpmrun::replay_file
-cpmrun::status
+dependency_command::write_listing
+dependency_command::write_rule
 edit_lines::execute_edit
 edit_lines::hex_bytes
 executable::main
@@ -147,11 +146,17 @@ folders::write_file
 hostfiles::number
 loading::read_fault
 loading::tail_of
+make_rules::list_drive
 one_run::report_stop
 one_run::run_and_report
 one_run::run_once
 first_looks::note
 replay::number
+requests::fixed_message
+requests::message
+requests::report_fault
+requests::request_of_error
+requests::status
 '''.split())
 """The functions of the product that report out of memory themselves, not by `?` or in a `From`. Any function that may fail so could claim it,
 and no contract refuses that everywhere. Most of these turn one error into another, or into a number or a message."""
@@ -210,7 +215,7 @@ class SourcesTest(RuleTest):
 
     def test_crates_above_replay_do_not_name_pages_looks_or_checkpoints(self) -> None:
         words = r'\bpagemem\b|Overlay|\bCheckpoint\b|\blooked\b'
-        self.refuse(in_crates(words, 'report_lines', 'edit_lines', 'loading', 'one_run', 'cpmrun'))
+        self.refuse(in_crates(words, 'report_lines', 'edit_lines', 'loading', 'one_run', 'requests', 'cpmrun', 'dependency_command'))
 
     def test_pages_are_shared_in_an_rc(self) -> None:
         lines = lines_of(TOP / 'crates/pagemem/src/page.rt')

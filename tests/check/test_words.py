@@ -3,7 +3,7 @@ import re
 import subprocess
 import unittest
 
-from helpers import PROGRAM, TOP
+from helpers import DEPENDENCIES_PROGRAM, PROGRAM, TOP
 
 PLAINER = {
     r'(is|are|was|were) told|tells?|told': 'prints, returns, reports, shows',
@@ -23,7 +23,7 @@ PLAINER = {
 }
 WORDS = {re.compile(rf'\b({words})\b'): better for words, better in PLAINER.items()}
 
-FILES = ['*.md', 'docs/*.md', 'docs/cpmrun.1', 'examples/*.md', 'examples/python/*.md', 'tests/*.md', 'crates/*/src/*.rt', 'crates/*/specs/**/*.antt',
+FILES = ['*.md', 'docs/*.md', 'docs/*.1', 'examples/*.md', 'examples/python/*.md', 'tests/*.md', 'crates/*/src/*.rt', 'crates/*/specs/**/*.antt',
          'crates/*/proofs/**/*.antt']
 
 
@@ -51,5 +51,6 @@ class Words(unittest.TestCase):
             self.check(name, comments(name, path.read_text()))
 
     def test_help_has_plain_words(self) -> None:
-        self.check('--help', subprocess.check_output([PROGRAM, '--help'], text=True).splitlines())
+        for program in PROGRAM, DEPENDENCIES_PROGRAM:
+            self.check('--help', subprocess.check_output([program, '--help'], text=True).splitlines())
 
