@@ -35,7 +35,8 @@ LONGEST_DATA = (LONGEST_LINE - len("replace 0123456789 ")) // 2
 GRACE_SECONDS = 10.0
 """The seconds that a closed runner may take before it is killed."""
 
-_FOLDER_OPTIONS = {"A": "--files", "B": "--files-b", "C": "--files-c", "D": "--files-d"}
+FOLDER_OPTIONS = {"A": "--files", "B": "--files-b", "C": "--files-c", "D": "--files-d"}
+"""The option for the folder of the host files of each drive."""
 
 _HEXADECIMAL = {"Undefined": "02X", "SystemArea": "04X"}
 
@@ -155,7 +156,7 @@ class Session:
         """
         words = [os.fspath(runner), "--edits=/dev/stdin"]
         for drive, folder in (folders or {}).items():
-            words.append(f"{_FOLDER_OPTIONS[drive]}={os.fspath(folder)}")
+            words.append(f"{FOLDER_OPTIONS[drive]}={os.fspath(folder)}")
         if script is not None:
             words.append(f"--console={os.fspath(script)}")
         for option, number in (("--limit", limit), ("--spacing", spacing), ("--slots", slots)):

@@ -1,4 +1,4 @@
-"""What `shrink.py` and `explore.py` share: the arguments that name a session, and its inputs."""
+"""What the programs over the clients share: the arguments that name a session, and its inputs."""
 
 from __future__ import annotations
 
@@ -17,11 +17,14 @@ from cpmrun import LONGEST_DATA, Report, Session, SessionError
 DRIVES = {"A": "files", "B": "files_b", "C": "files_c", "D": "files_d"}
 
 
-class Parser(argparse.ArgumentParser):
-    """Reads the arguments that name a session, and the ones that a program adds."""
+class Arguments(argparse.ArgumentParser):
+    """Reads arguments, and prints a usage error in one line."""
 
     def __init__(self, description: str, epilog: str) -> None:
         super().__init__(description=description, epilog=epilog, allow_abbrev=False)
+
+    def add_session(self) -> None:
+        """Adds the arguments that name a session."""
         add = self.add_argument
         add("program", metavar="PROGRAM", help="the .COM file")
         add("tail", metavar="TAIL", nargs="?", help="its command tail, one word")
@@ -30,15 +33,24 @@ class Parser(argparse.ArgumentParser):
             option = "--" + name.replace("_", "-")
             add(option, metavar="DIR", help=f"the folder of the host files of drive {drive}")
         add("--limit", type=int, metavar="N", help="the steps after which a run stops")
+
+    def error(self, message: str) -> NoReturn:
+        """Prints a usage error in one line, and ends with status 2."""
+        self.exit(2, f"{self.prog}: {message}\n")
+
+
+class Parser(Arguments):
+    """Reads the arguments that name a session and its runner, and the ones that a program adds."""
+
+    def __init__(self, description: str, epilog: str) -> None:
+        super().__init__(description, epilog)
+        self.add_session()
+        add = self.add_argument
         add("--spacing", type=int, metavar="N", help="the steps from checkpoint to checkpoint")
         add("--slots", type=int, metavar="N", help="the most checkpoints")
         add("--runner", metavar="PATH", default=_runner(),
             help="the runner; by default the one that the variable CPMRUN names, else ./cpmrun, "
                  "else the cpmrun on the PATH")
-
-    def error(self, message: str) -> NoReturn:
-        """Prints a usage error in one line, and ends with status 2."""
-        self.exit(2, f"{self.prog}: {message}\n")
 
 
 def _runner() -> str:
@@ -50,10 +62,13 @@ def _runner() -> str:
 def start(words: argparse.Namespace, **options: int) -> Session:
     """Returns the session that the arguments name; `options` override them."""
     numbers = {name: getattr(words, name) for name in ("limit", "spacing", "slots")}
+    return Session(words.runner, words.program, words.tail, script=words.console, folders=folders_of(words), **(numbers | options))
+
+
+def folders_of(words: argparse.Namespace) -> dict[str, str]:
+    """Returns the folder of each drive that has one."""
     folders = {drive: getattr(words, name) for drive, name in DRIVES.items()}
-    return Session(words.runner, words.program, words.tail, script=words.console,
-                   folders={drive: path for drive, path in folders.items() if path is not None},
-                   **(numbers | options))
+    return {drive: path for drive, path in folders.items() if path is not None}
 
 
 def run_main(main: Callable[[], None]) -> None:
@@ -84,7 +99,7 @@ class Inputs:
         """Starts the session that the arguments name; `options` override them."""
         self._words, self._options = words, options
         self.names = names
-        self._places = [_place_of(name, words) for name in names]
+        self._places = [place_of(name, words) for name in names]
         self.data = [b"" if path is None else path.read_bytes() for _, path in self._places]
         self.session = start(words, **options)
         self._room = tempfile.TemporaryDirectory()
@@ -151,16 +166,17 @@ def common(one: bytes, other: bytes) -> int:
     return low
 
 
-def _place_of(name: str | None, words: argparse.Namespace) -> tuple[str, Path | None]:
+def place_of(name: str | None, words: argparse.Namespace) -> tuple[str, Path | None]:
     """Returns the option that names the script, or the folder of the host file of this name, and the path of the script or the file, or
     None without a script."""
     if name is None:
         return "console", None if words.console is None else Path(words.console)
     drive, _, rest = name.upper().rpartition(":")
     option = DRIVES.get(drive or "A", "")
+    names = (rest,) if "." in rest else (rest, f"{rest}.")
     folder = getattr(words, option, None)
     for path in Path(folder).iterdir() if folder is not None else ():
-        if path.name.upper() == rest:
+        if path.name.upper() in names:
             return option, path
     raise ValueError(f"the session has no host file {name}")
 
