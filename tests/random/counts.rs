@@ -93,7 +93,9 @@ impl fmt::Display for Counts {
             last = title;
             writeln!(out, "    {what:<34}{count:>12}")?;
         }
-        writeln!(out, "Opcodes carried out: {} of the 243 beside HLT", self.opcodes.len())?;
+        if !self.opcodes.is_empty() {
+            writeln!(out, "Opcodes carried out: {} of the 243 beside HLT", self.opcodes.len())?;
+        }
         writeln!(out, "{} sessions, {} differ", self.sessions, self.differences)
     }
 }

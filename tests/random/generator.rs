@@ -1,7 +1,7 @@
 // Sessions made at random: a program with its tail, host files and script, and the lines that edit and run it.
 
 mod programs;
-mod random;
+pub mod random;
 
 use crate::model::{self, digits, matches, name_in_folder, printed, Cause, Edit, File, Key, Run, Session, PROGRAM_START, RECORD};
 use programs::statements::{any_call_number, any_instruction};
@@ -40,6 +40,7 @@ impl Command {
 }
 
 // A host file as it stands in the folder of its drive.
+#[derive(Clone)]
 pub struct HostFile {
     pub key: Key,
     pub name: String,

@@ -5,6 +5,18 @@ mod calls;
 mod files;
 mod processor;
 
+// Only some users of the model note what a run asked, and list it.
+#[allow(dead_code)]
+mod asked;
+#[allow(dead_code)]
+mod listing;
+#[allow(unused_imports)]
+pub use self::{
+    asked::{Asked, Question},
+    files::is_sayable,
+    listing::Rows,
+};
+
 use calls::{names_a_file, Desk};
 pub use files::{matches, name_in_folder, printed, File, Files, Key, RECORD};
 use processor::{Did, Processor, A, B, C, D, E, H, L};
@@ -150,7 +162,7 @@ fn tail_name(word: &[u8]) -> [u8; 12] {
     name
 }
 
-fn page_zero(tail: &[u8]) -> [u8; 256] {
+pub fn page_zero(tail: &[u8]) -> [u8; 256] {
     let tail = tail.to_ascii_uppercase();
     let mut page = [0; 256];
     page[..3].copy_from_slice(&[0xc3, WARM_START as u8, (WARM_START >> 8) as u8]);
@@ -190,15 +202,15 @@ pub struct Run {
     pub taken: usize,
 }
 
-// Who is told of each step, before it is tried, and when it was carried out.
+// What is called at each step: with the state before it, and, if the step was executed, with the state after it.
 pub trait Watch {
     fn tries(&mut self, state: &State);
-    fn went(&mut self);
+    fn went(&mut self, state: &State);
 }
 
 impl Watch for () {
     fn tries(&mut self, _: &State) {}
-    fn went(&mut self) {}
+    fn went(&mut self, _: &State) {}
 }
 
 // What the steps of a run were.
@@ -224,7 +236,7 @@ impl Watch for Notes {
         }
     }
 
-    fn went(&mut self) {
+    fn went(&mut self, _: &State) {
         let (moment, opcode) = self.last.expect("a step is tried before it went");
         if moment.next < SYSTEM_AREA {
             self.opcodes.push(opcode);
@@ -282,7 +294,7 @@ impl State {
             if let Err(cause) = self.step(session) {
                 return (steps, cause);
             }
-            watch.went();
+            watch.went(self);
             steps += 1;
         }
         (steps, Cause::Limit)

@@ -10,7 +10,7 @@ const NO_RECORD: u16 = 1;
 const PLACE_TOO_LARGE: u16 = 2;
 const NO_EXTENT: u16 = 4;
 const RANDOM_PLACE_TOO_LARGE: u16 = 6;
-const INPUT_AND_OUTPUT_BYTE: u16 = 3;
+pub const INPUT_AND_OUTPUT_BYTE: u16 = 3;
 const STANDARD_BUFFER: u16 = 0x80;
 // The offsets of a control block.
 const EXTENT_BYTE: u16 = 12;
@@ -18,15 +18,15 @@ const UPPER_EXTENT_BYTE: u16 = 14;
 const RECORD_COUNT: u16 = 15;
 const NEW_NAME: u16 = 17;
 const RECORD_BYTE: u16 = 32;
-const RANDOM_PLACE: u16 = 33;
+pub const RANDOM_PLACE: u16 = 33;
 
 pub struct Desk {
     pub cursor: usize,
     pub text: Vec<u8>,
     column: u64,
-    buffer: u16,
+    pub buffer: u16,
     drive: u8,
-    search: Option<Search>,
+    pub search: Option<Search>,
 }
 
 impl Desk {
@@ -210,7 +210,7 @@ impl State {
     }
 
     // A byte of the control block.
-    fn field(&self, offset: u16) -> u8 {
+    pub fn field(&self, offset: u16) -> u8 {
         self.processor.byte(self.processor.pair(D).wrapping_add(offset))
     }
 
@@ -231,9 +231,14 @@ impl State {
         Ok(key)
     }
 
-    fn sequential_place(&self) -> usize {
+    pub fn sequential_place(&self) -> usize {
         let field = |offset| self.field(offset) as usize;
         4096 * field(UPPER_EXTENT_BYTE) + 128 * field(EXTENT_BYTE) + field(RECORD_BYTE)
+    }
+
+    // The number in the lower two bytes of the random place.
+    pub fn random_place(&self) -> usize {
+        self.field(RANDOM_PLACE) as usize + 256 * self.field(RANDOM_PLACE + 1) as usize
     }
 
     fn set_sequential_place(&mut self, place: usize) {
@@ -296,7 +301,7 @@ impl State {
         if self.field(RANDOM_PLACE + 2) != 0 {
             return RANDOM_PLACE_TOO_LARGE;
         }
-        let place = self.field(RANDOM_PLACE) as usize + 256 * self.field(RANDOM_PLACE + 1) as usize;
+        let place = self.random_place();
         if number != 33 {
             self.write(key, place, place, number == 40);
         } else if !self.read(key, place, place) {

@@ -123,7 +123,7 @@ impl Processor {
         word
     }
 
-    fn holds(&self, condition: u8) -> bool {
+    pub fn holds(&self, condition: u8) -> bool {
         let flag = [self.flags.zero, self.flags.carry, self.flags.parity, self.flags.sign][condition as usize / 2];
         flag == (condition % 2 == 1)
     }
