@@ -12,6 +12,13 @@ use Rattle.command_words.specs.declared.words.SessionWords.{SessionWords}
 abbrev pub option_rule : Text → Rule
 option_rule name = record (new_rule name) { long = Some name; value_names = 1 }
 
+-- A rule for an argument whose value is a path, and not empty.
+abbrev pub as_path : Rule → Rule
+as_path rule = record rule { parser = Some parser.NonEmptyString }
+
+abbrev pub path_rule : Text → Rule
+path_rule name = as_path (option_rule name)
+
 -- An argument with a default.
 abbrev pub with_default : Rule → Text → Rule
 with_default rule default = record rule { defaults = default ∷ [] }
@@ -29,13 +36,13 @@ with_rules app (rule ∷ rules) = with_rules (with_rule app rule) rules
 
 -- The program, which is required, and the tail.
 abbrev pub positional_rules : List Rule
-positional_rules = record (new_rule (codes "PROGRAM")) { required = true } ∷ new_rule (codes "TAIL") ∷ []
+positional_rules = record (as_path (new_rule (codes "PROGRAM"))) { required = true } ∷ new_rule (codes "TAIL") ∷ []
 
 -- The folders that are read, and the script.
 abbrev pub input_rules : List Rule
 input_rules =
-    option_rule (codes "files") ∷ option_rule (codes "files-b") ∷ option_rule (codes "files-c") ∷ option_rule (codes "files-d")
-    ∷ option_rule (codes "console") ∷ []
+    path_rule (codes "files") ∷ path_rule (codes "files-b") ∷ path_rule (codes "files-c") ∷ path_rule (codes "files-d")
+    ∷ path_rule (codes "console") ∷ []
 
 -- The limit of steps.
 abbrev pub limit_rule : Rule

@@ -3,7 +3,7 @@
 use Rattle.std.specs.Prelude.{◌≡◌, ◌≢◌, List, [], ◌∷◌, Bool, MatchBool, Some, codes}
 use Rattle.clap.specs.Words.{App, Kinds, Row, Rule, Text, fault_of, first_of, matches_of, new_rule, one_of}
 use Rattle.clap.specs.declared.builder.action.ArgAction.TheVariants as action
-use Rattle.command_words.specs.CommandLine.{AreSessionWordsOf, limit_rule, option_rule, plain_command, text_of, with_input_rules, with_rules}
+use Rattle.command_words.specs.CommandLine.{AreSessionWordsOf, limit_rule, path_rule, plain_command, text_of, with_input_rules, with_rules}
 use Rattle.command_words.specs.declared.words.DependencyWords.{DependencyWords}
 
 -- An option without a value.
@@ -12,7 +12,7 @@ flag_rule name = record (new_rule name) { long = Some name; action = Some action
 
 -- The limit of steps, and the form of the listing.
 abbrev pub dependency_rules : List Rule
-dependency_rules = limit_rule ∷ flag_rule (codes "by-step") ∷ option_rule (codes "make") ∷ []
+dependency_rules = limit_rule ∷ flag_rule (codes "by-step") ∷ path_rule (codes "make") ∷ []
 
 -- The command line of `cpmdeps` with all its arguments.
 abbrev pub dependency_line : App

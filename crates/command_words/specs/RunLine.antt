@@ -2,7 +2,7 @@
 -- this project's own.)
 use Rattle.std.specs.Prelude.{◌≡◌, ◌⊎◌, List, [], ◌∷◌, map, codes}
 use Rattle.clap.specs.Words.{App, Kinds, Row, Rule, Text, fault_of, first_of, matches_of}
-use Rattle.command_words.specs.CommandLine.{AreSessionWordsOf, HasNoNumberWithin, IsNumberOf, LacksSessionWords, limit_rule, number_rule, option_rule}
+use Rattle.command_words.specs.CommandLine.{AreSessionWordsOf, HasNoNumberWithin, IsNumberOf, LacksSessionWords, limit_rule, number_rule, path_rule}
 use Rattle.command_words.specs.CommandLine.{plain_command, text_of, texts_of, with_input_rules, with_rules}
 use Rattle.command_words.specs.declared.words.SessionWords.{SessionWords}
 use Rattle.command_words.specs.declared.words.Words.{Words}
@@ -10,8 +10,8 @@ use Rattle.command_words.specs.declared.words.Words.{Words}
 -- The edit lines, and the folders that are written to.
 abbrev pub run_path_rules : List Rule
 run_path_rules =
-    option_rule (codes "edits")
-    ∷ option_rule (codes "out") ∷ option_rule (codes "out-b") ∷ option_rule (codes "out-c") ∷ option_rule (codes "out-d") ∷ []
+    path_rule (codes "edits")
+    ∷ path_rule (codes "out") ∷ path_rule (codes "out-b") ∷ path_rule (codes "out-c") ∷ path_rule (codes "out-d") ∷ []
 
 -- The limit of steps, and how checkpoints are made.
 abbrev pub run_number_rules : List Rule

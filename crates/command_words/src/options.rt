@@ -1,11 +1,12 @@
 ghost use Rattle.std.specs.Prelude.{◌≡◌, false, codes, IfOk, map};
 ghost use Rattle.clap.specs.Words.{app_of, rule_of};
-ghost use Rattle.command_words.specs.CommandLine.{limit_rule, number_rule, option_rule, plain_command};
+ghost use Rattle.command_words.specs.CommandLine.{limit_rule, number_rule, option_rule, path_rule, plain_command};
 ghost use Rattle.command_words.specs.CommandLine.{positional_rules, with_default, with_input_rules, with_rules};
 ghost use Rattle.command_words.specs.RunLine.{run_line, run_number_rules};
 ghost use Rattle.command_words.specs.DependencyLine.{dependency_line, flag_rule};
 
 use crate::help::{DEPENDENCY_ABOUT, DEPENDENCY_AFTER_HELP, RUN_ABOUT, RUN_AFTER_HELP, VERSION};
+use clap::builder::ValueParser;
 use clap::{Arg, ArgAction, Command, value_parser};
 use std::alloc::{AllocError, Global};
 
@@ -83,12 +84,13 @@ const MAKE: PathOption<'_> = PathOption {
 
 /// Returns the argument for an option whose value is a path.
 fn path_argument<'a>(alloc: Global, option: &PathOption<'a>) -> Arg<'a>
-    ensures rule { rule_of result ≡ option_rule option.now.name.now }
+    ensures rule { rule_of result ≡ path_rule option.now.name.now }
     ensures local { result.global ≡ false }
 {
     Arg::new(alloc, option.name)
         .long(option.name)
         .value_name(option.value)
+        .value_parser(ValueParser::NonEmptyString)
         .help(option.help)
 }
 
@@ -99,7 +101,7 @@ fn with_paths<'a>(
     options: &[PathOption<'a>],
 ) -> Result<Command<'a>, AllocError>
     ensures { IfOk result (λ c.
-        app_of c ≡ with_rules (app_of command.entry) (map (λ o. option_rule o.name.now) options.now)) }
+        app_of c ≡ with_rules (app_of command.entry) (map (λ o. path_rule o.name.now) options.now)) }
 {
     for option in options {
         command = command.arg(path_argument(alloc, option))?;
@@ -115,6 +117,7 @@ fn with_positionals<'a>(alloc: Global, command: Command<'a>) -> Result<Command<'
         .arg(
             Arg::new(alloc, "PROGRAM")
                 .required(true)
+                .value_parser(ValueParser::NonEmptyString)
                 .help("The .COM file to run, at most 64,512 bytes"),
         )?
         .arg(Arg::new(alloc, "TAIL").help(
