@@ -1,7 +1,6 @@
-"""Runs the built program cpmdeps: listings worked out by hand from what each instruction and call asks for, rules for make that make reads,
-each status and message, and each allocation and each system call failing in turn."""
+"""Runs the built program cpmdeps: listings worked out by hand from what each instruction and call asks for, each status and message, and
+each allocation and each system call failing in turn."""
 import os
-import subprocess
 from dataclasses import dataclass
 from pathlib import Path
 
@@ -383,6 +382,12 @@ class ErrorTest(DependenciesTest):
             ([HI, '--edits', 'x'], "error: unexpected argument '--edits' found"),
             ([HI, '--out', 'x'], "error: unexpected argument '--out' found"),
             ([HI, '--make'], "error: a value is required for '--make <TARGET>' but none was supplied"),
+            ([HI, '--make', ''], "error: a value is required for '--make <TARGET>' but none was supplied"),
+            ([HI, '--files', ''], "error: a value is required for '--files <DIR>' but none was supplied"),
+            ([HI, '--files-d='], "error: a value is required for '--files-d <DIR>' but none was supplied"),
+            ([HI, '--console', ''], "error: a value is required for '--console <FILE>' but none was supplied"),
+            ([''], "error: a value is required for '<PROGRAM>' but none was supplied"),
+            ([HI, '--make', 'made', '--by-step'], "error: the argument '--make <TARGET>' cannot be used with '--by-step'"),
             ([HI, '--limit', '4000000001'], "error: invalid value '4000000001' for '--limit <N>': 4000000001 is not in 0..=4000000000"),
         ]:
             with self.subTest(first):
@@ -410,109 +415,6 @@ class ErrorTest(DependenciesTest):
         self.expect(0, 'stop Limit\n', '', HI, '--limit', '0', preexec_fn=lambda: os.close(2))
 
 
-class MakeTest(DependenciesTest):
-    """Rules for make, which make reads."""
-
-    def rule(self, *words: object) -> str:
-        done = self.run_command(DEPENDENCIES_PROGRAM, *words, cwd=self.work)
-        self.assertEqual((done.returncode, done.stderr), (0, b''))
-        return done.stdout.decode()
-
-    def is_made(self, rule: str) -> bool:
-        """Returns whether make has to make the first target of a rule with a recipe."""
-        head, _, rest = rule.partition('\n')
-        (self.work / 'rule.mk').write_text(f'{head}\n\t@echo made\n{rest}')
-        env = {name: value for name, value in os.environ.items() if name not in ('MAKEFLAGS', 'MAKELEVEL', 'MFLAGS')}
-        status = subprocess.run(['make', '-q', '-f', 'rule.mk'], cwd=self.work, env=env, capture_output=True)
-        self.assertLess(status.returncode, 2, status.stderr.decode())
-        return status.returncode == 1
-
-    def touch(self, path: str, seconds: int) -> None:
-        os.utime(self.work / path, (1_000_000_000 + seconds,) * 2)
-
-    def expect_rule(self, wanted: str, target: str, needs: list[str], others: list[str], *words: object) -> None:
-        """Expects this rule, which makes the target again exactly if one of `needs` is newer. They and `others` are there."""
-        self.assertEqual(self.rule(*words, '--make', target), wanted)
-        (self.work / target).unlink(missing_ok=True)
-        self.assertTrue(self.is_made(wanted))
-        (self.work / target).write_text('')
-        for path in [*needs, *others, target]:
-            self.touch(path, 1)
-        self.assertFalse(self.is_made(wanted))
-        for path in [*needs, *others]:
-            with self.subTest(path):
-                self.touch(path, 2)
-                self.assertEqual(self.is_made(wanted), path in needs)
-                self.touch(path, 1)
-
-    def test_what_a_rule_has(self) -> None:
-        self.put('open.com', OPEN_TWO)
-        self.make_folder('disk', **{'note.txt': b'1', 'other.txt': b'2'})
-        self.make_folder('more', **{'NEW': b''})
-        self.put('script', 'x')
-        words = ['open.com', 'note.txt gone.txt', '--files', 'disk', '--files-b', 'more', '--console', 'script']
-        self.expect_rule('made: open.com disk/note.txt\n# not there: disk/GONE.TXT\n', 'made', ['open.com', 'disk/note.txt'],
-                         ['disk/other.txt', 'disk', 'more', 'more/NEW', 'script'], *words)
-        words[1] = 'b:new a:note.txt'
-        self.expect_rule('made: open.com disk/note.txt more/NEW\n', 'made', ['disk/note.txt', 'more/NEW'], ['disk/other.txt', 'script'],
-                         *words)
-        self.make_folder('mixed', **{'Note.Txt': b'', 'zed.': b''})
-        self.assertEqual(self.rule('open.com', 'zed note.txt', '--files', 'mixed', '--make', 'made'),
-                         'made: open.com mixed/Note.Txt mixed/zed.\n', 'names as found in the folder')
-        self.assertEqual(self.rule('open.com', 'b:new d:x', '--files', 'disk', '--make', 'made'),
-                         'made: open.com\n# not there: B:NEW\n# not there: D:X\n')
-        self.assertEqual(self.rule('open.com', '*.txt x', '--files', 'disk', '--make', 'made'),
-                         'made: open.com\n# not there: disk/X\n', 'a name that no folder can have')
-        self.assertEqual(self.rule('open.com', '--limit', '0', '--make', 'made'), 'made:\n')
-
-    def test_a_script_and_its_end(self) -> None:
-        self.put('typed.com', bytes.fromhex('0E01 CD0500 C9'))
-        for name, text in ('typed', 'x'), ('empty', ''):
-            self.put(name, text)
-            self.expect_rule(f'made: typed.com {name}\n', 'made', ['typed.com', name], [], 'typed.com', '--console', name)
-        self.assertEqual(self.rule('typed.com', '--make', 'made'), 'made: typed.com\n', 'no script was given')
-
-    def test_a_directory(self) -> None:
-        self.put('search.com', SEARCH)
-        self.make_folder('disk', x=b'')
-        self.expect_rule('made: search.com disk\n', 'made', ['search.com', 'disk'], ['disk/x'], 'search.com', '*.*', '--files', 'disk')
-        self.assertEqual(self.rule('search.com', 'b:*.*', '--files', 'disk', '--make', 'made'), 'made: search.com\n')
-
-    def test_paths_are_escaped(self) -> None:
-        self.put('it.com', OPEN_TWO)
-        for folder, escaped in [('a b', r'a\ b'), ('c#d', r'c\#d'), ('e$f', 'e$$f'), ('$(g)', '$$(g)'), ('  h', r'\ \ h'),
-                                ('i\\ j', r'i\\\ j'), ('k\\\\ l', r'k\\\\\ l'), ('m\\n', r'm\n'), ("o'p", "o'p")]:
-            with self.subTest(folder):
-                self.make_folder(folder, **{'X': b''})
-                words = ['it.com', 'x y', '--files', folder]
-                self.expect_rule(f'{escaped}.out: it.com {escaped}/X\n# not there: {folder}/Y\n', f'{folder}.out',
-                                 ['it.com', f'{folder}/X'], [folder], *words)
-
-    def test_tabs_are_escaped(self) -> None:
-        """make takes an escaped tab of a target for a blank."""
-        self.put('it.com', OPEN_TWO)
-        self.make_folder('a\tb', **{'X': b''})
-        words = ['it.com', 'x', '--files', 'a\tb']
-        self.expect_rule('made: it.com a\\\tb/X\n', 'made', ['it.com', 'a\tb/X'], [], *words)
-        self.assertEqual(self.rule(*words, '--make', 'c\\\td'), 'c\\\\\\\td: it.com a\\\tb/X\n')
-
-    def test_other_paths_are_escaped_too(self) -> None:
-        for name in 'it #1.com', 'typed $1':
-            self.put(name, bytes.fromhex('0E01 CD0500 C9'))
-        self.expect_rule('made: it\\ \\#1.com typed\\ $$1\n', 'made', ['it #1.com', 'typed $1'], [], 'it #1.com', '--console', 'typed $1')
-        self.put('search.com', SEARCH)
-        self.make_folder('d $ #')
-        self.expect_rule('made: search.com d\\ $$\\ \\#\n', 'made', ['search.com', 'd $ #'], [], 'search.com', '*.*', '--files', 'd $ #')
-
-    def test_a_line_end_is_an_error(self) -> None:
-        self.put('it.com', OPEN_TWO)
-        self.make_folder('a\nb', X=b'')
-        for words in [HI, '--make', 'a\nb'], [self.work / 'it.com', 'x y', '--files', self.work / 'a\nb', '--make', 'made']:
-            done = self.run_command(DEPENDENCIES_PROGRAM, *words)
-            self.assertEqual((done.returncode, done.stdout), (1, b''), words)
-            self.assertRegex(done.stderr, rb'\Acpmdeps: ')
-
-
 class DependencyFailures(FailureTest):
     """Each request of cpmdeps fails in turn."""
 
@@ -524,10 +426,11 @@ class DependencyFailures(FailureTest):
         self.put('it.com', OPEN_TWO)
         return [self.work / 'it.com', 'x y', '--files', self.host(), '--files-d', self.host()]
 
-    def out(self, *words: object) -> bytes:
+    def wanted(self, *words: object, **how) -> Wanted:
+        """Returns what a run with these arguments prints."""
         done = self.run_command(DEPENDENCIES_PROGRAM, *words)
-        self.assertEqual((done.returncode, done.stderr), (0, b''))
-        return done.stdout
+        self.assertEqual((done.returncode, done.stderr), (0, b'stop WarmBoot\n' if '--make' in words else b''))
+        return Wanted(done.stdout, done.stderr, **how)
 
 
 class RefusalTest(DependencyFailures):
@@ -537,10 +440,10 @@ class RefusalTest(DependencyFailures):
         greeting = [GREETING, 'a tail', '--console', self.put('script', 'Ada\r')]
         sort = [SORT / 'sort.com', 'names.txt sorted.txt', '--files', SORT / 'files']
         for words in [HI], [HI, '--by-step'], greeting, [*greeting, '--by-step'], self.words(), [*self.words(), '--make', 'made'], sort:
-            self.each_in_turn(Wanted(self.out(*words)), *words)
+            self.each_in_turn(self.wanted(*words), *words)
 
     def test_help_and_errors(self) -> None:
-        self.each_in_turn(Wanted(self.out('--help'), may_be_cut=False), '--help')
+        self.each_in_turn(self.wanted('--help', may_be_cut=False), '--help')
         use = [HI, 'a', 'b']
         for err, words in [
             (self.run_command(DEPENDENCIES_PROGRAM, *use).stderr, use),
@@ -559,10 +462,10 @@ class DeviceTest(DependencyFailures):
         messages = (f'cannot read {words[0]}', f'cannot read {self.work}/host', f'cannot read {self.work}/host/x',
                     'cannot write standard output')
         for more in [], ['--by-step'], ['--make', 'made']:
-            self.each_in_turn(Wanted(self.out(*words, *more), messages=messages, fault_status=1, may_pass=False), *words, *more)
+            self.each_in_turn(self.wanted(*words, *more, messages=messages, fault_status=1, may_pass=False), *words, *more)
         words = [GREETING, '--console', script]
         messages = (f'cannot read {GREETING}', f'cannot read {script}', 'cannot write standard output')
-        self.each_in_turn(Wanted(self.out(*words), messages=messages, fault_status=1, may_pass=False), *words)
+        self.each_in_turn(self.wanted(*words, messages=messages, fault_status=1, may_pass=False), *words)
 
     def test_each_call_fails(self) -> None:
         self.environment = {'FAIL_CALLS': 'orwds'}

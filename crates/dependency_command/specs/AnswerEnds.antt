@@ -2,7 +2,8 @@
 use Rattle.std.specs.Prelude.{◌≡◌, ℕ, ◌⊎◌, true, false, List}
 use Rattle.command_words.specs.DependencyLine.{dependency_faults}
 use Rattle.command_words.specs.ErrorClass.{HasErrorClass}
-use Rattle.command_words.specs.declared.error_classes.ErrorClass.TheVariants.{Information}
+use Rattle.command_words.specs.declared.error_classes.ErrorClass.{ErrorClass}
+use Rattle.command_words.specs.declared.error_classes.ErrorClass.TheVariants.{Information, UsageError}
 use Rattle.command_words.specs.declared.words.DependencyWords.{DependencyWords}
 use Rattle.folders.specs.FileSystem.{StoredFiles}
 use Rattle.loading.specs.Loading.{IsLoadedFrom}
@@ -13,42 +14,57 @@ use Rattle.report_lines.specs.Streams.{WritesWhole}
 use Rattle.requests.specs.FaultReports.{EndsWithFault}
 use Rattle.requests.specs.Requests.{FailsToInform, FailsToLoadSession, FailsToParse, WritesNothing}
 use Rattle.requests.specs.declared.fault.Fault.{Fault}
-use Rattle.requests.specs.declared.fault.Fault.TheVariants.{LineEnd}
 use Rattle.requests.specs.declared.tool.Tool.TheVariants.{Cpmdeps}
-use Rattle.dependency_command.specs.AreDependencyWords.{AreDependencyWords}
-use Rattle.dependency_command.specs.Answers.{BreaksAnswer, IsAnswer, WritesAnswer}
-use Rattle.dependency_command.specs.LineEnds.{refuses_rule}
+use Rattle.dependency_command.specs.AreDependencyWords.{AreDependencyWords, AsksTwice}
+use Rattle.dependency_command.specs.Answers.{BreaksAnswer, IsAnswer, IsAnswerWithout, ReportsAnswer, WritesAnswer}
+use Rattle.dependency_command.specs.RefusedPaths.{FailsPaths, refuses_rule}
 
 -- The answer about a session by its words and the files that they name.
 abbrev pub IsAnswerFor : StoredFiles → DependencyWords → Session → List ℕ → Type 0
 IsAnswerFor files w s = IsAnswer w files.bytes files.names s
 
--- The answer about the session of these words was written.
-abbrev pub AnswersWords : List (List ℕ) → World → World → Type 0
-AnswersWords words before after = (w : DependencyWords) × AreDependencyWords words w × (refuses_rule w ≡ false)
-    × ((s : Session) × IsLoadedFrom before.files w.session s × WritesAnswer (IsAnswerFor before.files w s) before.out after.out)
+-- The answer about the session of these words was written, and for a rule the line of the stop was reported.
+pub record AnswersWords (words : List (List ℕ)) (before after : World) : Type 0 where
+  pub w : DependencyWords
+  pub are : AreDependencyWords words w
+  pub allowed : refuses_rule w ≡ false
+  pub s : Session
+  pub of : IsLoadedFrom before.files w.session s
+  pub written : WritesAnswer (IsAnswerFor before.files w s) before.out after.out
+  pub reported : ReportsAnswer w s before.err after.err
+
+-- Help or the version was written.
+pub record Informs (words : List (List ℕ)) (before after : World) : Type 0 where
+  pub asked : HasErrorClass (dependency_faults words) Information
+  pub text : List ℕ
+  pub written : WritesWhole before.out after.out text
+  pub err : after.err ≡ before.err
 
 -- How the program ends without an error: it wrote help or the version, or the answer. No call of the file system failed.
 pub record EndsWithAnswer (words : List (List ℕ)) (status : ℕ) (before after : World) : Type 0 where
   pub zero : status ≡ 0
-  pub err : after.err ≡ before.err
   pub failures : after.files.failures ≡ before.files.failures
-  pub writes : (HasErrorClass (dependency_faults words) Information × ((text : List ℕ) × WritesWhole before.out after.out text))
-      ⊎ AnswersWords words before after
+  pub writes : Informs words before after ⊎ AnswersWords words before after
 
--- A rule for make is asked for whose target or path has a line end, and nothing was written.
+-- A rule for make is asked for that cannot have one of the paths, or there was no memory to tell, and nothing was written.
 abbrev pub RefusesRule : DependencyWords → World → World → Fault → Type 0
-RefusesRule w before after fault = (refuses_rule w ≡ true) × (fault ≡ LineEnd) × WritesNothing before after
+RefusesRule w before after fault = FailsPaths w fault × WritesNothing before after
 
--- An error of these words, and what it leaves: an error of the words themselves, of writing help, of a path with a line end, of loading
--- the session, or of the answer about its run.
+-- The words are a usage error: for clap, or since they ask for a rule and for the listing by steps.
+abbrev pub HasFaultClass : List (List ℕ) → ErrorClass → Type 0
+HasFaultClass words outcome = HasErrorClass (dependency_faults words) outcome ⊎ ((outcome ≡ UsageError) × AsksTwice words)
+
+-- An error of these words, and what it leaves: an error of the words themselves, of writing help, of a path that a rule cannot have, or, if
+-- there is none, of loading the session or of the answer about its run.
 abbrev pub FaultOf : List (List ℕ) → World → World → Fault → Type 0
 FaultOf words before after fault =
-    (FailsToParse (HasErrorClass (dependency_faults words)) fault × WritesNothing before after)
+    (FailsToParse (HasFaultClass words) fault × WritesNothing before after)
     ⊎ FailsToInform (HasErrorClass (dependency_faults words)) before after fault
-    ⊎ ((w : DependencyWords) × AreDependencyWords words w × (RefusesRule w before after fault ⊎ FailsToLoadSession w.session before after fault
+    ⊎ ((w : DependencyWords) × AreDependencyWords words w × (RefusesRule w before after fault
+    ⊎ ((refuses_rule w ≡ false) × (FailsToLoadSession w.session before after fault
     ⊎ ((s : Session) × IsLoadedFrom before.files w.session s
-    × BreaksAnswer (IsAnswerFor before.files w s) (FailsToListAny w.session.files) before.out after.out fault)))
+    × BreaksAnswer (IsAnswerFor before.files w s) (IsAnswerWithout w before.files.bytes before.files.names s) (FailsToListAny w.session.files)
+    before.out after.out fault)))))
 
 -- An error of these words occurred and was reported.
 abbrev pub EndsByFault : List (List ℕ) → ℕ → World → World → Type 0

@@ -1,4 +1,5 @@
 pub mod AreDependencyWords
-pub mod LineEnds
+pub mod RefusedPaths
 pub mod Answers
 pub mod AnswerEnds
+pub mod Rules

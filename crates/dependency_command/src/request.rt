@@ -4,11 +4,39 @@ ghost use Rattle.std.specs.Prelude.{◌≡◌, IfOk, IfErr, map, string_bytes};
 ghost use Rattle.command_words.specs.DependencyLine.{dependency_faults};
 ghost use Rattle.command_words.specs.ErrorClass.{HasErrorClass};
 ghost use Rattle.requests.specs.Requests.{IsRequestOf, FailsToParse};
-ghost use Rattle.dependency_command.specs.AreDependencyWords.{AreDependencyWords};
+ghost use Rattle.command_words.specs.declared.error_classes.ErrorClass.TheVariants.{UsageError};
+ghost use Rattle.dependency_command.specs.AnswerEnds.{HasFaultClass};
+ghost use Rattle.dependency_command.specs.AreDependencyWords.{AreDependencyWords, asks_twice};
 
 use command_words::{DependencyWords, error_class, read_dependency_words};
 use requests::{Fault, Request, request_of_error};
 use std::alloc::Global;
+
+/// The usage error of words that ask for a rule and for the listing by steps, worded as those of `clap`.
+const TWO_FORMS: &str = "\
+error: the argument '--make <TARGET>' cannot be used with '--by-step'
+
+Usage: cpmdeps [OPTIONS] <PROGRAM> [TAIL]
+
+For more information, try '--help'.
+";
+
+// Returns whether the words ask for a rule for make and for the listing by steps.
+fn asks_twice(words: &DependencyWords<'_>) -> bool
+    ensures { result ≡ asks_twice words.now }
+{
+    words.target.is_some() && words.by_step
+}
+
+// Returns the error of such words.
+fn two_forms<'a>(alloc: Global) -> Fault<'a>
+    ensures { FailsToParse (λ outcome. outcome ≡ UsageError) result }
+{
+    match String::from_str(alloc, TWO_FORMS) {
+        Ok(text) => Fault::Usage(text),
+        Err(_) => Fault::OutOfMemory,
+    }
+}
 
 /// Returns the request in the words after the program's name.
 pub fn read_request<'a>(
@@ -18,9 +46,10 @@ pub fn read_request<'a>(
     ensures request { let texts = map string_bytes words.entry.now in
         IfOk result (IsRequestOf (AreDependencyWords texts) (HasErrorClass (dependency_faults texts))) }
     ensures fault { IfErr result
-        (FailsToParse (HasErrorClass (dependency_faults (map string_bytes words.entry.now)))) }
+        (FailsToParse (HasFaultClass (map string_bytes words.entry.now))) }
 {
     match read_dependency_words(alloc, words) {
+        Ok(words) if asks_twice(&words) => Err(two_forms(alloc)),
         Ok(words) => Ok(Request::Session(words)),
         Err(error) => request_of_error(error_class(&error), format!(in alloc; "{error}")),
     }

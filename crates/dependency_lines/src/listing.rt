@@ -170,8 +170,8 @@ fn write_directories<W: Writer>(writer: &mut W, asked: &FileSteps) -> Result<(),
     write_step_line(writer, &Head::alone(b"directory D"), asked.directories[3])
 }
 
-// Writes the line of the stop.
-fn write_stop<W: Writer>(writer: &mut W, cause: Cause) -> Result<(), Failed>
+/// Writes the line of the stop.
+pub fn write_stop<W: Writer>(writer: &mut W, cause: Cause) -> Result<(), Failed>
     requires { (W.output writer.old).failures < 2 ^ 63 }
     ensures { WritesText (W.output writer.old) (W.output writer.new) (texts.stop_line cause) result }
 {

@@ -1,1 +1,3 @@
 pub mod TextLemmas
+pub mod SignLemmas
+pub mod ReadingLemmas

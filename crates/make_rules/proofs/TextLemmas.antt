@@ -1,6 +1,6 @@
--- A text that grows at its end by the parts of keys.
+-- Lists that grow at their end by the parts of keys.
 use Rattle.std.proofs.Common.{◌≡◌, ℕ, suc, refl, ◌+◌, ◌-◌, ◌<◌, List, [], ◌∷◌, ◌++◌, map, replicate, Option, Some, None, is_some, false, ap, sym, ◌∙◌, append_assoc, append-nil, arith}
-use Rattle.std.specs.List.{concat}
+use Rattle.std.specs.List.{flat_map}
 use Rattle.std.specs.Ordering.{nat_cmp}
 use Rattle.std.specs.Cmp.Lexicographic.{slice_cmp}
 use Rattle.std.specs.FinMap.{FinMap, get, contains_key}
@@ -18,13 +18,13 @@ one_more before items whole n k pushed below left =
 
 -- ---- parts one after the other, of which the first ones are there
 
-module _ {X : Type 0} (part : X → List ℕ) (before text whole : List ℕ) (xs : List X) where
-  pub part_next : (x : X) (rest : List X) → text ≡ before ++ part x → xs ≡ x ∷ rest → before ++ concat (map part xs) ≡ whole → text ++ concat (map part rest) ≡ whole
+module _ {X Y : Type 0} (part : X → List Y) (before text whole : List Y) (xs : List X) where
+  pub part_next : (x : X) (rest : List X) → text ≡ before ++ part x → xs ≡ x ∷ rest → before ++ flat_map part xs ≡ whole → text ++ flat_map part rest ≡ whole
   part_next x rest grown split left =
-      ap (λ t. t ++ concat (map part rest)) grown ∙ append_assoc before (part x) (concat (map part rest)) ∙ ap (λ ys. before ++ concat (map part ys)) (sym split) ∙ left
+      ap (λ t. t ++ flat_map part rest) grown ∙ append_assoc before (part x) (flat_map part rest) ∙ ap (λ ys. before ++ flat_map part ys) (sym split) ∙ left
 
-  pub part_end : xs ≡ [] → before ++ concat (map part xs) ≡ whole → before ≡ whole
-  part_end none left = sym (append-nil before) ∙ ap (λ ys. before ++ concat (map part ys)) (sym none) ∙ left
+  pub part_end : xs ≡ [] → before ++ flat_map part xs ≡ whole → before ≡ whole
+  part_end none left = sym (append-nil before) ∙ ap (λ ys. before ++ flat_map part ys) (sym none) ∙ left
 
 -- ---- the keys of a map above a bound
 
@@ -41,8 +41,3 @@ module _ {X : Type 0} (m : FinMap (slice_cmp nat_cmp) X) (after : Option Key) wh
 
   pub keys_least : (k : Key) (v : X) → get m k ≡ Some v → IsNextAbove after (IsAbsent m) (Some k) → keys_above m after ≡ k ∷ keys_above m (Some k)
   keys_least k v there next = keys_above_least m after k (ap is_some there) next
-
--- ---- texts appended one after the other
-
-pub behind : {before after : List ℕ} (old a b : List ℕ) → before ≡ old ++ a → after ≡ before ++ b → after ≡ old ++ (a ++ b)
-behind old a b e f = f ∙ ap (λ t. t ++ b) e ∙ append_assoc old a b

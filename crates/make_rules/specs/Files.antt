@@ -1,6 +1,7 @@
--- The parts of a rule for make that are about host files. (This project's profile.)
-use Rattle.std.specs.Prelude.{ℕ, ◌∷◌, ◌++◌, ◌||◌, ◌&&◌, not, Bool, if◌then◌else◌, is_some, List, [], map, get_or, slice_index, Option, Some, None, String, string_bytes, codes}
-use Rattle.std.specs.List.{concat}
+-- The host files on which a run depends, as paths. (This project's profile.)
+use Rattle.std.specs.Prelude.{ℕ, ◌∷◌, ◌++◌, ◌||◌, ◌&&◌, not, Bool, if◌then◌else◌, is_some, List, [], map, get_or, slice_index, Option, Some, None, String, string_bytes, codes, bytes_eq}
+use Rattle.std.specs.Char.{to_ascii_lowercase}
+use Rattle.std.specs.List.{flat_map}
 use Rattle.std.specs.Ordering.{nat_cmp}
 use Rattle.std.specs.Cmp.Lexicographic.{slice_cmp}
 use Rattle.std.specs.FinMap.{FinMap, contains_key, get, keys}
@@ -10,55 +11,102 @@ use Rattle.hostfiles.specs.Hosts.{Host}
 use Rattle.first_looks.specs.FileSteps.{step_of_drive}
 use Rattle.first_looks.specs.RecordSteps.{steps_of}
 use Rattle.first_looks.specs.declared.file_steps.FileSteps.{FileSteps}
+use Rattle.folders.specs.FileSystem.{Path}
 use Rattle.folders.specs.FolderNames.{folder_name, path_text}
-use Rattle.make_rules.specs.Escapes.{escaped}
+use Rattle.make_rules.specs.Carried.{fits_call, without_dot}
 use Rattle.make_rules.specs.declared.drives.DriveFolder.{DriveFolder}
 
--- A path on which the target depends, after a blank.
-abbrev pub prerequisite : List ℕ → List ℕ
-prerequisite path = 32 ∷ escaped path
+-- The directory of a drive was asked for.
+abbrev pub is_searched : FileSteps → DriveFolder → Bool
+is_searched asked d = is_some (step_of_drive asked.directories (drive_number d.listing.drive))
 
 -- It was asked whether the file of this key is there, for its length, or for one of its records.
 abbrev pub is_asked_about : FileSteps → Key → Bool
 is_asked_about asked key = contains_key asked.has key || contains_key asked.lengths key || is_some (steps_of asked.records.files key)
 
--- A file in a folder by its name there, if it was asked about.
-abbrev pub part_of_file : FileSteps → List ℕ → List ℕ → Key → List ℕ
-part_of_file asked folder name key = if is_asked_about asked key then prerequisite (path_text folder name) else []
+-- A file in a folder by its name there, if it was asked about, or the directory, which has its name and its length.
+abbrev pub part_of_file : FileSteps → DriveFolder → Path → Key → List Path
+part_of_file asked d name key = if is_searched asked d || is_asked_about asked key then path_text d.folder.now name ∷ [] else []
 
 -- The name of a file in a folder.
-abbrev pub name_found : {Z : Type 0} → Option (String Z) → List ℕ
+abbrev pub name_found : {Z : Type 0} → Option (String Z) → Path
 name_found None = []
 name_found (Some name) = string_bytes name
 
-abbrev pub file_part : {Z : Type 0} → FileSteps → List ℕ → FinMap (slice_cmp nat_cmp) (String Z) → Key → List ℕ
-file_part asked folder names key = part_of_file asked folder (name_found (get names key)) key
+abbrev pub file_part : FileSteps → DriveFolder → Key → List Path
+file_part asked d key = part_of_file asked d (name_found (get d.listing.files key)) key
 
 -- The files in the folder of a drive that were asked about, in the order of their keys.
-abbrev pub drive_files : FileSteps → Option DriveFolder → List ℕ
+abbrev pub drive_files : FileSteps → Option DriveFolder → List Path
 drive_files asked None = []
-drive_files asked (Some d) = concat (map (file_part asked d.folder.now d.listing.files) (keys d.listing.files))
+drive_files asked (Some d) = flat_map (file_part asked d) (keys d.listing.files)
 
-abbrev pub all_files : FileSteps → List (Option DriveFolder) → List ℕ
-all_files asked drives = concat (map (drive_files asked) drives)
+abbrev pub all_files : FileSteps → List (Option DriveFolder) → List Path
+all_files asked drives = flat_map (drive_files asked) drives
+
+-- A folder with a `/` at its end, so that the end of its name has no other meaning.
+abbrev pub folder_path : Path → Path
+folder_path folder = path_text folder []
 
 -- The folder of a drive, if its directory was asked for.
-abbrev pub drive_folder : FileSteps → Option DriveFolder → List ℕ
+abbrev pub drive_folder : FileSteps → Option DriveFolder → List Path
 drive_folder asked None = []
-drive_folder asked (Some d) = if is_some (step_of_drive asked.directories (drive_number d.listing.drive)) then prerequisite d.folder.now else []
+drive_folder asked (Some d) = if is_searched asked d then folder_path d.folder.now ∷ [] else []
 
-abbrev pub all_folders : FileSteps → List (Option DriveFolder) → List ℕ
-all_folders asked drives = concat (map (drive_folder asked) drives)
+abbrev pub all_folders : FileSteps → List (Option DriveFolder) → List Path
+all_folders asked drives = flat_map (drive_folder asked) drives
+
+-- ---- files that are not there
+
+-- The file of a key is not there, and its name is valid.
+abbrev pub is_absent : Host → Key → Bool
+is_absent host key = is_sayable key && not (contains_key host key)
+
+-- Whether make takes a path for the target.
+abbrev pub is_target : Path → Path → Bool
+is_target target path = bytes_eq (without_dot path) (without_dot target)
+
+-- A path that a call of make can have, unless make takes it for the target.
+abbrev pub path_in_call : Path → Path → List Path
+path_in_call target path = if fits_call path && not (is_target target path) then path ∷ [] else []
+
+-- The paths that a file would have in the folder of its drive, by its name in upper and in lower case.
+abbrev pub paths_in_call : Path → Option DriveFolder → Key → List Path
+paths_in_call target None key = []
+paths_in_call target (Some d) key =
+    path_in_call target (path_text d.folder.now (folder_name key)) ++ path_in_call target (path_text d.folder.now (map to_ascii_lowercase (folder_name key)))
+
+-- The folder in which a file would be new, if no call of make can have the file's path.
+abbrev pub folder_unless_in_call : Path → Path → Path → List Path
+folder_unless_in_call target folder path = if fits_call path || is_target target path then [] else folder_path folder ∷ []
+
+abbrev pub folder_of_absent : Path → Option DriveFolder → Key → List Path
+folder_of_absent target None key = []
+folder_of_absent target (Some d) key = folder_unless_in_call target d.folder.now (path_text d.folder.now (folder_name key))
+
+abbrev pub drive_of : List (Option DriveFolder) → Key → Option DriveFolder
+drive_of drives key = get_or drives (slice_index key 0) None
+
+abbrev pub in_call_part : Path → Host → List (Option DriveFolder) → Key → List Path
+in_call_part target host drives key = if is_absent host key then paths_in_call target (drive_of drives key) key else []
+
+abbrev pub absent_folder_part : Path → Host → List (Option DriveFolder) → Key → List Path
+absent_folder_part target host drives key = if is_absent host key then folder_of_absent target (drive_of drives key) key else []
+
+abbrev pub all_in_call : Path → Host → FileSteps → List (Option DriveFolder) → List Path
+all_in_call target host asked drives = flat_map (in_call_part target host drives) (keys asked.has)
+
+abbrev pub all_absent_folders : Path → Host → FileSteps → List (Option DriveFolder) → List Path
+all_absent_folders target host asked drives = flat_map (absent_folder_part target host drives) (keys asked.has)
 
 -- The path that a file would have in the folder of its drive, or its name if the drive has no folder.
-abbrev pub absent_path : Option DriveFolder → Key → List ℕ
+abbrev pub absent_path : Option DriveFolder → Key → Path
 absent_path None key = display_text key
 absent_path (Some d) key = path_text d.folder.now (folder_name key)
 
--- A comment about a file that was asked for and is not there, if its name is valid.
+-- A comment about a file that was asked for and is not there.
 abbrev pub absent_part : Host → List (Option DriveFolder) → Key → List ℕ
-absent_part host drives key =
-    if is_sayable key && not (contains_key host key) then codes "# not there: " ++ absent_path (get_or drives (slice_index key 0) None) key ++ 10 ∷ [] else []
+absent_part host drives key = if is_absent host key then codes "# not there: " ++ absent_path (drive_of drives key) key ++ 10 ∷ [] else []
 
 abbrev pub absent_lines : Host → FileSteps → List (Option DriveFolder) → List ℕ
-absent_lines host asked drives = concat (map (absent_part host drives) (keys asked.has))
+absent_lines host asked drives = flat_map (absent_part host drives) (keys asked.has)

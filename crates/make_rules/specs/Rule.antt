@@ -1,30 +1,85 @@
 -- The rule for make with the files on which a run depends. (This project's profile.)
-use Rattle.std.specs.Prelude.{ℕ, List, [], ◌∷◌, ◌++◌, Option, Some, None, codes}
+use Rattle.std.specs.Prelude.{◌≡◌, ℕ, Bool, true, List, [], ◌∷◌, ◌++◌, filter, Option, Some, None, codes}
 use Rattle.std.specs.Borrow.{Bor}
+use Rattle.std.specs.List.{flat_map, list_all}
 use Rattle.first_looks.specs.FirstLooks.{FirstLooksView}
+use Rattle.folders.specs.FileSystem.{Path}
+use Rattle.machine.specs.Cause.{Cause}
+use Rattle.machine.specs.Cause.TheVariants.{WarmBoot, Halt, Limit, Undefined, SystemArea, ConsoleExhausted, NoDollar, Unsupported, BadDrive}
 use Rattle.machine.specs.Inputs.{Session}
 use Rattle.dependencies.specs.Ranges.{rows_from}
 use Rattle.dependencies.specs.declared.ranges.LookRange.{LookRange}
 use Rattle.dependencies.specs.declared.ranges.Rows.TheVariants.{Joined}
-use Rattle.make_rules.specs.Escapes.{escaped}
-use Rattle.make_rules.specs.Files.{absent_lines, all_files, all_folders, prerequisite}
+use Rattle.report_lines.specs.FirstLines.{cause_text, line}
+use Rattle.make_rules.specs.Carried.{is_carried}
+use Rattle.make_rules.specs.Escapes.{argument, escaped, prerequisite}
+use Rattle.make_rules.specs.Files.{absent_lines, all_absent_folders, all_files, all_folders, all_in_call}
+use Rattle.make_rules.specs.Reading.{ReadsRule}
 use Rattle.make_rules.specs.declared.drives.DriveFolder.{DriveFolder}
 use Rattle.make_rules.specs.declared.rule.RuleWords.{RuleWords}
 
+-- ---- what a target depends on
+
 -- A path, if there are rows of places of its file that were asked for.
-abbrev pub path_if_asked : List LookRange → Option (Bor (List ℕ)) → List ℕ
+abbrev pub path_if_asked : List LookRange → Option (Bor (List ℕ)) → List Path
 path_if_asked [] path = []
 path_if_asked (r ∷ rs) None = []
-path_if_asked (r ∷ rs) (Some path) = prerequisite path.now
+path_if_asked (r ∷ rs) (Some path) = path.now ∷ []
 
--- The program, if a cell from 0100H on was asked for, and the script, if one of its offsets was.
-abbrev pub inputs : RuleWords → FirstLooksView → List ℕ
-inputs w t = path_if_asked (rows_from Joined t.cells 256) (Some w.program) ++ path_if_asked (rows_from Joined t.offsets 0) w.console
+-- The program, if a cell from 0100H on was asked for.
+abbrev pub program_part : RuleWords → FirstLooksView → List Path
+program_part w t = path_if_asked (rows_from Joined t.cells 256) (Some w.program)
 
--- The target, a colon and the files on which it depends, in one line.
-abbrev pub rule_line : RuleWords → List (Option DriveFolder) → FirstLooksView → List ℕ
-rule_line w drives t = escaped w.target.now ++ codes ":" ++ inputs w t ++ all_files t.files drives ++ all_folders t.files drives ++ codes "\n"
+-- The script, if one of its offsets was asked for, the files and the folders.
+abbrev pub other_paths : RuleWords → List (Option DriveFolder) → Session → FirstLooksView → List Path
+other_paths w drives s t =
+    path_if_asked (rows_from Joined t.offsets 0) w.console ++ all_files t.files drives ++ all_folders t.files drives
+    ++ all_absent_folders w.target.now s.files t.files drives
 
--- The rule, and then comments about files that are not there.
-abbrev pub rule_text : RuleWords → List (Option DriveFolder) → Session → FirstLooksView → List ℕ
-rule_text w drives s t = rule_line w drives t ++ absent_lines s.files t.files drives
+-- All paths that are there.
+abbrev pub needed_paths : RuleWords → List (Option DriveFolder) → Session → FirstLooksView → List Path
+needed_paths w drives s t = program_part w t ++ other_paths w drives s t
+
+-- The paths of files that are not there.
+abbrev pub missing_paths : RuleWords → List (Option DriveFolder) → Session → FirstLooksView → List Path
+missing_paths w drives s t = all_in_call w.target.now s.files t.files drives
+
+-- The target and all of these.
+abbrev pub all_paths : RuleWords → List (Option DriveFolder) → Session → FirstLooksView → List Path
+all_paths w drives s t = w.target.now ∷ needed_paths w drives s t ++ missing_paths w drives s t
+
+-- ---- the text
+
+-- A call that make replaces by those of the paths that exist, after a blank.
+abbrev pub call : List Path → List ℕ
+call [] = []
+call (path ∷ paths) = codes " $(wildcard" ++ flat_map argument (path ∷ paths) ++ codes ")"
+
+-- A target with what it depends on.
+abbrev pub rule_line : Path → List Path → List Path → List ℕ
+rule_line target paths in_call = escaped target ++ codes ":" ++ flat_map prerequisite paths ++ call in_call
+
+-- A path as a target that depends on nothing, so that make goes on without the file.
+abbrev pub empty_rule : Path → List ℕ
+empty_rule path = line (rule_line path [] [])
+
+-- A comment about a stop other than WarmBoot.
+abbrev pub stop_comment : Cause → List ℕ
+stop_comment WarmBoot = []
+stop_comment cause = line (codes "# stop " ++ cause_text cause)
+
+-- The rule, each path but the program's as a target, and comments about files that are not there and about the stop.
+abbrev pub rule_text : RuleWords → List (Option DriveFolder) → Session → FirstLooksView → Cause → List ℕ
+rule_text w drives s t cause =
+    line (rule_line w.target.now (needed_paths w drives s t) (missing_paths w drives s t)) ++ flat_map empty_rule (other_paths w drives s t)
+    ++ absent_lines s.files t.files drives ++ stop_comment cause
+
+-- ---- how make reads it
+
+-- Each path can be in a rule; and whichever files exist, make reads the first line as the target with exactly the paths that are there, and
+-- those of the others that exist by then; and each other rule as a path alone.
+pub record IsReadByMake (w : RuleWords) (drives : List (Option DriveFolder)) (s : Session) (t : FirstLooksView) : Type 0 where
+  pub carried : list_all is_carried (all_paths w drives s t) ≡ true
+  pub first : (exists : Path → Bool) → ReadsRule exists (rule_line w.target.now (needed_paths w drives s t) (missing_paths w drives s t))
+      (w.target.now ∷ []) (needed_paths w drives s t ++ filter exists (missing_paths w drives s t))
+  pub others : (exists : Path → Bool) (path : Path) → is_carried path ≡ true → ReadsRule exists (rule_line path [] []) (path ∷ []) []

@@ -1,12 +1,12 @@
-// Paths as make reads them.
+// Paths as a rule has them.
 
-ghost use Rattle.std.specs.Prelude.{◌≡◌, ◌+◌, ◌<◌, ◌^◌, ◌++◌, OnOk, replicate};
-ghost use Rattle.make_rules.specs.Escapes.{escaped, marks};
+ghost use Rattle.std.specs.Prelude.{◌≡◌, ◌<◌, ◌^◌, ◌++◌, OnOk, map, replicate, string_bytes};
+ghost use Rattle.std.specs.List.{flat_map};
+ghost use Rattle.make_rules.specs.Escapes.{argument, doubled, escaped, marks, prerequisite};
 
 use std::alloc::AllocError;
 
-/// Appends a path as make reads it: blanks, tabs and `#` after a backslash, `$` doubled, and backslashes doubled before a blank, a tab
-/// or the end.
+/// Appends a path as a rule has it: blanks and `#` after a backslash and with the backslashes before them doubled, `$` doubled.
 pub fn push_escaped(text: &mut Vec<u8>, path: &[u8]) -> Result<(), AllocError>
     ensures { OnOk result (text.new.items ≡ text.old.items ++ escaped path.now) }
 {
@@ -16,7 +16,7 @@ pub fn push_escaped(text: &mut Vec<u8>, path: &[u8]) -> Result<(), AllocError>
         text.push(*byte)?;
         slashes = if *byte == b'\\' { slashes + 1 } else { 0 };
     }
-    push_backslashes(text, slashes)
+    Ok(())
 }
 
 // Appends what comes before a byte that follows these backslashes.
@@ -25,9 +25,8 @@ fn push_marks(text: &mut Vec<u8>, slashes: usize, byte: u8) -> Result<(), AllocE
     ensures { OnOk result (text.new.items ≡ text.old.items ++ marks slashes byte) }
 {
     match byte {
-        b' ' | b'\t' => push_backslashes(text, slashes + 1),
-        b'#' => Ok(text.push(b'\\')?),
         b'$' => Ok(text.push(b'$')?),
+        b' ' | b'#' => push_backslashes(text, slashes + 1),
         _ => Ok(()),
     }
 }
@@ -38,6 +37,43 @@ fn push_backslashes(text: &mut Vec<u8>, count: usize) -> Result<(), AllocError>
 {
     for _ in 0..count {
         text.push(b'\\')?;
+    }
+    Ok(())
+}
+
+// Appends a path with each `$` doubled.
+fn push_doubled(text: &mut Vec<u8>, path: &[u8]) -> Result<(), AllocError>
+    ensures { OnOk result (text.new.items ≡ text.old.items ++ doubled path.now) }
+{
+    for byte in path {
+        if *byte == b'$' {
+            text.push(b'$')?;
+        }
+        text.push(*byte)?;
+    }
+    Ok(())
+}
+
+/// Appends paths on which a target depends, each after a blank.
+pub fn push_prerequisites(text: &mut Vec<u8>, paths: &[String]) -> Result<(), AllocError>
+    ensures { OnOk result
+        (text.new.items ≡ text.old.items ++ flat_map prerequisite (map string_bytes paths.now)) }
+{
+    for path in paths {
+        text.push(b' ')?;
+        push_escaped(text, path.as_bytes())?;
+    }
+    Ok(())
+}
+
+/// Appends paths within a call, each after a blank.
+pub fn push_arguments(text: &mut Vec<u8>, paths: &[String]) -> Result<(), AllocError>
+    ensures { OnOk result
+        (text.new.items ≡ text.old.items ++ flat_map argument (map string_bytes paths.now)) }
+{
+    for path in paths {
+        text.push(b' ')?;
+        push_doubled(text, path.as_bytes())?;
     }
     Ok(())
 }

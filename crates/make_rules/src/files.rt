@@ -1,21 +1,19 @@
-// The parts of a rule about host files.
+// The host files on which a run depends, as paths.
 
-ghost use Rattle.std.specs.Prelude.{◌≡◌, ◌++◌, IfOk, OnOk, string_bytes};
+ghost use Rattle.std.specs.Prelude.{◌≡◌, ◌++◌, OnOk, map, string_bytes};
 ghost use Rattle.make_rules.specs.Files as texts;
 
 use crate::drives::DriveFolder;
-use crate::escapes::push_escaped;
 use first_looks::FileSteps;
-use folders::{file_name, path_in};
-use hostfiles::{HostFiles, Key, Name};
+use folders::path_in;
+use hostfiles::Key;
 use std::alloc::{AllocError, Global};
 
-/// Appends a blank and a path on which the target depends.
-pub fn push_prerequisite(text: &mut Vec<u8>, path: &[u8]) -> Result<(), AllocError>
-    ensures { OnOk result (text.new.items ≡ text.old.items ++ texts.prerequisite path.now) }
+// Returns whether the directory of a drive was asked for.
+fn is_searched(asked: &FileSteps, drive: &DriveFolder<'_>) -> bool
+    ensures { result ≡ texts.is_searched asked.now drive.now }
 {
-    text.push(b' ')?;
-    push_escaped(text, path)
+    asked.directories[drive.listing.drive.number() as usize].is_some()
 }
 
 // Returns whether something was asked about the file of this key.
@@ -27,142 +25,92 @@ fn is_asked_about(asked: &FileSteps, key: &Key) -> bool
         || asked.records.file(key).is_some()
 }
 
-// Appends a file in a folder, if it was asked about.
+// Adds a file in a folder, if it was asked about, or the directory of the drive.
 fn push_file(
     alloc: Global,
-    text: &mut Vec<u8>,
+    paths: &mut Vec<String>,
     asked: &FileSteps,
-    folder: &str,
+    drive: &DriveFolder<'_>,
     name: &str,
     key: &Key,
 ) -> Result<(), AllocError>
-    ensures { OnOk result (text.new.items
-        ≡ text.old.items ++ texts.part_of_file asked.now folder.now name.now key.now) }
+    ensures { OnOk result (map string_bytes paths.new.items
+        ≡ map string_bytes paths.old.items ++ texts.part_of_file asked.now drive.now name.now key.now) }
 {
-    if !is_asked_about(asked, key) {
-        return Ok(());
+    if is_searched(asked, drive) || is_asked_about(asked, key) {
+        paths.push(path_in(alloc, drive.folder, name)?)?;
     }
-    push_prerequisite(text, path_in(alloc, folder, name)?.as_bytes())
+    Ok(())
 }
 
-// Appends the files in the folder of a drive that were asked about.
+// Adds the files in the folder of a drive that were asked about.
 fn push_drive_files(
     alloc: Global,
-    text: &mut Vec<u8>,
+    paths: &mut Vec<String>,
     asked: &FileSteps,
     drive: &Option<DriveFolder<'_>>,
 ) -> Result<(), AllocError>
-    ensures { OnOk result (text.new.items ≡ text.old.items ++ texts.drive_files asked.now drive.now) }
+    ensures { OnOk result (map string_bytes paths.new.items
+        ≡ map string_bytes paths.old.items ++ texts.drive_files asked.now drive.now) }
 {
     let Some(drive) = drive else {
         return Ok(());
     };
     let mut after: Option<Key> = None;
     while let Some((key, name)) = drive.listing.files.next_key_value(after) {
-        push_file(alloc, text, asked, drive.folder, name.as_str(), key)?;
+        push_file(alloc, paths, asked, drive, name.as_str(), key)?;
         after = Some(*key);
     }
     Ok(())
 }
 
-/// Appends the files in the folders of the drives that were asked about, in the order of their keys.
+/// Adds the files in the folders of the drives that were asked about, in the order of their keys.
 pub fn push_files(
     alloc: Global,
-    text: &mut Vec<u8>,
+    paths: &mut Vec<String>,
     asked: &FileSteps,
     drives: &[Option<DriveFolder<'_>>],
 ) -> Result<(), AllocError>
-    ensures { OnOk result (text.new.items ≡ text.old.items ++ texts.all_files asked.now drives.now) }
+    ensures { OnOk result (map string_bytes paths.new.items
+        ≡ map string_bytes paths.old.items ++ texts.all_files asked.now drives.now) }
 {
     for drive in drives {
-        push_drive_files(alloc, text, asked, drive)?;
+        push_drive_files(alloc, paths, asked, drive)?;
     }
     Ok(())
 }
 
-// Appends the folder of a drive, if its directory was asked for.
+// Adds the folder of a drive, if its directory was asked for.
 fn push_folder(
-    text: &mut Vec<u8>,
+    alloc: Global,
+    paths: &mut Vec<String>,
     asked: &FileSteps,
     drive: &Option<DriveFolder<'_>>,
 ) -> Result<(), AllocError>
-    ensures { OnOk result (text.new.items ≡ text.old.items ++ texts.drive_folder asked.now drive.now) }
+    ensures { OnOk result (map string_bytes paths.new.items
+        ≡ map string_bytes paths.old.items ++ texts.drive_folder asked.now drive.now) }
 {
     let Some(drive) = drive else {
         return Ok(());
     };
-    if asked.directories[drive.listing.drive.number() as usize].is_none() {
-        return Ok(());
-    }
-    push_prerequisite(text, drive.folder.as_bytes())
-}
-
-/// Appends the folders of the drives whose directories were asked for.
-pub fn push_folders(
-    text: &mut Vec<u8>,
-    asked: &FileSteps,
-    drives: &[Option<DriveFolder<'_>>],
-) -> Result<(), AllocError>
-    ensures { OnOk result (text.new.items ≡ text.old.items ++ texts.all_folders asked.now drives.now) }
-{
-    for drive in drives {
-        push_folder(text, asked, drive)?;
+    if is_searched(asked, drive) {
+        paths.push(path_in(alloc, drive.folder, "")?)?;
     }
     Ok(())
 }
 
-// Returns the path that a file would have in the folder of its drive, or its name if the drive has no folder.
-fn absent_path(
+/// Adds the folders of the drives whose directories were asked for.
+pub fn push_folders(
     alloc: Global,
-    drive: &Option<DriveFolder<'_>>,
-    name: &Name,
-) -> Result<String, AllocError>
-    ensures { IfOk result (λ s. string_bytes s ≡ texts.absent_path drive.now name.now) }
-{
-    match drive {
-        Some(drive) => path_in(alloc, drive.folder, file_name(alloc, name)?.as_str()),
-        None => format!(in alloc; "{name}"),
-    }
-}
-
-// Appends a comment about a file that was asked for, if it is not there.
-fn push_absent_file(
-    alloc: Global,
-    text: &mut Vec<u8>,
-    host: &HostFiles,
-    drives: &[Option<DriveFolder<'_>>; 4],
-    key: &Key,
-) -> Result<(), AllocError>
-    ensures { OnOk result (text.new.items
-        ≡ text.old.items ++ texts.absent_part host.now drives.now key.now) }
-{
-    let Some(name) = Name::from_key(key) else {
-        return Ok(());
-    };
-    if host.has(key) {
-        return Ok(());
-    }
-    let path = absent_path(alloc, &drives[name.drive().number() as usize], &name)?;
-    text.extend_from_slice(b"# not there: ")?;
-    text.extend_from_slice(path.as_bytes())?;
-    Ok(text.push(b'\n')?)
-}
-
-/// Appends a comment about each file that was asked for and is not there, in the order of the keys.
-pub fn push_absent_files(
-    alloc: Global,
-    text: &mut Vec<u8>,
-    host: &HostFiles,
+    paths: &mut Vec<String>,
     asked: &FileSteps,
-    drives: &[Option<DriveFolder<'_>>; 4],
+    drives: &[Option<DriveFolder<'_>>],
 ) -> Result<(), AllocError>
-    ensures { OnOk result (text.new.items
-        ≡ text.old.items ++ texts.absent_lines host.now asked.now drives.now) }
+    ensures { OnOk result (map string_bytes paths.new.items
+        ≡ map string_bytes paths.old.items ++ texts.all_folders asked.now drives.now) }
 {
-    let mut after: Option<Key> = None;
-    while let Some(key) = asked.has.next_key(after) {
-        push_absent_file(alloc, text, host, drives, &key)?;
-        after = Some(key);
+    for drive in drives {
+        push_folder(alloc, paths, asked, drive)?;
     }
     Ok(())
 }

@@ -1,14 +1,18 @@
 //! The rule for make with the files on which the run of a session depends.
 //!
-//! - `escapes`: paths as make reads them
+//! - `carried`, `escapes`: the paths that a rule can have, and how it has them
 //! - `drives`: the folders of the drives, with the names of their files
-//! - `rule`, `files`: the rule; its parts about host files
+//! - `files`, `missing`: the host files on which a run depends; those that were asked for and are not there
+//! - `rule`: the rule
 #![tactic(auto)]
 
+mod carried;
 mod drives;
 mod escapes;
 mod files;
+mod missing;
 mod rule;
 
+pub use carried::is_carried;
 pub use drives::{DriveFolder, list_folders};
-pub use rule::{RuleWords, make_rule};
+pub use rule::{RuleFault, RuleWords, make_rule};

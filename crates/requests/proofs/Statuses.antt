@@ -4,7 +4,7 @@ use Rattle.report_lines.specs.Streams.{Output}
 use Rattle.requests.specs.FaultReports.{ReportsFaultOrMemory, status_of}
 use Rattle.requests.specs.declared.tool.Tool.{Tool}
 use Rattle.requests.specs.declared.fault.Fault.{Fault}
-use Rattle.requests.specs.declared.fault.Fault.TheVariants.{Usage, NotText, CannotRead, CannotWrite, Folders, Refused, Malformed, TooLong, LineEnd, OutOfMemory}
+use Rattle.requests.specs.declared.fault.Fault.TheVariants.{Usage, NotText, CannotRead, CannotWrite, Folders, Refused, Malformed, TooLong, RulePath, OutOfMemory}
 
 -- No error has the status 0.
 status_above : (f : Fault) → status_of f ≡ 0 → ⊥
@@ -16,7 +16,7 @@ status_above (Folders f) e = cc
 status_above (Refused n) e = cc
 status_above (Malformed k) e = cc
 status_above (TooLong k) e = cc
-status_above LineEnd e = cc
+status_above (RulePath path) e = cc
 status_above OutOfMemory e = cc
 
 -- A program that reports an error does not end with the status 0.

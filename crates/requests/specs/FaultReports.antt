@@ -7,7 +7,7 @@ use Rattle.loading.specs.declared.fault.LoadFault.TheVariants as load
 use Rattle.one_run.specs.declared.fault.RunFault.{RunFault}
 use Rattle.one_run.specs.declared.fault.RunFault.TheVariants as run
 use Rattle.requests.specs.declared.fault.Fault.{Fault}
-use Rattle.requests.specs.declared.fault.Fault.TheVariants.{Usage, NotText, CannotRead, CannotWrite, Folders, Refused, Malformed, TooLong, LineEnd, OutOfMemory}
+use Rattle.requests.specs.declared.fault.Fault.TheVariants.{Usage, NotText, CannotRead, CannotWrite, Folders, Refused, Malformed, TooLong, RulePath, OutOfMemory}
 use Rattle.requests.specs.declared.tool.Tool.{Tool}
 use Rattle.requests.specs.declared.tool.Tool.TheVariants.{Cpmrun, Cpmdeps}
 use Rattle.one_run.specs.World.{World}
@@ -36,7 +36,7 @@ file_failures (Folders f) = fault_failures f
 file_failures (Refused n) = 0
 file_failures (Malformed k) = 0
 file_failures (TooLong k) = 0
-file_failures LineEnd = 0
+file_failures (RulePath path) = 0
 file_failures OutOfMemory = 0
 
 -- The exit status of an error.
@@ -49,7 +49,7 @@ status_of (Folders f) = 1
 status_of (Refused n) = 1
 status_of (Malformed k) = 2
 status_of (TooLong k) = 2
-status_of LineEnd = 1
+status_of (RulePath path) = 1
 status_of OutOfMemory = 12
 
 -- The name of a program, as its messages begin with it.
@@ -74,7 +74,7 @@ message_of tool (Folders f) = message_line tool (text_of f)
 message_of tool (Refused n) = message_line tool (codes "session refused " ++ decimal n)
 message_of tool (Malformed k) = name_of tool ++ codes ": line " ++ decimal k ++ line (codes " is malformed")
 message_of tool (TooLong k) = name_of tool ++ codes ": line " ++ decimal k ++ line (codes " is too long")
-message_of tool LineEnd = message_line tool (codes "a rule for make cannot have a path with a line end")
+message_of tool (RulePath path) = message_line tool (codes "a rule for make cannot have the path " ++ string_bytes path)
 message_of tool OutOfMemory = message_line tool (codes "out of memory")
 
 -- The status is this error's, and its message was written, or a prefix of it if writing failed.
@@ -91,7 +91,7 @@ NamesAValue (Folders f) = Unit {0}
 NamesAValue (Refused n) = Unit {0}
 NamesAValue (Malformed k) = Unit {0}
 NamesAValue (TooLong k) = Unit {0}
-NamesAValue LineEnd = ⊥
+NamesAValue (RulePath path) = Unit {0}
 NamesAValue OutOfMemory = ⊥
 
 -- The error was reported, or out of memory if there was no memory to put a value into its message.

@@ -11,7 +11,7 @@ use Rattle.requests.specs.FaultReports.{of_load}
 use Rattle.requests.specs.declared.request.Request.{Request}
 use Rattle.requests.specs.declared.request.Request.TheVariants.{Session, Information}
 use Rattle.requests.specs.declared.fault.Fault.{Fault}
-use Rattle.requests.specs.declared.fault.Fault.TheVariants.{Usage, NotText, CannotRead, CannotWrite, Folders, Refused, Malformed, TooLong, LineEnd, OutOfMemory}
+use Rattle.requests.specs.declared.fault.Fault.TheVariants.{Usage, NotText, CannotRead, CannotWrite, Folders, Refused, Malformed, TooLong, RulePath, OutOfMemory}
 
 -- The request: a session, or help or the version. `Are` holds for the words of the session, and `Has` for the classes of the errors
 -- that the words can have.
@@ -29,7 +29,7 @@ FailsToParse Has (Folders f) = ⊥
 FailsToParse Has (Refused n) = ⊥
 FailsToParse Has (Malformed k) = ⊥
 FailsToParse Has (TooLong k) = ⊥
-FailsToParse Has LineEnd = ⊥
+FailsToParse Has (RulePath path) = ⊥
 FailsToParse Has OutOfMemory = Unit {0}
 
 -- Some text, as help or the version, was written, or a prefix of it if the result is an error.

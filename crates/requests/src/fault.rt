@@ -27,8 +27,8 @@ pub enum Fault<'a> {
     Malformed(u64),
     /// The edit line of this number is too long.
     TooLong(u64),
-    /// A path of a rule for make has a line end.
-    LineEnd,
+    /// A rule for make cannot have this path.
+    RulePath(String),
     /// An allocation failed.
     OutOfMemory,
 }
@@ -88,7 +88,6 @@ impl Fault<'_> {
             Fault::Usage(text) => Some(text.as_str()),
             Fault::NotText => Some(tool.not_text()),
             Fault::CannotWrite => Some(tool.cannot_write()),
-            Fault::LineEnd => Some(tool.line_end()),
             Fault::OutOfMemory => Some(tool.out_of_memory()),
             _ => None,
         }
@@ -108,7 +107,9 @@ impl Fault<'_> {
             Fault::Refused(number) => format!(in alloc; "{name}: session refused {number}\n"),
             Fault::Malformed(line) => format!(in alloc; "{name}: line {line} is malformed\n"),
             Fault::TooLong(line) => format!(in alloc; "{name}: line {line} is too long\n"),
-            Fault::LineEnd => String::from_str(alloc, tool.line_end()),
+            Fault::RulePath(path) => {
+                format!(in alloc; "{name}: a rule for make cannot have the path {path}\n")
+            }
             Fault::OutOfMemory => String::from_str(alloc, tool.out_of_memory()),
         }
     }

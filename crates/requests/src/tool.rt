@@ -29,7 +29,7 @@ For more information, try '--help'.
 impl Tool {
     ghost use Rattle.std.specs.Prelude.{◌≡◌};
     ghost use Rattle.requests.specs.FaultReports.{message_of, name_of};
-    ghost use Rattle.requests.specs.declared.fault.Fault.TheVariants.{NotText, CannotWrite, LineEnd, OutOfMemory};
+    ghost use Rattle.requests.specs.declared.fault.Fault.TheVariants.{NotText, CannotWrite, OutOfMemory};
 
     /// Returns the name of the program.
     pub fn name(self) -> &'static str
@@ -58,16 +58,6 @@ impl Tool {
         match self {
             Tool::Cpmrun => "cpmrun: cannot write standard output\n",
             Tool::Cpmdeps => "cpmdeps: cannot write standard output\n",
-        }
-    }
-
-    /// Returns the message of `Fault::LineEnd`.
-    pub(crate) fn line_end(self) -> &'static str
-        ensures { result.now ≡ message_of self LineEnd }
-    {
-        match self {
-            Tool::Cpmrun => "cpmrun: a rule for make cannot have a path with a line end\n",
-            Tool::Cpmdeps => "cpmdeps: a rule for make cannot have a path with a line end\n",
         }
     }
 

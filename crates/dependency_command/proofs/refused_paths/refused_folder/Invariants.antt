@@ -1,0 +1,8 @@
+use Rattle.std.proofs.Common.{◌≡◌, drop}
+use Rattle.std.specs.List.{list_any}
+use Rattle.dependency_command.specs.RefusedPaths.{is_refused_folder}
+use Rattle.dependency_command.proofs.refused_paths.refused_folder.Given as goal
+
+-- A rule can have the first ones.
+abbrev pub invariant-loop-folder : goal.invariant-loop-folder
+invariant-loop-folder l = list_any is_refused_folder (drop l.folder-index l.folders) ≡ list_any is_refused_folder l.folders

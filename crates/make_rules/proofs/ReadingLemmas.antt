@@ -1,0 +1,243 @@
+-- How make reads a written line.
+use Rattle.std.proofs.Common.{◌≡◌, ℕ, zero, suc, refl, ◌-◌, ◌==◌, ◌&&◌, ◌||◌, not, eqb, nat_lt, Bool, true, false, List, [], ◌∷◌, ◌++◌, map, filter, length, slice_get, codes, Option, Some, None, inl, inr, ap, sym, ◌∙◌, append_assoc, append-nil, arith}
+use Rattle.std.proofs.lemmas.Bool.{cases_Bool, false≢true, true≢false}
+use Rattle.std.proofs.lemmas.Bool.Decides.{eqb_tells}
+use Rattle.std.proofs.lemmas.List.Folds.{list_all-append}
+use Rattle.std.specs.List.{flat_map, list_all, list_any}
+use Rattle.std.specs.Option.{option_map_or}
+use Rattle.filenames.specs.Names.{Key}
+use Rattle.folders.specs.FileSystem.{Path}
+use Rattle.folders.specs.FolderNames.{folder_name, path_text}
+use Rattle.hostfiles.specs.Hosts.{Host}
+use Rattle.std.specs.Char.{to_ascii_lowercase}
+use Rattle.make_rules.specs.Carried.{ends_with_meaning, fits_call, has_home, has_meaning, has_meaning_in_call, has_meaning_last, is_carried, is_own_target, without_dot}
+use Rattle.make_rules.specs.Escapes.{argument, backslashes, escaped, prerequisite}
+use Rattle.make_rules.specs.Files.{drive_of, in_call_part, is_absent, is_target, path_in_call, paths_in_call}
+use Rattle.make_rules.specs.declared.drives.DriveFolder.{DriveFolder}
+use Rattle.make_rules.specs.Reading.{ReadsRule, Sign, Named, Mark, Backslashes, Call, after, after_blanks, before, between_blanks, names, signs, signs_of, value_of, with_name}
+use Rattle.std.specs.FinMap.{keys}
+use Rattle.first_looks.specs.FirstLooks.{FirstLooksView}
+use Rattle.machine.specs.Inputs.{Session}
+use Rattle.make_rules.specs.Paths.{ArePathsOf, paths_with}
+use Rattle.make_rules.specs.Rule.{IsReadByMake, all_paths, call, missing_paths, needed_paths, rule_line}
+use Rattle.make_rules.specs.declared.rule.Paths.{Paths}
+use Rattle.make_rules.specs.declared.rule.RuleWords.{RuleWords}
+use Rattle.make_rules.proofs.SignLemmas.{AllInCall, AllPlain, arguments_signs, ends_plainly, or_false, path_signs, prerequisite_signs}
+
+and_true : (x y : Bool) → (x && y) ≡ true → (x ≡ true) × (y ≡ true)
+and_true true y h = (refl, h)
+and_true false y h = absurd (false≢true h)
+
+not_true : (x : Bool) → not x ≡ true → x ≡ false
+not_true false h = refl
+not_true true h = absurd (false≢true h)
+
+-- ---- a path that a rule can have
+
+last_of : (b c : ℕ) (cs : Path) → slice_get (b ∷ c ∷ cs) (length (b ∷ c ∷ cs) - 1) ≡ slice_get (c ∷ cs) (length (c ∷ cs) - 1)
+last_of b c cs =
+    let first : length (b ∷ c ∷ cs) - 1 ≡ suc (length cs) = omega arith in
+    let second : length cs ≡ length (c ∷ cs) - 1 = omega arith in
+    ap (slice_get (b ∷ c ∷ cs)) first ∙ ap (slice_get (c ∷ cs)) second
+
+ends_where : (n b : ℕ) (bs : Path) → ends_with_meaning (b ∷ bs) ≡ false → ends_plainly n (b ∷ bs) ≡ true
+ends_where n b [] h = elim (eqb_tells b 92) [
+  | inl e ↦ absurd (true≢false (sym (ap has_meaning_last e.1) ∙ h))
+  | inr e ↦ rw e.0 refl
+]
+ends_where n b (c ∷ cs) h =
+    ends_where (backslashes n b) c cs (sym (ap (λ o. option_map_or has_meaning_last o false) (last_of b c cs)) ∙ h)
+
+-- What is used of a path that a rule can have.
+record IsPlain (p : Path) : Type 0 where
+  named : nat_lt 0 (length p) ≡ true
+  plain : list_any has_meaning p ≡ false
+  ends : ends_plainly 0 p ≡ true
+
+plain_path : (p : Path) → is_carried p ≡ true → IsPlain p
+unfolding is_carried
+plain_path [] h = absurd (false≢true h)
+plain_path (b ∷ bs) h =
+    let p = b ∷ bs in
+    let one = and_true (nat_lt 0 (length p)) (not (list_any has_meaning p) && (not (ends_with_meaning p) && (not (has_home (without_dot p)) && not (is_own_target p)))) h in
+    let two = and_true (not (list_any has_meaning p)) (not (ends_with_meaning p) && (not (has_home (without_dot p)) && not (is_own_target p))) one.1 in
+    let three = and_true (not (ends_with_meaning p)) (not (has_home (without_dot p)) && not (is_own_target p)) two.1 in
+    record {
+      named = one.0;
+      plain = not_true (list_any has_meaning p) two.0;
+      ends = ends_where 0 b bs (not_true (ends_with_meaning p) three.0);
+    }
+
+-- Each path of a list is not empty.
+abbrev AllNamed : List Path → Type 0
+AllNamed [] = Unit {0}
+AllNamed (p ∷ ps) = (nat_lt 0 (length p) ≡ true) × AllNamed ps
+
+all_plain : (exists : Path → Bool) (ps : List Path) → list_all is_carried ps ≡ true → AllPlain exists ps
+all_plain exists [] h = tt
+all_plain exists (p ∷ ps) h =
+    let both = and_true (is_carried p) (list_all is_carried ps) h in
+    let first = plain_path p both.0 in
+    (first.plain, first.ends, all_plain exists ps both.1)
+
+all_named : (ps : List Path) → list_all is_carried ps ≡ true → AllNamed ps
+all_named [] h = tt
+all_named (p ∷ ps) h =
+    let both = and_true (is_carried p) (list_all is_carried ps) h in
+    ((plain_path p both.0).named, all_named ps both.1)
+
+all_in_call : (exists : Path → Bool) (ps : List Path) → list_all fits_call ps ≡ true → AllInCall exists ps
+all_in_call exists [] h = tt
+all_in_call exists (p ∷ ps) h =
+    let both = and_true (fits_call p) (list_all fits_call ps) h in
+    (not_true (list_any has_meaning_in_call p) both.0, all_in_call exists ps both.1)
+
+named_filter : (exists : Path → Bool) (ps : List Path) → AllNamed ps → AllNamed (filter exists ps)
+named_filter exists [] h = tt
+named_filter exists (p ∷ ps) h = elim (cases_Bool (exists p)) [
+  | inl e ↦ rw e (h.0, named_filter exists ps h.1)
+  | inr e ↦ rw e (named_filter exists ps h.1)
+]
+
+-- ---- the names between marks
+
+names_named : (name p : Path) (s : List Sign) → names name (map Named p ++ s) ≡ names (name ++ p) s
+names_named name [] s = ap (λ n. names n s) (sym (append-nil name))
+names_named name (b ∷ bs) s = names_named (name ++ b ∷ []) bs s ∙ ap (λ n. names n s) (append_assoc name (b ∷ []) bs)
+
+with_named : (p : Path) (ps : List Path) → nat_lt 0 (length p) ≡ true → with_name p ps ≡ p ∷ ps
+with_named [] ps h = absurd (false≢true h)
+with_named (b ∷ bs) ps h = refl
+
+names_then : (name : Path) (ps : List Path) (s : List Sign) (later : List Path) → AllNamed ps → ((n : Path) → names n s ≡ with_name n later)
+    → names name (after_blanks ps ++ s) ≡ with_name name (ps ++ later)
+names_then name [] s later h rest = rest name
+names_then name (p ∷ ps) s later h rest =
+    ap (with_name name) (ap (names []) (append_assoc (map Named p) (after_blanks ps) s) ∙ names_named [] p (after_blanks ps ++ s)
+    ∙ names_then p ps s later h.1 rest ∙ with_named p (ps ++ later) h.0)
+
+names_after : (name : Path) (ps : List Path) → AllNamed ps → names name (after_blanks ps) ≡ with_name name ps
+names_after name ps h =
+    ap (names name) (sym (append-nil (after_blanks ps))) ∙ names_then name ps [] [] h (λ n. refl) ∙ ap (with_name name) (append-nil ps)
+
+-- What a call leaves of the paths that are not there.
+abbrev tail : (Path → Bool) → List Path → List Sign
+tail exists [] = []
+tail exists (p ∷ ps) = Mark 32 ∷ between_blanks (filter exists (p ∷ ps))
+
+names_between : (name : Path) (ps : List Path) → AllNamed ps → names name (Mark 32 ∷ between_blanks ps) ≡ with_name name ps
+names_between name [] h = refl
+names_between name (p ∷ ps) h = names_after name (p ∷ ps) h
+
+names_tail : (exists : Path → Bool) (ps : List Path) → AllNamed ps → (name : Path) → names name (tail exists ps) ≡ with_name name (filter exists ps)
+names_tail exists [] h name = refl
+names_tail exists (p ∷ ps) h name = names_between name (filter exists (p ∷ ps)) (named_filter exists (p ∷ ps) h)
+
+-- ---- the marks
+
+before_named : (m : ℕ) (p : Path) (s : List Sign) → before m (map Named p ++ s) ≡ map Named p ++ before m s
+before_named m [] s = refl
+before_named m (b ∷ bs) s = ap (λ t. Named b ∷ t) (before_named m bs s)
+
+after_named : (m : ℕ) (p : Path) (s : List Sign) → after m (map Named p ++ s) ≡ after m s
+after_named m [] s = refl
+after_named m (b ∷ bs) s = after_named m bs s
+
+before_blanks : (ps : List Path) (s : List Sign) → before 35 (after_blanks ps ++ s) ≡ after_blanks ps ++ before 35 s
+before_blanks [] s = refl
+before_blanks (p ∷ ps) s =
+    ap (λ t. Mark 32 ∷ t) (ap (before 35) (append_assoc (map Named p) (after_blanks ps) s) ∙ before_named 35 p (after_blanks ps ++ s)
+    ∙ ap (λ t. map Named p ++ t) (before_blanks ps s) ∙ sym (append_assoc (map Named p) (after_blanks ps) (before 35 s)))
+
+before_between : (ps : List Path) → before 35 (between_blanks ps) ≡ between_blanks ps
+before_between [] = refl
+before_between (p ∷ ps) =
+    before_named 35 p (after_blanks ps)
+    ∙ ap (λ t. map Named p ++ t) (ap (before 35) (sym (append-nil (after_blanks ps))) ∙ before_blanks ps [] ∙ append-nil (after_blanks ps))
+
+before_tail : (exists : Path → Bool) (ps : List Path) → before 35 (tail exists ps) ≡ tail exists ps
+before_tail exists [] = refl
+before_tail exists (p ∷ ps) = ap (λ t. Mark 32 ∷ t) (before_between (filter exists (p ∷ ps)))
+
+-- ---- the line
+
+call_signs : (exists : Path → Bool) (ps : List Path) → AllInCall exists ps → AllNamed ps → signs exists (Backslashes 0) (call ps) ≡ tail exists ps
+call_signs exists [] h named = refl
+call_signs exists (p ∷ ps) h named =
+    ap (λ t. Mark 32 ∷ t) (arguments_signs exists (map Named (codes "wildcard")) (p ∷ ps) (codes ")") h
+    ∙ append-nil (value_of exists (names [] (map Named (codes "wildcard") ++ after_blanks (p ∷ ps))))
+    ∙ ap (value_of exists) (names_named [] (codes "wildcard") (after_blanks (p ∷ ps)) ∙ names_after (codes "wildcard") (p ∷ ps) named))
+
+module _ (exists : Path → Bool) (target : Path) (needs missing : List Path) (of_target : is_carried target ≡ true) (of_needs : list_all is_carried needs ≡ true)
+    (of_missing : list_all is_carried missing ≡ true) (fit : list_all fits_call missing ≡ true) where
+  line_signs : signs_of exists (rule_line target needs missing) ≡ map Named target ++ Mark 58 ∷ (after_blanks needs ++ tail exists missing)
+  line_signs =
+      let plain = plain_path target of_target in
+      let rest = flat_map prerequisite needs ++ call missing in
+      let parts = append_assoc (escaped target ++ codes ":") (flat_map prerequisite needs) (call missing) ∙ append_assoc (escaped target) (codes ":") rest in
+      let all = ap (signs exists (Backslashes 0)) parts ∙ path_signs exists 0 target (58 ∷ rest) plain.plain plain.ends
+      ∙ ap (λ t. map Named target ++ Mark 58 ∷ t) (prerequisite_signs exists needs (call missing) (all_plain exists needs of_needs)
+      ∙ ap (λ t. after_blanks needs ++ t) (call_signs exists missing (all_in_call exists missing fit) (all_named missing of_missing))) in
+      ap (before 35) all ∙ before_named 35 target (Mark 58 ∷ (after_blanks needs ++ tail exists missing))
+      ∙ ap (λ t. map Named target ++ Mark 58 ∷ t) (before_blanks needs (tail exists missing) ∙ ap (λ t. after_blanks needs ++ t) (before_tail exists missing))
+
+  pub reads_line : ReadsRule exists (rule_line target needs missing) (target ∷ []) (needs ++ filter exists missing)
+  reads_line = record {
+    targets_are = ap (λ s. names [] (before 58 s)) line_signs
+        ∙ ap (names []) (before_named 58 target (Mark 58 ∷ (after_blanks needs ++ tail exists missing))) ∙ names_named [] target []
+        ∙ with_named target [] (plain_path target of_target).named;
+    prerequisites_are = ap (λ s. names [] (after 58 s)) line_signs
+        ∙ ap (names []) (after_named 58 target (Mark 58 ∷ (after_blanks needs ++ tail exists missing)))
+        ∙ names_then [] needs (tail exists missing) (filter exists missing) (all_named needs of_needs) (names_tail exists missing (all_named missing of_missing));
+  }
+
+-- ---- the paths in a call
+
+in_call_fits : (target path : Path) → list_all fits_call (path_in_call target path) ≡ true
+in_call_fits target path = elim (cases_Bool (fits_call path)) [
+  | inl e ↦ elim (cases_Bool (is_target target path)) [
+    | inl f ↦ rw (e, f) refl
+    | inr f ↦ rw (e, f) (rw e refl)
+  ]
+  | inr e ↦ rw e refl
+]
+
+both_fit : (xs ys : List Path) → list_all fits_call xs ≡ true → list_all fits_call ys ≡ true → list_all fits_call (xs ++ ys) ≡ true
+both_fit xs ys e f = list_all-append fits_call xs ys ∙ rw (e, f) refl
+
+paths_fit : (target : Path) (drive : Option DriveFolder) (key : Key) → list_all fits_call (paths_in_call target drive key) ≡ true
+paths_fit target None key = refl
+paths_fit target (Some d) key =
+    let upper = path_text d.folder.now (folder_name key) in
+    let lower = path_text d.folder.now (map to_ascii_lowercase (folder_name key)) in
+    both_fit (path_in_call target upper) (path_in_call target lower) (in_call_fits target upper) (in_call_fits target lower)
+
+part_fits : (target : Path) (host : Host) (drives : List (Option DriveFolder)) (key : Key) → list_all fits_call (in_call_part target host drives key) ≡ true
+part_fits target host drives key = elim (cases_Bool (is_absent host key)) [
+  | inl e ↦ rw e (paths_fit target (drive_of drives key) key)
+  | inr e ↦ rw e refl
+]
+
+pub all_fit : (target : Path) (host : Host) (drives : List (Option DriveFolder)) (keys : List Key) → list_all fits_call (flat_map (in_call_part target host drives) keys) ≡ true
+all_fit target host drives [] = refl
+all_fit target host drives (k ∷ ks) =
+    both_fit (in_call_part target host drives k) (flat_map (in_call_part target host drives) ks) (part_fits target host drives k) (all_fit target host drives ks)
+
+-- ---- the rule
+
+module _ (w : RuleWords) (drives : List (Option DriveFolder)) (s : Session) (t : FirstLooksView) where
+  of_all : list_all is_carried (all_paths w drives s t) ≡ true → IsReadByMake w drives s t
+  of_all carried =
+      let needs = needed_paths w drives s t in
+      let missing = missing_paths w drives s t in
+      let target = and_true (is_carried w.target.now) (list_all is_carried (needs ++ missing)) carried in
+      let both = and_true (list_all is_carried needs) (list_all is_carried missing) (sym (list_all-append is_carried needs missing) ∙ target.1) in
+      record {
+        carried = carried;
+        first = λ exists. reads_line exists w.target.now needs missing target.0 both.0 both.1 (all_fit w.target.now s.files drives (keys t.files.has));
+        others = λ exists path h. reads_line exists path [] [] h refl refl refl;
+      }
+
+  pub read_by_make : (paths : Paths) → ArePathsOf w drives s t paths → list_all is_carried (paths_with w.target.now paths) ≡ true → IsReadByMake w drives s t
+  read_by_make paths are h =
+      of_all (rw (are.program, are.others, are.missing) at h)
