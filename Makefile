@@ -5,6 +5,7 @@
 # make uninstall                removes these files
 # make dist                     packs them for machines without the Rattle kit
 # make bench                    measures how fast both programs are
+# make needs CRATE=replay       prints the crates that a crate needs
 # make clean                    removes what was proved and built
 PREFIX = /usr/local
 DESTDIR =
@@ -16,7 +17,7 @@ DOC = share/doc/cpmrun
 # An installed page says `cpmrun` for `./cpmrun`.
 PAGE = s,(\.\./)+(cpmrun|cpmdeps),\2,g; s,\./(cpmrun|cpmdeps),\1,g; s,tests/programs/,programs/,g
 
-.PHONY: all check stage install uninstall dist bench clean
+.PHONY: all check stage install uninstall dist bench needs clean
 
 all:
 	@./cpmrun --build > /dev/null
@@ -25,6 +26,7 @@ all:
 check:
 	@./check
 
+# Others can read and run what is installed, whatever the umask is.
 stage: all
 	@rm -rf $(STAGE) && mkdir -p $(STAGE)/$(DOC)
 	@install -D $(PROGRAM) $(STAGE)/bin/cpmrun
@@ -36,9 +38,10 @@ stage: all
 	@find $(STAGE) -name __pycache__ -prune -exec rm -rf {} +
 	@cp docs/MANUAL.md docs/WALKS.md $(STAGE)/$(DOC)
 	@find $(STAGE)/$(DOC) -name '*.md' -exec sed -E -i '$(PAGE)' {} +
+	@chmod -R u=rwX,go=rX $(STAGE)
 
 install: stage
-	@mkdir -p '$(DESTDIR)$(PREFIX)' && cp -R $(STAGE)/. '$(DESTDIR)$(PREFIX)'
+	@umask 022 && mkdir -p '$(DESTDIR)$(PREFIX)' && cp -R --remove-destination $(STAGE)/. '$(DESTDIR)$(PREFIX)'
 	@echo 'installed bin/cpmrun, bin/cpmdeps, their man pages and completion for bash, and $(DOC) in $(DESTDIR)$(PREFIX)'
 
 uninstall: stage
@@ -49,10 +52,12 @@ dist: stage
 	@name=$$($(PROGRAM) --version | tr ' ' -)-linux-x86_64 && tar -C $(STAGE) --transform "s,^\.,$$name," -czf $$name.tar.gz . && echo $$name.tar.gz
 
 bench: all
-	@tests/measure/benchmark $(PROGRAM)
-	@tests/measure/calls $(PROGRAM)
-	@tests/measure/edits $(PROGRAM)
-	@tests/measure/listings $(DEPENDENCIES_PROGRAM) $(PROGRAM)
+	@status=0; for script in benchmark calls edits 'listings $(DEPENDENCIES_PROGRAM)'; do \
+	    tests/measure/$$script $(PROGRAM) || status=1; done; exit "$$status"
+
+# the crates that a crate needs, itself included: the lines of crates.txt that name them
+needs:
+	@tac crates.txt | awk -F '[: ]+' '$$1 == "$(CRATE)" || $$1 in used { print $$1; for (i = 2; i <= NF; i++) used[$$i] }' | tac
 
 clean:
 	@rm -rf crates/*/out

@@ -86,8 +86,6 @@ class Build(unittest.TestCase):
         self.log = (self.notes / 'log').read_text().splitlines()
         if status == 0:
             self.assertEqual(printed, f'{self.crates}/{crate}/out/{crate}\n')
-        else:
-            self.assertFalse((self.crates / crate / 'out' / crate).exists())
         return sorted(line[5:] for line in self.log if line.startswith('ends '))
 
     def change(self, crate):
@@ -101,7 +99,8 @@ class Build(unittest.TestCase):
         if min(len(os.sched_getaffinity(0)), available // 5000) > 1:
             both = [self.log.index(f'{word} {crate}') for word in ('begins', 'ends') for crate in ('left', 'right')]
             self.assertLess(max(both[:2]), min(both[2:]))
-        self.assertEqual(self.errors.splitlines()[-2:], ['cpmrun: proved top, 1 crate left', 'cpmrun: proved executable, 0 crates left'])
+        counted = [line.rsplit(', ')[-1] for line in self.errors.splitlines()[1:]]
+        self.assertEqual(counted, [f'{left} crate{"s" * (left != 1)} left' for left in range(5, -1, -1)])
         self.assertEqual(subprocess.check_output([self.tree / 'cpmrun', 'x']), b'built\n')
         self.assertEqual(self.end(self.start(), 0), [])
         self.change('left')
@@ -109,11 +108,13 @@ class Build(unittest.TestCase):
         self.assertEqual((self.crates / 'left/out/incremental/worked').read_text(), 'worked\n' * 2)
 
     def test_a_failure_is_reported_and_the_next_build_resumes(self):
-        for crate, proved, left in ('left', ['far', 'ground', 'right'], ['executable', 'left', 'top']), ('executable', [], ['executable']):
+        for crate, proved, left, was_built in ('left', ['far', 'ground', 'right'], ['executable', 'left', 'top'], False), \
+                ('executable', [], ['executable'], True), ('top', [], ['executable', 'top'], True):
             self.change(crate)
             (self.notes / f'fails-{crate}').touch()
             self.assertEqual(self.end(self.start(), 1), proved)
             self.assertIn(f'no proof of {crate}\n', self.errors)
+            self.assertEqual((self.crates / 'executable/out/executable').exists(), was_built and crate != 'executable')
             (self.notes / f'fails-{crate}').unlink()
             self.assertEqual(self.end(self.start(), 0), left)
 
@@ -148,6 +149,34 @@ class Build(unittest.TestCase):
         build = self.start_until('right', 'cpmdeps')
         build.send_signal(signal.SIGTERM)
         self.assertEqual(sorted(self.end(build, -signal.SIGTERM, 'cpmdeps') + self.end(self.start(), 0)), ALL)
+
+    def test_a_copy_and_sources_that_only_look_new_are_not_built_again(self):
+        self.assertEqual(self.end(self.start(), 0), ALL)
+        shutil.copytree(self.tree, self.work / 'a copy', copy_function=shutil.copy)
+        self.tree, self.crates = self.work / 'a copy', self.work / 'a copy/crates'
+        self.assertEqual((self.end(self.start(), 0), self.errors), ([], ''))
+        time.sleep(0.02)
+        (self.crates / 'left/src/lib.rt').touch()
+        self.assertEqual((self.end(self.start(), 0), self.errors), ([], ''))
+        self.change('left')
+        self.assertEqual(self.end(self.start(), 0), ['executable', 'left', 'top'])
+        shutil.copytree(self.tree, self.work / 'another')
+        self.tree, self.crates = self.work / 'another', self.work / 'another/crates'
+        source = self.crates / 'far/src/lib.rt'
+        source.write_text('// changed before the copy\n')
+        os.utime(source, (0, 0))
+        self.assertEqual(self.end(self.start(), 0), ['executable', 'far', 'top'])
+
+    def test_a_source_that_changes_during_a_build_is_proved_by_the_next(self):
+        build = self.start_until('executable')
+        self.change('far')
+        self.assertEqual(self.end(build, 0), ALL)
+        self.assertEqual(self.end(self.start(), 0), ['executable', 'far', 'top'])
+
+    def test_a_link_to_the_command_works(self):
+        self.assertEqual(self.end(self.start(), 0), ALL)
+        (self.work / 'bin/cpmrun').symlink_to('../tree/cpmrun')
+        self.assertEqual(subprocess.check_output(['cpmrun', 'x'], env={'PATH': self.path}, cwd=self.work), b'built\n')
 
     def test_rt_must_be_on_the_path(self):
         self.path = '/usr/bin:/bin'

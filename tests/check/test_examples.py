@@ -19,17 +19,24 @@ def is_expected_file(path: Path) -> bool:
 
 class ExamplesTest(ProgramTest):
 
-    def make_examples(self, folder: Path, goal: str) -> subprocess.CompletedProcess:
+    def make_examples(self, folder: Path, goal: str, *words: str) -> subprocess.CompletedProcess:
         """Runs the examples in a folder, all or one."""
-        env = {name: value for name, value in os.environ.items() if name not in ('MAKEFLAGS', 'MAKELEVEL')}
-        words = ['make', '-s', '-C', folder, f'PROGRAM={PROGRAM}', f'BUILT={self.work}/built', goal]
-        return self.run_with_children(*words, stderr=subprocess.STDOUT, env=env)
+        env = {name: value for name, value in os.environ.items() if name not in ('MAKEFLAGS', 'MAKELEVEL', 'PROGRAM')}
+        words = words or (f'PROGRAM={PROGRAM}', f'BUILT={self.work}/built')
+        return self.run_with_children('make', '-s', '-C', folder, *words, goal, stderr=subprocess.STDOUT, env=env)
 
     def test_all_examples_print_and_write_what_is_expected(self) -> None:
         done = self.make_examples(EXAMPLES, 'test')
         self.assertEqual(done.returncode, 0, done.stdout.decode())
         lines = [line for line in done.stdout.decode().splitlines() if line.endswith(': as expected')]
         self.assertEqual(sorted(lines), [f'{name}: as expected' for name in NAMES])
+
+    def test_they_run_in_any_folder(self) -> None:
+        top = self.work / "an old disk's copy"
+        shutil.copytree(EXAMPLES, top / 'examples', ignore=shutil.ignore_patterns('built'))
+        (top / 'cpmrun').symlink_to(PROGRAM)
+        done = self.make_examples(top / 'examples', 'test', 'EXAMPLES=hi sort')
+        self.assertEqual((done.returncode, done.stdout.decode()), (0, 'hi: as expected\nsort: as expected\n'))
 
     def test_the_commands_of_the_table_end_with_a_warm_boot(self) -> None:
         shutil.copytree(EXAMPLES, self.work / 'examples')

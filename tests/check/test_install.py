@@ -28,8 +28,8 @@ class Install(unittest.TestCase):
         self.addCleanup(work.cleanup)
         self.work = Path(work.name)
 
-    def make(self, *words):
-        made = run('make', '-C', TOP, *words, cwd=TOP)
+    def make(self, *words, **how):
+        made = run('make', '-C', TOP, *words, cwd=TOP, **how)
         self.assertEqual(made.returncode, 0, made.stdout)
         return made.stdout
 
@@ -70,6 +70,14 @@ class Install(unittest.TestCase):
         self.addCleanup((TOP / name).unlink)
         self.assertEqual(run('tar', '-C', self.work, '-xzf', TOP / name).returncode, 0)
         self.assertEqual(files_below(self.work / name.removesuffix('.tar.gz')), files_below(self.work / 'a root/usr'))
+
+    def test_others_can_run_what_is_installed_under_any_umask(self):
+        for umask in 0o077, 0o027:
+            self.make('install', f'PREFIX={self.work}/prefix', umask=umask)
+            for path in (self.work / 'prefix').rglob('*'):
+                wanted = 0o755 if path.is_dir() or path.stat().st_mode & 0o100 else 0o644
+                self.assertEqual(path.stat().st_mode & 0o777, wanted, path)
+        self.assertTrue(os.access(self.work / 'prefix/bin/cpmrun', os.X_OK))
 
     def completions(self, name, *words):
         script = 'source "$0"; COMP_WORDS=("$@"); COMP_CWORD=$(($# - 1)); "_$1" 2> /dev/null; echo "${COMPREPLY[*]}"'
