@@ -165,6 +165,18 @@ class BelievedTest(RuleTest):
     def test_the_page_has_no_other_part(self) -> None:
         self.refuse_rows([f'the part "{heading}" is not known' for heading in listed() if heading not in GROUPS])
 
+    def test_the_page_counts_the_views_and_the_traits_with_contracts(self) -> None:
+        code = '\n'.join(path.read_text() for crate in read_crates() if not crate.is_test for path in crate.sources())
+        views, traits = (len(re.findall(pattern, code, re.MULTILINE)) for pattern in (r'^ *ghost view =', r'^pub trait '))
+        page = ' '.join((TOP / 'docs/PROVED.md').read_text().split())
+        self.assertIn(f'the {views} views (`ghost view`), by which contracts see values; and the contracts of {traits} traits', page)
+
+    def test_the_page_names_each_library_that_is_trusted(self) -> None:
+        crates = read_crates()
+        libraries = {used for crate in crates for used in crate.uses} - {crate.name for crate in crates}
+        trusted = (TOP / 'docs/PROVED.md').read_text().split('\n## What is trusted\n')[1]
+        self.refuse(sorted(library for library in libraries if f'`{library}`' not in trusted))
+
     def test_the_first_part_has_few_lines(self) -> None:
         self.assertLessEqual(next(iter(counted().values()))['together'], LIMIT)
 

@@ -178,6 +178,10 @@ class SourcesTest(RuleTest):
     def test_only_command_the_tests_and_the_example_make_a_meter(self) -> None:
         self.refuse(in_code(METER, COMMAND, DEPENDENCIES, 'crates/machine/src/meter.rt', 'crates/embedding/'))
 
+    def test_only_dependency_command_and_the_tests_call_of_run_which_makes_a_meter(self) -> None:
+        self.refuse(in_code(r'\bof_run\b', DEPENDENCIES, 'crates/dependency_command/'))
+        self.expect_count(1, METER, DEPENDENCIES)
+
     def test_command_makes_one_meter(self) -> None:
         self.expect_count(1, METER, COMMAND)
         self.expect_count(1, r'\bMeter::new\(\)', COMMAND)
