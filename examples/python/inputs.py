@@ -7,7 +7,7 @@ import os
 import shutil
 import sys
 import tempfile
-from collections.abc import Callable
+from collections.abc import Callable, Iterator
 from pathlib import Path
 from types import TracebackType
 from typing import NoReturn
@@ -34,6 +34,13 @@ class Arguments(argparse.ArgumentParser):
             add(option, metavar="DIR", help=f"the folder of the host files of drive {drive}")
         add("--limit", type=int, metavar="N", help="the steps after which a run stops")
 
+    def add_runner(self, name: str) -> None:
+        """Adds the argument that names the built program of this name."""
+        here, variable = f"./{name}", name.upper()
+        default = os.environ.get(variable) or (here if Path(here).exists() else shutil.which(name) or here)
+        self.add_argument("--runner", metavar="PATH", default=default,
+            help=f"the runner; by default the one that the variable {variable} names, else {here}, else the {name} on the PATH")
+
     def error(self, message: str) -> NoReturn:
         """Prints a usage error in one line, and ends with status 2."""
         self.exit(2, f"{self.prog}: {message}\n")
@@ -48,15 +55,7 @@ class Parser(Arguments):
         add = self.add_argument
         add("--spacing", type=int, metavar="N", help="the steps from checkpoint to checkpoint")
         add("--slots", type=int, metavar="N", help="the most checkpoints")
-        add("--runner", metavar="PATH", default=_runner(),
-            help="the runner; by default the one that the variable CPMRUN names, else ./cpmrun, "
-                 "else the cpmrun on the PATH")
-
-
-def _runner() -> str:
-    """Returns the runner if no option names it."""
-    here = "./cpmrun"
-    return os.environ.get("CPMRUN") or (here if Path(here).exists() else shutil.which("cpmrun") or here)
+        self.add_runner("cpmrun")
 
 
 def start(words: argparse.Namespace, **options: int) -> Session:
@@ -171,19 +170,28 @@ def place_of(name: str | None, words: argparse.Namespace) -> tuple[str, Path | N
     None without a script."""
     if name is None:
         return "console", None if words.console is None else Path(words.console)
-    drive, _, rest = name.upper().rpartition(":")
-    option = DRIVES.get(drive or "A", "")
-    names = (rest,) if "." in rest else (rest, f"{rest}.")
+    drive, _, rest = _upper(name).rpartition(b":")
+    option = DRIVES.get(os.fsdecode(drive) or "A", "")
+    names = (rest,) if b"." in rest else (rest, rest + b".")
     folder = getattr(words, option, None)
-    for path in Path(folder).iterdir() if folder is not None else ():
-        if path.name.upper() in names:
+    for path in _host_files(Path(folder)) if folder is not None else ():
+        if _upper(path.name) in names:
             return option, path
     raise ValueError(f"the session has no host file {name}")
+
+
+def _upper(name: str) -> bytes:
+    """Returns a name with the letters a to z in upper case, and no others."""
+    return os.fsencode(name).upper()
+
+
+def _host_files(folder: Path) -> Iterator[Path]:
+    """Yields the files of a folder that can be host files: regular ones, and no links."""
+    yield from (path for path in folder.iterdir() if path.is_file() and not path.is_symlink())
 
 
 def _copy_files(folder: Path, copy: Path) -> None:
     """Copies the regular files of a folder into a new one."""
     copy.mkdir()
-    for path in folder.iterdir():
-        if path.is_file() and not path.is_symlink():
-            shutil.copyfile(path, copy / path.name)
+    for path in _host_files(folder):
+        shutil.copyfile(path, copy / path.name)

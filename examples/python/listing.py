@@ -144,7 +144,7 @@ def _key(name: str) -> tuple[str, str, str]:
 
 
 def rows_of(places: list[int]) -> Iterator[tuple[int, int]]:
-    """Yields the first and the last of each row of neighbours among sorted places."""
+    """Yields the first and the last of each range of neighbours among sorted places."""
     start = 0
     for at in range(1, len(places) + 1):
         if at == len(places) or places[at] != places[at - 1] + 1:

@@ -28,15 +28,18 @@ MOST_ROWS = 4096
 
 REGIONS = [
     (0x0000, "jump of the warm start"), (0x0003, "I/O byte and current drive"), (0x0005, "jump for system calls"),
-    (0x0008, "nothing"), (0x005C, "first name of the command tail"), (0x006C, "second name of the command tail"),
+    (0x0008, "nothing"), (0x005C, "control block with the first name of the command tail"),
+    (0x006C, "second name of the command tail, or the rest of that control block"), (0x007C, "record numbers of that control block"),
     (0x0080, "command tail, after its length"), (LOAD_ADDRESS, ""),
 ]
 """The first cells of the parts of page zero, and what is there."""
 
 STYLE = """
-:root { color-scheme: light dark; --back: #fff; --text: #1b1b1b; --faint: #5c5c5c; --line: #d4d4d4; --bar: #e4e4e4; --link: #0a5ea8; }
+:root { color-scheme: light dark; --back: #fff; --text: #1b1b1b; --faint: #5c5c5c; --line: #d4d4d4; --bar: #e4e4e4; --link: #0a5ea8;
+  --s0: #440154; --s1: #46327e; --s2: #365c8d; --s3: #277f8e; --s4: #1fa187; --s5: #4ac16d; --s6: #a0da39; --s7: #fde725; --on-s2: #fff; }
 @media (prefers-color-scheme: dark) {
-  :root { --back: #16181b; --text: #e6e6e6; --faint: #a3a3a3; --line: #3b3f45; --bar: #33373d; --link: #7cb8f2; }
+  :root { --back: #16181b; --text: #e6e6e6; --faint: #a3a3a3; --line: #3b3f45; --bar: #202327; --link: #7cb8f2;
+    --s0: #31688e; --s1: #2a788e; --s2: #21918c; --s3: #22a884; --s4: #44bf70; --s5: #7ad151; --s6: #bddf26; --s7: #fde725; --on-s2: #000; }
 }
 body { margin: 0 auto; padding: 1.5rem; max-width: 62rem; background: var(--back); color: var(--text);
   font: 1rem/1.5 system-ui, "Liberation Sans", sans-serif; }
@@ -62,10 +65,10 @@ table { border-collapse: collapse; }
 .dump td:nth-child(9) { padding-right: 0.22rem; border-right: 0.5rem solid var(--back); }
 .dump .text { white-space: pre; text-align: left; padding-left: 0.9rem; color: var(--faint); }
 .dump .gap { color: var(--faint); text-align: left; padding: 0.1rem 0; font-style: italic; }
-.s0 { background: #440154; fill: #440154; color: #fff; } .s1 { background: #46327e; fill: #46327e; color: #fff; }
-.s2 { background: #365c8d; fill: #365c8d; color: #fff; } .s3 { background: #277f8e; fill: #277f8e; color: #fff; }
-.s4 { background: #1fa187; fill: #1fa187; color: #000; } .s5 { background: #4ac16d; fill: #4ac16d; color: #000; }
-.s6 { background: #a0da39; fill: #a0da39; color: #000; } .s7 { background: #fde725; fill: #fde725; color: #000; }
+.s0 { background: var(--s0); fill: var(--s0); color: #fff; } .s1 { background: var(--s1); fill: var(--s1); color: #fff; }
+.s2 { background: var(--s2); fill: var(--s2); color: var(--on-s2); } .s3 { background: var(--s3); fill: var(--s3); color: var(--on-s2); }
+.s4 { background: var(--s4); fill: var(--s4); color: #000; } .s5 { background: var(--s5); fill: var(--s5); color: #000; }
+.s6 { background: var(--s6); fill: var(--s6); color: #000; } .s7 { background: var(--s7); fill: var(--s7); color: #000; }
 [class^=s] { print-color-adjust: exact; -webkit-print-color-adjust: exact; }
 """
 
@@ -280,12 +283,12 @@ def sections_of(listing: Listing, words: argparse.Namespace) -> list[Section]:
 
 
 def main() -> None:
-    parser = Arguments(__doc__, "A byte without a shade was not read: it can change, and the run is the same.")
-    parser.add_argument("cpmdeps", metavar="CPMDEPS", help="the command cpmdeps")
+    parser = Arguments(__doc__, "A byte without a shade was not read: you can change it without changing the run.")
     parser.add_session()
+    parser.add_runner("cpmdeps")
     parser.add_argument("-o", "--output", metavar="FILE", help="the page [default: standard output]")
     words = parser.parse_args()
-    listing = read_listing(words.cpmdeps, words.program, words.tail, folders=folders_of(words), script=words.console, limit=words.limit)
+    listing = read_listing(words.runner, words.program, words.tail, folders=folders_of(words), script=words.console, limit=words.limit)
     facts = {"Program": words.program, "Command tail": words.tail or "none", "Stop": listing.stop}
     facts |= {} if words.limit is None else {"Limit": f"{words.limit:,} steps"}
     text = page(listing, sections_of(listing, words), facts)

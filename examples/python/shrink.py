@@ -85,7 +85,7 @@ def main() -> None:
     came = shrink(words)
     with open(words.output or sys.stdout.fileno(), "wb", closefd=bool(words.output)) as output:
         output.write(came.data)
-    cost = f"{came.runs} runs, whose steps are {came.steps} in cold runs"
+    cost = f"{came.runs} runs ({came.steps:,} steps if each began at the start)"
     print(f"{len(came.data)} of {came.length} bytes left after {cost}", file=sys.stderr)
     if words.cold:
         cold = shrink(words, cold=True)

@@ -75,7 +75,8 @@ def main() -> None:
     words = parser.parse_args()
     if words.accept and words.kept is None:
         parser.error("--accept needs --kept")
-    edits = Path(words.edits).read_text("latin-1").removesuffix("\n").split("\n")
+    text = Path(words.edits).read_bytes().decode("latin-1")
+    edits = text.removesuffix("\n").split("\n") if text else []
     with start(words) as session:
         new = [f"{line}\n" for line in shown(session, edits)]
     if words.kept is None:

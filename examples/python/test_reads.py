@@ -1,5 +1,6 @@
 """Tests of `reads.py` and `listing.py`. The environment variable CPMDEPS names the built program."""
 
+import argparse
 import os
 import shutil
 import struct
@@ -12,6 +13,7 @@ from pathlib import Path
 
 from command_case import HERE, SCAN_CODE, CommandCase
 from cpmrun import UnknownReply
+from inputs import place_of
 from listing import FileReads, Listing, parse_listing, read_listing, rows_of
 from reads import MOST_ROWS, SHADES, WIDTH, Scale, Section, dump
 
@@ -177,7 +179,7 @@ class Reads(ReadsCase):
     """What the page shows."""
 
     def page(self, *words: str | Path) -> Page:
-        status, text, errors = self.outcome(COMMAND, *words)
+        status, text, errors = self.outcome(*words, "--runner", COMMAND)
         self.assertEqual((status, errors), (0, ""))
         return Page(text.decode())
 
@@ -194,7 +196,9 @@ class Reads(ReadsCase):
         self.assertEqual(page.links, ["#program", "#file1", "#memory"])
         self.assertEqual(page.rows["memory"][1:], [
             ["0000 to 0002", "jump of the warm start", "652"], ["0005 to 0007", "jump for system calls", "3"],
-            ["005C to 006B", "first name of the command tail", "4"], ["006C to 007C", "second name of the command tail", "4"],
+            ["005C to 006B", "control block with the first name of the command tail", "4"],
+            ["006C to 007B", "second name of the command tail, or the rest of that control block", "4"],
+            ["007C", "record numbers of that control block", "4"],
             ["FDFE to FDFF", "zero: no byte of the program is there", "651"]])
 
     def test_shades_go_from_early_to_late(self) -> None:
@@ -223,16 +227,30 @@ class Reads(ReadsCase):
         self.assertEqual(page.rows["missing"][1:], [["GONE.TXT", "9"]])
         self.assertNotIn("file1", page.facts)
 
+    def test_links_folders_and_other_letters_are_no_host_files(self) -> None:
+        words = self.scan()
+        folder = self.room / "a & b"
+        (folder / "x.txt").rename(folder / "X.txt")
+        for name in "x.txt", "x.TXT":
+            (folder / name).symlink_to("X.txt") if name == "x.txt" else (folder / name).mkdir()
+        (folder / "\u017f.txt").write_bytes(b"S")
+        self.assertEqual([byte for byte, _ in self.page(*words).cells["file1"]], list(range(128)))
+        words = [argparse.Namespace(files=folder), argparse.Namespace(files=None)]
+        self.assertEqual(place_of("x.txt", words[0]), ("files", folder / "X.txt"))
+        for name, each in ("s.txt", words[0]), ("x.txt", words[1]), ("e:x.txt", words[0]):
+            with self.subTest(name), self.assertRaises(ValueError):
+                place_of(name, each)
+
     def test_the_page_needs_nothing_else(self) -> None:
-        status, text, _ = self.outcome(COMMAND, *self.scan())
+        status, text, _ = self.outcome(*self.scan(), "--runner", COMMAND)
         self.assertNotRegex(text.decode(), r"(?i)<script|\bsrc=|@import|https?:|url\(|<link")
-        self.assertIn("a &amp; b", self.outcome(COMMAND, self.put("a & b.com", b"\xc9"))[1].decode())
+        self.assertIn("a &amp; b", self.outcome(self.put("a & b.com", b"\xc9"), "--runner", COMMAND)[1].decode())
         tags = Page(text.decode()).tags
         for tag in "html", "head", "title", "body", "header", "nav", "main", "h1":
             self.assertEqual(tags[tag], 1 + (tag == "title") * 2, tag)
 
     def test_output(self) -> None:
-        words = [COMMAND, *self.scan()]
+        words = [*self.scan(), "--runner", COMMAND]
         text = self.outcome(*words)[1]
         self.assertEqual(self.outcome(*words, "-o", self.room / "page.html"), (0, b"", ""))
         self.assertEqual((self.room / "page.html").read_bytes(), text)
@@ -243,9 +261,19 @@ class Reads(ReadsCase):
         self.assertEqual((listing.stop, listing.files["X.TXT"]), ("Limit", FileReads(True, 4, 3, 4, {0: 9})))
 
     def test_faults(self) -> None:
-        self.faulty(1, "the runner ended with status 1: cpmdeps: cannot read none", COMMAND, "none")
-        self.faulty(1, "none: No such file or directory", "none", self.put("typed.com", TYPED_CODE))
-        self.faulty(2, "argument --limit: invalid int value: 'x'", COMMAND, "none", "--limit", "x")
+        self.faulty(1, "the runner ended with status 1: cpmdeps: cannot read none", "none", "--runner", COMMAND)
+        self.faulty(1, "none: No such file or directory", self.put("typed.com", TYPED_CODE), "--runner", "none")
+        self.faulty(2, "argument --limit: invalid int value: 'x'", "none", "--limit", "x")
+
+
+def contrast(one: str, other: str) -> float:
+    """Returns the contrast of two colours as WCAG 2 defines it, from 1 to 21."""
+    lights = []
+    for colour in one, other:
+        parts = [part / 255 for part in bytes.fromhex(colour)]
+        linear = [part / 12.92 if part <= 0.03928 else ((part + 0.055) / 1.055) ** 2.4 for part in parts]
+        lights.append(0.2126 * linear[0] + 0.7152 * linear[1] + 0.0722 * linear[2] + 0.05)
+    return max(lights) / min(lights)
 
 
 def pixels_of(png: bytes) -> Counter[bytes]:
@@ -294,7 +322,7 @@ class Browser(ReadsCase):
 
     def test_the_browser_has_the_cells_of_the_page(self) -> None:
         page = self.room / "page.html"
-        self.assertEqual(self.outcome(COMMAND, *self.scan(), "-o", page), (0, b"", ""))
+        self.assertEqual(self.outcome(*self.scan(), "--runner", COMMAND, "-o", page), (0, b"", ""))
         shown, log = self.browse(page, "--dump-dom")
         wanted, found = Page(page.read_text()), Page(shown)
         self.assertEqual((found.cells, found.shades, found.tags), (wanted.cells, wanted.shades, wanted.tags))
@@ -304,12 +332,15 @@ class Browser(ReadsCase):
 
     def test_the_shades_are_drawn(self) -> None:
         page, picture = self.room / "page.html", self.room / "page.png"
-        self.assertEqual(self.outcome(COMMAND, *self.scan(), "-o", page), (0, b"", ""))
-        for mode, back in ("1", "ffffff"), ("0", "16181b"):
+        self.assertEqual(self.outcome(*self.scan(), "--runner", COMMAND, "-o", page), (0, b"", ""))
+        light = "440154", "46327e", "365c8d", "277f8e", "1fa187", "4ac16d", "a0da39", "fde725"
+        dark = "31688e", "2a788e", "21918c", "22a884", "44bf70", "7ad151", "bddf26", "fde725"
+        for mode, back, shades in ("1", "ffffff", light), ("0", "16181b", dark):
             self.browse(page, f"--screenshot={picture}", f"--blink-settings=preferredColorScheme={mode}")
             colours = pixels_of(picture.read_bytes())
             self.assertEqual(colours.most_common(1)[0][0].hex(), back)
-            for shade in "440154", "46327e", "365c8d", "277f8e", "1fa187", "4ac16d", "a0da39", "fde725":
+            self.assertGreater(contrast(shades[0], back), 2.9)
+            for shade in shades:
                 self.assertGreater(colours[bytes.fromhex(shade)], 300, shade)
 
 

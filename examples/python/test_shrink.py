@@ -53,7 +53,7 @@ class Shrink(CommandCase):
     def test_steps(self) -> None:
         # of `a)`, of nothing, of `a`, of `)`, and of nothing again, by what `nest` says
         steps = (1 + 12 + 14) + (1 + 4) + (1 + 12 + 4) + (1 + 14) + (1 + 4)
-        message = f"1 of 2 bytes left after 5 runs, whose steps are {steps} in cold runs\n"
+        message = f"1 of 2 bytes left after 5 runs ({steps} steps if each began at the start)\n"
         words = self.typed(b"a)")
         self.assertEqual(self.outcome(*words, "--cause", "Undefined"), (0, b")", message))
         self.assertEqual(self.outcome(*words, "--cause", "Undefined ED"), (0, b")", message))
@@ -68,8 +68,8 @@ class Shrink(CommandCase):
             return nest(data)[0] == "Halt"
 
         self.assertEqual(least(typed, halts), b"(((")
-        counts = f"{len(tried)} runs, whose steps are {sum(nest(data)[2] for data in tried)}"
-        message = f"3 of {len(typed)} bytes left after {counts} in cold runs\n"
+        counts = f"{len(tried)} runs ({sum(nest(data)[2] for data in tried):,}"
+        message = f"3 of {len(typed)} bytes left after {counts} steps if each began at the start)\n"
         words = [*self.typed(typed), "--cause", "Halt"]
         self.assertEqual(self.outcome(*words), (0, b"(((", message))
         # what is typed is printed, and a `)` that comes first ends the run
@@ -106,7 +106,7 @@ class Shrink(CommandCase):
         status, printed, errors = self.outcome(*words, "--cold")
         self.assertEqual((status, printed), (0, b")"))
         counts, times = errors.splitlines()
-        self.assertIn(f"5 runs, whose steps are {69 + 5 * (1 + 4 * 65_536)} in cold runs", counts)
+        self.assertIn(f"5 runs ({69 + 5 * (1 + 4 * 65_536):,} steps if each began at the start)", counts)
         self.assertRegex(times, r"^\d+\.\d{3} seconds with checkpoints, \d+\.\d{3} in cold runs$")
 
     def test_faults(self) -> None:

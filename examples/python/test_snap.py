@@ -57,6 +57,10 @@ class Snap(CommandCase):
         self.assertIn(f"file X.BIN, 1 record\n{dump}\n".encode(), printed)
         self.assertEqual(status, 0)
 
+    def test_no_line(self) -> None:
+        self.assertEqual(self.outcome(GREETING, "--edits", self.put("empty", b"")), (0, b"", ""))
+
     def test_faults(self) -> None:
         self.faulty(2, "--accept needs --kept", GREETING, "--edits", self.edits, "--accept")
         self.faulty(1, "the runner ended with status 2: cpmrun: line 1 is malformed", GREETING, "--edits", self.put("bad", b"stop\n"))
+        self.faulty(1, "the runner ended with status 2: cpmrun: line 2 is malformed", GREETING, "--edits", self.put("bad", b"run\nrun\r\n"))
