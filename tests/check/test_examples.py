@@ -6,6 +6,7 @@ import re
 import shutil
 import subprocess
 from pathlib import Path
+from unittest import mock
 
 from helpers import DEPENDENCIES_PROGRAM, PROGRAM, TOP, ProgramTest
 
@@ -64,13 +65,13 @@ class ExamplesTest(ProgramTest):
 class RebuildTest(ProgramTest):
     """The Makefile whose rules cpmdeps writes."""
 
-    def build(self) -> list[str]:
-        """Returns the programs that make assembles."""
+    def build(self, status: int = 0) -> list[str]:
+        """Returns the programs that make assembles, the last one in vain if the status is not 0."""
         env = {name: value for name, value in os.environ.items() if name not in ('MAKEFLAGS', 'MAKELEVEL')}
         words = ['make', '-s', '-f', EXAMPLES / 'rebuild/Makefile', f'CPMRUN={PROGRAM}', f'CPMDEPS={DEPENDENCIES_PROGRAM}',
                  'ASSEMBLER=assemble.com', 'PROGRAMS=HI LETTERS']
         done = self.run_command(*words, cwd=self.work, env=env)
-        self.assertEqual((done.returncode, done.stderr), (0, b''))
+        self.assertEqual((done.returncode, bool(done.stderr)), (status, status != 0), done.stderr)
         return done.stdout.decode().replace('assembling ', '').split()
 
     def change(self, name: str, *words: bytes) -> None:
@@ -94,6 +95,11 @@ class RebuildTest(ProgramTest):
         self.change('assemble.com', b'', b'')
         self.assertEqual(self.build(), ['HI', 'LETTERS'])
         self.assertEqual(self.build(), [])
+        self.change('source/hi.hex', b'"Ho$"', b'"Ho$')
+        for _ in range(2):
+            self.assertEqual(self.build(2), ['HI'])
+        self.change('source/hi.hex', b'"Ho$', b'"Ho$"')
+        self.assertEqual(self.build(), ['HI'])
 
 
 class FixtureTest(ProgramTest):
@@ -102,18 +108,33 @@ class FixtureTest(ProgramTest):
     OPEN_TWO = bytes.fromhex('0E0F 116C00 CD0500 0E0F 115C00 CD0500 C9')
     """Opens both names of its tail: MVI C,15; LXI D,6CH; CALL 5; MVI C,15; LXI D,5CH; CALL 5; RET."""
 
-    def least(self, *words: object) -> subprocess.CompletedProcess:
+    def least(self, *words: object, folder: str = 'disk', new: str = 'new') -> subprocess.CompletedProcess:
         (self.work / 'disk').mkdir(exist_ok=True)
         for name in 'One.txt', 'two.', 'three.txt', 'four':
             self.put(f'disk/{name}', name)
         env = {**os.environ, 'CPMDEPS': str(DEPENDENCIES_PROGRAM)}
-        return self.run_command(EXAMPLES / 'fixture/least', 'disk', 'new', *words, cwd=self.work, env=env)
+        return self.run_command(EXAMPLES / 'fixture/least', folder, new, *words, cwd=self.work, env=env)
 
     def test_files_that_were_asked_for_are_copied(self) -> None:
         done = self.least(self.put('open.com', self.OPEN_TWO), 'one.txt two')
         self.assertEqual((done.returncode, done.stdout, done.stderr), (0, b'', b''))
         self.expect_names(self.work / 'new', 'One.txt', 'two.')
         self.assertEqual((self.work / 'new/One.txt').read_text(), 'One.txt')
+
+    def test_a_folder_can_be_a_link_and_begin_with_a_hyphen(self) -> None:
+        (self.work / '-link').symlink_to('disk')
+        self.put('open.com', self.OPEN_TWO)
+        for folder, new in ('-link', '-new'), ('disk/', 'new/'):
+            done = self.least('open.com', 'one.txt two', folder=folder, new=new)
+            self.assertEqual((done.returncode, done.stdout, done.stderr), (0, b'', b''))
+            self.expect_names(self.work / new, 'One.txt', 'two.')
+
+    def test_a_file_that_cannot_be_copied_is_an_error(self) -> None:
+        self.put('open.com', self.OPEN_TWO)
+        self.put('cp', '#!/bin/sh\nexit 1\n').chmod(0o755)
+        with mock.patch.dict(os.environ, PATH=f'{self.work}:{os.environ["PATH"]}'):
+            done = self.least('open.com', 'one.txt two')
+        self.assertEqual((done.returncode, done.stderr), (1, b'least: cannot copy ONE.TXT\n'))
 
     def test_other_drives_and_missing_files_are_not_copied(self) -> None:
         self.least(self.put('open.com', self.OPEN_TWO), 'b:one.txt none', '--files-b', 'disk')
