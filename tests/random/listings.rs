@@ -1,6 +1,7 @@
 // Makes sessions at random, each a function of its number alone, and compares what the built `cpmdeps` prints for each with the listing
 // and the rule of the plain model. Then it changes much that the listing does not have: program, tail, script and host files. The changed
-// session must have the same listing, stop, steps, registers and text. `jobs.rs` has the words of the command line.
+// session must have the same listing and the same report, except that a record which the run did not write is the changed one.
+// `jobs.rs` has the words of the command line.
 #![allow(dead_code)]
 
 mod counts;
@@ -16,7 +17,8 @@ use generator::random::Random;
 use generator::{Case, HostFile, Line};
 use jobs::Words;
 use laid::Laid;
-use model::{is_sayable, name_in_folder, Asked, Question, Rows, Session};
+use model::{changed_line, is_sayable, name_in_folder, Asked, Key, Origin, Question, Rows, Run, Session, RECORD};
+use std::collections::BTreeSet;
 use std::fs;
 use std::path::{Path, PathBuf};
 use unlisted::Unlisted;
@@ -82,7 +84,7 @@ impl Test<'_> {
         Err(format!("{out} and {out}.model of the session {name} differ"))
     }
 
-    // Runs the changed session: it must have these listings, and a report that begins like this one.
+    // Runs the changed session: it must have these listings, and this report.
     fn compare_changed(&mut self, unlisted: &Unlisted, wanted: &Listings, report: &str) -> Result<(), String> {
         let session = &unlisted.session;
         let (laid, listings) = self.compare_listings(session, &unlisted.files, &Asked::of(session), "changed")?;
@@ -92,8 +94,9 @@ impl Test<'_> {
         if laid.printed(&self.words.programs[1], &["--edits", "edits"], "report")? != modelled {
             return Err("the report of the changed session is not the model's".to_string());
         }
-        if lines_of_run(&modelled) != lines_of_run(report) {
-            return Err("the changed session runs otherwise".to_string());
+        if modelled != report {
+            fs::write(laid.folder.join("report.expected"), report).map_err(|fault| fault.to_string())?;
+            return Err("report and report.expected of the session changed differ".to_string());
         }
         if listings != *wanted {
             return Err("the changed session has another listing".to_string());
@@ -109,7 +112,10 @@ impl Test<'_> {
         let unlisted = Unlisted::of(session, files, &asked, random);
         self.counts.count("Runs", "with unlisted changes", !unlisted.changes.is_empty() as u64);
         unlisted.changes.iter().for_each(|change| self.counts.count("Runs by unlisted changes", change, 1));
-        self.compare_changed(&unlisted, &listings, &model::run(session).report)
+        let run = model::run(session);
+        let report = Changed { before: session, after: &unlisted.session, run: &run, asked: &asked }.report();
+        self.counts.count("Runs", "with unlisted records in their reports", (report != run.report) as u64);
+        self.compare_changed(&unlisted, &listings, &report)
     }
 
     // Counts a run, and the lines of its listings.
@@ -130,8 +136,59 @@ impl Test<'_> {
     }
 }
 
-fn lines_of_run(report: &str) -> Vec<&str> {
-    report.lines().take(LINES_OF_RUN).collect()
+// A session before and after changes to what its run did not ask for.
+struct Changed<'a> {
+    before: &'a Session,
+    after: &'a Session,
+    run: &'a Run,
+    asked: &'a Asked,
+}
+
+impl Changed<'_> {
+    // The report after the changes: that of the run before them, with the files that the same run leaves over other host files.
+    fn report(&self) -> String {
+        let mut report: String = self.run.report.split_inclusive('\n').take(LINES_OF_RUN).collect();
+        let hosts = self.before.hosts.keys().chain(self.after.hosts.keys());
+        for key in hosts.chain(self.asked.origins.keys()).collect::<BTreeSet<_>>() {
+            let (left, host) = (self.file(key), self.after.hosts.get(key).map(|file| file.bytes().to_vec()));
+            if left != host {
+                report += &changed_line(&(*key, left.as_deref()));
+            }
+        }
+        report + "end\n"
+    }
+
+    // The records that the run leaves of a file.
+    fn file(&self, key: &Key) -> Option<Vec<u8>> {
+        match self.asked.origins.get(key) {
+            Some(origin) => self.file_of_origin(key, origin),
+            None if self.before.hosts.contains_key(key) => None,
+            None => self.after.hosts.get(key).map(|file| file.bytes().to_vec()),
+        }
+    }
+
+    // The same of a file that was there after the run: what it did not write is the host file's.
+    fn file_of_origin(&self, key: &Key, origin: &Origin) -> Option<Vec<u8>> {
+        let host = self.after.hosts.get(&origin.host);
+        if origin.has_host_length && !origin.is_host_record.contains(&false) {
+            return host.map(|file| file.bytes().to_vec());
+        }
+        let length = if origin.has_host_length { host?.length() } else { origin.is_host_record.len() };
+        let left = self.file_before(key);
+        let record = |number: usize| match origin.is_host_record.get(number) {
+            Some(false) => left[number * RECORD..][..RECORD].to_vec(),
+            _ => host.and_then(|file| file.read(number)).map_or(vec![0; RECORD], |record| record.to_vec()),
+        };
+        Some((0..length).flat_map(record).collect())
+    }
+
+    // The records of a file after the run before the changes.
+    fn file_before(&self, key: &Key) -> Vec<u8> {
+        match self.run.changed.iter().find(|(changed, _)| changed == key) {
+            Some((_, bytes)) => bytes.clone().unwrap_or_default(),
+            None => self.before.hosts.get(key).map_or(Vec::new(), |file| file.bytes().to_vec()),
+        }
+    }
 }
 
 // Tests the session of a number before its edits, and after all of them.

@@ -12,7 +12,7 @@ mod asked;
 mod listing;
 #[allow(unused_imports)]
 pub use self::{
-    asked::{Asked, Question},
+    asked::{Asked, Origin, Question},
     files::is_sayable,
     listing::Rows,
 };
@@ -317,7 +317,8 @@ impl State {
     }
 }
 
-fn changed_line((key, bytes): &(Key, Option<&[u8]>)) -> String {
+// The line of a report for a changed file.
+pub fn changed_line((key, bytes): &(Key, Option<&[u8]>)) -> String {
     match bytes {
         None => format!("gone {}\n", printed(key)),
         Some(bytes) => format!("file {} {}\n", printed(key), digits(bytes)),

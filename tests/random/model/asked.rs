@@ -19,9 +19,10 @@ pub enum Question {
     Directory(u8),
 }
 
-// The questions of a run with their first steps, and its stop.
+// The questions of a run with their first steps, where its files come from, and its stop.
 pub struct Asked {
     pub first_steps: BTreeMap<Question, u64>,
+    pub origins: BTreeMap<Key, Origin>,
     pub cause: Cause,
     pub steps: u64,
 }
@@ -30,7 +31,7 @@ impl Asked {
     pub fn of(session: &Session) -> Asked {
         let mut notes = Notes::new(session);
         let (steps, cause) = State::load(session).run(session, &mut notes);
-        Asked { first_steps: notes.first_steps, cause, steps }
+        Asked { first_steps: notes.first_steps, origins: notes.origins, cause, steps }
     }
 
     pub fn has(&self, question: Question) -> bool {
@@ -39,10 +40,10 @@ impl Asked {
 }
 
 // Where a file comes from: the host file, whether its length is the host file's, and which of its records are.
-struct Origin {
-    host: Key,
-    has_host_length: bool,
-    is_host_record: Vec<bool>,
+pub struct Origin {
+    pub host: Key,
+    pub has_host_length: bool,
+    pub is_host_record: Vec<bool>,
 }
 
 impl Origin {
