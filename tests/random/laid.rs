@@ -61,7 +61,10 @@ impl Laid {
     pub fn printed(&self, program: &Path, options: &[&str], out: &str) -> Result<String, String> {
         let output = self.run(program, options)?;
         fs::write(self.folder.join(out), &output.stdout).map_err(|fault| format!("{out} is not written: {fault}"))?;
-        if !output.status.success() || !output.stderr.is_empty() {
+        // a rule is printed with the line of the stop
+        let wanted = if options.contains(&"--make") { "stop " } else { "" };
+        let lines = String::from_utf8_lossy(&output.stderr).lines().count();
+        if !output.status.success() || !output.stderr.starts_with(wanted.as_bytes()) || lines != !wanted.is_empty() as usize {
             return Err(format!("{out}: {}, {}", output.status, String::from_utf8_lossy(&output.stderr)));
         }
         String::from_utf8(output.stdout).map_err(|_| format!("{out} is no text"))

@@ -25,7 +25,7 @@ use unlisted::Unlisted;
 
 const USAGE: &str = "tests/random/listings CPMDEPS CPMRUN COUNT [SEED] [--jobs N]";
 // The targets of rules for make, one of them for each session.
-const TARGETS: [&str; 5] = ["out.txt", "two words", "one\\ two\\\\\t#$", "\\#\\$", "a:b%"];
+const TARGETS: [&str; 5] = ["out.txt", "two words", "one\\ two\\\\ #$", "\\#\\$", "./a(b"];
 // The joined listing, and the one by step.
 type Listings = [String; 2];
 // The lines of a report about the run itself: stop, steps, registers and text.

@@ -1,6 +1,6 @@
 // The rule for make that `cpmdeps --make` prints.
 
-use crate::model::{is_sayable, name_in_folder, printed, Asked, Key, Question, PROGRAM_START};
+use crate::model::{is_sayable, name_in_folder, printed, Asked, Cause, Key, Question, PROGRAM_START};
 use std::collections::{BTreeMap, BTreeSet};
 
 // The paths of a session: its program, its script, the folders of its drives, and each host file's name in its folder.
@@ -12,14 +12,13 @@ pub struct Paths {
     pub names: BTreeMap<Key, String>,
 }
 
-// A path as `gcc -MD` escapes it for make.
+// A path as make reads it: each blank and `#` after an odd number of backslashes, of which half stay.
 fn escape(path: &str) -> String {
     let mut text = String::new();
     let mut backslashes = 0;
     for letter in path.chars() {
         match letter {
-            ' ' | '\t' => text += &"\\".repeat(backslashes + 1),
-            '#' => text.push('\\'),
+            ' ' | '#' => text += &"\\".repeat(backslashes + 1),
             '$' => text.push('$'),
             _ => {}
         }
@@ -29,36 +28,78 @@ fn escape(path: &str) -> String {
     text
 }
 
+// A folder with a slash at its end.
+fn slashed(folder: &str) -> String {
+    if folder.ends_with('/') { folder.to_string() } else { format!("{folder}/") }
+}
+
+// A path without `./` before it.
+fn plain(path: &str) -> &str {
+    match path.strip_prefix("./") {
+        Some(rest) if !rest.is_empty() => rest.trim_start_matches('/'),
+        _ => path,
+    }
+}
+
 impl Paths {
     // The rule for what a run of the session asked.
     pub fn rule(&self, target: &str, asked: &Asked) -> String {
-        let mut paths = Vec::new();
         let questions = || asked.first_steps.keys();
-        if questions().any(|question| matches!(question, Question::Cell(address) if *address as usize >= PROGRAM_START)) {
-            paths.push(self.program.clone());
-        }
-        if questions().any(|question| matches!(question, Question::Script(_))) {
-            paths.extend(self.script.clone());
-        }
+        let is_searched = |drive: u8| questions().any(|question| *question == Question::Directory(drive));
         let keys: BTreeSet<Key> = questions().filter_map(key_of).collect();
-        let (there, absent): (Vec<Key>, Vec<Key>) = keys.into_iter().partition(|key| self.names.contains_key(key));
-        paths.extend(there.iter().map(|key| self.path(key, &self.names[key])));
-        paths.extend(questions().filter_map(|question| match question {
-            Question::Directory(drive) => self.folders[*drive as usize].clone(),
-            _ => None,
-        }));
-        let paths: String = paths.iter().map(|path| format!(" {}", escape(path))).collect();
-        let absent = absent.iter().filter(|key| is_sayable(key));
-        let comments: String = absent.map(|key| format!("# not there: {}\n", self.path(key, &name_in_folder(key)))).collect();
-        format!("{}:{paths}\n{comments}", escape(target))
+        let mut others = Vec::new();
+        if questions().any(|question| matches!(question, Question::Script(_))) {
+            others.extend(self.script.clone());
+        }
+        let needed = self.names.iter().filter(|(key, _)| keys.contains(*key) || is_searched(key[0]));
+        others.extend(needed.filter_map(|(key, name)| self.path(key, name)));
+        let searched = (0..4).filter(|drive| is_searched(*drive)).filter_map(|drive| self.folders[drive as usize].as_deref());
+        others.extend(searched.map(slashed));
+        let absent: Vec<&Key> = keys.iter().filter(|key| !self.names.contains_key(*key) && is_sayable(key)).collect();
+        let is_odd = |path: &str| path.contains([' ', '#', '(', ')', ',', '\\']);
+        let is_target = |path: &str| plain(path) == plain(target);
+        let mut wildcards = String::new();
+        for key in &absent {
+            let name = name_in_folder(key);
+            let Some(path) = self.path(key, &name) else { continue };
+            if is_odd(&path) {
+                let folder = self.folders[key[0] as usize].as_deref().filter(|_| !is_target(&path));
+                others.extend(folder.map(slashed));
+                continue;
+            }
+            for path in [self.path(key, &name), self.path(key, &name.to_lowercase())].into_iter().flatten() {
+                if !is_target(&path) {
+                    wildcards += &format!(" {}", path.replace('$', "$$"));
+                }
+            }
+        }
+        let has_program = questions().any(|question| matches!(question, Question::Cell(address) if *address as usize >= PROGRAM_START));
+        let program = has_program.then_some(&self.program);
+        let mut text = escape(target) + ":";
+        for path in program.into_iter().chain(&others) {
+            text += &format!(" {}", escape(path));
+        }
+        if !wildcards.is_empty() {
+            text += &format!(" $(wildcard{wildcards})");
+        }
+        text.push('\n');
+        for path in &others {
+            text += &format!("{}:\n", escape(path));
+        }
+        for key in absent {
+            let path = self.path(key, &name_in_folder(key)).unwrap_or_else(|| printed(key));
+            text += &format!("# not there: {path}\n");
+        }
+        if asked.cause != Cause::WarmBoot {
+            text += &format!("# stop {}\n", asked.cause);
+        }
+        text
     }
 
-    // The path of a name in the folder of its drive, or the name with its drive if that has no folder.
-    fn path(&self, key: &Key, name: &str) -> String {
-        match &self.folders[key[0] as usize] {
-            Some(folder) => format!("{folder}/{name}"),
-            None => printed(key),
-        }
+    // The path of a name in the folder of its drive, if that has a folder.
+    fn path(&self, key: &Key, name: &str) -> Option<String> {
+        let folder = self.folders[key[0] as usize].as_deref()?;
+        Some(slashed(folder) + name)
     }
 }
 

@@ -19,9 +19,9 @@ use Rattle.dependency_command.specs.RefusedPaths.{FailsPaths, refuses_rule}
 
 module _ (words : List (List ℕ)) (w : DependencyWords) (are : AreDependencyWords words w) (files now : StoredFiles) where
   -- A rule for make was refused.
-  pub refused : (fault : Fault) (out : Output) → FailsPaths w fault → now.bytes ≡ files.bytes
-      → (err : Output) → FaultOf words (world files out err) (world now out err) fault
-  refused fault out h same err = inr (inr (w, are, inl (h, (refl, same))))
+  pub refused : {T : Type 0} (r : Result T Fault) (f : Fault) (out : Output) → r ≡ Err f → FailsPaths w f → now.bytes ≡ files.bytes
+      → IfErr r (λ fault. (err : Output) → FaultOf words (world files out err) (world now out err) fault)
+  refused r f out is fails same = rw is (λ err. inr (inr (w, are, inl (fails, (refl, same)))))
 
   -- The session could not be loaded.
   pub unloaded : {T : Type 0} (r : Result T Fault) (f : LoadFault) (out : Output) → refuses_rule w ≡ false → r ≡ Err (of_load f) → FailsToLoad files w.session f

@@ -1,6 +1,6 @@
 // The paths among the words that a rule for make cannot have.
 
-ghost use Rattle.std.specs.Prelude.{◌≡◌, ◌∷◌, ◌++◌, Some, false, IfNone, IfOk, IfErr, IfSome};
+ghost use Rattle.std.specs.Prelude.{◌≡◌, Some, true, false, IfNone, IfOk, IfErr, IfSome};
 ghost use Rattle.std.specs.List.{Contains, list_any};
 ghost use Rattle.make_rules.specs.Carried.{is_carried};
 ghost use Rattle.make_rules.specs.Files.{folder_path};
