@@ -86,6 +86,11 @@ module _ {K : Type 0} {R : K → K → Ordering} (o : IsTotalOrder R) (same : Is
       more (Ok x) others q h = ap (with_first first) h ∙ ap (λ f. with_first f (insert rest q tt)) some ∙ insert_swap rest q k ∙ ap (λ m. insert m q tt) inserted
       more (Err x) others q h = tt
 
+      -- A key that is neither apart nor one of the others is absent.
+      pub absent_too : {E : Type 0} (r : Result (Unit {0}) E) (q : K) → k ≢ q → OnErr r (IsAbsent rest q) → OnErr r (IsAbsent set q)
+      absent_too (Ok x) q h none = tt
+      absent_too (Err x) q h none = ap (λ m. get m q) (sym inserted) ∙ get_apart o same rest k tt q (λ e. h (sym e)) ∙ none
+
       module _ (apart : IsFirstApart first rest) where
         absent : get rest k ≡ None
         absent = subst (λ f. IsFirstApart f rest) some apart

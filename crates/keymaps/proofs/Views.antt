@@ -1,6 +1,7 @@
 -- The map with the entries of a tree agrees with the tree.
-use Rattle.std.proofs.Common.{◌≡◌, ◌≢◌, Bool, true, false, cond, is_some, List, [], ◌∷◌, Some, None, Option, refl, sym, ap, subst, ◌∙◌, ◌+◌, ◌<◌, length, suc, arith}
+use Rattle.std.proofs.Common.{Result, Ok, Err, ◌≡◌, ◌≢◌, Bool, true, false, cond, is_some, List, [], ◌∷◌, Some, None, Option, refl, sym, ap, subst, ◌∙◌, ◌+◌, ◌<◌, length, suc, arith}
 use Rattle.std.specs.Option.{IsSome}
+use Rattle.std.specs.Result.{OnErr}
 use Rattle.std.specs.declared.cmp.Ordering.{Ordering}
 use Rattle.keymaps.specs.Order.{record_cmp}
 use Rattle.std.proofs.lemmas.Cmp.{on_total, then_total}
@@ -107,6 +108,11 @@ places_total = then_total (on_total (λ p. p.0) nat_list_cmp_total) (on_total (�
 
 pub same_place : IsAntisymmetric record_cmp
 same_place a b h = exact_pairs (slice_cmp nat_cmp) nat_cmp same_key exact_unsigned a b h
+
+-- What holds holds on any `Err`.
+pub on_err : {A E P : Type 0} (r : Result A E) → P → OnErr r P
+on_err (Ok x) p = tt
+on_err (Err e) p = p
 
 none_of : {X : Type 0} (r : Option X) → (is_some r ≡ true → ⊥) → r ≡ None
 none_of None h = refl

@@ -70,6 +70,7 @@ impl KeySet {
     pub fn insert(&mut self, key: Key) -> Result<(), AllocError>
         ensures ok { OnOk result (self.new ≡ finmap.insert self.old key tt) }
         ensures err { OnErr result (self.new ≡ self.old) }
+        ensures absent { OnErr result (IsAbsent self.old key) }
     {
         let Some(first) = self.first else {
             self.first = Some(key);

@@ -1,6 +1,6 @@
 // Maps with keys of files.
 
-ghost use Rattle.std.specs.Prelude.{◌≡◌, ◌<◌, ◌+◌, ℕ, List, true, IfOk, OnOk, OnErr, IfSome, IfNone, IsSome, None, Some, option_map, option_copied};
+ghost use Rattle.std.specs.Prelude.{◌≡◌, ◌<◌, ◌+◌, ◌||◌, ℕ, List, true, IfOk, OnOk, OnErr, IfSome, IfNone, IsSome, None, Some, option_map, option_copied};
 ghost use Rattle.std.specs.FinMap as finmap;
 ghost use Rattle.std.specs.Fn.{FnOnceReturnsAtMut};
 ghost use Rattle.keymaps.specs.Order.{IsNextAbove, IsLeastAbove};
@@ -78,11 +78,12 @@ impl<V: Drop> KeyMap<V> {
         self.map.contains_key(&OrderedKey::new(*key))
     }
 
-    /// Inserts a key with a value, which replaces its old value if there is one. On `Err`, which means out of memory, the map
-    /// is unchanged.
+    /// Inserts a key with a value, which replaces its old value if there is one. Only a key that is absent allocates. On `Err`,
+    /// which means out of memory, the map is unchanged.
     pub fn insert(&mut self, key: Key, value: V) -> Result<(), AllocError>
         ensures ok { OnOk result (self.new ≡ finmap.insert self.old key value) }
         ensures err { OnErr result (self.new ≡ self.old) }
+        ensures absent { OnErr result (IsAbsent self.old key) }
     {
         self.map.insert(OrderedKey::new(key), value)?;
         Ok(())
@@ -245,6 +246,8 @@ pub fn next_of_both<'a, V: Drop, W: Drop>(
 ) -> Option<KeyOfBoth<'a, V, W>>
     ensures first { IfSome result (λ e. option_copied e.first ≡ finmap.get first.entry.now e.key) }
     ensures second { IfSome result (λ e. option_copied e.second ≡ finmap.get second.entry.now e.key) }
+    ensures present { IfSome result (λ e.
+        (finmap.contains_key first.entry.now e.key || finmap.contains_key second.entry.now e.key) ≡ true) }
     ensures least { IsNextAbove after (IsInNeither first.entry.now second.entry.now)
         (option_map (λ e. e.key) result) }
     ensures fewer { IfSome result (λ e.

@@ -70,6 +70,7 @@ impl RecordSet {
     pub fn insert(&mut self, key: Key, place: u32) -> Result<(), AllocError>
         ensures ok { OnOk result (self.new ≡ finmap.insert self.old (key, place) tt) }
         ensures err { OnErr result (self.new ≡ self.old) }
+        ensures absent { OnErr result (IsAbsent self.old (key, place)) }
     {
         let Some(first) = self.first else {
             self.first = Some((key, place));
@@ -162,6 +163,7 @@ impl RecordTree {
     fn insert(&mut self, key: Key, place: u32) -> Result<(), AllocError>
         ensures ok { OnOk result (self.new ≡ finmap.insert self.old (key, place) tt) }
         ensures err { OnErr result (self.new ≡ self.old) }
+        ensures absent { OnErr result (IsAbsent self.old (key, place)) }
     {
         self.map.insert((key, place), ())?;
         Ok(())

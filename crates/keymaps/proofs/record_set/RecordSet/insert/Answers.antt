@@ -1,6 +1,6 @@
 use Rattle.std.proofs.lemmas.Bool.Decides.{not_from_Decides}
 use Rattle.keymaps.proofs.Views.{places_total, same_place}
-use Rattle.keymaps.proofs.Firsts.{place_told, new_apart, kept_first, more, more_apart}
+use Rattle.keymaps.proofs.Firsts.{place_told, absent_too, new_apart, kept_first, more, more_apart}
 use Rattle.keymaps.proofs.record_set.RecordSet.insert.Goals as goal
 
 pub invariant_of-self : goal.invariant_of-self
@@ -18,3 +18,8 @@ invariant_of-self-2 c =
 
 pub returns-clause-ok : goal.returns-clause-ok
 returns-clause-ok c = more places_total same_place _ _ c.self.inside.first c.self.view_is c.in-Some.first c.in-Some.is c.insert.result _ (c.args.key, c.args.place) c.insert.ensures.ok
+
+pub returns-clause-absent : goal.returns-clause-absent
+returns-clause-absent c =
+    let same = place_told c.in-Some.first c.args.key c.args.place _ c.eq.ensures in
+    absent_too places_total same_place _ _ c.self.inside.first c.self.view_is c.in-Some.first c.in-Some.is c.insert.result (c.args.key, c.args.place) (not_from_Decides _ same c.if-eq.false) c.insert.ensures.absent
