@@ -3,10 +3,10 @@ use Rattle.std.proofs.Common.{◌≡◌, ℕ, Bool, true, false, cond, is_some, 
 use Rattle.std.specs.FinMap.{get}
 use Rattle.hostfiles.specs.Hosts.{Key, Host}
 use Rattle.hostfiles.specs.Files.{OwnFiles, has, length_at, entry_at, is_host_part}
-use Rattle.hostfiles.specs.FileLooks.{KeepsAsks, look_has, look_length, look_records, look_record_by, look_content, look_read, look_directory}
+use Rattle.hostfiles.specs.FileLooks.{HasNewAsk, KeepsAsks, look_has, look_length, look_records, look_record_by, look_content, look_read, look_directory}
 use Rattle.hostfiles.specs.declared.looks.FileLooks.{FileLooks}
 use Rattle.hostfiles.proofs.LookLemmas as lemmas
-pub use Rattle.hostfiles.proofs.LookLemmas.{extends_same, extends_trans, extends_by_has, extends_by_length, extends_by_record, extends_by_directory}
+pub use Rattle.hostfiles.proofs.LookLemmas.{extends_same, extends_trans, extends_by_has, extends_by_length, extends_by_record, extends_by_directory, new_before}
 
 -- ---- the first looks are among all looks
 
@@ -47,5 +47,17 @@ pub within_second : (own : OwnFiles) (old new : Key) (l m : FileLooks) → Keeps
     → KeepsAsks l (look_has own new (look_has own old m))
 within_second own old new l m h = within_has own new l (look_has own old m) h
 
+-- ---- a new question of the first looks is a new one of all looks
+
+pub new_records : (host : Host) (own : OwnFiles) (key : Key) (l m : FileLooks) → HasNewAsk l (look_has own key m) → HasNewAsk l (look_records host own key m)
+new_records host own key l m h = lemmas.new_within l _ _ h (within_records host own key _ m (lemmas.extends_same _ _ refl))
+
+pub new_read : (host : Host) (own : OwnFiles) (key : Key) (k : ℕ) (l m : FileLooks) → HasNewAsk l (look_records host own key m)
+    → HasNewAsk l (look_read host own key k m)
+new_read host own key k l m h = lemmas.new_within l _ _ h (within_read host own key k _ m (lemmas.extends_same _ _ refl))
+
+pub new_second : (own : OwnFiles) (old new : Key) (l m : FileLooks) → HasNewAsk l (look_has own old m) → HasNewAsk l (look_has own new (look_has own old m))
+new_second own old new l m h = lemmas.new_within l _ _ h (within_second own old new _ m (lemmas.extends_same _ _ refl))
+
 -- The rules for questions one after another.
-pub ruleset asked_in_turn = (extends_same, extends_trans, within_records, within_second)
+pub ruleset asked_in_turn = (extends_same, extends_trans, within_records, within_second, new_records, new_before)

@@ -19,8 +19,8 @@ abbrev pub next_bytes : Key → ℕ → Option (List ℕ) → Shapes → Option 
 next_bytes pattern ex after m =
     option_map entry_bytes (next_entry pattern ex (option_map (position_of (slice_index pattern 0)) after) m)
 
--- The record count of an extent of a file, if there is one: the greatest record number in the extent that holds a record, plus
--- one, counted within the extent; 0 if the extent holds no record.
+-- The record count of an extent of a file, if there is one: the index within the extent of its last record, plus one; 0 if it has
+-- none.
 abbrev pub extent_count : Host → OwnFiles → Key → ℕ → Option ℕ
 extent_count host own key e = if has host own key then Some (count_at (shape_of (file_of host key (entry_at own key))) e) else None
 
@@ -42,7 +42,7 @@ look_rename own old new l = if is_rename old new then look_has own new (look_has
 abbrev pub is_named : Key → Key → Bool
 is_named pattern q = if has_wildcard pattern then is_match pattern q else eq_by_cmp (slice_cmp nat_cmp) q pattern
 
--- After a deletion, what is own says that each named file that was there is gone, and is unchanged for all other keys.
+-- The journal after a deletion: each named file that was there is gone, and all other entries are unchanged.
 pub record NamedAreGone (host : Host) (own : OwnFiles) (pattern : Key) (after : OwnFiles) : Type 0 where
   pub at : (q : Key) → get after q ≡ (if is_named pattern q && has host own q then Some gone_entry else get own q)
 

@@ -1,11 +1,12 @@
 // The questions that a program asks about the current files. Each function marks the questions that reach the
-// host files; on `Err` it may have marked only some of them, and no others.
+// host files. `Err` means out of memory, which is possible only if one of them was not asked before; the function
+// may then have marked only some of them, and no others.
 
 ghost use Rattle.std.specs.Prelude.{◌≡◌, true, Ok, OnErr, slice_index};
 ghost use Rattle.std.specs.Option.{option_map};
 ghost use Rattle.directory.specs.Entries.{position_of};
 ghost use Rattle.hostfiles.specs.Files.{has, records, record_at, shapes};
-ghost use Rattle.hostfiles.specs.FileLooks.{look_has, look_records, look_read, look_directory};
+ghost use Rattle.hostfiles.specs.FileLooks.{look_has, look_records, look_read, look_directory, HasNewAsk};
 ghost use Rattle.hostfiles.specs.Asking.{AsksFor, Inquires};
 ghost use Rattle.hostfiles.specs.FileView.{view_own};
 ghost use Rattle.filenames.specs.Names.{is_sayable};
@@ -34,8 +35,10 @@ pub fn has(host: &HostFiles, changes: &mut Changes, key: &Key) -> Result<bool, A
 // Returns the length of a file in records, holes included, or `None` if there is no file.
 #[tactic(auto, using(crate::proofs::LookLaws::asked_in_turn))]
 fn ask_records(file: &FileView<'_>, looks: &mut FileLooks) -> Result<Option<u32>, AllocError>
-    ensures { AsksFor result (records file.now.host.now (view_own file.now) file.now.key)
+    ensures asks { AsksFor result (records file.now.host.now (view_own file.now) file.now.key)
         (look_records file.now.host.now (view_own file.now) file.now.key) looks.old looks.new }
+    ensures refused { OnErr result
+        (HasNewAsk looks.old (look_records file.now.host.now (view_own file.now) file.now.key looks.old)) }
 {
     if !file.ask_presence(looks)? {
         return Ok(None);
@@ -59,8 +62,7 @@ pub fn records(
 }
 
 /// Returns the record count of an extent of the file of the key, or `None` if there is no file. The count is the
-/// greatest record number in the extent that holds a record, plus one, counted within the extent (1 to 128); 0 if
-/// the extent holds no record.
+/// index within the extent of its last record, plus one; 0 if it has none.
 #[tactic(auto, using(crate::proofs::LookLaws::asked_in_turn))]
 pub fn extent(
     host: &HostFiles,

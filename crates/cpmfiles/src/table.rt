@@ -3,7 +3,7 @@
 ghost use Rattle.std.specs.Prelude.{◌≡◌, ◌<◌, true, false, OnOk, OnErr, IfOk, Some, Ok, slice_index};
 ghost use Rattle.hostfiles.specs.Files.{has, records, length_at, record_at, shapes, after_make, after_rename, after_write};
 ghost use Rattle.hostfiles.specs.declared.journal.Gap.TheVariants.{Holes, Zeros};
-ghost use Rattle.hostfiles.specs.FileLooks.{look_has, look_records, look_read, look_directory, KeepsAsks};
+ghost use Rattle.hostfiles.specs.FileLooks.{look_has, look_records, look_read, look_directory, HasNewAsk, KeepsAsks};
 ghost use Rattle.hostfiles.specs.Asking.{AsksFor, Inquires};
 ghost use Rattle.cpmfiles.specs.Tables.{can_make, can_rename, extent_count, look_make, look_rename};
 ghost use Rattle.filenames.specs.Names.{is_sayable};
@@ -14,7 +14,7 @@ ghost use Rattle.cpmfiles.specs.TableParts.{own_of_table, looks_of_table, Stands
 use crate::asking;
 use filenames::Key;
 use hostfiles::changes::Changes;
-use hostfiles::directory_view::without_matches;
+use hostfiles::directory_view::delete_matches;
 use hostfiles::host::HostFiles;
 use hostfiles::journal::Gap;
 use records::Record;
@@ -23,7 +23,8 @@ use std::alloc::AllocError;
 /// Host files together with what a run did to them. Each call marks the questions that reach the host files.
 ///
 /// `Err` means out of memory. It changes no file and nothing that the run did; the call may have marked some of its
-/// own questions, but no others.
+/// own questions, but no others. `has`, `records`, `read` and `extent` are an `Err` only if they ask the host files
+/// something that was not asked before, so never about a file that the run made.
 #[derive(Drop)]
 pub struct Table<'a> {
     /// The host files.
@@ -78,6 +79,8 @@ impl Table<'_> {
         ensures extends { KeepsAsks (looks_of_table self.old) (looks_of_table self.new) }
         ensures bound { OnErr result (KeepsAsks (looks_of_table self.new)
             (look_read self.old.host.now (own_of_table self.old) key.now k (looks_of_table self.old))) }
+        ensures refused { OnErr result (HasNewAsk (looks_of_table self.old)
+            (look_read self.old.host.now (own_of_table self.old) key.now k (looks_of_table self.old))) }
         ensures stays { self.new.changes.now.journal ≡ self.old.changes.now.journal }
         ensures over { StandsOver self.old self.new }
     {
@@ -89,8 +92,7 @@ impl Table<'_> {
     }
 
     /// Returns the record count of an extent of the file of the key, or `None` if there is no file. The count is the
-    /// greatest record number in the extent that holds a record, plus one, counted within the extent (1 to 128); 0
-    /// if the extent holds no record.
+    /// index within the extent of its last record, plus one; 0 if it has none.
     #[tactic(auto, using(crate::proofs::LookLaws::asked_in_turn))]
     pub fn extent(&mut self, key: &Key, e: u32) -> Result<Option<u8>, AllocError>
         ensures inquires { Inquires result (λ own. extent_count self.old.host.now own key.now e)
@@ -224,8 +226,7 @@ impl Table<'_> {
         Ok(1)
     }
 
-    // Deletes all files that match a pattern with `?`. What the run did is copied first, so that an `Err` leaves it
-    // unchanged.
+    // Deletes all files that match a pattern with `?`.
     #[tactic(auto, using(crate::proofs::LookLaws::extends_by_directory))]
     fn delete_all(&mut self, pattern: &Key) -> Result<u64, AllocError>
         requires { has_wildcard pattern.now ≡ true }
@@ -238,9 +239,7 @@ impl Table<'_> {
         ensures over { StandsOver self.old self.new }
     {
         self.changes.looks.mark_directory(pattern[0]);
-        let (journal, count) = without_matches(self.host, &self.changes.journal, pattern)?;
-        self.changes.journal = journal;
-        Ok(count)
+        delete_matches(self.host, &mut self.changes.journal, pattern)
     }
 
     /// Renames a file and returns `true` if the old key has no `?` and a file has it, and the new key is valid and no

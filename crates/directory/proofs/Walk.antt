@@ -11,7 +11,7 @@ use Rattle.std.specs.FinMap.{is_sorted, get, entries, entries_sorted, get-entrie
 use Rattle.std.specs.FinMap as finmap
 use Rattle.std.specs.FinMap.Entries.{below_all}
 use Rattle.filenames.specs.Names.{Key}
-use Rattle.keymaps.specs.Order.{is_above, EachAbove, IsNextAbove}
+use Rattle.keymaps.specs.Order.{is_above, EachAbove, Skips}
 use Rattle.keymaps.specs.Walks.{IsAbsent}
 use Rattle.keymaps.proofs.Views.{same_key}
 use Rattle.keymaps.proofs.Left.{all_pass, rises}
@@ -278,7 +278,7 @@ first_with k e (Some n) xs = refl
 pub extent_turn : (k : Key) (v : Option Shape) (n : ℕ) → n < 512 → slice_get (file_entries_from k v n) 0 ≡ or_else (entry_with_count k n (count_if_any v n)) (slice_get (file_entries_from k v (n + 1)) 0)
 extent_turn k v n l = ap (λ es. slice_get es 0) (chunk_more k v n l) ∙ first_with k n (count_if_any v n) (file_entries_from k v (n + 1))
 
-pub key_turn : (m : Shapes) (pattern : Key) (ex : ℕ) (after : Option Key) (k : Key) → IsNextAbove after (IsAbsent m) (Some k)
+pub key_turn : (m : Shapes) (pattern : Key) (ex : ℕ) (after : Option Key) (k : Key) → Skips after (IsAbsent m) (Some k)
     → find (matches pattern ex) (entries_above after m) ≡ or_else (find (matches pattern ex) (file_entries_from k (get m k) 0)) (find (matches pattern ex) (entries_above (Some k) m))
 unfolding entries_above
 key_turn m pattern ex after k least =

@@ -3,7 +3,7 @@
 ghost use Rattle.std.specs.Prelude.{◌≡◌, ◌<◌, ◌≤◌, ℕ, List, Option, true, false, None, Some, IfSome, option_map};
 ghost use Rattle.std.specs.List.{slice_get};
 ghost use Rattle.std.specs.FinMap.{get};
-ghost use Rattle.keymaps.specs.Order.{IsNextAbove};
+ghost use Rattle.keymaps.specs.Order.{Skips};
 ghost use Rattle.keymaps.specs.Walks.{IsAbsent};
 ghost use Rattle.directory.specs.Entries.{Shape, Shapes, count_if_any, first_match, is_match, next_entry};
 ghost use Rattle.directory.specs.Parts.{entries_from, file_entries_from, entry_with_count, entries_above};
@@ -23,7 +23,7 @@ pub trait FileShape {
     fn entry_count(&self, extent: u32) -> Option<u8>
         ensures { result ≡ count_if_any (shape self.now) extent };
 
-    /// Returns an extent, at most 512, from which on the file has no entry.
+    /// Returns a bound, at most 512: every extent with an entry is below it.
     fn extents(&self) -> u32
         ensures within { result ≤ 512 }
         ensures none { (e : ℕ) → result ≤ e → e < 512 → count_if_any (shape self.now) e ≡ None };
@@ -54,7 +54,7 @@ pub trait DirectoryFiles {
     /// above `after`. There may be no file with the returned key. Every key is above `None`.
     fn next_file(&self, after: Option<Key>) -> Option<KeyedFile<Self::File>>
         ensures file { IfSome result (λ e. Self.File.shape e.file ≡ get (files self.now) e.key) }
-        ensures least { IsNextAbove after (IsAbsent (files self.now)) (option_map (λ e. e.key) result) }
+        ensures least { Skips after (IsAbsent (files self.now)) (option_map (λ e. e.key) result) }
         ensures fewer { IfSome result (λ e. left self.now (Some e.key) < left self.now after) };
 
     /// Finds the file with a key.

@@ -9,7 +9,8 @@ use Rattle.hostfiles.specs.declared.changes.Changes.{Changes}
 use Rattle.file_calls.specs.FileQuestions.{FileTree}
 use Rattle.file_calls.specs.TableView.{file_answers, look_for_all}
 
--- The function returns the result of a tree of questions over the current files, and marks the questions on the way to it.
+-- The function returns the result of a tree of questions over the current files, and marks the questions on the way to it. An
+-- allocation fails only if one of them is new to the host files.
 abbrev pub Asks : {E : Type 0} → FileTree E → Host → Changes → Result E AllocError → Changes → Type 0
 Asks t host old result new =
     Inquires result (λ own. result_of (file_answers host own) t) (λ own. look_for_all own (questions_of (file_answers host own) t)) old new

@@ -1,4 +1,4 @@
--- What is own after a change of files, and the effect of a function that deletes files. (This project's own.)
+-- The journal after a change of files, and the effect of a function that deletes files. (This project's own.)
 use Rattle.std.specs.Prelude.{◌≡◌, Bool, List, [], ◌∷◌, IfOk, OnOk, OnErr}
 use Rattle.std.specs.declared.result.Result.{Result}
 use Rattle.std.specs.declared.alloc.AllocError.{AllocError}
@@ -10,12 +10,12 @@ use Rattle.file_calls.specs.FileQuestions.{FileTree}
 use Rattle.file_calls.specs.TableView.{TableView, file_answers, look_for_all}
 use Rattle.file_calls.specs.Changes.{is_some_named, FileChange, Unchanged, Made, Deleted, Renamed, Stored}
 
--- What is own after the files of these keys were deleted, one after another.
+-- The journal after the files of these keys were deleted, one after another.
 abbrev pub own_without : OwnFiles → List Key → OwnFiles
 own_without own [] = own
 own_without own (key ∷ keys) = own_without (after_delete own key) keys
 
--- What is own after a change.
+-- The journal after a change.
 abbrev pub own_after_change : FileChange → OwnFiles → OwnFiles
 own_after_change Unchanged own = own
 own_after_change (Made key) own = after_make own key

@@ -1,10 +1,11 @@
 // The questions of each file call, and what it finds. A call that needs its file finds the value 0FFH if there is none;
-// function 35 finds that there is no length. `Err` means out of memory.
+// function 35 finds that there is no length. `Err` means out of memory, which is possible only if the call asks the host
+// files something that was not asked before, so never for a file that the run made.
 
 ghost use Rattle.std.specs.Prelude.{◌≡◌, slice_index, length, true, IfOk, OnErr, Ok};
 ghost use Rattle.std.specs.Option.{option_map};
 ghost use Rattle.directory.specs.Entries.{position_of, count_at};
-ghost use Rattle.hostfiles.specs.FileLooks.{look_length};
+ghost use Rattle.hostfiles.specs.FileLooks.{look_length, HasNewAsk};
 ghost use Rattle.hostfiles.specs.FileView.{view_own};
 ghost use Rattle.hostfiles.specs.Asking.{AsksFor};
 ghost use Rattle.file_calls.specs.Findings as calls;
@@ -23,8 +24,10 @@ use std::alloc::AllocError;
 // Returns the length of a file in records, holes included.
 #[tactic(auto, using(crate::proofs::Shapes::places))]
 fn length(file: &FileView<'_>, looks: &mut FileLooks) -> Result<u32, AllocError>
-    ensures { AsksFor result (length (shape_of_view file.now))
+    ensures asks { AsksFor result (length (shape_of_view file.now))
         (look_length (view_own file.now) file.now.key) looks.old looks.new }
+    ensures refused { OnErr result
+        (HasNewAsk looks.old (look_length (view_own file.now) file.now.key looks.old)) }
 {
     file.ask_length(looks)
 }

@@ -4,7 +4,7 @@ use Rattle.std.specs.Ordering.{nat_cmp}
 use Rattle.std.specs.Cmp.Lexicographic.{slice_cmp, nat_list_cmp_total}
 use Rattle.std.specs.List.{filter}
 use Rattle.std.specs.FinMap.{FinMap, find, get, keys, entries, entries_sorted, get-entries, get-retain_keys}
-use Rattle.keymaps.specs.Order.{is_above, EachAbove, IsNextAbove, IsLeastAbove}
+use Rattle.keymaps.specs.Order.{is_above, EachAbove, Skips, IsLeastAbove}
 use Rattle.keymaps.specs.Walks.{IsAbsent}
 use Rattle.keymaps.proofs.Views.{same_key}
 use Rattle.keymaps.proofs.Left.{all_pass, rises}
@@ -49,7 +49,7 @@ head_of k (Some v) es h = refl
 
 -- They begin at the least one.
 pub keys_above_least : {X : Type 0} (m : FinMap (slice_cmp nat_cmp) X) (after : Option Key) (k : Key) → is_some (get m k) ≡ true
-    → IsNextAbove after (IsAbsent m) (Some k) → keys_above m after ≡ k ∷ keys_above m (Some k)
+    → Skips after (IsAbsent m) (Some k) → keys_above m after ≡ k ∷ keys_above m (Some k)
 keys_above_least m after k there least =
     ap (λ es. map (λ e. e.0) es) (begins nat_list_cmp_total same_key (is_above after) (rises after) k least.0 (entries m) (entries_sorted m) (λ x a l. sym (get-entries m x) ∙ least.1 x a l))
     ∙ head_of k (find (slice_cmp nat_cmp) k (entries m)) (filter (λ e. is_above (Some k) e.0) (entries m)) (ap is_some (sym (get-entries m k)) ∙ there)

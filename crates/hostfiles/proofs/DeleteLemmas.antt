@@ -7,7 +7,7 @@ use Rattle.std.specs.Ordering.{nat_cmp, eq_by_cmp, is_lt, is_eq, ordering_revers
 use Rattle.std.specs.Cmp.Lexicographic.{slice_cmp, nat_list_cmp_total}
 use Rattle.std.specs.List.{filter}
 use Rattle.std.specs.FinMap.{get, get-insert, entries, entries_sorted, get-entries}
-use Rattle.keymaps.specs.Order.{is_above, EachAbove, IsNextAbove}
+use Rattle.keymaps.specs.Order.{is_above, EachAbove, Skips}
 use Rattle.keymaps.specs.Walks.{IsInNeither}
 use Rattle.keymaps.proofs.Views.{same_key, key_of}
 use Rattle.keymaps.proofs.Rising.{here, begins, ends}
@@ -61,7 +61,7 @@ counted_start host own pattern =
 -- ---- the next key
 
 -- A key above k was above the bound before; a key below k that was above that bound has no file.
-passed_on : (host : Host) (own : OwnFiles) (after : Option Key) (k q : Key) → IsNextAbove after (IsInNeither host own) (Some k) → slice_cmp nat_cmp k q ≢ Equal
+passed_on : (host : Host) (own : OwnFiles) (after : Option Key) (k q : Key) → Skips after (IsInNeither host own) (Some k) → slice_cmp nat_cmp k q ≢ Equal
     → (has host own q && is_passed (Some k) q) ≡ (has host own q && is_passed after q)
 passed_on host own after k q least apart =
     elim (slice_cmp nat_cmp k q) as (λ r. slice_cmp nat_cmp k q ≡ r → (has host own q && not (is_lt r)) ≡ (has host own q && is_passed after q)) [
@@ -79,7 +79,7 @@ regrouped : (a b c : Bool) → (a && b && c) ≡ (a && (b && c))
 regrouped true b c = refl
 regrouped false b c = refl
 
-all_passed_on : (host : Host) (own : OwnFiles) (pattern : Key) (after : Option Key) (k q : Key) → IsNextAbove after (IsInNeither host own) (Some k) → slice_cmp nat_cmp k q ≢ Equal
+all_passed_on : (host : Host) (own : OwnFiles) (pattern : Key) (after : Option Key) (k q : Key) → Skips after (IsInNeither host own) (Some k) → slice_cmp nat_cmp k q ≢ Equal
     → (is_match pattern q && has host own q && is_passed (Some k) q) ≡ (is_match pattern q && has host own q && is_passed after q)
 all_passed_on host own pattern after k q least apart =
     regrouped (is_match pattern q) (has host own q) (is_passed (Some k) q) ∙ ap (λ b. is_match pattern q && b) (passed_on host own after k q least apart)
@@ -95,7 +95,7 @@ apart_of k q h e =
     cc
 
 -- If the key has no file that matches, nothing changes.
-pub deleted_past : (host : Host) (own : OwnFiles) (pattern : Key) (after : Option Key) (k : Key) (left : OwnFiles) → IsNextAbove after (IsInNeither host own) (Some k) → (is_match pattern k && has host own k) ≡ false
+pub deleted_past : (host : Host) (own : OwnFiles) (pattern : Key) (after : Option Key) (k : Key) (left : OwnFiles) → Skips after (IsInNeither host own) (Some k) → (is_match pattern k && has host own k) ≡ false
     → DeletedTo host own pattern after left → DeletedTo host own pattern (Some k) left
 deleted_past host own pattern after k left least unmatched h q =
     elim (eq_by_cmp (slice_cmp nat_cmp) q k) as (λ b. eq_by_cmp (slice_cmp nat_cmp) q k ≡ b → get left q ≡ cond (is_match pattern q && has host own q && is_passed (Some k) q) (Some gone_entry) (get own q)) [
@@ -115,7 +115,7 @@ not_above_itself k =
     ] refl
 
 -- If it has one, the file is deleted.
-pub deleted_here : (host : Host) (own : OwnFiles) (pattern : Key) (after : Option Key) (k : Key) (left m : OwnFiles) → IsNextAbove after (IsInNeither host own) (Some k) → (is_match pattern k && has host own k) ≡ true
+pub deleted_here : (host : Host) (own : OwnFiles) (pattern : Key) (after : Option Key) (k : Key) (left m : OwnFiles) → Skips after (IsInNeither host own) (Some k) → (is_match pattern k && has host own k) ≡ true
     → DeletedTo host own pattern after left → m ≡ after_delete left k → DeletedTo host own pattern (Some k) m
 deleted_here host own pattern after k left m least matched h e q =
     ap (λ x. get x q) e ∙ get-insert nat_list_cmp_total left k gone_entry q
@@ -157,14 +157,14 @@ matched_here pattern k (Some s) es =
       yes true = refl
       yes false = refl
 
-begin_here : (host : Host) (own : OwnFiles) (after : Option Key) (k : Key) → IsNextAbove after (IsInNeither host own) (Some k)
+begin_here : (host : Host) (own : OwnFiles) (after : Option Key) (k : Key) → Skips after (IsInNeither host own) (Some k)
     → filter (λ e. is_above after e.0) (entries (shapes host own)) ≡ here k (get (shapes host own) k) ++ filter (λ e. is_above (Some k) e.0) (entries (shapes host own))
 begin_here host own after k least =
     begins nat_list_cmp_total same_key (is_above after) (rises after) k least.0 (entries (shapes host own)) (entries_sorted (shapes host own))
     (λ x a l. sym (get-entries (shapes host own) x) ∙ nothing_listed host own x (least.1 x a l))
     ∙ ap (λ v. here k v ++ filter (λ e. is_above (Some k) e.0) (entries (shapes host own))) (sym (get-entries (shapes host own) k))
 
-pub counted_here : (host : Host) (own : OwnFiles) (pattern : Key) (after : Option Key) (k : Key) (count : ℕ) (b : Bool) → IsNextAbove after (IsInNeither host own) (Some k) → (is_match pattern k && has host own k) ≡ b
+pub counted_here : (host : Host) (own : OwnFiles) (pattern : Key) (after : Option Key) (k : Key) (count : ℕ) (b : Bool) → Skips after (IsInNeither host own) (Some k) → (is_match pattern k && has host own k) ≡ b
     → CountedTo host own pattern after count → CountedTo host own pattern (Some k) (count + cond b 1 0)
 counted_here host own pattern after k count b least e h =
     let rest = matched pattern (filter (λ e. is_above (Some k) e.0) (entries (shapes host own))) in

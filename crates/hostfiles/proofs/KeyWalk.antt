@@ -3,7 +3,7 @@ use Rattle.std.proofs.Common.{◌≡◌, Bool, true, false, Option, Some, None, 
 use Rattle.std.specs.declared.cmp.Ordering.TheVariants.{Less, Equal, Greater}
 use Rattle.std.specs.Ordering.{nat_cmp, is_lt, ordering_reverse}
 use Rattle.std.specs.Cmp.Lexicographic.{slice_cmp, nat_list_cmp_total}
-use Rattle.keymaps.specs.Order.{is_above, EachAbove, EachBetween, IsNextAbove, IsLeastAbove}
+use Rattle.keymaps.specs.Order.{is_above, EachAbove, EachBetween, Skips, IsLeastAbove}
 use Rattle.keymaps.proofs.Views.{same_key}
 use Rattle.keymaps.proofs.Left.{rises}
 use Rattle.hostfiles.specs.Hosts.{Key}
@@ -23,11 +23,11 @@ module _ (test : Key → Bool) (Lacks : Key → Type 0) (fails : (x : Key) → L
   below_least k none x a l = elim (is_above low x) as (λ b. is_above low x ≡ b → test x ≡ false) [ true ↦ λ b. fails x (none x b l) | false ↦ λ b. p.none x a b ] refl
 
   -- If the next key passes the test, it is the least one that does.
-  pub passed_least : (k : Key) → IsNextAbove low Lacks (Some k) → test k ≡ true → IsLeastAbove after test (Some k)
+  pub passed_least : (k : Key) → Skips low Lacks (Some k) → test k ≡ true → IsLeastAbove after test (Some k)
   passed_least k next here = (p.up k next.0, here, below_least k next.1)
 
   -- If it does not, the walk has passed it too.
-  pub passed_more : (k : Key) → IsNextAbove low Lacks (Some k) → test k ≡ false → Passed test after (Some k)
+  pub passed_more : (k : Key) → Skips low Lacks (Some k) → test k ≡ false → Passed test after (Some k)
   passed_more k next here = record {
     up = λ x h. p.up x (elim (slice_cmp nat_cmp k x) as (λ r. slice_cmp nat_cmp k x ≡ r → is_lt r ≡ true → is_above low x ≡ true) [
       | Less ↦ λ r y. rises low k x next.0 r

@@ -1,13 +1,15 @@
 -- Looks are never removed.
-use Rattle.std.proofs.Common.{◌≡◌, ℕ, true, false, is_some, ◌==◌, ◌&&◌, arith, Option, Some, None, sym, ap, subst, ◌∙◌}
+use Rattle.std.proofs.Common.{◌≡◌, ℕ, Bool, true, false, refl, is_some, ◌==◌, ◌&&◌, arith, Option, Some, None, Result, Ok, Err, sym, ap, subst, ◌∙◌}
+use Rattle.std.specs.Result.{OnErr}
 use Rattle.std.specs.Cmp.{nat_cmp_total}
 use Rattle.std.specs.Cmp.Lexicographic.{nat_list_cmp_total}
 use Rattle.std.specs.FinMap.{FinMap, get, insert, len, empty_of_len, get-empty, nat_cmp-IsAntisymmetric}
 use Rattle.std.specs.declared.cmp.Ordering.{Ordering}
-use Rattle.keymaps.proofs.Views.{same_key, same_place, places_total, there_still}
+use Rattle.keymaps.proofs.Views.{get_here, same_key, same_place, places_total, there_still}
 use Rattle.std.proofs.lemmas.Bool.{and_parts}
 use Rattle.hostfiles.specs.Hosts.{Key}
-use Rattle.hostfiles.specs.FileLooks.{KeepsAsks, is_looked, asks_nothing, look_has_by, look_length_by, look_record_by, look_directory}
+use Rattle.keymaps.specs.Walks.{IsAbsent}
+use Rattle.hostfiles.specs.FileLooks.{HasNewAsk, KeepsAsks, is_looked, asks_nothing, look_has_by, look_length_by, look_record_by, look_directory}
 use Rattle.hostfiles.specs.declared.journal.Base.{Base}
 use Rattle.hostfiles.specs.declared.journal.Base.TheVariants.{Same, Gone, New, Moved}
 use Rattle.hostfiles.specs.declared.journal.Growth.{Growth}
@@ -107,3 +109,31 @@ pub ruleset noted_has = (extends_by_has, extends_same)
 pub ruleset noted_length = (extends_by_length, extends_same)
 
 pub ruleset noted_record = (extends_by_record, extends_same)
+
+-- ---- a question that was not asked before
+
+pub new_has : {A E : Type 0} (r : Result A E) (key : Key) (l : FileLooks) → OnErr r (IsAbsent l.has key)
+    → OnErr r (HasNewAsk l (record l { has = insert l.has key tt }))
+new_has (Ok x) key l h = tt
+new_has (Err e) key l h = record { ask = Has key; asked = ap is_some (get_here nat_list_cmp_total same_key l.has key tt); new = ap is_some h }
+
+pub new_length : {A E : Type 0} (r : Result A E) (key : Key) (l : FileLooks) → OnErr r (IsAbsent l.lengths key)
+    → OnErr r (HasNewAsk l (record l { lengths = insert l.lengths key tt }))
+new_length (Ok x) key l h = tt
+new_length (Err e) key l h = record { ask = Length key; asked = ap is_some (get_here nat_list_cmp_total same_key l.lengths key tt); new = ap is_some h }
+
+pub new_record : {A E : Type 0} (r : Result A E) (key : Key) (k : ℕ) (l : FileLooks) → OnErr r (IsAbsent l.records (key, k))
+    → OnErr r (HasNewAsk l (record l { records = insert l.records (key, k) tt }))
+new_record (Ok x) key k l h = tt
+new_record (Err e) key k l h = record { ask = Rec key k; asked = ap is_some (get_here places_total same_place l.records (key, k) tt); new = ap is_some h }
+
+-- It stays new if more questions follow.
+pub new_within : (l m n : FileLooks) → HasNewAsk l m → KeepsAsks m n → HasNewAsk l n
+new_within l m n h more = record { ask = h.ask; asked = more.kept h.ask h.asked; new = h.new }
+
+-- It was new before, too.
+pub new_before : (l m n : FileLooks) → HasNewAsk m n → KeepsAsks l m → HasNewAsk l n
+new_before l m n h more = record { ask = h.ask; asked = h.asked; new = unasked (is_looked l h.ask) (λ e. more.kept h.ask e) } where
+  unasked : (b : Bool) → (b ≡ true → is_looked m h.ask ≡ true) → b ≡ false
+  unasked true up = let no : false ≡ true = sym h.new ∙ up refl in cc
+  unasked false up = refl

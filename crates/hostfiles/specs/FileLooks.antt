@@ -101,3 +101,9 @@ look_directory drive l = record l { directories = insert l.directories drive tt 
 -- Each question of the first is in the second.
 pub record KeepsAsks (l m : FileLooks) : Type 0 where
   pub kept : (q : Ask) → is_looked l q ≡ true → is_looked m q ≡ true
+
+-- A question of the second is not in the first.
+pub record HasNewAsk (l m : FileLooks) : Type 0 where
+  pub ask : Ask
+  pub asked : is_looked m ask ≡ true
+  pub new : is_looked l ask ≡ false

@@ -29,7 +29,7 @@ impl Changes {
         }
     }
 
-    /// Returns a copy, which costs a reference for each written extent. `Err` means out of memory.
+    /// Returns a copy. It shares the written extents and copies everything else. `Err` means out of memory.
     pub fn snapshot(&self) -> Result<Changes, AllocError>
         ensures { IfOk result (λ c. c ≡ self.now) }
     {

@@ -1,7 +1,7 @@
 // The directory of host files and what was done to them.
 
 ghost use Rattle.std.specs.Prelude.{◌≡◌, ◌<◌, ◌≤◌, ◌&&◌, ℕ, List, true, false, None, Some, filter, length};
-ghost use Rattle.std.specs.Prelude.{if◌then◌else◌, IfOk, IfSome, IfNone, option_copied};
+ghost use Rattle.std.specs.Prelude.{if◌then◌else◌, IfOk, IfSome, IfNone, OnOk, OnErr, option_copied};
 ghost use Rattle.std.specs.FinMap as finmap;
 ghost use Rattle.directory.specs.Entries.{is_match};
 ghost use Rattle.keymaps.specs.Order.{IsLeastAbove};
@@ -118,34 +118,74 @@ fn name_of(file: &FileView<'_>) -> Option<Name>
     Some(name)
 }
 
-/// Returns the journal with each file deleted whose key matches a pattern, and the number of these files. `Err` means out of
-/// memory.
-pub fn without_matches(
+/// Deletes each file whose key matches a pattern, and returns the number of these files. `Err` means out of memory; some file
+/// then matches, and the journal is unchanged.
+pub fn delete_matches(
     host: &HostFiles,
-    journal: &Journal,
+    journal: &mut Journal,
     pattern: &Key,
-) -> Result<(Journal, u64), AllocError>
-    ensures done { IfOk result (λ r. (q : List ℕ) → finmap.get r.0.entries q ≡
-        (if is_match pattern.now q && has host.now journal.now.entries q then Some gone_entry
-        else finmap.get journal.now.entries q)) }
-    ensures count { IfOk result (λ r. r.1 ≡
+) -> Result<u64, AllocError>
+    ensures done { OnOk result ((q : List ℕ) → finmap.get journal.new.entries q ≡
+        (if is_match pattern.now q && has host.now journal.old.entries q then Some gone_entry
+        else finmap.get journal.old.entries q)) }
+    ensures count { IfOk result (λ n. n ≡
         length (filter (λ e. is_match pattern.now e.0)
-        (finmap.entries (shapes host.now journal.now.entries)))) }
+        (finmap.entries (shapes host.now journal.old.entries)))) }
+    ensures err { OnErr result (journal.new ≡ journal.old) }
+    ensures refused { OnErr result (0 <
+        length (filter (λ e. is_match pattern.now e.0)
+        (finmap.entries (shapes host.now journal.old.entries)))) }
+{
+    let count = count_matches(host, journal, pattern);
+    if count != 0 {
+        *journal = without_matches(host, journal, pattern)?;
+    }
+    Ok(count)
+}
+
+// Returns the number of files whose keys match a pattern. If there is none, deleting these files changes nothing.
+fn count_matches(host: &HostFiles, journal: &Journal, pattern: &Key) -> u64
+    ensures count { result ≡
+        length (filter (λ e. is_match pattern.now e.0)
+        (finmap.entries (shapes host.now journal.now.entries))) }
+    ensures none { result ≡ 0 → (q : List ℕ) → finmap.get journal.now.entries q ≡
+        (if is_match pattern.now q && has host.now journal.now.entries q then Some gone_entry
+        else finmap.get journal.now.entries q) }
 {
     // Bounds the count, which is at most the number of all keys.
     let most = host.files().len() + journal.entries.len();
-    let mut left = journal.snapshot()?;
     let mut count: u64 = 0;
     let mut after = None;
     while let Some(next) = next_of_both(host.files(), &journal.entries, after) {
         let key = next.key;
         if is_deleted(&FileView::from_search(host, journal, &next), pattern) {
-            left.delete(&key)?;
             count += 1;
         }
         after = Some(key);
     }
-    Ok((left, count))
+    count
+}
+
+// Returns the journal with each file deleted whose key matches a pattern. `Err` means out of memory.
+fn without_matches(
+    host: &HostFiles,
+    journal: &Journal,
+    pattern: &Key,
+) -> Result<Journal, AllocError>
+    ensures { IfOk result (λ r. (q : List ℕ) → finmap.get r.entries q ≡
+        (if is_match pattern.now q && has host.now journal.now.entries q then Some gone_entry
+        else finmap.get journal.now.entries q)) }
+{
+    let mut left = journal.snapshot()?;
+    let mut after = None;
+    while let Some(next) = next_of_both(host.files(), &journal.entries, after) {
+        let key = next.key;
+        if is_deleted(&FileView::from_search(host, journal, &next), pattern) {
+            left.delete(&key)?;
+        }
+        after = Some(key);
+    }
+    Ok(left)
 }
 
 // Returns whether a file exists and its key matches a pattern.

@@ -1,11 +1,11 @@
 // The file with a key, found once.
 
 ghost use Rattle.std.specs.Prelude.{◌≡◌, ◌<◌, ◌≤◌, ◌+◌, ◌*◌, not, ℕ, length, get_or, None, true, false};
-ghost use Rattle.std.specs.Prelude.{option_copied, unwrap_or};
+ghost use Rattle.std.specs.Prelude.{option_copied, unwrap_or, OnErr};
 ghost use Rattle.std.specs.FinMap as finmap;
 ghost use Rattle.directory.specs.Entries.{count_at};
 ghost use Rattle.hostfiles.specs.Files.{is_host_part, records, entry_at, untouched_entry, host_file, base_key};
-ghost use Rattle.hostfiles.specs.FileLooks.{look_has, look_length, look_content};
+ghost use Rattle.hostfiles.specs.FileLooks.{look_has, look_length, look_content, HasNewAsk};
 ghost use Rattle.hostfiles.specs.Asking.{AsksFor};
 
 use crate::host::{HostFile, HostFiles};
@@ -225,33 +225,39 @@ impl FileView<'_> {
     }
 
     /// Returns whether there is a file, and marks this question in `looks`. On `Err`, which means out of memory, no other
-    /// question is marked.
+    /// question is marked; a question that needs no mark or has one is never an `Err`.
     #[tactic(auto, using(crate::proofs::LookLemmas::noted_has))]
     pub fn ask_presence(&self, looks: &mut FileLooks) -> Result<bool, AllocError>
-        ensures { AsksFor result (is_view_there self.now)
+        ensures asks { AsksFor result (is_view_there self.now)
             (look_has (view_own self.now) self.now.key) looks.old looks.new }
+        ensures refused { OnErr result
+            (HasNewAsk looks.old (look_has (view_own self.now) self.now.key looks.old)) }
     {
         looks.mark_has(self.base(), &self.key)?;
         Ok(self.is_there())
     }
 
     /// Returns the length of the file, or 0 if there is no file, and marks this question in `looks`. On `Err`, which means
-    /// out of memory, no other question is marked.
+    /// out of memory, no other question is marked; a question that needs no mark or has one is never an `Err`.
     #[tactic(auto, using(crate::proofs::LookLemmas::noted_length))]
     pub fn ask_length(&self, looks: &mut FileLooks) -> Result<u32, AllocError>
-        ensures { AsksFor result (view_length self.now)
+        ensures asks { AsksFor result (view_length self.now)
             (look_length (view_own self.now) self.now.key) looks.old looks.new }
+        ensures refused { OnErr result
+            (HasNewAsk looks.old (look_length (view_own self.now) self.now.key looks.old)) }
     {
         looks.mark_length(self.base(), self.grown(), &self.key)?;
         Ok(self.length())
     }
 
     /// Returns the record with a number below the length, or `None` in a hole, and marks this question in `looks`. On `Err`,
-    /// which means out of memory, no other question is marked.
+    /// which means out of memory, no other question is marked; a question that needs no mark or has one is never an `Err`.
     #[tactic(auto, using(crate::proofs::LookLemmas::noted_record))]
     pub fn ask_record(&self, looks: &mut FileLooks, k: u32) -> Result<Option<Record>, AllocError>
-        ensures { AsksFor result (view_record self.now k)
+        ensures asks { AsksFor result (view_record self.now k)
             (look_content (view_own self.now) self.now.key k) looks.old looks.new }
+        ensures refused { OnErr result
+            (HasNewAsk looks.old (look_content (view_own self.now) self.now.key k looks.old)) }
     {
         if let Some(record) = self.written(k) {
             return Ok(Some(*record));
@@ -263,7 +269,8 @@ impl FileView<'_> {
         Ok(self.record_beneath(k).copied())
     }
 
-    // Returns whether a write past the end left a hole at this record number, unless a record was written there.
+    // Returns whether this number is past the part that comes from the host file. If no record was written at it, it is a
+    // hole.
     fn is_hole(&self, k: u32) -> bool
         ensures { result ≡ not (is_host_part k (view_entry self.now).grown) }
     {

@@ -1,10 +1,11 @@
 // The host files of a session.
 
-ghost use Rattle.std.specs.Prelude.{◌≡◌, ◌<◌, ◌≤◌, ◌*◌, true, length, slice_get, option_copied};
+ghost use Rattle.std.specs.Prelude.{◌≡◌, ◌<◌, ◌≤◌, ◌*◌, ◌⊎◌, true, length, slice_get, option_copied};
 ghost use Rattle.std.specs.Prelude.{IfOk, OnOk, OnErr};
 ghost use Rattle.std.specs.Option.{option_map, option_and_then};
 ghost use Rattle.std.specs.FinMap as finmap;
 ghost use Rattle.keymaps.specs.Order.{IsLeastAbove};
+ghost use Rattle.keymaps.specs.Walks.{IsAbsent};
 ghost use Rattle.hostfiles.specs.Files.{file_contents};
 ghost use Rattle.hostfiles.specs.Hosts.{records_in, record_in, padded_record, refusal_of, has_room, IsHost};
 
@@ -45,10 +46,11 @@ impl Model for HostFile {
 
 impl HostFile {
     /// Creates a host file from at most 8,388,608 bytes, with its last record padded to 128 bytes with 1AH. Without bytes it
-    /// has no records. `Err` means out of memory.
+    /// has no records and allocates nothing. `Err` means out of memory.
     pub fn new(alloc: Global, bytes: &[u8]) -> Result<HostFile, AllocError>
         requires { length bytes.now ≤ 8388608 }
-        ensures { IfOk result (λ file. file ≡ records_in bytes.now) }
+        ensures ok { IfOk result (λ file. file ≡ records_in bytes.now) }
+        ensures refused { OnErr result (0 < length bytes.now) }
     {
         let count = (bytes.len() + RECORD_BYTES - 1) / RECORD_BYTES;
         let mut records = Vec::with_capacity(alloc, count)?;
@@ -177,7 +179,8 @@ impl HostFiles {
     /// # Errors
     ///
     /// `FileTooLong` if there are more than 8,388,608 bytes, otherwise `TooManyFiles` if there are 512 files and none has
-    /// this name, otherwise `OutOfMemory` if an allocation fails. On error, nothing changes.
+    /// this name, otherwise `OutOfMemory` if an allocation fails. On error, nothing changes. A file without bytes that replaces
+    /// another one is never an error.
     ///
     /// # Example
     ///
@@ -192,6 +195,7 @@ impl HostFiles {
         ensures ok { OnOk result (self.new ≡ finmap.insert self.old name (records_in bytes.now)) }
         ensures err { OnErr result (self.new ≡ self.old) }
         ensures refusal { RefusedAs (refusal_of self.old name bytes.now) result }
+        ensures refused { OnErr result ((0 < length bytes.now) ⊎ IsAbsent self.old name) }
     {
         let key = name.key();
         if bytes.len() > FILE_LIMIT {
@@ -215,11 +219,13 @@ impl HostFiles {
         self.files.len() < COUNT_LIMIT
     }
 
-    /// Sets or replaces a file for which there is room. On `Err`, which means out of memory, nothing changes.
+    /// Sets or replaces a file for which there is room. Only a new name allocates. On `Err`, which means out of memory, nothing
+    /// changes.
     pub fn put(&mut self, name: Name, file: HostFile) -> Result<(), AllocError>
         requires { has_room self.old name ≡ true }
         ensures ok { OnOk result (self.new ≡ finmap.insert self.old name file) }
         ensures err { OnErr result (self.new ≡ self.old) }
+        ensures absent { OnErr result (IsAbsent self.old name) }
         ensures limits { IsHost self.new }
     {
         let _ = &file.records; // at most 65,536

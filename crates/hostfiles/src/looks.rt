@@ -1,7 +1,7 @@
 // The questions that a run asks the host files.
 
 ghost use Rattle.std.specs.Prelude.{◌≡◌, true, OnOk, OnErr, IfOk, IfSome, IfNone};
-ghost use Rattle.hostfiles.specs.FileLooks.{is_looked, asks_nothing, no_looks, without_ask, IsUnasked};
+ghost use Rattle.hostfiles.specs.FileLooks.{is_looked, asks_nothing, no_looks, without_ask, HasNewAsk, IsUnasked};
 ghost use Rattle.hostfiles.specs.FileLooks.{look_has_by, look_length_by, look_record_by, look_directory};
 
 use crate::journal::{Base, Growth};
@@ -71,10 +71,12 @@ impl FileLooks {
     }
 
     /// Marks the question whether there is a file with this key, if the file comes from its own host file. On `Err`, which
-    /// means out of memory, nothing changes.
+    /// means out of memory, nothing changes; a question that needs no mark or has one is never an `Err`.
+    #[tactic(auto, using(crate::proofs::LookLemmas::new_has))]
     pub fn mark_has(&mut self, base: Base, key: &Key) -> Result<(), AllocError>
         ensures ok { OnOk result (self.new ≡ look_has_by base key.now self.old) }
         ensures err { OnErr result (self.new ≡ self.old) }
+        ensures refused { OnErr result (HasNewAsk self.old (look_has_by base key.now self.old)) }
     {
         match base {
             Base::Same => self.has.insert(*key),
@@ -85,7 +87,8 @@ impl FileLooks {
     }
 
     /// Marks the question for the length of a file, if the file comes from a host file and has not grown. On `Err`, which
-    /// means out of memory, nothing changes.
+    /// means out of memory, nothing changes; a question that needs no mark or has one is never an `Err`.
+    #[tactic(auto, using(crate::proofs::LookLemmas::new_length))]
     pub fn mark_length(
         &mut self,
         base: Base,
@@ -94,6 +97,7 @@ impl FileLooks {
     ) -> Result<(), AllocError>
         ensures ok { OnOk result (self.new ≡ look_length_by base grown key.now self.old) }
         ensures err { OnErr result (self.new ≡ self.old) }
+        ensures refused { OnErr result (HasNewAsk self.old (look_length_by base grown key.now self.old)) }
     {
         if let Some(_) = grown {
             return Ok(());
@@ -107,10 +111,12 @@ impl FileLooks {
     }
 
     /// Marks the question for a record, if the file comes from a host file. On `Err`, which means out of memory, nothing
-    /// changes.
+    /// changes; a question that needs no mark or has one is never an `Err`.
+    #[tactic(auto, using(crate::proofs::LookLemmas::new_record))]
     pub fn mark_record(&mut self, base: Base, key: &Key, k: u32) -> Result<(), AllocError>
         ensures ok { OnOk result (self.new ≡ look_record_by base key.now k self.old) }
         ensures err { OnErr result (self.new ≡ self.old) }
+        ensures refused { OnErr result (HasNewAsk self.old (look_record_by base key.now k self.old)) }
     {
         match base {
             Base::Same => self.records.insert(*key, k),

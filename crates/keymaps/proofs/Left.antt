@@ -9,7 +9,7 @@ use Rattle.std.specs.Cmp.Lexicographic.{slice_cmp, nat_list_cmp_total}
 use Rattle.std.specs.List.{filter}
 use Rattle.std.specs.FinMap.{FinMap, find, get, len, len-entries, entries, entries_sorted, get-entries}
 use Rattle.filenames.specs.Names.{Key}
-use Rattle.keymaps.specs.Order.{is_above, IsNextAbove}
+use Rattle.keymaps.specs.Order.{is_above, Skips}
 use Rattle.keymaps.specs.Walks.{IsAbsent, count_above}
 use Rattle.keymaps.proofs.Rising.{here, begins}
 use Rattle.keymaps.proofs.Views.{same_key}
@@ -67,7 +67,7 @@ pub turned : (x y : Key) → slice_cmp nat_cmp x y ≡ Greater → slice_cmp nat
 turned x y greater = nat_list_cmp_total.antisymm y x ∙ ap ordering_reverse greater
 
 pub fewer_past : {X : Type 0} (m : FinMap (slice_cmp nat_cmp) X) (after : Option Key) (r : Option (Bor Key × Bor X)) → IfSome r (λ e. get m e.0.now ≡ Some e.1.now)
-    → IsNextAbove after (IsAbsent m) (option_map (λ e. e.0.now) r) → IfSome r (λ e. count_above m (Some e.0.now) < count_above m after)
+    → Skips after (IsAbsent m) (option_map (λ e. e.0.now) r) → IfSome r (λ e. count_above m (Some e.0.now) < count_above m after)
 fewer_past m after None there least = tt
 fewer_past m after (Some e) there least = fewer m after e.0.now least.0 (ap is_some there) least.1
 

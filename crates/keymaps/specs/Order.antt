@@ -24,11 +24,11 @@ EachAbove after Fact = (x : Key) → is_above after x ≡ true → Fact x
 abbrev pub EachBetween : Option Key → Key → (Key → Type 0) → Type 0
 EachBetween after k Fact = (x : Key) → is_above after x ≡ true → slice_cmp nat_cmp x k ≡ Less → Fact x
 
--- The next key of a walk after `after`: a key above `after` such that a fact holds for each key between the two. With no key,
--- the fact holds for each key above `after`.
-abbrev pub IsNextAbove : Option Key → (Key → Type 0) → Option Key → Type 0
-IsNextAbove after Fact None = EachAbove after Fact
-IsNextAbove after Fact (Some k) = (is_above after k ≡ true) × EachBetween after k Fact
+-- This key is above `after`, and each key between the two has the fact. If there is no key, each key above `after` has it. Whether
+-- the key itself has it is left open.
+abbrev pub Skips : Option Key → (Key → Type 0) → Option Key → Type 0
+Skips after Fact None = EachAbove after Fact
+Skips after Fact (Some k) = (is_above after k ≡ true) × EachBetween after k Fact
 
 -- The least key above `after` that passes a test, or no key if none passes.
 abbrev pub IsLeastAbove : Option Key → (Key → Bool) → Option Key → Type 0

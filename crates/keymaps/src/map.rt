@@ -3,7 +3,7 @@
 ghost use Rattle.std.specs.Prelude.{◌≡◌, ◌<◌, ◌+◌, ◌||◌, ℕ, List, true, IfOk, OnOk, OnErr, IfSome, IfNone, IsSome, None, Some, option_map, option_copied};
 ghost use Rattle.std.specs.FinMap as finmap;
 ghost use Rattle.std.specs.Fn.{FnOnceReturnsAtMut};
-ghost use Rattle.keymaps.specs.Order.{IsNextAbove, IsLeastAbove};
+ghost use Rattle.keymaps.specs.Order.{Skips, IsLeastAbove};
 ghost use Rattle.keymaps.specs.Walks.{IsAbsent, IsInNeither, count_above, if_below};
 
 use crate::ordered::OrderedKey;
@@ -157,7 +157,7 @@ impl<V: Drop> KeyMap<V> {
     // Returns the least key and its value.
     fn first(&self) -> Option<(&Key, &V)>
         ensures there { IfSome result (λ e. finmap.get self.now e.0.now ≡ Some e.1.now) }
-        ensures least { IsNextAbove None (IsAbsent self.now) (option_map (λ e. e.0.now) result) }
+        ensures least { Skips None (IsAbsent self.now) (option_map (λ e. e.0.now) result) }
     {
         let mut all = self.map.range(..);
         match all.next() {
@@ -169,7 +169,7 @@ impl<V: Drop> KeyMap<V> {
     // Returns the least key above `low` and its value.
     fn above(&self, low: Key) -> Option<(&Key, &V)>
         ensures there { IfSome result (λ e. finmap.get self.now e.0.now ≡ Some e.1.now) }
-        ensures least { IsNextAbove (Some low) (IsAbsent self.now) (option_map (λ e. e.0.now) result) }
+        ensures least { Skips (Some low) (IsAbsent self.now) (option_map (λ e. e.0.now) result) }
     {
         let past = Bound::Excluded(OrderedKey::new(low));
         let mut rest = self.map.range((past, Bound::Unbounded));
@@ -182,7 +182,7 @@ impl<V: Drop> KeyMap<V> {
     /// Returns the least key above `after` and its value, or `None` if there is no such key. Every key is above `None`.
     pub fn next_key_value(&self, after: Option<Key>) -> Option<(&Key, &V)>
         ensures there { IfSome result (λ e. finmap.get self.now e.0.now ≡ Some e.1.now) }
-        ensures least { IsNextAbove after (IsAbsent self.now) (option_map (λ e. e.0.now) result) }
+        ensures least { Skips after (IsAbsent self.now) (option_map (λ e. e.0.now) result) }
         ensures fewer { IfSome result
             (λ e. count_above self.now (Some e.0.now) < count_above self.now after) }
     {
@@ -248,7 +248,7 @@ pub fn next_of_both<'a, V: Drop, W: Drop>(
     ensures second { IfSome result (λ e. option_copied e.second ≡ finmap.get second.entry.now e.key) }
     ensures present { IfSome result (λ e.
         (finmap.contains_key first.entry.now e.key || finmap.contains_key second.entry.now e.key) ≡ true) }
-    ensures least { IsNextAbove after (IsInNeither first.entry.now second.entry.now)
+    ensures least { Skips after (IsInNeither first.entry.now second.entry.now)
         (option_map (λ e. e.key) result) }
     ensures fewer { IfSome result (λ e.
         count_above first.entry.now (Some e.key) + count_above second.entry.now (Some e.key)

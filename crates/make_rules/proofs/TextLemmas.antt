@@ -4,7 +4,7 @@ use Rattle.std.specs.List.{flat_map}
 use Rattle.std.specs.Ordering.{nat_cmp}
 use Rattle.std.specs.Cmp.Lexicographic.{slice_cmp}
 use Rattle.std.specs.FinMap.{FinMap, get, contains_key}
-use Rattle.keymaps.specs.Order.{IsLeastAbove, IsNextAbove}
+use Rattle.keymaps.specs.Order.{IsLeastAbove, Skips}
 use Rattle.keymaps.specs.Walks.{IsAbsent}
 use Rattle.filenames.specs.Names.{Key}
 use Rattle.hostfiles.proofs.ChangedWalk.{keys_above, keys_above_least, keys_above_end}
@@ -39,5 +39,5 @@ module _ {X : Type 0} (m : FinMap (slice_cmp nat_cmp) X) (after : Option Key) wh
   pub keys_end : IsLeastAbove after (contains_key m) None → keys_above m after ≡ []
   keys_end n = keys_above_end m after (λ x a. absent (get m x) (n x a))
 
-  pub keys_least : (k : Key) (v : X) → get m k ≡ Some v → IsNextAbove after (IsAbsent m) (Some k) → keys_above m after ≡ k ∷ keys_above m (Some k)
+  pub keys_least : (k : Key) (v : X) → get m k ≡ Some v → Skips after (IsAbsent m) (Some k) → keys_above m after ≡ k ∷ keys_above m (Some k)
   keys_least k v there next = keys_above_least m after k (ap is_some there) next

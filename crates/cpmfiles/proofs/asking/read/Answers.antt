@@ -1,7 +1,7 @@
 use Rattle.std.proofs.Common.{rules, ap, ◌∙◌}
 use Rattle.std.proofs.lemmas.Result.{err_from_is_err_and}
 use Rattle.hostfiles.specs.FileView.{view_own}
-use Rattle.cpmfiles.proofs.LookLaws.{within_read}
+use Rattle.cpmfiles.proofs.LookLaws.{new_read, within_read}
 use Rattle.cpmfiles.proofs.asking.read.Goals as goal
 
 pub returns-in_err-length : goal.returns-in_err-length
@@ -12,5 +12,6 @@ returns-in_err-length c =
       looks = tt;
       extends = search rules;
       bound = within_read c.args.host.now c.args.changes.now.journal.entries c.args.key.now c.args.k _ _ (search rules);
+      refused = new_read c.args.host.now c.args.changes.now.journal.entries c.args.key.now c.args.k _ _ (search rules);
       stays = search rules;
     })
