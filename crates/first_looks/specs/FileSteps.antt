@@ -36,9 +36,9 @@ NotesStep old ask step new = (q : Ask) → step_of_ask new q ≡ or_else (step_o
 abbrev pub SameSteps : FileSteps → FileSteps → Type 0
 SameSteps old new = (q : Ask) → step_of_ask new q ≡ step_of_ask old q
 
--- A note for this question allocates: it has no step, and is not about a directory.
-abbrev pub NoteAllocates : FileSteps → Ask → Type 0
-NoteAllocates s (Has key) = get s.has key ≡ None
-NoteAllocates s (Length key) = get s.lengths key ≡ None
-NoteAllocates s (Rec key k) = step_of_record s.records key k ≡ None
-NoteAllocates s (Directory drive) = ⊥
+-- A note for this question may run out of memory: the question has no step, and is not about a directory.
+abbrev pub NoteMayFail : FileSteps → Ask → Type 0
+NoteMayFail s (Has key) = get s.has key ≡ None
+NoteMayFail s (Length key) = get s.lengths key ≡ None
+NoteMayFail s (Rec key k) = step_of_record s.records key k ≡ None
+NoteMayFail s (Directory drive) = ⊥

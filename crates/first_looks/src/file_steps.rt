@@ -2,7 +2,7 @@
 
 ghost use Rattle.std.specs.Prelude.{◌≡◌, ◌<◌, ◌≤◌, OnOk, OnErr, None};
 ghost use Rattle.hostfiles.specs.declared.looks.Ask.{Ask as HostAsk};
-ghost use Rattle.first_looks.specs.FileSteps.{ErasesSteps, NotesStep, SameSteps, NoteAllocates, step_below, step_of_ask};
+ghost use Rattle.first_looks.specs.FileSteps.{ErasesSteps, NotesStep, SameSteps, NoteMayFail, step_below, step_of_ask};
 
 use crate::record_steps::RecordSteps;
 use hostfiles::Ask;
@@ -61,7 +61,7 @@ impl FileSteps {
         ensures ok { OnOk result (NotesStep self.old ask.now step self.new) }
         ensures err { OnErr result (SameSteps self.old self.new) }
         ensures latest { self.new.records.latest ≤ step }
-        ensures refusal { OnErr result (NoteAllocates self.old ask.now) }
+        ensures refusal { OnErr result (NoteMayFail self.old ask.now) }
     {
         if self.get(ask).is_some() {
             return Ok(());
@@ -77,7 +77,7 @@ impl FileSteps {
         ensures ok { OnOk result (NotesStep self.old ask.now step self.new) }
         ensures err { OnErr result (SameSteps self.old self.new) }
         ensures latest { self.new.records.latest ≤ step }
-        ensures refusal { OnErr result (NoteAllocates self.old ask.now) }
+        ensures refusal { OnErr result (NoteMayFail self.old ask.now) }
     {
         match *ask {
             Ask::Has(key) => self.has.insert(key, step),

@@ -1,4 +1,4 @@
-ghost use Rattle.std.specs.Prelude.{◌≡◌, ◌+◌, ◌^◌, ◌<◌, ◌≤◌, [], None, OnOk, OnErr, length, true};
+ghost use Rattle.std.specs.Prelude.{◌≡◌, ◌+◌, ◌^◌, ◌<◌, ◌≤◌, ◌⊎◌, [], None, OnOk, OnErr, IsErr, length, true, false};
 ghost use Rattle.hostfiles.specs.declared.looks.Ask.{Ask as HostAsk};
 ghost use Rattle.first_looks.specs.FileSteps.{step_of_ask};
 ghost use Rattle.first_looks.specs.FirstLooks.{ErasesLooks, NotesLooks, SameLooks, step_of, with_seen};
@@ -37,6 +37,7 @@ impl Model for FirstLooks {
       offsets = t.offsets.entries;
       files = t.files;
       seen = t.seen;
+      is_shut = t.is_shut;
     } };
 
     ghost invariant = { λ t. (t.cells.latest ≤ t.seen) × (t.offsets.latest ≤ t.seen)
@@ -49,6 +50,7 @@ impl FirstLooks {
         ensures cells { result.cells ≡ [] }
         ensures offsets { result.offsets ≡ [] }
         ensures seen { result.seen ≡ 0 }
+        ensures is_shut { result.is_shut ≡ false }
         ensures files { (a : HostAsk) → step_of_ask result.files a ≡ None }
     {
         FirstLooks {
@@ -62,7 +64,7 @@ impl FirstLooks {
 
     /// Stops noting: from now on each note fails as if out of memory. Steps noted earlier are kept.
     pub fn stop_noting(&mut self)
-        ensures { self.new ≡ self.old }
+        ensures { self.new ≡ record self.old { is_shut = true } }
     {
         self.is_shut = true;
     }
@@ -127,12 +129,16 @@ impl FirstLooks {
     ///
     /// # Errors
     ///
-    /// `Err` means out of memory; every question keeps its step.
+    /// `Err` means out of memory, or that noting was stopped; every question keeps its step. A question that has a step is an
+    /// `Err` only if noting was stopped.
     pub fn note(&mut self, question: &Question) -> Result<(), AllocError>
         requires { self.old.seen < 4294967295 }
         ensures ok { OnOk result (NotesLooks self.old self.new (λ q. same_question q question.now)) }
         ensures err { OnErr result (SameLooks self.old self.new) }
+        ensures shut { self.old.is_shut ≡ true → IsErr result }
+        ensures refused { OnErr result ((self.old.is_shut ≡ true) ⊎ (step_of self.old question.now ≡ None)) }
         ensures seen { self.new.seen ≡ self.old.seen }
+        ensures is_shut { self.new.is_shut ≡ self.old.is_shut }
     {
         if self.is_shut {
             return Err(AllocError);
@@ -162,10 +168,12 @@ impl FirstLooks {
         self.seen = step;
     }
 
-    /// Erases every step from `from` on, which becomes the step `seen`. Allocates nothing and visits no other look.
+    /// Erases every step that is `from` or later, and sets `seen` to `from`. Allocates nothing.
     pub fn erase_from(&mut self, from: u64)
+        requires { from ≤ self.old.seen }
         ensures steps { ErasesLooks from self.old self.new }
         ensures seen { self.new.seen ≡ from }
+        ensures is_shut { self.new.is_shut ≡ self.old.is_shut }
     {
         self.cells.erase_from(from);
         self.offsets.erase_from(from);

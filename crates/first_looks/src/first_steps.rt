@@ -72,7 +72,7 @@ impl FirstSteps {
     ///
     /// # Errors
     ///
-    /// `Err` means out of memory; every index keeps its step.
+    /// `Err` means out of memory; every index keeps its step. An index that has a step is never an `Err`.
     #[tactic(auto, using(crate::proofs::EntryLemmas::entry_at))]
     pub fn note(&mut self, index: usize, step: u64) -> Result<(), AllocError>
         requires held { step < 4294967295 }
@@ -80,6 +80,7 @@ impl FirstSteps {
         ensures ok { OnOk result ((k : ℕ) → step_in self.new.entries k
             ≡ or_else (step_in self.old.entries k) (step_if (k == index) step)) }
         ensures err { OnErr result ((k : ℕ) → step_in self.new.entries k ≡ step_in self.old.entries k) }
+        ensures refused { OnErr result (step_in self.old.entries index ≡ None) }
         ensures latest { self.new.latest ≤ step }
     {
         enter(&mut self.steps, &mut self.looks, index, step as u32)
@@ -96,7 +97,7 @@ impl FirstSteps {
     }
 }
 
-// Notes a step at an index that has none.
+// Notes a step at an index, unless the index has one.
 fn enter(
     steps: &mut Vec<u32>,
     looks: &mut Vec<Look>,
@@ -109,6 +110,7 @@ fn enter(
     ensures ok { OnOk result ((k : ℕ) → step_at steps.new.items k
         ≡ or_else (step_at steps.old.items k) (step_if (k == index) step)) }
     ensures err { OnErr result ((k : ℕ) → step_at steps.new.items k ≡ step_at steps.old.items k) }
+    ensures refused { OnErr result (step_at steps.old.items index ≡ None) }
     ensures latest { latest_of looks.new.items ≤ step }
     ensures order { IsInOrder steps.new.items looks.new.items }
 {
@@ -123,6 +125,7 @@ fn enter(
 // Makes room for the step of an index, and changes no step.
 fn grow_past(steps: &mut Vec<u32>, index: usize) -> Result<(), AllocError>
     ensures room { OnOk result (index < vec_len steps.new) }
+    ensures refused { OnErr result (step_at steps.old.items index ≡ None) }
     ensures same { (k : ℕ) → step_at steps.new.items k ≡ step_at steps.old.items k }
 {
     while steps.len() <= index {

@@ -1,7 +1,7 @@
 // The first steps of the records of files.
 
 ghost use Rattle.std.specs.Prelude.{◌≡◌, ◌≤◌, ◌<◌, [], Some, None, IfSome, OnOk, OnErr, option_copied, option_map};
-ghost use Rattle.keymaps.specs.Order.{IsNextAbove};
+ghost use Rattle.keymaps.specs.Order.{Skips};
 ghost use Rattle.first_looks.specs.RecordSteps.{ErasesRecords, NotesRecord, SameRecordSteps, step_of_record, steps_of};
 
 use crate::sequential_steps::SequentialSteps;
@@ -66,7 +66,7 @@ impl RecordSteps {
     /// Returns the least key with steps above `after`, and its steps, or `None` if there is none. Every key is above `None`.
     pub fn next_file(&self, after: Option<Key>) -> Option<(&Key, &SequentialSteps)>
         ensures there { IfSome result (λ e. steps_of self.now.files e.0.now ≡ Some e.1.now) }
-        ensures least { IsNextAbove after (λ x. steps_of self.now.files x ≡ None)
+        ensures least { Skips after (λ x. steps_of self.now.files x ≡ None)
             (option_map (λ e. e.0.now) result) }
     {
         let start = match after {
@@ -83,12 +83,13 @@ impl RecordSteps {
     ///
     /// # Errors
     ///
-    /// `Err` means out of memory; every record keeps its step.
+    /// `Err` means out of memory; every record keeps its step. A record that has a step is never an `Err`.
     pub fn note(&mut self, key: &Key, number: u32, step: u64) -> Result<(), AllocError>
         requires held { step < 4294967295 }
         requires latest { self.old.latest ≤ step }
         ensures ok { OnOk result (NotesRecord self.old key.now number step self.new) }
         ensures err { OnErr result (SameRecordSteps self.old self.new) }
+        ensures refused { OnErr result (step_of_record self.old key.now number ≡ None) }
         ensures latest { self.new.latest ≤ step }
     {
         self.latest = step;

@@ -1,4 +1,4 @@
-ghost use Rattle.std.specs.Prelude.{◌≡◌, ◌<◌, ◌≤◌, ◌==◌, [], ℕ, OnOk, OnErr, length, slice_index, true};
+ghost use Rattle.std.specs.Prelude.{◌≡◌, ◌<◌, ◌≤◌, ◌==◌, [], ℕ, None, OnOk, OnErr, length, slice_index, true};
 ghost use Rattle.std.specs.List.Sorted.{IsNonDecreasing};
 ghost use Rattle.first_looks.specs.Noting.{step_below, or_else, step_if};
 ghost use Rattle.first_looks.specs.FirstSteps.{step_in};
@@ -73,13 +73,14 @@ impl SequentialSteps {
     ///
     /// # Errors
     ///
-    /// `Err` means out of memory; every index keeps its step.
+    /// `Err` means out of memory; every index keeps its step. An index that has a step is never an `Err`.
     pub fn note(&mut self, index: usize, step: u64) -> Result<(), AllocError>
         requires held { step < 4294967295 }
         requires latest { self.old.latest ≤ step }
         ensures ok { OnOk result ((k : ℕ) → step_in self.new.entries k
             ≡ or_else (step_in self.old.entries k) (step_if (k == index) step)) }
         ensures err { OnErr result ((k : ℕ) → step_in self.new.entries k ≡ step_in self.old.entries k) }
+        ensures refused { OnErr result (step_in self.old.entries index ≡ None) }
         ensures latest { self.new.latest ≤ step }
     {
         let next = self.in_turn.len();
