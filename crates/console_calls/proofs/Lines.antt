@@ -17,7 +17,7 @@ use Rattle.console_calls.specs.ScriptLooks.{is_ahead}
 use Rattle.console_calls.specs.StateQuestions.{StateAnswers, StateTree, bind_tree, answers, script_offsets}
 use Rattle.console_calls.specs.Line.{Line, no_line, line_tree}
 use Rattle.console_calls.specs.Line as line
-use Rattle.console_calls.specs.Types.{Types, end_from, look_count_of}
+use Rattle.console_calls.specs.LineAgrees.{IsLineOf, end_from, look_count_of}
 use Rattle.console_calls.specs.ConsoleCalls.{CallEnd, at_caller, line_input, line_end_call, line_cells}
 use Rattle.console_calls.specs.PerformsCall.{Scene, PerformsCall, path_by}
 use Rattle.console_calls.proofs.Carried.{along, stops, after_read, after_offsets, fails_after_offsets}
@@ -26,7 +26,7 @@ use Rattle.console_calls.proofs.Typing.{no_cells}
 use Rattle.console_calls.proofs.Trees.{path_after, path-followed_by}
 
 module _ {script : List ℕ} (old new : Scene) {m1 : Memory} {at capacity n cursor : ℕ} {taken e : LineEnd} (de : at ≡ word old.regs.e old.regs.d) (first : Reads (Cell at Done) old.memory capacity m1)
-    (here : cursor ≡ old.desk.spot.cursor) (types : Types script capacity cursor taken (bytes m1) n) (went : taken ≡ e) where
+    (here : cursor ≡ old.desk.spot.cursor) (types : IsLineOf script capacity cursor taken (bytes m1) n) (went : taken ≡ e) where
   abbrev f : StateAnswers
   f = answers (bytes m1) script
 
@@ -36,8 +36,8 @@ module _ {script : List ℕ} (old new : Scene) {m1 : Memory} {at capacity n curs
   abbrev next : line.LineEnd → StateTree CallEnd
   next = line_end_call old.regs old.desk.spot
 
-  typed : Types script capacity old.desk.spot.cursor e (bytes m1) n
-  typed = subst (λ x. Types script capacity old.desk.spot.cursor x (bytes m1) n) went (subst (λ k. Types script capacity k taken (bytes m1) n) here types)
+  typed : IsLineOf script capacity old.desk.spot.cursor e (bytes m1) n
+  typed = subst (λ x. IsLineOf script capacity old.desk.spot.cursor x (bytes m1) n) went (subst (λ k. IsLineOf script capacity k taken (bytes m1) n) here types)
 
   -- The capacity was read, and the line is asked for.
   after_capacity : {result : Result Served AllocError} → PerformsCall (path_after [] (script_offsets (questions_of f tree)) (path_by f (next (end_from old.desk.spot.cursor e)))) (record old { memory = m1 }) result new
@@ -57,7 +57,7 @@ module _ {script : List ℕ} (old new : Scene) {m1 : Memory} {at capacity n curs
   line_fails w = after_capacity (fails_after_offsets (script_offsets (questions_of f tree)) w)
 
 module _ {script : List ℕ} (old new : Scene) {m1 : Memory} {at capacity n cursor : ℕ} {taken : LineEnd} (de : at ≡ word old.regs.e old.regs.d) (first : Reads (Cell at Done) old.memory capacity m1)
-    (here : cursor ≡ old.desk.spot.cursor) (types : Types script capacity cursor taken (bytes m1) n) (looks : ℕ) (looked : (j : ℕ) → new.looked j ≡ (old.looked j || is_ahead old.desk.spot.cursor looks j)) where
+    (here : cursor ≡ old.desk.spot.cursor) (types : IsLineOf script capacity cursor taken (bytes m1) n) (looks : ℕ) (looked : (j : ℕ) → new.looked j ≡ (old.looked j || is_ahead old.desk.spot.cursor looks j)) where
   pub line_boots : taken ≡ code.Booted looks → new.regs ≡ old.regs → new.memory ≡ m1 → new.desk ≡ old.desk
       → PerformsCall (path_by (answers (bytes old.memory) script) (line_input n old.regs old.desk.spot)) old (Ok (served.Stop WarmBoot)) new
   line_boots went regs memory desk = after_line old new de first here types went (stops WarmBoot regs memory desk looked)

@@ -9,7 +9,7 @@ use Rattle.console_calls.specs.declared.line.LineEnd.TheVariants as code
 use Rattle.console_calls.specs.ScriptLooks.{is_ahead}
 use Rattle.console_calls.specs.StateQuestions.{Input, answers, addresses, script_offsets}
 use Rattle.console_calls.specs.Line.{Line, LineStep, Goes, Ends, Boots, LineEnd, Ended, Booted, Short, no_line, line_tree, line_after_answer, line_after_step, type_byte}
-use Rattle.console_calls.specs.Types.{Types}
+use Rattle.console_calls.specs.LineAgrees.{IsLineOf}
 
 below : (n m : ℕ) → n < m → nat_lt n m ≡ true
 below n m h = grind (arith, nat_tests)
@@ -128,7 +128,7 @@ module _ {script : List ℕ} {m k i : ℕ} {l : Line} (t : IsTyped script m k i 
   one_offset j = sym (or_assoc (is_ahead k i j) (j == k + i) false) ∙ or-false (is_ahead k i j || j == k + i) ∙ ahead_next k i j
 
   -- The line is full.
-  pub full_types : m ≤ length l.stored → Types script m k (code.Ended l i) byte n
+  pub full_types : m ≤ length l.stored → IsLineOf script m k (code.Ended l i) byte n
   full_types h = record {
     ends = ends_as (Ended l (k + i)) (full_result byte script (n - i) m (k + i) l h);
     offsets = λ j. asks_as [] (full_offsets byte script (n - i) m (k + i) l h) j ∙ or-false (is_ahead k i j);
@@ -136,7 +136,7 @@ module _ {script : List ℕ} {m k i : ℕ} {l : Line} (t : IsTyped script m k i 
 
   -- A byte ends it.
   module _ (room : length l.stored < m) (b : ℕ) (is : slice_get script (k + i) ≡ Some b) where
-    pub ends_types : (l' : Line) → Ends l' ≡ type_byte l b → Types script m k (code.Ended l' (i + 1)) byte n
+    pub ends_types : (l' : Line) → Ends l' ≡ type_byte l b → IsLineOf script m k (code.Ended l' (i + 1)) byte n
     ends_types l' e = record {
       ends = ends_as (Ended l' (k + (i + 1)))
           (asks_result byte script (n - i) m (k + i) l room
@@ -150,7 +150,7 @@ module _ {script : List ℕ} {m k i : ℕ} {l : Line} (t : IsTyped script m k i 
           ∙ one_offset j;
     }
 
-    pub boots_types : Boots ≡ type_byte l b → Types script m k (code.Booted (i + 1)) byte n
+    pub boots_types : Boots ≡ type_byte l b → IsLineOf script m k (code.Booted (i + 1)) byte n
     boots_types e = record {
       ends = ends_as Booted
           (asks_result byte script (n - i) m (k + i) l room
@@ -164,7 +164,7 @@ module _ {script : List ℕ} {m k i : ℕ} {l : Line} (t : IsTyped script m k i 
     }
 
   -- The script ends first.
-  pub short_types : length l.stored < m → slice_get script (k + i) ≡ None → Types script m k (code.Short (i + 1)) byte n
+  pub short_types : length l.stored < m → slice_get script (k + i) ≡ None → IsLineOf script m k (code.Short (i + 1)) byte n
   short_types room is = record {
     ends = ends_as Short
         (asks_result byte script (n - i) m (k + i) l room

@@ -1,4 +1,4 @@
--- The BDOS calls: what each asks of the state, and what it then does.
+-- The BDOS calls that name no file: what each asks of the state, and what it then does.
 -- ([Interface Guide 1979, functions 0 to 2, 6 to 14 and 24 to 26]; what stops a call, and in which order it asks: this
 -- project's profile.)
 use Rattle.std.specs.Prelude.{ℕ, ◌==◌, ◌+◌, is_some, if◌then◌else◌, List, [], ◌∷◌, Option, Some, None, suc, length, reverse}
@@ -41,8 +41,8 @@ at_caller value to r = record r { a = low value; b = high value; h = high value;
 abbrev pub completion : ℕ → Regs → Spot → List ℕ → CallWrites → StateTree CallEnd
 completion value r spot bytes written = bind_reading (word_at r.sp Done) (λ to. Return (Completed (at_caller value to r) spot bytes written))
 
--- Function 1 takes the script byte at the cursor, echoes it, and returns it; at the end of the script it stops.
--- [Interface Guide 1979, function 1]
+-- Function 1 takes the script byte at the cursor, echoes it if it is graphic or one of CR, LF, tab and backspace, and returns it;
+-- at the end of the script it stops. [Interface Guide 1979, function 1]
 abbrev pub input_call : Regs → Spot → Option ℕ → StateTree CallEnd
 input_call r spot None = Return (Stopped ConsoleExhausted)
 input_call r spot (Some byte) = let s = echoed_byte spot.column byte in completion byte r (record spot { cursor = spot.cursor + 1; column = s.column }) s.bytes no_writes

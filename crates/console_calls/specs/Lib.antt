@@ -4,7 +4,7 @@ pub mod ScriptLooks
 pub mod StateQuestions
 pub mod Strings
 pub mod Line
-pub mod Types
+pub mod LineAgrees
 pub mod Printing
 pub mod ConsoleCalls
 pub mod PerformsCall

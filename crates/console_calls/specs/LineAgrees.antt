@@ -30,13 +30,13 @@ look_count_of (code.Booted n) = n
 look_count_of (code.Short n) = n
 
 -- The line from offset `k` on, over a script of at most n bytes.
-pub record Types (script : List ℕ) (capacity k : ℕ) (e : LineEnd) (byte : ℕ → ℕ) (n : ℕ) : Type 0 where
+pub record IsLineOf (script : List ℕ) (capacity k : ℕ) (e : LineEnd) (byte : ℕ → ℕ) (n : ℕ) : Type 0 where
   pub ends : result_of (answers byte script) (line_tree (suc n) capacity k no_line) ≡ end_from k e
   pub offsets : (j : ℕ) → is_among j (script_offsets (questions_of (answers byte script) (line_tree (suc n) capacity k no_line))) ≡ is_ahead k (look_count_of e) j
 
 -- The line from offset `k` on, with any memory, over any script of at most n bytes.
 abbrev pub TakesLine : List ℕ → ℕ → ℕ → LineEnd → Type 0
-TakesLine script capacity k e = (byte : ℕ → ℕ) (n : ℕ) → length script ≤ n → Types script capacity k e byte n
+TakesLine script capacity k e = (byte : ℕ → ℕ) (n : ℕ) → length script ≤ n → IsLineOf script capacity k e byte n
 
 -- A line that ended has at most `capacity` bytes, and the offset after it is in range.
 abbrev pub FitsIn : ℕ → ℕ → LineEnd → Type 0

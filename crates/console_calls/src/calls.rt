@@ -31,7 +31,8 @@ const VERSION: u16 = 0x0022;
 ///
 /// # Errors
 ///
-/// `Err` means out of memory. A call that neither writes memory nor sends bytes is never an `Err`.
+/// `Err` means out of memory. Only functions 2, 8, 9 and 10 can run out of memory, function 1 if it echoes its byte, and
+/// function 6 if it sends one. With more memory, functions 9 and 10 might still have stopped.
 #[tactic(auto, unfolding(crate::specs::ConsoleCalls::console_call))]
 pub fn console_call<B: Bus>(
     regs: &mut Regs,
@@ -64,7 +65,8 @@ pub fn console_call<B: Bus>(
     }
 }
 
-// Executes function 1, which takes a byte of the script, echoes it and returns it.
+// Executes function 1, which takes a byte of the script, echoes it if it is graphic or one of CR, LF, tab and backspace,
+// and returns it.
 #[tactic(auto, using(crate::proofs::Looking::until_it_failed))]
 fn console_input<B: Bus>(
     regs: &mut Regs,

@@ -1,6 +1,6 @@
 ghost use Rattle.std.specs.Prelude.{◌≡◌, ◌≤◌, ◌<◌, ◌+◌, length, reverse, ◌++◌, IfOk, OnOk};
 ghost use Rattle.console_calls.specs.Line.{no_line, echo_of, line_with_byte, line_after_backspace, line_after_rubout, type_byte};
-ghost use Rattle.console_calls.specs.Types.{line_step_of, look_count_of, FitsIn, TakesLine};
+ghost use Rattle.console_calls.specs.LineAgrees.{line_step_of, look_count_of, FitsIn, TakesLine};
 
 use std::alloc::{AllocError, Global};
 use std::marker::Model;

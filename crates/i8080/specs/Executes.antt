@@ -1,5 +1,5 @@
 -- The results and effects of functions that execute an instruction, by its opcode or by its byte. (This project's own.)
-use Rattle.std.specs.Prelude.{ℕ}
+use Rattle.std.specs.Prelude.{ℕ, Bool}
 use Rattle.std.specs.declared.result.Result.{Result}
 use Rattle.std.specs.declared.alloc.AllocError.{AllocError}
 use Rattle.i8080.specs.declared.registers.Regs.{Regs}
@@ -11,9 +11,9 @@ use Rattle.i8080.specs.Opcodes.{decoded}
 use Rattle.i8080.specs.Instruction.{operation, decided}
 
 -- The result and the effects of executing an instruction.
-abbrev pub Executes : Op → Regs → memory.Memory → Result Did AllocError → Regs → memory.Memory → Type 0
-Executes op r m result r' m' = Performs (operation op r) r m result r' m'
+abbrev pub Executes : Op → Regs → memory.Memory → (ℕ → Bool) → Result Did AllocError → Regs → memory.Memory → Type 0
+Executes op r m ready result r' m' = Performs (operation op r) r m ready result r' m'
 
 -- The result and the effects of executing the instruction whose first byte was read.
-abbrev pub ExecutesByte : ℕ → Regs → memory.Memory → Result Did AllocError → Regs → memory.Memory → Type 0
-ExecutesByte byte r m result r' m' = Performs (decided byte (decoded byte) r) r m result r' m'
+abbrev pub ExecutesByte : ℕ → Regs → memory.Memory → (ℕ → Bool) → Result Did AllocError → Regs → memory.Memory → Type 0
+ExecutesByte byte r m ready result r' m' = Performs (decided byte (decoded byte) r) r m ready result r' m'

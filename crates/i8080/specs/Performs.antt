@@ -1,11 +1,11 @@
 -- The results and effects of functions that execute an instruction or a part of one. (This project's own.)
-use Rattle.std.specs.Prelude.{ℕ, ◌≡◌, List, [], ◌∷◌, IfOk, OnOk, OnErr}
+use Rattle.std.specs.Prelude.{ℕ, ◌≡◌, Bool, true, false, List, [], map, IfOk, OnOk, OnErr, IsTrue}
 use Rattle.std.specs.declared.result.Result.{Result}
 use Rattle.std.specs.declared.alloc.AllocError.{AllocError}
 use Rattle.i8080.specs.declared.registers.Regs.{Regs}
 use Rattle.i8080.specs.declared.outcome.Did.{Did}
 use Rattle.i8080.specs.declared.outcome.Did.TheVariants as did
-use Rattle.i8080.specs.Memory.{Own, Memory, Looks, bytes, look_all, write_all}
+use Rattle.i8080.specs.Memory.{Own, Memory, Looks, bytes, is_among, look_all, write_all}
 use Rattle.i8080.specs.Reading.{Reading, end_of, asked}
 use Rattle.i8080.specs.End.{End, Went, Halt, Undefined}
 
@@ -28,20 +28,24 @@ own_after (Went r writes) own = write_all own writes
 own_after Halt own = own
 own_after (Undefined byte) own = own
 
--- The instruction ends with at least one write.
-abbrev pub IsWriting : End → Type 0
-IsWriting (Went r []) = ⊥
-IsWriting (Went r (w ∷ rest)) = Unit {0}
-IsWriting Halt = ⊥
-IsWriting (Undefined byte) = ⊥
+abbrev pub writes_of : End → List (ℕ × ℕ)
+writes_of (Went r writes) = writes
+writes_of Halt = []
+writes_of (Undefined byte) = []
 
--- The result and the effects of a call that executes a tree of reads and its end. An allocation fails only if the end writes,
--- and only after all the reads.
-pub record Performs (t : Reading End) (r : Regs) (m : Memory) (result : Result Did AllocError) (r' : Regs) (m' : Memory) : Type 0 where
+-- A cell that these writes change is not ready.
+pub record WritesUnready (ready : ℕ → Bool) (writes : List (ℕ × ℕ)) : Type 0 where
+  pub cell : ℕ
+  pub written : is_among cell (map (λ w. w.0) writes) ≡ true
+  pub unready : ready cell ≡ false
+
+-- The result and the effects of a call that executes a tree of reads and its end. An allocation fails only if the end writes a
+-- cell that was not ready, and only after all the reads.
+pub record Performs (t : Reading End) (r : Regs) (m : Memory) (ready : ℕ → Bool) (result : Result Did AllocError) (r' : Regs) (m' : Memory) : Type 0 where
   pub did : IfOk result (λ did. did ≡ did_of (end_of t (bytes m)))
   pub regs : OnOk result (r' ≡ regs_after (end_of t (bytes m)) r)
   pub own : OnOk result (m'.own ≡ own_after (end_of t (bytes m)) m.own)
-  pub err_writes : OnErr result (IsWriting (end_of t (bytes m)))
+  pub err_unready : OnErr result (WritesUnready ready (writes_of (end_of t (bytes m))))
   pub err_regs : OnErr result (r' ≡ r)
   pub err_own : OnErr result (m'.own ≡ m.own)
   pub looks : m'.looks ≡ looks_after t m
@@ -55,6 +59,10 @@ pub record Reads {E : Type 0} (t : Reading E) (m : Memory) (result : E) (m' : Me
   pub own : m'.own ≡ m.own
   pub beneath : m'.beneath ≡ m.beneath
   pub lender : m'.lender ≡ m.lender
+
+-- Each cell that was ready is still ready.
+pub record KeepsReady (old new : ℕ → Bool) : Type 0 where
+  pub kept : (q : ℕ) → IsTrue (old q) → IsTrue (new q)
 
 -- The result and the effects of a call that only writes.
 pub record Writes (writes : List (ℕ × ℕ)) (m : Memory) (result : Result (Unit {0}) AllocError) (m' : Memory) : Type 0 where

@@ -1,10 +1,10 @@
-ghost use Rattle.std.specs.Prelude.{◌≡◌, ◌<◌, ℕ, Bool, true, IsTrue, OnOk, OnErr, IfSome, length, slice_index};
+ghost use Rattle.std.specs.Prelude.{◌≡◌, ◌<◌, ℕ, Bool, true, false, IsTrue, OnOk, OnErr, IfSome, length, slice_index};
 ghost use Rattle.i8080.specs.Memory.{Memory, bytes, look, write, write_all};
 ghost use Rattle.i8080.specs.Reading.{Cell, Done};
 ghost use Rattle.i8080.specs.Registers.{onward, word};
 ghost use Rattle.i8080.specs.Instruction.{word_at};
 ghost use Rattle.i8080.specs.End.{cells_from};
-ghost use Rattle.i8080.specs.Performs.{Reads};
+ghost use Rattle.i8080.specs.Performs.{KeepsReady, Reads};
 
 use crate::registers::word_of;
 use std::alloc::AllocError;
@@ -21,10 +21,11 @@ pub trait Bus {
     ///
     /// # Errors
     ///
-    /// An allocation failed. The same cells are ready as before.
+    /// An allocation failed, which is only possible if the cell was not ready. The same cells are ready as before.
     fn ready(&mut self, a: u16) -> Result<(), AllocError>
         ensures ready { OnOk result (IsTrue (is_ready self.new a)) }
         ensures err { OnErr result (is_ready self.new ≡ is_ready self.old) }
+        ensures refused { OnErr result (is_ready self.old a ≡ false) }
         ensures kept { (q : ℕ) → IsTrue (is_ready self.old q) → IsTrue (is_ready self.new q) }
         ensures memory { memory self.new ≡ memory self.old };
 
@@ -50,9 +51,12 @@ pub trait Bus {
     ///
     /// # Errors
     ///
-    /// An allocation failed. Cells that were ready stay ready, and some of the others may be ready too.
+    /// An allocation failed, which is only possible if one of the cells was not ready. Cells that were ready stay ready, and some
+    /// of the others may be ready too.
+    #[tactic(auto, using(crate::proofs::ReadyLemmas::unready_before))]
     fn ready_cells(&mut self, at: u16, count: u16) -> Result<(), AllocError>
         ensures ready { OnOk result ((i : ℕ) → i < count → IsTrue (is_ready self.new (onward at i))) }
+        ensures refused { OnErr result ((i : ℕ) × (i < count) × (is_ready self.old (onward at i) ≡ false)) }
         ensures kept { (q : ℕ) → IsTrue (is_ready self.old q) → IsTrue (is_ready self.new q) }
         ensures memory { memory self.new ≡ memory self.old }
     {
@@ -109,16 +113,19 @@ pub trait Bus {
 /// Reads the byte of a cell.
 #[inline(always)]
 pub fn fetch<B: Bus>(bus: &mut B, a: u16) -> u8
-    ensures { Reads (Cell a Done) (B.memory bus.old) result (B.memory bus.new) }
+    ensures reads { Reads (Cell a Done) (B.memory bus.old) result (B.memory bus.new) }
+    ensures kept { KeepsReady (B.is_ready bus.old) (B.is_ready bus.new) }
 {
     bus.read(a)
 }
 
 /// Reads the word at an address, with its low byte in the addressed cell and its high byte in the next one. The cell after
 /// 0FFFFH is 0000H.
+#[tactic(auto, using(crate::proofs::ReadyLemmas::readiness))]
 #[inline(always)]
 pub fn fetch_word<B: Bus>(bus: &mut B, a: u16) -> u16
-    ensures { Reads (word_at a Done) (B.memory bus.old) result (B.memory bus.new) }
+    ensures reads { Reads (word_at a Done) (B.memory bus.old) result (B.memory bus.new) }
+    ensures kept { KeepsReady (B.is_ready bus.old) (B.is_ready bus.new) }
 {
     let low = fetch(bus, a);
     let high = fetch(bus, a.wrapping_add(1));
@@ -126,9 +133,11 @@ pub fn fetch_word<B: Bus>(bus: &mut B, a: u16) -> u16
 }
 
 /// Reads an operand word, as `fetch_word` does. Tries `known_word` first, which is faster and returns most operands.
+#[tactic(auto, using(crate::proofs::ReadyLemmas::readiness))]
 #[inline(always)]
 pub fn fetch_operand<B: Bus>(bus: &mut B, a: u16) -> u16
-    ensures { Reads (word_at a Done) (B.memory bus.old) result (B.memory bus.new) }
+    ensures reads { Reads (word_at a Done) (B.memory bus.old) result (B.memory bus.new) }
+    ensures kept { KeepsReady (B.is_ready bus.old) (B.is_ready bus.new) }
 {
     match bus.known_word(a) {
         Some(word) => word,
@@ -139,7 +148,8 @@ pub fn fetch_operand<B: Bus>(bus: &mut B, a: u16) -> u16
 // Reads a word cell by cell. Out of line, because `known_word` returns most operands.
 #[inline(never)]
 fn fetch_word_apart<B: Bus>(bus: &mut B, a: u16) -> u16
-    ensures { Reads (word_at a Done) (B.memory bus.old) result (B.memory bus.new) }
+    ensures reads { Reads (word_at a Done) (B.memory bus.old) result (B.memory bus.new) }
+    ensures kept { KeepsReady (B.is_ready bus.old) (B.is_ready bus.new) }
 {
     fetch_word(bus, a)
 }

@@ -21,11 +21,12 @@ use std::alloc::AllocError;
 ///
 /// # Errors
 ///
-/// An allocation failed, which is only possible if the instruction writes.
-#[tactic(auto, unfolding(crate::specs::Instruction::instruction))]
+/// An allocation failed, which is only possible if the instruction writes a cell that was not ready.
+#[tactic(auto, using(crate::proofs::ReadyLemmas::readiness), unfolding(crate::specs::Instruction::instruction))]
 #[inline(always)]
 pub fn execute<B: Bus>(regs: &mut Regs, bus: &mut B) -> Result<Did, AllocError>
-    ensures { Performs (instruction regs.old) regs.old (B.memory bus.old) result regs.new (B.memory bus.new) }
+    ensures { Performs (instruction regs.old) regs.old (B.memory bus.old) (B.is_ready bus.old)
+        result regs.new (B.memory bus.new) }
 {
     let byte = fetch(bus, regs.pc);
     // Comparisons select the part, and a jump table in the part selects the instruction.
@@ -59,7 +60,8 @@ pub fn execute<B: Bus>(regs: &mut Regs, bus: &mut B) -> Result<Did, AllocError>
 #[inline(always)]
 fn part_0<B: Bus>(regs: &mut Regs, bus: &mut B, byte: u8) -> Result<Did, AllocError>
     requires { byte / 32 ≡ 0 }
-    ensures { ExecutesByte byte regs.old (B.memory bus.old) result regs.new (B.memory bus.new) }
+    ensures { ExecutesByte byte regs.old (B.memory bus.old) (B.is_ready bus.old)
+        result regs.new (B.memory bus.new) }
 {
     match byte {
         0x00 => nop(regs, bus),
@@ -102,7 +104,8 @@ fn part_0<B: Bus>(regs: &mut Regs, bus: &mut B, byte: u8) -> Result<Did, AllocEr
 #[inline(always)]
 fn part_1<B: Bus>(regs: &mut Regs, bus: &mut B, byte: u8) -> Result<Did, AllocError>
     requires { byte / 32 ≡ 1 }
-    ensures { ExecutesByte byte regs.old (B.memory bus.old) result regs.new (B.memory bus.new) }
+    ensures { ExecutesByte byte regs.old (B.memory bus.old) (B.is_ready bus.old)
+        result regs.new (B.memory bus.new) }
 {
     match byte {
         0x20 => Ok(Did::Undefined(0x20)),
@@ -145,7 +148,8 @@ fn part_1<B: Bus>(regs: &mut Regs, bus: &mut B, byte: u8) -> Result<Did, AllocEr
 #[inline(always)]
 fn part_2<B: Bus>(regs: &mut Regs, bus: &mut B, byte: u8) -> Result<Did, AllocError>
     requires { byte / 32 ≡ 2 }
-    ensures { ExecutesByte byte regs.old (B.memory bus.old) result regs.new (B.memory bus.new) }
+    ensures { ExecutesByte byte regs.old (B.memory bus.old) (B.is_ready bus.old)
+        result regs.new (B.memory bus.new) }
 {
     match byte {
         0x40 => mov(regs, bus, Register::B, Place::InRegister(Register::B)),
@@ -188,7 +192,8 @@ fn part_2<B: Bus>(regs: &mut Regs, bus: &mut B, byte: u8) -> Result<Did, AllocEr
 #[inline(always)]
 fn part_3<B: Bus>(regs: &mut Regs, bus: &mut B, byte: u8) -> Result<Did, AllocError>
     requires { byte / 32 ≡ 3 }
-    ensures { ExecutesByte byte regs.old (B.memory bus.old) result regs.new (B.memory bus.new) }
+    ensures { ExecutesByte byte regs.old (B.memory bus.old) (B.is_ready bus.old)
+        result regs.new (B.memory bus.new) }
 {
     match byte {
         0x60 => mov(regs, bus, Register::H, Place::InRegister(Register::B)),
@@ -231,7 +236,8 @@ fn part_3<B: Bus>(regs: &mut Regs, bus: &mut B, byte: u8) -> Result<Did, AllocEr
 #[inline(always)]
 fn part_4<B: Bus>(regs: &mut Regs, bus: &mut B, byte: u8) -> Result<Did, AllocError>
     requires { byte / 32 ≡ 4 }
-    ensures { ExecutesByte byte regs.old (B.memory bus.old) result regs.new (B.memory bus.new) }
+    ensures { ExecutesByte byte regs.old (B.memory bus.old) (B.is_ready bus.old)
+        result regs.new (B.memory bus.new) }
 {
     match byte {
         0x80 => accumulate(regs, bus, Arithmetic::Add, Place::InRegister(Register::B)),
@@ -274,7 +280,8 @@ fn part_4<B: Bus>(regs: &mut Regs, bus: &mut B, byte: u8) -> Result<Did, AllocEr
 #[inline(always)]
 fn part_5<B: Bus>(regs: &mut Regs, bus: &mut B, byte: u8) -> Result<Did, AllocError>
     requires { byte / 32 ≡ 5 }
-    ensures { ExecutesByte byte regs.old (B.memory bus.old) result regs.new (B.memory bus.new) }
+    ensures { ExecutesByte byte regs.old (B.memory bus.old) (B.is_ready bus.old)
+        result regs.new (B.memory bus.new) }
 {
     match byte {
         0xa0 => accumulate(regs, bus, Arithmetic::Ana, Place::InRegister(Register::B)),
@@ -317,7 +324,8 @@ fn part_5<B: Bus>(regs: &mut Regs, bus: &mut B, byte: u8) -> Result<Did, AllocEr
 #[inline(always)]
 fn part_6<B: Bus>(regs: &mut Regs, bus: &mut B, byte: u8) -> Result<Did, AllocError>
     requires { byte / 32 ≡ 6 }
-    ensures { ExecutesByte byte regs.old (B.memory bus.old) result regs.new (B.memory bus.new) }
+    ensures { ExecutesByte byte regs.old (B.memory bus.old) (B.is_ready bus.old)
+        result regs.new (B.memory bus.new) }
 {
     match byte {
         0xc0 => ret_if(regs, bus, Condition::NotZero),
@@ -360,7 +368,8 @@ fn part_6<B: Bus>(regs: &mut Regs, bus: &mut B, byte: u8) -> Result<Did, AllocEr
 #[inline(always)]
 fn part_7<B: Bus>(regs: &mut Regs, bus: &mut B, byte: u8) -> Result<Did, AllocError>
     requires { byte / 32 ≡ 7 }
-    ensures { ExecutesByte byte regs.old (B.memory bus.old) result regs.new (B.memory bus.new) }
+    ensures { ExecutesByte byte regs.old (B.memory bus.old) (B.is_ready bus.old)
+        result regs.new (B.memory bus.new) }
 {
     match byte {
         0xe0 => ret_if(regs, bus, Condition::ParityOdd),

@@ -1,10 +1,10 @@
 // The instructions. Each reads first, then makes cells ready and writes them, and sets the registers last, so that the
 // registers and the bytes of memory are unchanged if an allocation fails.
 
-ghost use Rattle.std.specs.Prelude.{◌≡◌, Ok};
+ghost use Rattle.std.specs.Prelude.{◌≡◌, Ok, OnErr};
 ghost use Rattle.i8080.specs.Reading.{Done};
 ghost use Rattle.i8080.specs.Registers.{advance};
-ghost use Rattle.i8080.specs.Performs.{Performs, Reads, Writes};
+ghost use Rattle.i8080.specs.Performs.{KeepsReady, Performs, Reads, Writes, WritesUnready};
 ghost use Rattle.i8080.specs.Instruction.{from_place, to_place, base_of, one_byte, one_word, pushing};
 ghost use Rattle.i8080.specs.Executes.{Executes};
 ghost use Rattle.i8080.specs.declared.opcode.Source.TheVariants.{At, Immediate};
@@ -25,9 +25,11 @@ type Ended = Result<Did, AllocError>;
 // all other instructions need not be in memory.
 
 // Reads a register, or the cell at HL.
+#[tactic(auto, using(crate::proofs::ReadyLemmas::readiness))]
 #[inline(always)]
 fn operand<B: Bus>(regs: &Regs, bus: &mut B, place: Place) -> u8
-    ensures { Reads (from_place place regs.now Done) (B.memory bus.old) result (B.memory bus.new) }
+    ensures reads { Reads (from_place place regs.now Done) (B.memory bus.old) result (B.memory bus.new) }
+    ensures kept { KeepsReady (B.is_ready bus.old) (B.is_ready bus.new) }
 {
     match place {
         Place::InRegister(register) => regs.get(register),
@@ -36,9 +38,11 @@ fn operand<B: Bus>(regs: &Regs, bus: &mut B, place: Place) -> u8
 }
 
 // Writes a byte, after making its cell ready.
+#[tactic(auto, using(crate::proofs::ReadyLemmas::first_unready))]
 #[inline(always)]
 fn store<B: Bus>(bus: &mut B, a: u16, value: u8) -> Result<(), AllocError>
-    ensures { Writes (one_byte a value) (B.memory bus.old) result (B.memory bus.new) }
+    ensures writes { Writes (one_byte a value) (B.memory bus.old) result (B.memory bus.new) }
+    ensures unready { OnErr result (WritesUnready (B.is_ready bus.old) (one_byte a value)) }
 {
     bus.ready(a)?;
     bus.write(a, value);
@@ -46,9 +50,11 @@ fn store<B: Bus>(bus: &mut B, a: u16, value: u8) -> Result<(), AllocError>
 }
 
 // Writes a word, after making both cells ready.
+#[tactic(auto, using(crate::proofs::ReadyLemmas::first_unready, crate::proofs::ReadyLemmas::second_unready, crate::proofs::ReadyLemmas::unready_before))]
 #[inline(always)]
 fn store_word<B: Bus>(bus: &mut B, a: u16, value: u16) -> Result<(), AllocError>
-    ensures { Writes (one_word a value) (B.memory bus.old) result (B.memory bus.new) }
+    ensures writes { Writes (one_word a value) (B.memory bus.old) result (B.memory bus.new) }
+    ensures unready { OnErr result (WritesUnready (B.is_ready bus.old) (one_word a value)) }
 {
     let above = a.wrapping_add(1);
     bus.ready(a)?;
@@ -59,10 +65,11 @@ fn store_word<B: Bus>(bus: &mut B, a: u16, value: u16) -> Result<(), AllocError>
 }
 
 // Sets a register, or writes the cell at HL.
+#[tactic(auto, using(crate::proofs::ReadyLemmas::readiness))]
 #[inline(always)]
 fn put<B: Bus>(regs: &mut Regs, bus: &mut B, place: Place, value: u8) -> Ended
     ensures { Performs (to_place place value regs.old)
-        regs.old (B.memory bus.old) result regs.new (B.memory bus.new) }
+        regs.old (B.memory bus.old) (B.is_ready bus.old) result regs.new (B.memory bus.new) }
 {
     match place {
         Place::InRegister(register) => regs.set(register, value),
@@ -72,10 +79,11 @@ fn put<B: Bus>(regs: &mut Regs, bus: &mut B, place: Place, value: u8) -> Ended
 }
 
 // Pushes a word.
+#[tactic(auto, using(crate::proofs::ReadyLemmas::readiness))]
 #[inline(always)]
 fn push_word<B: Bus>(regs: &mut Regs, bus: &mut B, value: u16) -> Ended
     ensures { Performs (pushing value regs.old)
-        regs.old (B.memory bus.old) result regs.new (B.memory bus.new) }
+        regs.old (B.memory bus.old) (B.is_ready bus.old) result regs.new (B.memory bus.new) }
 {
     let top = regs.sp.wrapping_sub(2);
     store_word(bus, top, value)?;
@@ -106,31 +114,37 @@ fn address(regs: &Regs, base: Base) -> u16
 // Executes NOP, DI or EI; DI and EI do nothing here.
 #[inline(always)]
 pub fn nop<B: Bus>(regs: &mut Regs, _bus: &mut B) -> Ended
-    ensures { Executes Nop regs.old (B.memory _bus.old) result regs.new (B.memory _bus.new) }
+    ensures { Executes Nop regs.old (B.memory _bus.old) (B.is_ready _bus.old)
+        result regs.new (B.memory _bus.new) }
 {
     advance(regs, 1)
 }
 
 #[inline(always)]
 pub fn mov<B: Bus>(regs: &mut Regs, bus: &mut B, to: Register, from: Place) -> Ended
-    ensures { Executes (Mov to from) regs.old (B.memory bus.old) result regs.new (B.memory bus.new) }
+    ensures { Executes (Mov to from) regs.old (B.memory bus.old) (B.is_ready bus.old)
+        result regs.new (B.memory bus.new) }
 {
     let value = operand(regs, bus, from);
     regs.set(to, value);
     advance(regs, 1)
 }
 
+#[tactic(auto, using(crate::proofs::ReadyLemmas::readiness))]
 #[inline(always)]
 pub fn mov_to_memory<B: Bus>(regs: &mut Regs, bus: &mut B, from: Register) -> Ended
-    ensures { Executes (MovToMemory from) regs.old (B.memory bus.old) result regs.new (B.memory bus.new) }
+    ensures { Executes (MovToMemory from) regs.old (B.memory bus.old) (B.is_ready bus.old)
+        result regs.new (B.memory bus.new) }
 {
     store(bus, regs.pair(Pair::Hl), regs.get(from))?;
     advance(regs, 1)
 }
 
+#[tactic(auto, using(crate::proofs::ReadyLemmas::readiness))]
 #[inline(always)]
 pub fn mvi<B: Bus>(regs: &mut Regs, bus: &mut B, to: Place) -> Ended
-    ensures { Executes (Mvi to) regs.old (B.memory bus.old) result regs.new (B.memory bus.new) }
+    ensures { Executes (Mvi to) regs.old (B.memory bus.old) (B.is_ready bus.old)
+        result regs.new (B.memory bus.new) }
 {
     let value = fetch(bus, regs.pc.wrapping_add(1));
     put(regs, bus, to, value)?;
@@ -139,7 +153,8 @@ pub fn mvi<B: Bus>(regs: &mut Regs, bus: &mut B, to: Place) -> Ended
 
 #[inline(always)]
 pub fn lxi<B: Bus>(regs: &mut Regs, bus: &mut B, to: Pair) -> Ended
-    ensures { Executes (Lxi to) regs.old (B.memory bus.old) result regs.new (B.memory bus.new) }
+    ensures { Executes (Lxi to) regs.old (B.memory bus.old) (B.is_ready bus.old)
+        result regs.new (B.memory bus.new) }
 {
     let value = fetch_operand(bus, regs.pc.wrapping_add(1));
     regs.set_pair(to, value);
@@ -148,16 +163,19 @@ pub fn lxi<B: Bus>(regs: &mut Regs, bus: &mut B, to: Pair) -> Ended
 
 #[inline(always)]
 pub fn lda<B: Bus>(regs: &mut Regs, bus: &mut B) -> Ended
-    ensures { Executes Lda regs.old (B.memory bus.old) result regs.new (B.memory bus.new) }
+    ensures { Executes Lda regs.old (B.memory bus.old) (B.is_ready bus.old)
+        result regs.new (B.memory bus.new) }
 {
     let from = fetch_operand(bus, regs.pc.wrapping_add(1));
     regs.a = fetch(bus, from);
     advance(regs, 3)
 }
 
+#[tactic(auto, using(crate::proofs::ReadyLemmas::readiness))]
 #[inline(always)]
 pub fn sta<B: Bus>(regs: &mut Regs, bus: &mut B) -> Ended
-    ensures { Executes Sta regs.old (B.memory bus.old) result regs.new (B.memory bus.new) }
+    ensures { Executes Sta regs.old (B.memory bus.old) (B.is_ready bus.old)
+        result regs.new (B.memory bus.new) }
 {
     let to = fetch_operand(bus, regs.pc.wrapping_add(1));
     store(bus, to, regs.a)?;
@@ -166,7 +184,8 @@ pub fn sta<B: Bus>(regs: &mut Regs, bus: &mut B) -> Ended
 
 #[inline(always)]
 pub fn lhld<B: Bus>(regs: &mut Regs, bus: &mut B) -> Ended
-    ensures { Executes Lhld regs.old (B.memory bus.old) result regs.new (B.memory bus.new) }
+    ensures { Executes Lhld regs.old (B.memory bus.old) (B.is_ready bus.old)
+        result regs.new (B.memory bus.new) }
 {
     let from = fetch_operand(bus, regs.pc.wrapping_add(1));
     let value = fetch_word(bus, from);
@@ -174,9 +193,11 @@ pub fn lhld<B: Bus>(regs: &mut Regs, bus: &mut B) -> Ended
     advance(regs, 3)
 }
 
+#[tactic(auto, using(crate::proofs::ReadyLemmas::readiness))]
 #[inline(always)]
 pub fn shld<B: Bus>(regs: &mut Regs, bus: &mut B) -> Ended
-    ensures { Executes Shld regs.old (B.memory bus.old) result regs.new (B.memory bus.new) }
+    ensures { Executes Shld regs.old (B.memory bus.old) (B.is_ready bus.old)
+        result regs.new (B.memory bus.new) }
 {
     let to = fetch_operand(bus, regs.pc.wrapping_add(1));
     store_word(bus, to, regs.pair(Pair::Hl))?;
@@ -185,15 +206,18 @@ pub fn shld<B: Bus>(regs: &mut Regs, bus: &mut B) -> Ended
 
 #[inline(always)]
 pub fn ldax<B: Bus>(regs: &mut Regs, bus: &mut B, base: Base) -> Ended
-    ensures { Executes (Ldax base) regs.old (B.memory bus.old) result regs.new (B.memory bus.new) }
+    ensures { Executes (Ldax base) regs.old (B.memory bus.old) (B.is_ready bus.old)
+        result regs.new (B.memory bus.new) }
 {
     regs.a = fetch(bus, address(regs, base));
     advance(regs, 1)
 }
 
+#[tactic(auto, using(crate::proofs::ReadyLemmas::readiness))]
 #[inline(always)]
 pub fn stax<B: Bus>(regs: &mut Regs, bus: &mut B, base: Base) -> Ended
-    ensures { Executes (Stax base) regs.old (B.memory bus.old) result regs.new (B.memory bus.new) }
+    ensures { Executes (Stax base) regs.old (B.memory bus.old) (B.is_ready bus.old)
+        result regs.new (B.memory bus.new) }
 {
     store(bus, address(regs, base), regs.a)?;
     advance(regs, 1)
@@ -201,7 +225,8 @@ pub fn stax<B: Bus>(regs: &mut Regs, bus: &mut B, base: Base) -> Ended
 
 #[inline(always)]
 pub fn xchg<B: Bus>(regs: &mut Regs, _bus: &mut B) -> Ended
-    ensures { Executes Xchg regs.old (B.memory _bus.old) result regs.new (B.memory _bus.new) }
+    ensures { Executes Xchg regs.old (B.memory _bus.old) (B.is_ready _bus.old)
+        result regs.new (B.memory _bus.new) }
 {
     let (hl, de) = (regs.pair(Pair::Hl), regs.pair(Pair::De));
     regs.set_pair(Pair::Hl, de);
@@ -212,7 +237,7 @@ pub fn xchg<B: Bus>(regs: &mut Regs, _bus: &mut B) -> Ended
 #[inline(always)]
 pub fn accumulate<B: Bus>(regs: &mut Regs, bus: &mut B, function: Arithmetic, from: Place) -> Ended
     ensures { Executes (Accumulate function (At from))
-        regs.old (B.memory bus.old) result regs.new (B.memory bus.new) }
+        regs.old (B.memory bus.old) (B.is_ready bus.old) result regs.new (B.memory bus.new) }
 {
     let value = operand(regs, bus, from);
     regs.accumulate(function, value);
@@ -222,16 +247,18 @@ pub fn accumulate<B: Bus>(regs: &mut Regs, bus: &mut B, function: Arithmetic, fr
 #[inline(always)]
 pub fn accumulate_immediate<B: Bus>(regs: &mut Regs, bus: &mut B, function: Arithmetic) -> Ended
     ensures { Executes (Accumulate function Immediate)
-        regs.old (B.memory bus.old) result regs.new (B.memory bus.new) }
+        regs.old (B.memory bus.old) (B.is_ready bus.old) result regs.new (B.memory bus.new) }
 {
     let value = fetch(bus, regs.pc.wrapping_add(1));
     regs.accumulate(function, value);
     advance(regs, 2)
 }
 
+#[tactic(auto, using(crate::proofs::ReadyLemmas::readiness))]
 #[inline(always)]
 pub fn inr<B: Bus>(regs: &mut Regs, bus: &mut B, at: Place) -> Ended
-    ensures { Executes (Inr at) regs.old (B.memory bus.old) result regs.new (B.memory bus.new) }
+    ensures { Executes (Inr at) regs.old (B.memory bus.old) (B.is_ready bus.old)
+        result regs.new (B.memory bus.new) }
 {
     let value = operand(regs, bus, at);
     let more = value.wrapping_add(1);
@@ -240,9 +267,11 @@ pub fn inr<B: Bus>(regs: &mut Regs, bus: &mut B, at: Place) -> Ended
     advance(regs, 1)
 }
 
+#[tactic(auto, using(crate::proofs::ReadyLemmas::readiness))]
 #[inline(always)]
 pub fn dcr<B: Bus>(regs: &mut Regs, bus: &mut B, at: Place) -> Ended
-    ensures { Executes (Dcr at) regs.old (B.memory bus.old) result regs.new (B.memory bus.new) }
+    ensures { Executes (Dcr at) regs.old (B.memory bus.old) (B.is_ready bus.old)
+        result regs.new (B.memory bus.new) }
 {
     let value = operand(regs, bus, at);
     let less = value.wrapping_sub(1);
@@ -253,7 +282,8 @@ pub fn dcr<B: Bus>(regs: &mut Regs, bus: &mut B, at: Place) -> Ended
 
 #[inline(always)]
 pub fn inx<B: Bus>(regs: &mut Regs, _bus: &mut B, at: Pair) -> Ended
-    ensures { Executes (Inx at) regs.old (B.memory _bus.old) result regs.new (B.memory _bus.new) }
+    ensures { Executes (Inx at) regs.old (B.memory _bus.old) (B.is_ready _bus.old)
+        result regs.new (B.memory _bus.new) }
 {
     let value = regs.pair(at).wrapping_add(1);
     regs.set_pair(at, value);
@@ -262,7 +292,8 @@ pub fn inx<B: Bus>(regs: &mut Regs, _bus: &mut B, at: Pair) -> Ended
 
 #[inline(always)]
 pub fn dcx<B: Bus>(regs: &mut Regs, _bus: &mut B, at: Pair) -> Ended
-    ensures { Executes (Dcx at) regs.old (B.memory _bus.old) result regs.new (B.memory _bus.new) }
+    ensures { Executes (Dcx at) regs.old (B.memory _bus.old) (B.is_ready _bus.old)
+        result regs.new (B.memory _bus.new) }
 {
     let value = regs.pair(at).wrapping_sub(1);
     regs.set_pair(at, value);
@@ -271,7 +302,8 @@ pub fn dcx<B: Bus>(regs: &mut Regs, _bus: &mut B, at: Pair) -> Ended
 
 #[inline(always)]
 pub fn dad<B: Bus>(regs: &mut Regs, _bus: &mut B, from: Pair) -> Ended
-    ensures { Executes (Dad from) regs.old (B.memory _bus.old) result regs.new (B.memory _bus.new) }
+    ensures { Executes (Dad from) regs.old (B.memory _bus.old) (B.is_ready _bus.old)
+        result regs.new (B.memory _bus.new) }
 {
     let whole = u32::from(regs.pair(Pair::Hl)) + u32::from(regs.pair(from));
     regs.flags.cy = whole >= 65536;
@@ -281,7 +313,8 @@ pub fn dad<B: Bus>(regs: &mut Regs, _bus: &mut B, from: Pair) -> Ended
 
 #[inline(always)]
 pub fn rotate<B: Bus>(regs: &mut Regs, _bus: &mut B, way: Rotation) -> Ended
-    ensures { Executes (Rotate way) regs.old (B.memory _bus.old) result regs.new (B.memory _bus.new) }
+    ensures { Executes (Rotate way) regs.old (B.memory _bus.old) (B.is_ready _bus.old)
+        result regs.new (B.memory _bus.new) }
 {
     let a = regs.a;
     let doubled = (u16::from(a) * 2 % 256) as u8;
@@ -297,7 +330,8 @@ pub fn rotate<B: Bus>(regs: &mut Regs, _bus: &mut B, way: Rotation) -> Ended
 
 #[inline(always)]
 pub fn daa<B: Bus>(regs: &mut Regs, _bus: &mut B) -> Ended
-    ensures { Executes Daa regs.old (B.memory _bus.old) result regs.new (B.memory _bus.new) }
+    ensures { Executes Daa regs.old (B.memory _bus.old) (B.is_ready _bus.old)
+        result regs.new (B.memory _bus.new) }
 {
     let six = if regs.a % 16 > 9 || regs.flags.ac {
         6
@@ -314,7 +348,8 @@ pub fn daa<B: Bus>(regs: &mut Regs, _bus: &mut B) -> Ended
 
 #[inline(always)]
 pub fn cma<B: Bus>(regs: &mut Regs, _bus: &mut B) -> Ended
-    ensures { Executes Cma regs.old (B.memory _bus.old) result regs.new (B.memory _bus.new) }
+    ensures { Executes Cma regs.old (B.memory _bus.old) (B.is_ready _bus.old)
+        result regs.new (B.memory _bus.new) }
 {
     regs.a = 255 - regs.a;
     advance(regs, 1)
@@ -322,7 +357,8 @@ pub fn cma<B: Bus>(regs: &mut Regs, _bus: &mut B) -> Ended
 
 #[inline(always)]
 pub fn stc<B: Bus>(regs: &mut Regs, _bus: &mut B) -> Ended
-    ensures { Executes Stc regs.old (B.memory _bus.old) result regs.new (B.memory _bus.new) }
+    ensures { Executes Stc regs.old (B.memory _bus.old) (B.is_ready _bus.old)
+        result regs.new (B.memory _bus.new) }
 {
     regs.flags.cy = true;
     advance(regs, 1)
@@ -330,7 +366,8 @@ pub fn stc<B: Bus>(regs: &mut Regs, _bus: &mut B) -> Ended
 
 #[inline(always)]
 pub fn cmc<B: Bus>(regs: &mut Regs, _bus: &mut B) -> Ended
-    ensures { Executes Cmc regs.old (B.memory _bus.old) result regs.new (B.memory _bus.new) }
+    ensures { Executes Cmc regs.old (B.memory _bus.old) (B.is_ready _bus.old)
+        result regs.new (B.memory _bus.new) }
 {
     regs.flags.cy = !regs.flags.cy;
     advance(regs, 1)
@@ -338,7 +375,8 @@ pub fn cmc<B: Bus>(regs: &mut Regs, _bus: &mut B) -> Ended
 
 #[inline(always)]
 pub fn jmp<B: Bus>(regs: &mut Regs, bus: &mut B) -> Ended
-    ensures { Executes Jmp regs.old (B.memory bus.old) result regs.new (B.memory bus.new) }
+    ensures { Executes Jmp regs.old (B.memory bus.old) (B.is_ready bus.old)
+        result regs.new (B.memory bus.new) }
 {
     regs.pc = fetch_operand(bus, regs.pc.wrapping_add(1));
     Ok(Did::Went)
@@ -346,7 +384,8 @@ pub fn jmp<B: Bus>(regs: &mut Regs, bus: &mut B) -> Ended
 
 #[inline(always)]
 pub fn jump_if<B: Bus>(regs: &mut Regs, bus: &mut B, condition: Condition) -> Ended
-    ensures { Executes (JumpIf condition) regs.old (B.memory bus.old) result regs.new (B.memory bus.new) }
+    ensures { Executes (JumpIf condition) regs.old (B.memory bus.old) (B.is_ready bus.old)
+        result regs.new (B.memory bus.new) }
 {
     let to = fetch_operand(bus, regs.pc.wrapping_add(1));
     if !condition.is_met(regs.flags) {
@@ -356,9 +395,11 @@ pub fn jump_if<B: Bus>(regs: &mut Regs, bus: &mut B, condition: Condition) -> En
     Ok(Did::Went)
 }
 
+#[tactic(auto, using(crate::proofs::ReadyLemmas::readiness))]
 #[inline(always)]
 pub fn call<B: Bus>(regs: &mut Regs, bus: &mut B) -> Ended
-    ensures { Executes Call regs.old (B.memory bus.old) result regs.new (B.memory bus.new) }
+    ensures { Executes Call regs.old (B.memory bus.old) (B.is_ready bus.old)
+        result regs.new (B.memory bus.new) }
 {
     let to = fetch_operand(bus, regs.pc.wrapping_add(1));
     push_word(regs, bus, regs.pc.wrapping_add(3))?;
@@ -366,9 +407,11 @@ pub fn call<B: Bus>(regs: &mut Regs, bus: &mut B) -> Ended
     Ok(Did::Went)
 }
 
+#[tactic(auto, using(crate::proofs::ReadyLemmas::readiness))]
 #[inline(always)]
 pub fn call_if<B: Bus>(regs: &mut Regs, bus: &mut B, condition: Condition) -> Ended
-    ensures { Executes (CallIf condition) regs.old (B.memory bus.old) result regs.new (B.memory bus.new) }
+    ensures { Executes (CallIf condition) regs.old (B.memory bus.old) (B.is_ready bus.old)
+        result regs.new (B.memory bus.new) }
 {
     let mut copy = *regs;
     let did = call_if_apart(&mut copy, bus, condition)?;
@@ -376,9 +419,11 @@ pub fn call_if<B: Bus>(regs: &mut Regs, bus: &mut B, condition: Condition) -> En
     Ok(did)
 }
 
+#[tactic(auto, using(crate::proofs::ReadyLemmas::readiness))]
 #[inline(never)]
 fn call_if_apart<B: Bus>(regs: &mut Regs, bus: &mut B, condition: Condition) -> Ended
-    ensures { Executes (CallIf condition) regs.old (B.memory bus.old) result regs.new (B.memory bus.new) }
+    ensures { Executes (CallIf condition) regs.old (B.memory bus.old) (B.is_ready bus.old)
+        result regs.new (B.memory bus.new) }
 {
     let to = fetch_operand(bus, regs.pc.wrapping_add(1));
     if !condition.is_met(regs.flags) {
@@ -391,7 +436,8 @@ fn call_if_apart<B: Bus>(regs: &mut Regs, bus: &mut B, condition: Condition) -> 
 
 #[inline(always)]
 pub fn ret<B: Bus>(regs: &mut Regs, bus: &mut B) -> Ended
-    ensures { Executes Ret regs.old (B.memory bus.old) result regs.new (B.memory bus.new) }
+    ensures { Executes Ret regs.old (B.memory bus.old) (B.is_ready bus.old)
+        result regs.new (B.memory bus.new) }
 {
     regs.pc = fetch_word(bus, regs.sp);
     regs.sp = regs.sp.wrapping_add(2);
@@ -400,7 +446,8 @@ pub fn ret<B: Bus>(regs: &mut Regs, bus: &mut B) -> Ended
 
 #[inline(always)]
 pub fn ret_if<B: Bus>(regs: &mut Regs, bus: &mut B, condition: Condition) -> Ended
-    ensures { Executes (RetIf condition) regs.old (B.memory bus.old) result regs.new (B.memory bus.new) }
+    ensures { Executes (RetIf condition) regs.old (B.memory bus.old) (B.is_ready bus.old)
+        result regs.new (B.memory bus.new) }
 {
     let mut copy = *regs;
     let did = ret_if_apart(&mut copy, bus, condition)?;
@@ -410,7 +457,8 @@ pub fn ret_if<B: Bus>(regs: &mut Regs, bus: &mut B, condition: Condition) -> End
 
 #[inline(never)]
 fn ret_if_apart<B: Bus>(regs: &mut Regs, bus: &mut B, condition: Condition) -> Ended
-    ensures { Executes (RetIf condition) regs.old (B.memory bus.old) result regs.new (B.memory bus.new) }
+    ensures { Executes (RetIf condition) regs.old (B.memory bus.old) (B.is_ready bus.old)
+        result regs.new (B.memory bus.new) }
 {
     if condition.is_met(regs.flags) {
         return ret(regs, bus);
@@ -418,9 +466,11 @@ fn ret_if_apart<B: Bus>(regs: &mut Regs, bus: &mut B, condition: Condition) -> E
     advance(regs, 1)
 }
 
+#[tactic(auto, using(crate::proofs::ReadyLemmas::readiness))]
 #[inline(always)]
 pub fn rst<B: Bus>(regs: &mut Regs, bus: &mut B, restart: Restart) -> Ended
-    ensures { Executes (Rst restart) regs.old (B.memory bus.old) result regs.new (B.memory bus.new) }
+    ensures { Executes (Rst restart) regs.old (B.memory bus.old) (B.is_ready bus.old)
+        result regs.new (B.memory bus.new) }
 {
     let mut copy = *regs;
     let did = rst_apart(&mut copy, bus, restart)?;
@@ -428,9 +478,11 @@ pub fn rst<B: Bus>(regs: &mut Regs, bus: &mut B, restart: Restart) -> Ended
     Ok(did)
 }
 
+#[tactic(auto, using(crate::proofs::ReadyLemmas::readiness))]
 #[inline(never)]
 fn rst_apart<B: Bus>(regs: &mut Regs, bus: &mut B, restart: Restart) -> Ended
-    ensures { Executes (Rst restart) regs.old (B.memory bus.old) result regs.new (B.memory bus.new) }
+    ensures { Executes (Rst restart) regs.old (B.memory bus.old) (B.is_ready bus.old)
+        result regs.new (B.memory bus.new) }
 {
     push_word(regs, bus, regs.pc.wrapping_add(1))?;
     regs.pc = 8 * u16::from(restart as u8);
@@ -439,15 +491,18 @@ fn rst_apart<B: Bus>(regs: &mut Regs, bus: &mut B, restart: Restart) -> Ended
 
 #[inline(always)]
 pub fn pchl<B: Bus>(regs: &mut Regs, _bus: &mut B) -> Ended
-    ensures { Executes Pchl regs.old (B.memory _bus.old) result regs.new (B.memory _bus.new) }
+    ensures { Executes Pchl regs.old (B.memory _bus.old) (B.is_ready _bus.old)
+        result regs.new (B.memory _bus.new) }
 {
     regs.pc = regs.pair(Pair::Hl);
     Ok(Did::Went)
 }
 
+#[tactic(auto, using(crate::proofs::ReadyLemmas::readiness))]
 #[inline(always)]
 pub fn push<B: Bus>(regs: &mut Regs, bus: &mut B, what: Saved) -> Ended
-    ensures { Executes (Push what) regs.old (B.memory bus.old) result regs.new (B.memory bus.new) }
+    ensures { Executes (Push what) regs.old (B.memory bus.old) (B.is_ready bus.old)
+        result regs.new (B.memory bus.new) }
 {
     let value = match what {
         Saved::BcPair => regs.pair(Pair::Bc),
@@ -461,7 +516,8 @@ pub fn push<B: Bus>(regs: &mut Regs, bus: &mut B, what: Saved) -> Ended
 
 #[inline(always)]
 pub fn pop<B: Bus>(regs: &mut Regs, bus: &mut B, what: Saved) -> Ended
-    ensures { Executes (Pop what) regs.old (B.memory bus.old) result regs.new (B.memory bus.new) }
+    ensures { Executes (Pop what) regs.old (B.memory bus.old) (B.is_ready bus.old)
+        result regs.new (B.memory bus.new) }
 {
     let value = fetch_word(bus, regs.sp);
     match what {
@@ -477,9 +533,11 @@ pub fn pop<B: Bus>(regs: &mut Regs, bus: &mut B, what: Saved) -> Ended
     advance(regs, 1)
 }
 
+#[tactic(auto, using(crate::proofs::ReadyLemmas::readiness))]
 #[inline(always)]
 pub fn xthl<B: Bus>(regs: &mut Regs, bus: &mut B) -> Ended
-    ensures { Executes Xthl regs.old (B.memory bus.old) result regs.new (B.memory bus.new) }
+    ensures { Executes Xthl regs.old (B.memory bus.old) (B.is_ready bus.old)
+        result regs.new (B.memory bus.new) }
 {
     let mut copy = *regs;
     let did = xthl_apart(&mut copy, bus)?;
@@ -487,9 +545,11 @@ pub fn xthl<B: Bus>(regs: &mut Regs, bus: &mut B) -> Ended
     Ok(did)
 }
 
+#[tactic(auto, using(crate::proofs::ReadyLemmas::readiness))]
 #[inline(never)]
 fn xthl_apart<B: Bus>(regs: &mut Regs, bus: &mut B) -> Ended
-    ensures { Executes Xthl regs.old (B.memory bus.old) result regs.new (B.memory bus.new) }
+    ensures { Executes Xthl regs.old (B.memory bus.old) (B.is_ready bus.old)
+        result regs.new (B.memory bus.new) }
 {
     let value = fetch_word(bus, regs.sp);
     store_word(bus, regs.sp, regs.pair(Pair::Hl))?;
@@ -499,7 +559,8 @@ fn xthl_apart<B: Bus>(regs: &mut Regs, bus: &mut B) -> Ended
 
 #[inline(always)]
 pub fn sphl<B: Bus>(regs: &mut Regs, _bus: &mut B) -> Ended
-    ensures { Executes Sphl regs.old (B.memory _bus.old) result regs.new (B.memory _bus.new) }
+    ensures { Executes Sphl regs.old (B.memory _bus.old) (B.is_ready _bus.old)
+        result regs.new (B.memory _bus.new) }
 {
     regs.sp = regs.pair(Pair::Hl);
     advance(regs, 1)
@@ -507,7 +568,8 @@ pub fn sphl<B: Bus>(regs: &mut Regs, _bus: &mut B) -> Ended
 
 #[inline(always)]
 pub fn input<B: Bus>(regs: &mut Regs, bus: &mut B) -> Ended
-    ensures { Executes In regs.old (B.memory bus.old) result regs.new (B.memory bus.new) }
+    ensures { Executes In regs.old (B.memory bus.old) (B.is_ready bus.old)
+        result regs.new (B.memory bus.new) }
 {
     let mut copy = *regs;
     let did = input_apart(&mut copy, bus)?;
@@ -517,7 +579,8 @@ pub fn input<B: Bus>(regs: &mut Regs, bus: &mut B) -> Ended
 
 #[inline(never)]
 fn input_apart<B: Bus>(regs: &mut Regs, bus: &mut B) -> Ended
-    ensures { Executes In regs.old (B.memory bus.old) result regs.new (B.memory bus.new) }
+    ensures { Executes In regs.old (B.memory bus.old) (B.is_ready bus.old)
+        result regs.new (B.memory bus.new) }
 {
     fetch(bus, regs.pc.wrapping_add(1));
     regs.a = 255;
@@ -526,7 +589,8 @@ fn input_apart<B: Bus>(regs: &mut Regs, bus: &mut B) -> Ended
 
 #[inline(always)]
 pub fn output<B: Bus>(regs: &mut Regs, bus: &mut B) -> Ended
-    ensures { Executes Out regs.old (B.memory bus.old) result regs.new (B.memory bus.new) }
+    ensures { Executes Out regs.old (B.memory bus.old) (B.is_ready bus.old)
+        result regs.new (B.memory bus.new) }
 {
     let mut copy = *regs;
     let did = output_apart(&mut copy, bus)?;
@@ -536,7 +600,8 @@ pub fn output<B: Bus>(regs: &mut Regs, bus: &mut B) -> Ended
 
 #[inline(never)]
 fn output_apart<B: Bus>(regs: &mut Regs, bus: &mut B) -> Ended
-    ensures { Executes Out regs.old (B.memory bus.old) result regs.new (B.memory bus.new) }
+    ensures { Executes Out regs.old (B.memory bus.old) (B.is_ready bus.old)
+        result regs.new (B.memory bus.new) }
 {
     fetch(bus, regs.pc.wrapping_add(1));
     advance(regs, 2)

@@ -342,7 +342,7 @@ module _ (s : Session) (r r' : Regs) (d : DeskAndFiles) (o o' : Overlay) (sound 
   abbrev ends_with : end.End → SystemTree StepEnd
   ends_with e = Return (step_end_of d.desk.spot e)
 
-  pub instructed : (did : Did) → end_left.Performs (instruction r) r (memory_over_image s o) (Ok did) r' (memory_over_image s o') → Takes s r d o (Ok (stop_of_instruction did)) r' d o'
+  pub instructed : {ready : ℕ → Bool} (did : Did) → end_left.Performs (instruction r) r (memory_over_image s o) ready (Ok did) r' (memory_over_image s o') → Takes s r d o (Ok (stop_of_instruction did)) r' d o'
   instructed did p =
       let t = bind_reading (instruction r) ends_with in
       let ends : result_of answers_here t ≡ step_end_of d.desk.spot (reading.end_of (instruction r) (over (own_of o) (image_of s))) = ap (λ (p : SystemPath StepEnd). p.end) (path-reading answers_here ends_with (instruction r)) in
@@ -359,7 +359,7 @@ module _ (s : Session) (r r' : Regs) (d : DeskAndFiles) (o o' : Overlay) (sound 
       }) in
       subst (λ (x : Option Cause). Takes s r d o (Ok x) r' d o') (ap stop_of ends ∙ end_stops d.desk _ ∙ ap stop_of_instruction (sym p.did)) all
 
-  pub instruction_fails : (e : AllocError) → end_left.Performs (instruction r) r (memory_over_image s o) (Err e) r' (memory_over_image s o') → Takes s r d o (Err e) r' d o'
+  pub instruction_fails : {ready : ℕ → Bool} (e : AllocError) → end_left.Performs (instruction r) r (memory_over_image s o) ready (Err e) r' (memory_over_image s o') → Takes s r d o (Err e) r' d o'
   instruction_fails e p =
       let t = bind_reading (instruction r) ends_with in
       let asks : addresses (state_questions (questions_of answers_here t)) ≡ reading.asked (instruction r) (over (own_of o) (image_of s)) = ap (λ (p : SystemPath StepEnd). p.cells) (path-reading answers_here ends_with (instruction r)) ∙ append-nil _ in

@@ -241,31 +241,31 @@ module _ (s : Session) (from n : ℕ) (r r' : Regs) (o o' : Overlay) (d : DeskAn
 -- ---- an instruction over a view
 
 module _ (s : Session) (r r' : Regs) (o o' : Overlay) (beneath beneath' : ℕ → ℕ) (lender lender' : Option GName) (image : beneath ≡ image_of s) where
-  abbrev Viewed : Result Did AllocError → Type 0
-  Viewed result = Performs (instruction r) r (record { own = own_of o; beneath = beneath; looks = looks_of o; lender = lender }) result r' (record { own = own_of o'; beneath = beneath'; looks = looks_of o'; lender = lender' })
+  abbrev Viewed : (ℕ → Bool) → Result Did AllocError → Type 0
+  Viewed ready result = Performs (instruction r) r (record { own = own_of o; beneath = beneath; looks = looks_of o; lender = lender }) ready result r' (record { own = own_of o'; beneath = beneath'; looks = looks_of o'; lender = lender' })
 
   -- The instruction is one over the session's image.
-  seen_through : (result : Result Did AllocError) → Viewed result → Performs (instruction r) r (memory_over_image s o) result r' (memory_over_image s o')
-  seen_through result p =
-      let w = subst (λ (b : ℕ → ℕ). Performs (instruction r) r (record { own = own_of o; beneath = b; looks = looks_of o; lender = lender }) result r' (record { own = own_of o'; beneath = beneath'; looks = looks_of o'; lender = lender' })) image p in
+  seen_through : {ready : ℕ → Bool} (result : Result Did AllocError) → Viewed ready result → Performs (instruction r) r (memory_over_image s o) ready result r' (memory_over_image s o')
+  seen_through {ready} result p =
+      let w = subst (λ (b : ℕ → ℕ). Performs (instruction r) r (record { own = own_of o; beneath = b; looks = looks_of o; lender = lender }) ready result r' (record { own = own_of o'; beneath = beneath'; looks = looks_of o'; lender = lender' })) image p in
       record {
         did = w.did;
         regs = w.regs;
         own = w.own;
         looks = w.looks;
-        err_writes = w.err_writes;
+        err_unready = w.err_unready;
         err_regs = w.err_regs;
         err_own = w.err_own;
         beneath = refl;
         lender = refl;
       }
 
-  pub viewed : (d : DeskAndFiles) (sound : AreSoundOwnFiles s.files d.files) (did told : Did) → told ≡ did → r.pc < 0xfe00 → Viewed (Ok told) → Takes s r d o (Ok (stop_of_instruction did)) r' d o'
-  viewed d sound did told same low p = instructed s r r' d o o' sound low did (seen_through (Ok did) (subst (λ (x : Did). Viewed (Ok x)) same p))
+  pub viewed : {ready : ℕ → Bool} (d : DeskAndFiles) (sound : AreSoundOwnFiles s.files d.files) (did told : Did) → told ≡ did → r.pc < 0xfe00 → Viewed ready (Ok told) → Takes s r d o (Ok (stop_of_instruction did)) r' d o'
+  viewed {ready} d sound did told same low p = instructed s r r' d o o' sound low did (seen_through (Ok did) (subst (λ (x : Did). Viewed ready (Ok x)) same p))
 
-  pub viewed_failure : (d : DeskAndFiles) (sound : AreSoundOwnFiles s.files d.files) (e : AllocError) → r.pc < 0xfe00 → Viewed (Err e) → Takes s r d o (Err e) r' d o'
+  pub viewed_failure : {ready : ℕ → Bool} (d : DeskAndFiles) (sound : AreSoundOwnFiles s.files d.files) (e : AllocError) → r.pc < 0xfe00 → Viewed ready (Err e) → Takes s r d o (Err e) r' d o'
   viewed_failure d sound e low p = instruction_fails s r r' d o o' sound low e (seen_through (Err e) p)
 
 -- The looks after an instruction extend the looks before it.
-pub looks_on : (r r' : Regs) (m m' : memory.Memory) (did : Did) → Performs (instruction r) r m (Ok did) r' m' → memory.Extends m.looks m'.looks
+pub looks_on : {ready : ℕ → Bool} (r r' : Regs) (m m' : memory.Memory) (did : Did) → Performs (instruction r) r m ready (Ok did) r' m' → memory.Extends m.looks m'.looks
 looks_on r r' m m' did p = extends_by m.own (asked (instruction r) (memory.bytes m)) m.looks m'.looks p.looks

@@ -26,12 +26,13 @@ impl Cells {
         Ok(Cells { slots, alloc })
     }
 
-    /// Makes the page of a cell owned, so that the cell may be written. No byte changes. `Err` means out of memory; nothing
-    /// has then changed.
+    /// Makes the page of a cell owned, so that the cell may be written. No byte changes. `Err` means out of memory; the cell was
+    /// then not ready, and nothing has changed.
     #[inline(always)]
     pub fn ready(&mut self, a: u16) -> Result<(), AllocError>
         ensures ready { OnOk result (IsTrue (is_ready_in self.new a)) }
         ensures err { OnErr result (is_ready_in self.new ≡ is_ready_in self.old) }
+        ensures refused { OnErr result (is_ready_in self.old a ≡ false) }
         ensures kept { (q : ℕ) → IsTrue (is_ready_in self.old q) → IsTrue (is_ready_in self.new q) }
         ensures own { own_in self.new ≡ own_in self.old }
     {
@@ -106,8 +107,8 @@ impl Cells {
         }
     }
 
-    /// Makes the owned pages shared, so that a snapshot only needs a reference to each. No byte changes. `Err` means out of
-    /// memory; some pages may then be shared.
+    /// Makes the owned pages shared, by a copy of each, so that a snapshot only needs a reference to each. No byte changes. `Err`
+    /// means out of memory; some pages may then be shared.
     pub fn share(&mut self) -> Result<(), AllocError>
         ensures shared { OnOk result ((q : ℕ) → is_ready_in self.new q ≡ false) }
         ensures own { own_in self.new ≡ own_in self.old }
@@ -137,6 +138,7 @@ fn make_ready(slots: &mut Vec<Slot>, at: usize, alloc: Global) -> Result<(), All
     ensures len { vec_len slots.new ≡ vec_len slots.old }
     ensures ready { OnOk result (IsTrue (is_owned_at slots.new.items at)) }
     ensures err { OnErr result (ready_at slots.new.items ≡ ready_at slots.old.items) }
+    ensures refused { OnErr result (is_owned_at slots.old.items at ≡ false) }
     ensures kept { (q : ℕ) → IsTrue (ready_at slots.old.items q) → IsTrue (ready_at slots.new.items q) }
     ensures own { own_at slots.new.items ≡ own_at slots.old.items }
 {

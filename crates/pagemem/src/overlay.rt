@@ -91,8 +91,9 @@ impl Overlay {
         while let Some(_) = self.take_look() {}
     }
 
-    /// Returns the written bytes, in pages that are then shared with this overlay: each costs a reference. What was written
-    /// and looked at does not change, but cells may have to be made ready again. `Err` means out of memory.
+    /// Returns the written bytes, in pages that are then shared with this overlay: a page that was owned is copied, and any
+    /// other costs a reference. What was written and looked at does not change, but cells may have to be made ready again. `Err`
+    /// means out of memory.
     pub fn shared_cells(&mut self) -> Result<Cells, AllocError>
         ensures cells { IfOk result (λ c. own_in c ≡ own_of self.old) }
         ensures shared { IfOk result (λ c. (q : ℕ) → is_ready_in c q ≡ false) }
@@ -103,11 +104,13 @@ impl Overlay {
         self.cells.snapshot()
     }
 
-    /// Makes a cell ready to be written. No byte and no look changes. `Err` means out of memory; nothing has then changed.
+    /// Makes a cell ready to be written. No byte and no look changes. `Err` means out of memory; the cell was then not ready, and
+    /// nothing has changed.
     #[inline(always)]
     pub fn ready(&mut self, a: u16) -> Result<(), AllocError>
         ensures ready { OnOk result (IsTrue (is_ready_at self.new a)) }
         ensures err { OnErr result (is_ready_at self.new ≡ is_ready_at self.old) }
+        ensures refused { OnErr result (is_ready_at self.old a ≡ false) }
         ensures kept { (q : ℕ) → IsTrue (is_ready_at self.old q) → IsTrue (is_ready_at self.new q) }
         ensures own { own_of self.new ≡ own_of self.old }
         ensures looks { looks_of self.new ≡ looks_of self.old }
@@ -221,10 +224,13 @@ impl Overlay {
     }
 
     /// Makes `count` cells ready, starting at `at`; the cell after 0FFFFH is 0000H. No byte and no look changes. `Err` means
-    /// out of memory; some of the cells may then be ready. Cells that were ready always stay ready.
+    /// out of memory; one of the cells was then not ready, and some may be ready now. Cells that were ready always stay ready.
+    #[tactic(auto, using(i8080::proofs::ReadyLemmas::unready_before))]
     pub fn ready_cells(&mut self, at: u16, count: u16) -> Result<(), AllocError>
         ensures ready { OnOk result ((i : ℕ) → i < count
             → IsTrue (is_ready_at self.new (onward at i))) }
+        ensures refused { OnErr result ((i : ℕ) × (i < count)
+            × (is_ready_at self.old (onward at i) ≡ false)) }
         ensures kept { (q : ℕ) → IsTrue (is_ready_at self.old q) → IsTrue (is_ready_at self.new q) }
         ensures own { own_of self.new ≡ own_of self.old }
         ensures looks { looks_of self.new ≡ looks_of self.old }
@@ -324,8 +330,8 @@ impl Overlay {
         Some(last)
     }
 
-    /// Makes the owned pages shared, so that a snapshot only needs a reference to each. What was written and looked at does
-    /// not change, but cells may have to be made ready again. `Err` means out of memory.
+    /// Makes the owned pages shared, by a copy of each, so that a snapshot only needs a reference to each. What was written and
+    /// looked at does not change, but cells may have to be made ready again. `Err` means out of memory.
     pub fn share(&mut self) -> Result<(), AllocError>
         ensures shared { OnOk result ((q : ℕ) → is_ready_at self.new q ≡ false) }
         ensures own { own_of self.new ≡ own_of self.old }

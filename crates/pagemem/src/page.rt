@@ -135,10 +135,12 @@ fn either(is_first: bool, first: u8, second: u8) -> u8
 }
 
 impl Slot {
-    /// Makes the page owned: a new page, or a copy of a shared one. `Err` means out of memory; the slot is then unchanged.
+    /// Makes the page owned: a new page, or a copy of a shared one. Only a page that is not owned allocates. `Err` means out of
+    /// memory; the slot is then unchanged.
     #[inline(always)]
     pub fn make_owned(&mut self, alloc: Global) -> Result<(), AllocError>
         ensures owned { OnOk result (IsTrue (is_owned self.new)) }
+        ensures refused { OnErr result (is_owned self.old ≡ false) }
         ensures kept { IsTrue (is_owned self.old) → IsTrue (is_owned self.new) }
         ensures own { slot_own self.new ≡ slot_own self.old }
         ensures err { OnErr result (self.new ≡ self.old) }
@@ -154,6 +156,7 @@ impl Slot {
     #[inline(never)]
     fn own(&mut self, alloc: Global) -> Result<(), AllocError>
         ensures owned { OnOk result (IsTrue (is_owned self.new)) }
+        ensures refused { OnErr result (is_owned self.old ≡ false) }
         ensures kept { IsTrue (is_owned self.old) → IsTrue (is_owned self.new) }
         ensures own { slot_own self.new ≡ slot_own self.old }
         ensures err { OnErr result (self.new ≡ self.old) }
@@ -167,7 +170,7 @@ impl Slot {
         Ok(())
     }
 
-    /// Makes an owned page shared. `Err` means out of memory; the slot is then unchanged.
+    /// Makes an owned page shared, by a copy of it. `Err` means out of memory; the slot is then unchanged.
     pub fn share(&mut self, alloc: Global) -> Result<(), AllocError>
         ensures shared { OnOk result (is_owned self.new ≡ false) }
         ensures own { slot_own self.new ≡ slot_own self.old }

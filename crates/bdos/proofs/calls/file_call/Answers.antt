@@ -7,12 +7,12 @@ use Rattle.bdos.proofs.calls.file_call.Goals as goal
 
 pub returns-in-Ok-clause-makes : goal.returns-in-Ok-clause-makes
 returns-in-Ok-clause-makes g c script =
-    heads script _ _ (λ b to. bind_files (finding_of c.args.function b) (λ x. call_with_finding x c.args.regs.now c.args.desk.now.desk.spot to)) (sym c.block_length.ensures) c.word_of-at.ensures c.drive.ensures c.fetch-dr.ensures (search rules) c.fetch_block-block.ensures c.fetch_word-to.ensures
+    heads script _ _ (λ b to. bind_files (finding_of c.args.function b) (λ x. call_with_finding x c.args.regs.now c.args.desk.now.desk.spot to)) (sym c.block_length.ensures) c.word_of-at.ensures c.drive.ensures c.fetch-dr.ensures.reads (search rules) c.fetch_block-block.ensures c.fetch_word-to.ensures.reads
     (after_files script _ (λ x. call_with_finding x c.args.regs.now c.args.desk.now.desk.spot c.fetch_word-to.result) _ (answered_as (finding_of c.args.function c.fetch_block-block.result) c.args.table.now.host.now c.in-Ok.is c.inquire.ensures.asks) (c.apply_finding.ensures.makes script))
 
 pub returns-in-Err-clause-makes : goal.returns-in-Err-clause-makes
 returns-in-Err-clause-makes g c script =
     let h = c.inquire.ensures.asks in
     let bound = answered_as (finding_of c.args.function c.fetch_block-block.result) c.args.table.now.host.now c.in-Err.is h in
-    heads script _ _ (λ b to. bind_files (finding_of c.args.function b) (λ x. call_with_finding x c.args.regs.now c.args.desk.now.desk.spot to)) (sym c.block_length.ensures) c.word_of-at.ensures c.drive.ensures c.fetch-dr.ensures (search rules) c.fetch_block-block.ensures c.fetch_word-to.ensures
+    heads script _ _ (λ b to. bind_files (finding_of c.args.function b) (λ x. call_with_finding x c.args.regs.now c.args.desk.now.desk.spot to)) (sym c.block_length.ensures) c.word_of-at.ensures c.drive.ensures c.fetch-dr.ensures.reads (search rules) c.fetch_block-block.ensures c.fetch_word-to.ensures.reads
     (fails_asking script (finding_of c.args.function c.fetch_block-block.result) (λ x. call_with_finding x c.args.regs.now c.args.desk.now.desk.spot c.fetch_word-to.result) refl refl refl (ap (λ j. j.entries) h.stays) h.extends bound.bound refl refl (λ j. refl))

@@ -7,4 +7,4 @@ use Rattle.bdos.proofs.calls.search_next_call.Goals as goal
 
 pub returns-clause-makes : goal.returns-clause-makes
 returns-clause-makes g c script =
-    after_read script _ (λ to. bind_files (search_next c.args.desk.now.desk.spot.search) (λ x. call_with_finding x c.args.regs.now c.args.desk.now.desk.spot to)) _ c.fetch_word-to.ensures (after_files script (search_next c.args.desk.now.desk.spot.search) (λ x. call_with_finding x c.args.regs.now c.args.desk.now.desk.spot c.fetch_word-to.result) c.search_next-finding.result (asked_as c.args.table.now.host.now (ap search_next c.search.ensures) c.search_next-finding.ensures.asks) (c.apply_finding.ensures.makes script))
+    after_read script _ (λ to. bind_files (search_next c.args.desk.now.desk.spot.search) (λ x. call_with_finding x c.args.regs.now c.args.desk.now.desk.spot to)) _ c.fetch_word-to.ensures.reads (after_files script (search_next c.args.desk.now.desk.spot.search) (λ x. call_with_finding x c.args.regs.now c.args.desk.now.desk.spot c.fetch_word-to.result) c.search_next-finding.result (asked_as c.args.table.now.host.now (ap search_next c.search.ensures) c.search_next-finding.ensures.asks) (c.apply_finding.ensures.makes script))

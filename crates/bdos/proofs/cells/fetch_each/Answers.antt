@@ -6,8 +6,8 @@ use Rattle.bdos.proofs.cells.fetch_each.Goals as goal
 pub loop-i-preserved : goal.loop-i-preserved
 loop-i-preserved g c =
     let i = c.loop-i.invariant in
-    let value = byte_read (g.B.Bus.memory c.args.bus.now) _ _ _ _ c.fetch.ensures i.own i.beneath in
-    let looked = looked_at (g.B.Bus.memory c.args.bus.now) _ _ _ _ c.fetch.ensures i.own i.beneath in
+    let value = byte_read (g.B.Bus.memory c.args.bus.now) _ _ _ _ c.fetch.ensures.reads i.own i.beneath in
+    let looked = looked_at (g.B.Bus.memory c.args.bus.now) _ _ _ _ c.fetch.ensures.reads i.own i.beneath in
     record {
       count = search rules;
       taken = taken_on _ (length c.args.cells.now) c.loop-i.i _ _ c.loop-i.cells (omega arith) (omega arith) value ∙ i.taken;

@@ -7,8 +7,8 @@ use Rattle.console_calls.proofs.calls.print_until_dollar.Goals as goal
 pub loop-cell-preserved : goal.loop-cell-preserved
 loop-cell-preserved g c =
     let i = c.loop-cell.invariant in
-    let value = byte_read (g.B.Bus.memory c.args.bus.now) _ _ _ _ c.fetch-byte.ensures i.own i.beneath in
-    let looked = looked_at (g.B.Bus.memory c.args.bus.now) _ _ _ _ c.fetch-byte.ensures i.own i.beneath in
+    let value = byte_read (g.B.Bus.memory c.args.bus.now) _ _ _ _ c.fetch-byte.ensures.reads i.own i.beneath in
+    let looked = looked_at (g.B.Bus.memory c.args.bus.now) _ _ _ _ c.fetch-byte.ensures.reads i.own i.beneath in
     record {
       desk = desk_on _ 65536 c.loop-cell._cell _ _ _ _ (omega arith) value (omega arith) c.in_ok-print.ensures.ok ∙ i.desk;
       looks = looks_on _ _ _ _ 65536 c.loop-cell._cell _ _ (omega arith) value (omega arith) looked ∙ i.looks;
@@ -23,8 +23,8 @@ loop-cell-preserved g c =
 pub returns-then-byte-eq36-clause-scans : goal.returns-then-byte-eq36-clause-scans
 returns-then-byte-eq36-clause-scans g c =
     let i = c.loop-cell.invariant in
-    let value = byte_read (g.B.Bus.memory c.args.bus.now) _ _ _ _ c.fetch-byte.ensures i.own i.beneath in
-    let looked = looked_at (g.B.Bus.memory c.args.bus.now) _ _ _ _ c.fetch-byte.ensures i.own i.beneath in
+    let value = byte_read (g.B.Bus.memory c.args.bus.now) _ _ _ _ c.fetch-byte.ensures.reads i.own i.beneath in
+    let looked = looked_at (g.B.Bus.memory c.args.bus.now) _ _ _ _ c.fetch-byte.ensures.reads i.own i.beneath in
     let whole = sym (desk_here _ 65536 c.loop-cell._cell _ _ c.loop-cell.desk.desk (omega arith) value c.if-byte-eq36.true) ∙ i.desk in
     record {
       reads = record {

@@ -1,5 +1,5 @@
 use Rattle.std.proofs.Common.{ap, sym, ◌∙◌, arith}
-use Rattle.console_calls.specs.Types.{line_step_of}
+use Rattle.console_calls.specs.LineAgrees.{line_step_of}
 use Rattle.console_calls.proofs.Typing.{goes_typed, full_types, ends_types, boots_types, short_types, byte_is, no_byte}
 use Rattle.console_calls.proofs.line.take_line.Goals as goal
 
