@@ -128,8 +128,9 @@ impl Runner {
         })
     }
 
-    /// Returns a runner for a session that is run once. It has no slots, so it never has a checkpoint. Its runs are not noted, which
-    /// `alloc_failures` counts as one failed allocation: they take less time and memory. `Err` means out of memory.
+    /// Returns a runner for a session that is run once. It has no slots, so it never has a checkpoint. Its runs note no looks, which
+    /// takes less time and memory; `alloc_failures` counts one failed allocation for a run that executes a step. `Err` means out of
+    /// memory.
     pub fn for_one_run(alloc: Global, session: Session) -> Result<Runner, AllocError>
         ensures { IfOk result (λ r. r ≡ with_no_checkpoint session once) }
     {
