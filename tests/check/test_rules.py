@@ -244,9 +244,9 @@ class PathTest(RulesTest):
         with tempfile.TemporaryDirectory(dir=self.work) as name:
             room = name.encode()
             paths = {'target': b'made', 'program': b'it.com', 'folder': b'disk', 'script': b'typed', role: path}
-            os.mkdir(os.path.join(room, paths['folder']))
             inside = paths['folder'] + b'/X'
             for file, data in (paths['target'], b''), (paths['program'], READ_AND_SEARCH), (paths['script'], b'x'), (inside, b''):
+                os.makedirs(os.path.dirname(os.path.join(room, file)), exist_ok=True)
                 with open(os.path.join(room, file), 'wb') as out:
                     out.write(data)
             words = [b'--make=' + paths['target'], b'--files=' + paths['folder'], b'--console=' + paths['script'], b'--', paths['program'], b'*.*']
