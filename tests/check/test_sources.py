@@ -131,13 +131,20 @@ command_words::read_dependency_words
 command_words::read_words
 cpmdeps::main
 cpmrun::replay_file
+dependency_command::check_paths
+dependency_command::list_drives
+dependency_command::refusal
+dependency_command::rule_of
+dependency_command::two_forms
 dependency_command::write_listing
 dependency_command::write_rule
 edit_lines::execute_edit
 edit_lines::hex_bytes
 executable::main
-folders::count
-folders::read_folder
+folders::add_file
+folders::host_file
+folders::list
+folders::note
 folders::read_one
 folders::set
 folders::read_failure
@@ -146,7 +153,6 @@ folders::write_file
 hostfiles::number
 loading::read_fault
 loading::tail_of
-make_rules::list_drive
 one_run::report_stop
 one_run::run_and_report
 one_run::run_once
@@ -252,7 +258,7 @@ class SourcesTest(RuleTest):
         self.refuse(line for root in roots for line in undescribed(root))
 
     def test_clauses_have_at_most_110_columns(self) -> None:
-        may = re.compile(r' *(//|ghost use|use |pub use|"|help: ")')
+        may = re.compile(r' *(//|#\[|ghost use|use |pub use|"|help: ")')
         paths = [path for crate in read_crates() if not crate.is_test for path in crate.sources()]
         self.refuse(line for path in paths for line in lines_of(path) if len(line.text) > 110 and not may.match(line.text))
 

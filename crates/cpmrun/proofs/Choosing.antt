@@ -16,11 +16,11 @@ use Rattle.cpmrun.specs.MeteredEnds.{MeteredEnds, WritesReplayBy, options_of}
 
 module _ (words : List (List ℕ)) (w : Words) (are : AreWords words w) (s : Session) (before after : World) (steps : ℕ) (of : IsSessionOf before w s) where
   -- The session was run once.
-  pub ran_once : (status : ℕ) → w.edits ≡ None → after.files.failures ≡ before.files.failures → RunsOnce w.out s status before after → MeteredEnds words status before after steps
+  pub ran_once : (status : ℕ) → w.edits ≡ None → after.files.failed ≡ before.files.failed → RunsOnce w.out s status before after → MeteredEnds words status before after steps
   ran_once status e same h = (same, inr (w, are, (s, of, rw e h)))
 
   -- The edit lines were replayed.
-  pub replayed : (path : Bor (List ℕ)) → w.edits ≡ Some path → after.err ≡ before.err → after.files.bytes ≡ before.files.bytes → after.files.failures ≡ before.files.failures
+  pub replayed : (path : Bor (List ℕ)) → w.edits ≡ Some path → after.err ≡ before.err → after.files.bytes ≡ before.files.bytes → after.files.failed ≡ before.files.failed
       → WritesReplayBy (text_at before.files.bytes path.now) (with_no_checkpoint s (options_of w)) before.out after.out steps → MeteredEnds words 0 before after steps
   replayed path e err files same h = (same, inr (w, are, (s, of, rw e (refl, err, files, h))))
 

@@ -1,7 +1,6 @@
 -- What a replay wrote, and what it read.
-use Rattle.std.proofs.Common.{◌≡◌, ◌<◌, ◌+◌, arith, ℕ, List, ◌++◌, append-nil, refl, sym, ap, subst, ◌∙◌, ◌⊎◌, inl, inr, Option, Some, None, Result, Ok, Err, IfOk, IfSome, OnOk}
-use Rattle.std.proofs.Math.Nat.{min-eq_left}
-use Rattle.std.specs.Prelude.{min}
+use Rattle.std.proofs.Common.{◌≡◌, ◌<◌, arith, ℕ, List, [], ◌∷◌, ◌++◌, take, append-nil, refl, sym, ap, subst, ◌∙◌, ◌⊎◌, inl, inr, Option, Some, None, Result, Ok, Err, IfOk, IfSome, OnOk}
+use Rattle.std.proofs.lemmas.List.{take_all}
 use Rattle.std.specs.Io.KnownBytes.{Consumes, IsAtEnd}
 use Rattle.machine.specs.Inputs.{Session}
 use Rattle.edit_lines.specs.declared.ending.Ending.{Ending}
@@ -60,6 +59,8 @@ breaks_file files path left f s before after o b = elim (of_file files path left
   | inr e ↦ subst (λ source. BreaksOffWith f source s before after) (sym e) (record { left = b.left; last = b.last; bytes = b.bytes; read = tt; leaves = b.leaves })
 ]
 
--- A reader that had not failed failed, and that was counted.
-pub one_failed : (begun ended before middle after : ℕ) → begun ≡ 0 → begun < ended → middle ≡ before → after ≡ middle + min 1 ended → after ≡ before + 1
-one_failed begun ended before middle after none more same counted = counted ∙ ap (λ m. middle + m) (min-eq_left (omega (arith, none, more))) ∙ ap (λ m. m + 1) same
+-- A reader that had not failed failed, and that was noted.
+pub one_failed : (begun ended : ℕ) (path : Path) (before middle after : List Path) → begun ≡ 0 → begun < ended → middle ≡ before → after ≡ take ended (path ∷ []) ++ middle
+    → after ≡ path ∷ before
+one_failed begun ended path before middle after none more same added =
+    added ∙ ap (λ paths. paths ++ middle) (take_all ended (path ∷ []) (omega (arith, none, more))) ∙ ap (λ paths. path ∷ paths) same

@@ -70,7 +70,7 @@ Completes IsReplayed w s status before after = MatchOption w.edits
 -- How the program ends without an error: it wrote help or the version, or the session was completed. No call of the file system
 -- failed. `IsReplayed` holds for a replay.
 abbrev pub EndsBy : (Words → Session → List ℕ → Type 0) → List (List ℕ) → ℕ → World → World → Type 0
-EndsBy IsReplayed words status before after = (after.files.failures ≡ before.files.failures) × (
+EndsBy IsReplayed words status before after = (after.files.failed ≡ before.files.failed) × (
     (HasErrorClass (run_faults words) Information × (status ≡ 0) × (after.err ≡ before.err) × (after.files.bytes ≡ before.files.bytes) × ((text : List ℕ) × WritesWhole before.out after.out text))
     ⊎ ((w : Words) × AreWords words w × ((s : Session) × IsSessionOf before w s × Completes (IsReplayed w s) w s status before after)))
 

@@ -4,8 +4,8 @@ ghost use Rattle.std.specs.Prelude.{◌≡◌, ◌⊎◌, ◌^◌, ◌<◌, ℕ,
 ghost use Rattle.machine.specs.Inputs.{Session};
 ghost use Rattle.replay.specs.Options.{refusal_of};
 ghost use Rattle.replay.specs.RunnerView.{with_no_checkpoint};
-ghost use Rattle.folders.specs.Failures.{CountsFailures, KeepsFiles};
-ghost use Rattle.requests.specs.FaultReports.{file_failures};
+ghost use Rattle.folders.specs.Failures.{KeepsFiles, ReportsPaths};
+ghost use Rattle.requests.specs.FaultReports.{file_paths};
 ghost use Rattle.cpmrun.specs.Ends.{BreaksOffWith, BreaksReplay, EndsWithoutFault, EndsByFault, FaultOf};
 ghost use Rattle.cpmrun.specs.MeteredEnds.{MeteredEnds, WritesReplayBy, options_of};
 ghost use Rattle.one_run.specs.World.{world};
@@ -68,7 +68,6 @@ fn replay_file<'a, S: FileSystem, O: Writer>(
     meter: &mut Meter,
     out: &mut O,
 ) -> Result<(), Fault<'a>>
-    requires system { (S.files system.old).failures < 2 ^ 63 }
     requires options { refusal_of options ≡ None }
     requires meter { meter.old ≡ 0 }
     requires out { (O.output out.old).failures < 2 ^ 63 }
@@ -78,7 +77,7 @@ fn replay_file<'a, S: FileSystem, O: Writer>(
     ensures fault { IfErr result
         (BreaksReplay path.now (text_at (S.files system.old).bytes path.now) session
         (O.output out.old) (O.output out.new)) }
-    ensures unchanged { KeepsFiles file_failures result (S.files system.old) (S.files system.new) }
+    ensures unchanged { KeepsFiles file_paths result (S.files system.old) (S.files system.new) }
 {
     let input = open(system, path)?;
     let mut edits = EditFile { input };
@@ -87,7 +86,7 @@ fn replay_file<'a, S: FileSystem, O: Writer>(
         Err(ReplayFault::Malformed(line)) => Err(Fault::Malformed(line)),
         Err(ReplayFault::LineTooLong(line)) => Err(Fault::TooLong(line)),
         Err(ReplayFault::Read) => {
-            system.count_failed_reads(&edits.input);
+            system.note_failed_reads(path, &edits.input);
             Err(Fault::CannotRead(path))
         }
         Err(ReplayFault::Write) => Err(Fault::CannotWrite),
@@ -104,7 +103,6 @@ fn run<'a, S: FileSystem, O: Writer, E: Writer>(
     err: &mut E,
 ) -> Result<u8, Fault<'a>>
     requires meter { meter.old ≡ 0 }
-    requires system { (S.files system.old).failures < 2 ^ 63 }
     requires out { (O.output out.old).failures < 2 ^ 63 }
     requires err { (E.output err.old).failures < 2 ^ 63 }
     ensures done { IfOk result (λ status. MeteredEnds (map string_bytes words.entry.now) status
@@ -114,7 +112,7 @@ fn run<'a, S: FileSystem, O: Writer, E: Writer>(
         (world (S.files system.old) (O.output out.old) (E.output err.old))
         (world (S.files system.new) (O.output out.new) (E.output err.new))) }
     ensures untold { OnErr result (err.new ≡ err.old) }
-    ensures failures { CountsFailures file_failures result (S.files system.old) (S.files system.new) }
+    ensures failed { ReportsPaths file_paths result (S.files system.old) (S.files system.new) }
 {
     let words = match read_request(system.alloc(), words)? {
         Request::Session(words) => words,
@@ -140,7 +138,6 @@ pub fn metered_command<S: FileSystem, O: Writer, E: Writer>(
     err: &mut E,
 ) -> u8
     requires meter { meter.old ≡ 0 }
-    requires system { (S.files system.old).failures < 2 ^ 63 }
     requires out { (O.output out.old).failures < 2 ^ 63 }
     requires err { (E.output err.old).failures < 2 ^ 63 }
     ensures ends { let before = world (S.files system.old) (O.output out.old) (E.output err.old) in
@@ -166,7 +163,6 @@ pub fn command<S: FileSystem, O: Writer, E: Writer>(
     out: &mut O,
     err: &mut E,
 ) -> u8
-    requires system { (S.files system.old).failures < 2 ^ 63 }
     requires out { (O.output out.old).failures < 2 ^ 63 }
     requires err { (E.output err.old).failures < 2 ^ 63 }
     ensures ends { let before = world (S.files system.old) (O.output out.old) (E.output err.old) in

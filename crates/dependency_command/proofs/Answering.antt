@@ -10,7 +10,7 @@ use Rattle.make_rules.specs.Drives.{FailsToListAny}
 use Rattle.one_run.specs.World.{world}
 use Rattle.report_lines.specs.Streams.{Output}
 use Rattle.folders.specs.Failures.{KeepsFiles}
-use Rattle.requests.specs.FaultReports.{file_failures, of_load}
+use Rattle.requests.specs.FaultReports.{file_paths, of_load}
 use Rattle.requests.specs.declared.fault.Fault.{Fault}
 use Rattle.dependency_command.specs.AreDependencyWords.{AreDependencyWords}
 use Rattle.dependency_command.specs.Answers.{BreaksAnswer, IsAnswer, IsAnswerWithout, ReportsAnswer, WritesAnswer}
@@ -31,17 +31,17 @@ module _ (words : List (List ℕ)) (w : DependencyWords) (are : AreDependencyWor
   -- The session is loaded from these files, and the answer is made from the same ones.
   module _ (s : Session) (of : IsLoadedFrom files w.session s) (allowed : refuses_rule w ≡ false) (out written : Output) (loaded : StoredFiles)
       (bytes : loaded.bytes ≡ files.bytes) (names : loaded.names ≡ files.names) where
-    pub answered : {T : Type 0} (r : Result T Fault) (err told : Output) → loaded.failures ≡ files.failures → KeepsFiles file_failures r loaded now
+    pub answered : {T : Type 0} (r : Result T Fault) (err told : Output) → loaded.failed ≡ files.failed → KeepsFiles file_paths r loaded now
         → OnOk r (WritesAnswer (IsAnswer w loaded.bytes loaded.names s) out written) → OnOk r (ReportsAnswer w s err told)
         → OnOk r (EndsWithAnswer words 0 (world files out err) (world now written told))
     answered (Ok x) err told same keeps h reported = record {
       zero = refl;
-      failures = keeps.failures ∙ same;
+      failed = keeps.failed ∙ same;
       writes = inr (record { w = w; are = are; allowed = allowed; s = s; of = of; written = rw (bytes, names) at h; reported = reported });
     }
     answered (Err f) err told same keeps h reported = tt
 
     pub unanswered : {T : Type 0} (r : Result T Fault)
-        → IfErr r (BreaksAnswer (IsAnswer w loaded.bytes loaded.names s) (IsAnswerWithout w loaded.bytes loaded.names s) (FailsToListAny w.session.files) out written)
+        → IfErr r (BreaksAnswer (IsAnswer w loaded.bytes loaded.names s) (IsAnswerWithout w loaded.bytes loaded.names s) (FailsToListAny loaded w.session.files) out written)
         → IfErr r (λ fault. (err : Output) → FaultOf words (world files out err) (world now written err) fault)
     unanswered r h = IfErr-weaker r _ _ (λ f breaks err. inr (inr (w, are, inr (allowed, inr (s, of, rw (bytes, names) at breaks))))) h

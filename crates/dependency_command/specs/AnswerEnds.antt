@@ -43,10 +43,10 @@ pub record Informs (words : List (List ℕ)) (before after : World) : Type 0 whe
 -- How the program ends without an error: it wrote help or the version, or the answer. No call of the file system failed.
 pub record EndsWithAnswer (words : List (List ℕ)) (status : ℕ) (before after : World) : Type 0 where
   pub zero : status ≡ 0
-  pub failures : after.files.failures ≡ before.files.failures
+  pub failed : after.files.failed ≡ before.files.failed
   pub writes : Informs words before after ⊎ AnswersWords words before after
 
--- A rule for make is asked for that cannot have one of the paths, or there was no memory to tell, and nothing was written.
+-- A rule for make is asked for that cannot have one of the paths, or an allocation failed, and nothing was written.
 abbrev pub RefusesRule : DependencyWords → World → World → Fault → Type 0
 RefusesRule w before after fault = FailsPaths w fault × WritesNothing before after
 
@@ -63,7 +63,7 @@ FaultOf words before after fault =
     ⊎ ((w : DependencyWords) × AreDependencyWords words w × (RefusesRule w before after fault
     ⊎ ((refuses_rule w ≡ false) × (FailsToLoadSession w.session before after fault
     ⊎ ((s : Session) × IsLoadedFrom before.files w.session s
-    × BreaksAnswer (IsAnswerFor before.files w s) (IsAnswerWithout w before.files.bytes before.files.names s) (FailsToListAny w.session.files)
+    × BreaksAnswer (IsAnswerFor before.files w s) (IsAnswerWithout w before.files.bytes before.files.names s) (FailsToListAny before.files w.session.files)
     before.out after.out fault)))))
 
 -- An error of these words occurred and was reported.

@@ -5,7 +5,7 @@ ghost use Rattle.folders.specs.Failures.{KeepsFiles};
 ghost use Rattle.one_run.specs.World.{world};
 ghost use Rattle.dependency_lines.specs.Listing.{stop_line};
 ghost use Rattle.report_lines.specs.Streams.{Output, WritesOrFails};
-ghost use Rattle.requests.specs.FaultReports.{file_failures};
+ghost use Rattle.requests.specs.FaultReports.{file_paths};
 ghost use Rattle.make_rules.specs.Drives.{FailsToListAny, ListsDrives};
 ghost use Rattle.dependency_command.specs.Answers.{BreaksAnswer, IsAnswerWithout, IsListing, IsRule, IsRuleWithout};
 ghost use Rattle.dependency_command.specs.Answers.{ReportsAnswer, ReportsStop, WritesAnswer, rows_of};
@@ -63,11 +63,10 @@ fn list_drives<'a, S: FileSystem>(
     system: &mut S,
     folders: &[Option<&'a str>; 4],
 ) -> Result<[Option<DriveFolder<'a>>; 4], Fault<'a>>
-    requires { (S.files system.old).failures < 2 ^ 63 }
     ensures lists { IfOk result (λ found. IfSome (S.files system.old).bytes (λ stored.
         ListsDrives stored (S.files system.old).names folders.now found)) }
-    ensures fault { IfErr result (IsListFault (FailsToListAny folders.now)) }
-    ensures unchanged { KeepsFiles file_failures result (S.files system.old) (S.files system.new) }
+    ensures fault { IfErr result (IsListFault (FailsToListAny (S.files system.old) folders.now)) }
+    ensures unchanged { KeepsFiles file_paths result (S.files system.old) (S.files system.new) }
 {
     match list_folders(system, folders) {
         Ok(drives) => Ok(drives),
@@ -84,13 +83,12 @@ fn rule_of<'a, S: FileSystem>(
     target: &'a str,
     dependencies: &Dependencies,
 ) -> Result<Vec<u8>, Fault<'a>>
-    requires { (S.files system.old).failures < 2 ^ 63 }
     ensures rule { let files = S.files system.old in IfOk result (λ text.
         IsRuleFrom words.now target.entry files.bytes files.names session.now dependencies.now text.items) }
     ensures fault { let files = S.files system.old in IfErr result
         (BreaksRule words.now target.entry files.bytes files.names session.now dependencies.now
-        (FailsToListAny words.now.files)) }
-    ensures unchanged { KeepsFiles file_failures result (S.files system.old) (S.files system.new) }
+        (FailsToListAny files words.now.files)) }
+    ensures unchanged { KeepsFiles file_paths result (S.files system.old) (S.files system.new) }
 {
     let drives = list_drives(system, &words.files)?;
     let rule_words = RuleWords {
@@ -115,7 +113,6 @@ fn write_rule<'a, S: FileSystem, O: Writer, E: Writer>(
     out: &mut O,
     err: &mut E,
 ) -> Result<(), Fault<'a>>
-    requires system { (S.files system.old).failures < 2 ^ 63 }
     requires out { (O.output out.old).failures < 2 ^ 63 }
     requires err { (E.output err.old).failures < 2 ^ 63 }
     ensures done { let files = S.files system.old in OnOk result
@@ -125,9 +122,9 @@ fn write_rule<'a, S: FileSystem, O: Writer, E: Writer>(
     ensures fault { let files = S.files system.old in IfErr result
         (BreaksAnswer (IsRule words.now target.entry files.bytes files.names session.now)
         (IsRuleWithout words.now target.entry files.bytes files.names session.now)
-        (FailsToListAny words.now.files) (O.output out.old) (O.output out.new)) }
+        (FailsToListAny files words.now.files) (O.output out.old) (O.output out.new)) }
     ensures unreported { OnErr result (err.new ≡ err.old) }
-    ensures unchanged { KeepsFiles file_failures result (S.files system.old) (S.files system.new) }
+    ensures unchanged { KeepsFiles file_paths result (S.files system.old) (S.files system.new) }
 {
     let Ok(dependencies) = Dependencies::of_run(system.alloc(), session) else {
         return Err(Fault::OutOfMemory);
@@ -158,7 +155,6 @@ fn write_answer<'a, S: FileSystem, O: Writer, E: Writer>(
     out: &mut O,
     err: &mut E,
 ) -> Result<(), Fault<'a>>
-    requires system { (S.files system.old).failures < 2 ^ 63 }
     requires out { (O.output out.old).failures < 2 ^ 63 }
     requires err { (E.output err.old).failures < 2 ^ 63 }
     ensures done { OnOk result
@@ -169,9 +165,9 @@ fn write_answer<'a, S: FileSystem, O: Writer, E: Writer>(
     ensures fault { let files = S.files system.old in IfErr result
         (BreaksAnswer (IsAnswerFor files words.now session.now)
         (IsAnswerWithout words.now files.bytes files.names session.now)
-        (FailsToListAny words.now.session.files) (O.output out.old) (O.output out.new)) }
+        (FailsToListAny files words.now.session.files) (O.output out.old) (O.output out.new)) }
     ensures unreported { OnErr result (err.new ≡ err.old) }
-    ensures unchanged { KeepsFiles file_failures result (S.files system.old) (S.files system.new) }
+    ensures unchanged { KeepsFiles file_paths result (S.files system.old) (S.files system.new) }
 {
     match words.target {
         Some(target) => write_rule(system, session, &words.session, target, out, err),
@@ -186,7 +182,6 @@ fn run<'a, S: FileSystem, O: Writer, E: Writer>(
     out: &mut O,
     err: &mut E,
 ) -> Result<(), Fault<'a>>
-    requires system { (S.files system.old).failures < 2 ^ 63 }
     requires out { (O.output out.old).failures < 2 ^ 63 }
     requires err { (E.output err.old).failures < 2 ^ 63 }
     ensures done { OnOk result (EndsWithAnswer (map string_bytes words.entry.now) 0
@@ -196,7 +191,7 @@ fn run<'a, S: FileSystem, O: Writer, E: Writer>(
         (world (S.files system.old) (O.output out.old) err)
         (world (S.files system.new) (O.output out.new) err) fault) }
     ensures unreported { OnErr result (err.new ≡ err.old) }
-    ensures unchanged { KeepsFiles file_failures result (S.files system.old) (S.files system.new) }
+    ensures unchanged { KeepsFiles file_paths result (S.files system.old) (S.files system.new) }
 {
     let words = match read_request(system.alloc(), words)? {
         Request::Session(words) => words,
@@ -216,7 +211,6 @@ pub fn dependency_command<S: FileSystem, O: Writer, E: Writer>(
     out: &mut O,
     err: &mut E,
 ) -> u8
-    requires system { (S.files system.old).failures < 2 ^ 63 }
     requires out { (O.output out.old).failures < 2 ^ 63 }
     requires err { (E.output err.old).failures < 2 ^ 63 }
     ensures ends { let before = world (S.files system.old) (O.output out.old) (E.output err.old) in

@@ -53,8 +53,10 @@ fn refused_folder<'a>(
 ) -> Result<Option<&'a str>, AllocError>
     ensures some { IfOk result (λ found. IfSome found (λ word.
         Contains folders.now (Some word) × (is_carried (folder_path word.now) ≡ false))) }
-    ensures any { IfOk result (λ found. IfSome found (λ _. list_any texts.is_refused_folder folders.now ≡ true)) }
-    ensures none { IfOk result (λ found. IfNone found (list_any texts.is_refused_folder folders.now ≡ false)) }
+    ensures any { IfOk result (λ found.
+        IfSome found (λ _. list_any texts.is_refused_folder folders.now ≡ true)) }
+    ensures none { IfOk result (λ found.
+        IfNone found (list_any texts.is_refused_folder folders.now ≡ false)) }
 {
     for folder in folders {
         if is_refused_folder(alloc, *folder)? {

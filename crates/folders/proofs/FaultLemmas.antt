@@ -1,6 +1,9 @@
 -- Why files and folders are not read.
-use Rattle.std.proofs.Common.{◌≡◌, ◌≢◌, ℕ, ◌+◌, ◌<◌, List, true, false, is_some, Option, Some, None, IfSome, IfErr, Result, Ok, Err, inr, refl, sym, ap, subst, ◌∙◌, slice_index, arith}
+use Rattle.std.proofs.Common.{◌≡◌, ◌≢◌, ℕ, ◌+◌, ◌<◌, List, get_or, length, map, true, false, is_some, Option, Some, None, IfSome, IfErr, Result, Ok, Err, inl, inr, refl, sym, ap, subst, ◌∙◌, slice_index, arith}
 use Rattle.std.specs.Prelude.{String, string_bytes}
+use Rattle.std.specs.List.{Contains}
+use Rattle.std.proofs.lemmas.List.{get_or-map, length-map}
+use Rattle.std.proofs.lemmas.List.Elements.{Contains-get_or}
 use Rattle.std.specs.declared.cmp.Ordering.{Ordering}
 use Rattle.std.specs.declared.cmp.Ordering.TheVariants.{Less, Equal, Greater}
 use Rattle.std.specs.Borrow.{Bor}
@@ -11,11 +14,11 @@ use Rattle.keymaps.specs.Order.{is_above}
 use Rattle.filenames.specs.Names.{Key}
 use Rattle.hostfiles.specs.Hosts.{Host, refusal_of}
 use Rattle.hostfiles.specs.declared.host.TheConstants.{FILE_LIMIT}
-use Rattle.folders.specs.FolderNames.{path_text}
-use Rattle.folders.specs.Faults.{FailsBy}
+use Rattle.folders.specs.FolderNames.{key_in, path_text}
+use Rattle.folders.specs.Faults.{FailsBy, IsReadFault}
 use Rattle.folders.specs.FileSystem.{Path, FileBytes, ReadsFile, StoredFiles}
 use Rattle.folders.specs.Listings.{ListsFolder}
-use Rattle.folders.specs.Folders.{AreFromFolder, FailsFile, FailsFolder, FailsListed, IsNextFile, IsReadAs, RefusesAs, folder_of}
+use Rattle.folders.specs.Folders.{AreFromFolder, FailsFile, FailsFolder, FailsListed, FailsListing, IsEntryFault, IsNextFile, IsReadAs, RefusesAs, folder_of}
 use Rattle.folders.specs.declared.fault.Failure.{Failure}
 use Rattle.folders.specs.declared.fault.Failure.TheVariants.{AtFault, OutOfMemory}
 use Rattle.folders.proofs.ListingLemmas.{Map}
@@ -56,6 +59,36 @@ listed_fails {Z = Z} files folder listed first after host key file (AtFault faul
     | true ↦ λ b. let none : Some f ≡ None = sym e ∙ least k b lt in cc
     | false ↦ λ b. s.there k (ap is_some e) b
   ] refl)
+
+-- What is at a name that has a key cannot be read.
+pub entry_fails : (drive : ℕ) (folder name path : Path) (key : Key) (f : Failure) → key_in drive name ≡ Some key → path ≡ path_text folder name
+    → FailsBy (IsReadFault path) f → FailsBy (IsEntryFault drive folder name) f
+entry_fails drive folder name path key OutOfMemory has at h = tt
+entry_fails drive folder name path key (AtFault fault) has at h = (ap is_some has, subst (λ p. IsReadFault p fault) at h)
+
+-- If what is at one of the names in a folder cannot be read, the folder is not listed.
+pub entry_unlisted : {Z : Type 0} (files : StoredFiles) (drive d : ℕ) (folder name : Path) (items : List (String Z)) (i : ℕ) (item : String Z) (f : Failure)
+    → i < length items → item ≡ get_or items i item → name ≡ string_bytes item → d ≡ drive
+    → IfSome files.bytes (λ stored. map string_bytes items ≡ files.names folder)
+    → FailsBy (IsEntryFault d folder name) f → FailsBy (FailsListing files drive folder) f
+entry_unlisted files drive d folder name items i item OutOfMemory lt is says on all h = tt
+entry_unlisted files drive d folder name items i item (AtFault fault) lt is says on all h =
+    inr (name, listed files.bytes all, subst (λ k. IsEntryFault k folder name fault) on h) where
+      listed : (o : Option FileBytes) → IfSome o (λ stored. map string_bytes items ≡ files.names folder) → IfSome o (λ stored. Contains (files.names folder) name)
+      listed None same = tt
+      listed (Some stored) same = subst (λ names. Contains names name) same
+          (subst (Contains (map string_bytes items)) (get_or-map string_bytes items i item name lt ∙ ap string_bytes (sym is) ∙ sym says)
+          (Contains-get_or (map string_bytes items) i name (let same = length-map items string_bytes in omega (arith, same, lt))))
+
+-- If a folder cannot be read, it is not listed.
+pub folder_unlisted : (files : StoredFiles) (drive : ℕ) (folder : Path) (f : Failure) → FailsBy (IsReadFault folder) f → FailsBy (FailsListing files drive folder) f
+folder_unlisted files drive folder OutOfMemory h = tt
+folder_unlisted files drive folder (AtFault fault) h = inl h
+
+-- If a folder is not listed, it is not read.
+pub unlisted_fails : (files : StoredFiles) (drive : ℕ) (folder : Path) (host : Host) (f : Failure) → FailsBy (FailsListing files drive folder) f → FailsBy (FailsFolder files drive folder host) f
+unlisted_fails files drive folder host OutOfMemory h = tt
+unlisted_fails files drive folder host (AtFault fault) h = inl h
 
 -- If a listing is not read, its folder is not.
 pub folder_fails : {Z : Type 0} (files : StoredFiles) (drive : ℕ) (folder : Path) (listed : Map (String Z)) (duplicate : Option Key) (host : Host) (r : Result (Unit {0}) Failure)

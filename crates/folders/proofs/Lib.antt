@@ -3,4 +3,5 @@ pub mod FaultLemmas
 pub mod FilesLemmas
 pub mod ListingLemmas
 pub mod ReadLemmas
+pub mod Walks
 pub mod WriteLemmas

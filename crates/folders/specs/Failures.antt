@@ -1,30 +1,31 @@
--- How many failures of a file system an error reports. (This project's own.)
-use Rattle.std.specs.Prelude.{◌≡◌, ℕ, ◌+◌, Result, Ok, Err}
+-- The paths at which a file system failed, as an error reports them. (This project's own.)
+use Rattle.std.specs.Prelude.{◌≡◌, List, [], ◌∷◌, ◌++◌, Result, Ok, Err}
 use Rattle.std.specs.IoError.{error_kind}
 use Rattle.std.specs.declared.io.Error.{Error}
 use Rattle.std.specs.declared.io.ErrorKind.{ErrorKind}
 use Rattle.std.specs.declared.io.ErrorKind.TheVariants.{OutOfMemory}
-use Rattle.folders.specs.FileSystem.{StoredFiles}
+use Rattle.folders.specs.FileSystem.{Path, StoredFiles}
 
--- The failures that an error of this kind reports: one, unless an allocation failed.
-abbrev pub kind_failures : ErrorKind → ℕ
-kind_failures OutOfMemory = 0
-kind_failures _ = 1
+-- What an error of this kind reports for a call with this path: the path, unless an allocation failed.
+abbrev pub kind_paths : Path → ErrorKind → List Path
+kind_paths path OutOfMemory = []
+kind_paths path _ = path ∷ []
 
-abbrev pub io_failures : Error → ℕ
-io_failures e = kind_failures (error_kind e)
+abbrev pub io_paths : Path → Error → List Path
+io_paths path e = kind_paths path (error_kind e)
 
--- The effect of a call on the count of failures: none if it succeeds, or else it grows by the failures that its error reports.
-abbrev pub AddsFailures : {T E : Type 0} → (E → ℕ) → Result T E → ℕ → ℕ → Type 0
-AddsFailures reported (Ok x) before after = after ≡ before
-AddsFailures reported (Err e) before after = after ≡ before + reported e
+-- The effect of a call on the paths that failed, the last of which comes first: none if it succeeds, or else those that its error
+-- reports are added.
+abbrev pub AddsPaths : {T E : Type 0} → (E → List Path) → Result T E → List Path → List Path → Type 0
+AddsPaths reported (Ok x) before after = after ≡ before
+AddsPaths reported (Err e) before after = after ≡ reported e ++ before
 
 -- The same for a file system.
-abbrev pub CountsFailures : {T E : Type 0} → (E → ℕ) → Result T E → StoredFiles → StoredFiles → Type 0
-CountsFailures reported result old new = AddsFailures reported result old.failures new.failures
+abbrev pub ReportsPaths : {T E : Type 0} → (E → List Path) → Result T E → StoredFiles → StoredFiles → Type 0
+ReportsPaths reported result old new = AddsPaths reported result old.failed new.failed
 
--- The files are unchanged, and the failures that the result reports are counted.
-pub record KeepsFiles {T E : Type 0} (reported : E → ℕ) (result : Result T E) (old new : StoredFiles) : Type 0 where
+-- The files are unchanged, and the paths that the result reports have failed.
+pub record KeepsFiles {T E : Type 0} (reported : E → List Path) (result : Result T E) (old new : StoredFiles) : Type 0 where
   pub bytes : new.bytes ≡ old.bytes
   pub names : new.names ≡ old.names
-  pub failures : AddsFailures reported result old.failures new.failures
+  pub failed : AddsPaths reported result old.failed new.failed

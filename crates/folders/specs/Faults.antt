@@ -1,7 +1,8 @@
 -- Why folders are not read or a file is not written, and the message for it. (This project's own.)
-use Rattle.std.specs.Prelude.{◌≡◌, ℕ, List, ◌++◌, codes, string_bytes}
+use Rattle.std.specs.Prelude.{◌≡◌, ℕ, List, [], ◌∷◌, ◌++◌, codes, string_bytes}
 use Rattle.std.specs.Fmt.{decimal}
 use Rattle.filenames.specs.Names.{display_text}
+use Rattle.folders.specs.FileSystem.{Path}
 use Rattle.folders.specs.declared.fault.Fault.{Fault}
 use Rattle.folders.specs.declared.fault.Fault.TheVariants.{CannotRead, CannotWrite, TwoFiles, Refused}
 use Rattle.folders.specs.declared.fault.Failure.{Failure}
@@ -19,16 +20,16 @@ abbrev pub FailsBy : (Fault → Type 0) → Failure → Type 0
 FailsBy Such (AtFault fault) = Such fault
 FailsBy Such OutOfMemory = Unit {0}
 
--- The failures of a file system that an error reports: one if something could not be read or written.
-abbrev pub fault_failures : Fault → ℕ
-fault_failures (CannotRead path) = 1
-fault_failures (CannotWrite path) = 1
-fault_failures (TwoFiles name) = 0
-fault_failures (Refused name n) = 0
+-- The path at which the file system failed, if an error reports that something could not be read or written.
+abbrev pub fault_paths : Fault → List Path
+fault_paths (CannotRead path) = string_bytes path ∷ []
+fault_paths (CannotWrite path) = string_bytes path ∷ []
+fault_paths (TwoFiles name) = []
+fault_paths (Refused name n) = []
 
-abbrev pub reported_failures : Failure → ℕ
-reported_failures (AtFault fault) = fault_failures fault
-reported_failures OutOfMemory = 0
+abbrev pub failure_paths : Failure → List Path
+failure_paths (AtFault fault) = fault_paths fault
+failure_paths OutOfMemory = []
 
 -- The file or folder of this path could not be read.
 abbrev pub IsReadFault : List ℕ → Fault → Type 0

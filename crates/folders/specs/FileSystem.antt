@@ -14,11 +14,11 @@ abbrev pub FileBytes : Type 0
 FileBytes = FinMap (slice_cmp nat_cmp) (List ℕ)
 
 -- What a file system stores: the bytes of each regular file, if they are known, and then the names in each folder, in the order in
--- which it is listed; and how often the file system failed.
+-- which it is listed; and the paths at which the file system failed, the last one first.
 pub record StoredFiles : Type 0 where
   pub bytes : Option FileBytes
   pub names : Path → List Path
-  pub failures : ℕ
+  pub failed : List Path
 
 -- The bytes of the file of a path, if they are known.
 abbrev pub text_at : Option FileBytes → Path → Option (List ℕ)

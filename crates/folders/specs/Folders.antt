@@ -8,7 +8,7 @@ use Rattle.std.specs.FinMap.{FinMap, get, contains_key}
 use Rattle.filenames.specs.Names.{Key}
 use Rattle.hostfiles.specs.Hosts.{Host, Record, records_in, refusal_of}
 use Rattle.hostfiles.specs.declared.host.TheConstants.{FILE_LIMIT}
-use Rattle.folders.specs.FolderNames.{folder_name, path_text, temporary_text}
+use Rattle.folders.specs.FolderNames.{folder_name, key_in, path_text, temporary_text}
 use Rattle.folders.specs.Faults.{FailsBy, IsReadFault, IsWriteFault}
 use Rattle.folders.specs.FileSystem.{Path, FileBytes, StoredFiles, ChangesAt, PutsInPlace, ReadsFile}
 use Rattle.folders.specs.Listings.{AreDuplicates, IsHostFile}
@@ -85,11 +85,23 @@ FailsTwice files names drive folder (CannotWrite p) = ⊥
 FailsTwice files names drive folder (TwoFiles name) = (slice_index name 0 ≡ drive) × IfSome files (λ stored. AreDuplicates stored drive folder names name)
 FailsTwice files names drive folder (Refused name n) = ⊥
 
--- Why the folder of a drive is not read among these host files: it cannot be listed, two of its files have the same name, or one of
+-- What is at a valid name in the folder of a drive cannot be read.
+abbrev pub IsEntryFault : ℕ → Path → Path → Fault → Type 0
+IsEntryFault drive folder name fault = (is_some (key_in drive name) ≡ true) × IsReadFault (path_text folder name) fault
+
+-- The same for one of these names.
+abbrev pub FailsEntry : Option FileBytes → List Path → ℕ → Path → Fault → Type 0
+FailsEntry files names drive folder fault = (name : Path) × IfSome files (λ stored. Contains names name) × IsEntryFault drive folder name fault
+
+-- Why the folder of a drive is not listed: it cannot be read, or what is at one of its names cannot.
+abbrev pub FailsListing : StoredFiles → ℕ → Path → Fault → Type 0
+FailsListing files drive folder fault = IsReadFault folder fault ⊎ FailsEntry files.bytes (files.names folder) drive folder fault
+
+-- Why the folder of a drive is not read among these host files: it is not listed, two of its files have the same name, or one of
 -- them is not read.
 abbrev pub FailsFolder : StoredFiles → ℕ → Path → Host → Fault → Type 0
 FailsFolder files drive folder host fault =
-    IsReadFault folder fault ⊎ FailsTwice files.bytes (files.names folder) drive folder fault
+    FailsListing files drive folder fault ⊎ FailsTwice files.bytes (files.names folder) drive folder fault
     ⊎ FailsNext files.bytes (files.names folder) drive folder host fault
 
 -- The host files of a drive are exactly the files of its folder, which has these names, each with its records.

@@ -1,6 +1,6 @@
 ghost use Rattle.std.specs.Prelude.{◌≡◌, string_bytes};
-ghost use Rattle.folders.specs.Failures.{io_failures};
-ghost use Rattle.folders.specs.Faults.{FailsBy, IsReadFault, IsWriteFault, reported_failures};
+ghost use Rattle.folders.specs.Failures.{io_paths};
+ghost use Rattle.folders.specs.Faults.{FailsBy, IsReadFault, IsWriteFault, failure_paths};
 
 use filenames::Name;
 use std::io::ErrorKind;
@@ -48,7 +48,7 @@ impl fmt::Display for Fault {
 /// Returns the failure for an error of reading the file or folder of this path.
 pub fn read_failure(error: io::Error, path: String) -> Failure
     ensures fault { FailsBy (IsReadFault (string_bytes path)) result }
-    ensures failures { reported_failures result ≡ io_failures error }
+    ensures paths { failure_paths result ≡ io_paths (string_bytes path) error }
 {
     if error.kind() == ErrorKind::OutOfMemory {
         return Failure::OutOfMemory;
@@ -59,7 +59,7 @@ pub fn read_failure(error: io::Error, path: String) -> Failure
 /// Returns the failure for an error of writing the file of this path.
 pub fn write_failure(error: io::Error, path: String) -> Failure
     ensures fault { FailsBy (IsWriteFault (string_bytes path)) result }
-    ensures failures { reported_failures result ≡ io_failures error }
+    ensures paths { failure_paths result ≡ io_paths (string_bytes path) error }
 {
     if error.kind() == ErrorKind::OutOfMemory {
         return Failure::OutOfMemory;

@@ -1,11 +1,12 @@
 // The files of a machine, by their paths.
 
-ghost use Rattle.std.specs.Prelude.{◌≡◌, ◌≤◌, ◌<◌, ◌+◌, ◌^◌, ℕ, List, [], Option, Some, None, IfOk, OnOk, OnErr, IfSome, length, map, min, string_bytes};
+ghost use Rattle.std.specs.Prelude.{◌≡◌, ◌≤◌, ◌<◌, ◌+◌, ◌^◌, ◌∷◌, ◌++◌, ℕ, List, [], Option, Some, None, IfOk, OnOk, OnErr, IfSome, length, map, string_bytes, take};
 ghost use Rattle.std.specs.FinMap.{contains_key, insert};
 ghost use Rattle.std.specs.Io.KnownBytes.{Appends, ReadConsumes};
-ghost use Rattle.folders.specs.Failures.{AddsFailures, CountsFailures, KeepsFiles, io_failures};
+ghost use Rattle.folders.specs.Failures.{AddsPaths, KeepsFiles, ReportsPaths, io_paths};
 ghost use Rattle.folders.specs.FileSystem.{Becomes, ChangesAt, Opens, ReadsFile, StoredFiles, files_after_rename};
 
+use crate::trail::Trail;
 use std::alloc::Global;
 use std::fs::{OpenOptions, read_dir};
 use std::io::{BufWriter, ErrorKind, Read, Write};
@@ -36,16 +37,18 @@ pub trait InputFile {
         requires { failures self.old < 2 ^ 63 }
         ensures count { IfOk result (λ n. n ≤ length piece.new) }
         ensures bytes { ReadConsumes (left self.old) (left self.new) result piece.new }
-        ensures failures { AddsFailures (λ _. 1) result (failures self.old) (failures self.new) };
+        ensures ok { OnOk result (failures self.new ≡ failures self.old) }
+        ensures err { OnErr result (failures self.new ≡ failures self.old + 1) };
 }
 
 /// Files by their paths. A contract sees the bytes of each regular file, if the file system reports them (an operating system's
-/// does not), and a count of failures: an error adds one, unless an allocation failed. Different paths are different files.
+/// does not), and the paths at which it failed: an error adds the path of its call, unless an allocation failed. Different paths are
+/// different files.
 pub trait FileSystem {
     /// An open file that is read.
     type Input: InputFile + Drop;
 
-    /// What it stores, if that is known, and how often it failed.
+    /// What it stores, if that is known, and the paths at which it failed.
     ghost files: { Self → StoredFiles };
 
     /// Returns the allocator for what it makes, and for what is made of its files.
@@ -53,60 +56,55 @@ pub trait FileSystem {
 
     /// Opens a file to read it piece by piece.
     fn open(&mut self, path: &str) -> io::Result<Self::Input>
-        requires { (files self.old).failures < 2 ^ 63 }
         ensures opens { IfOk result
             (λ input. Opens (files self.old).bytes path.now (Self.Input.left input)) }
         ensures unfailed { IfOk result (λ input. Self.Input.failures input ≡ 0) }
-        ensures unchanged { KeepsFiles io_failures result (files self.old) (files self.new) };
+        ensures unchanged { KeepsFiles (io_paths path.now) result (files self.old) (files self.new) };
 
-    /// Adds one failure if a read of this open file failed.
-    fn count_failed_reads(&mut self, input: &Self::Input)
-        requires { (files self.old).failures < 2 ^ 63 }
+    /// Adds the path by which this open file was opened, if a read of it failed.
+    fn note_failed_reads(&mut self, path: &str, input: &Self::Input)
         ensures bytes { (files self.new).bytes ≡ (files self.old).bytes }
         ensures names { (files self.new).names ≡ (files self.old).names }
-        ensures failures { (files self.new).failures
-            ≡ (files self.old).failures + min 1 (Self.Input.failures input.now) };
+        ensures failed { (files self.new).failed
+            ≡ take (Self.Input.failures input.now) (path.now ∷ []) ++ (files self.old).failed };
 
     /// Reads a file: all of its bytes, or its first `most` if it has more.
     fn read(&mut self, path: &str, most: u64) -> io::Result<Vec<u8>>
-        requires { (files self.old).failures < 2 ^ 63 }
         ensures reads { IfOk result (λ bytes. ReadsFile (files self.old).bytes path.now most bytes.items) }
-        ensures unchanged { KeepsFiles io_failures result (files self.old) (files self.new) };
+        ensures unchanged { KeepsFiles (io_paths path.now) result (files self.old) (files self.new) };
 
     /// Returns the names in a folder.
     fn list(&mut self, folder: &str) -> io::Result<Vec<String>>
-        requires { (files self.old).failures < 2 ^ 63 }
         ensures lists { IfOk result (λ listed. IfSome (files self.old).bytes (λ _.
             map string_bytes listed.items ≡ (files self.old).names folder.now)) }
-        ensures unchanged { KeepsFiles io_failures result (files self.old) (files self.new) };
+        ensures unchanged { KeepsFiles (io_paths folder.now) result (files self.old) (files self.new) };
 
     /// Returns whether there is a regular file at a path; a link to one is none.
     fn is_file(&mut self, path: &str) -> io::Result<bool>
-        requires { (files self.old).failures < 2 ^ 63 }
         ensures is { IfOk result
             (λ is. IfSome (files self.old).bytes (λ stored. is ≡ contains_key stored path.now)) }
-        ensures unchanged { KeepsFiles io_failures result (files self.old) (files self.new) };
+        ensures unchanged { KeepsFiles (io_paths path.now) result (files self.old) (files self.new) };
 
-    /// Writes a new file, if nothing is at the path. An error may leave a part of it there.
-    fn write_new<C: Contents>(&mut self, path: &str, contents: &C) -> io::Result<()>
-        requires { (files self.old).failures < 2 ^ 63 }
+    /// Writes a new file, if nothing is at the path, that is then to be moved to a target. An error may leave a part of it there; the
+    /// path that failed is the target, as it is not written.
+    fn write_new<C: Contents>(&mut self, path: &str, target: &str, contents: &C) -> io::Result<()>
         ensures written { OnOk result (Becomes (files self.old).bytes (files self.new).bytes
             (λ stored. insert stored path.now (C.bytes contents.now))) }
         ensures others { ChangesAt path.now (files self.old).bytes (files self.new).bytes }
-        ensures failures { CountsFailures io_failures result (files self.old) (files self.new) };
+        ensures failed { ReportsPaths (io_paths target.now) result (files self.old) (files self.new) };
 
-    /// Moves the file of one path to another, replacing what is there.
+    /// Moves the file of one path to another, replacing what is there. The path that an error adds is the second, as it is not
+    /// written.
     fn rename(&mut self, from: &str, to: &str) -> io::Result<()>
-        requires { (files self.old).failures < 2 ^ 63 }
         ensures moved { OnOk result
             (Becomes (files self.old).bytes (files self.new).bytes (files_after_rename from.now to.now)) }
         ensures err { OnErr result ((files self.new).bytes ≡ (files self.old).bytes) }
-        ensures failures { CountsFailures io_failures result (files self.old) (files self.new) };
+        ensures failed { ReportsPaths (io_paths to.now) result (files self.old) (files self.new) };
 
     /// Removes a file if there is one and it can be removed. It is no failure if not.
     fn remove(&mut self, path: &str)
         ensures others { ChangesAt path.now (files self.old).bytes (files self.new).bytes }
-        ensures failures { (files self.new).failures ≡ (files self.old).failures };
+        ensures failed { (files self.new).failed ≡ (files self.old).failed };
 }
 
 // Writes contents to a writer through a buffer, and returns the writer.
@@ -155,31 +153,33 @@ impl<T: Read> InputFile for SystemFile<T> {
     }
 }
 
-/// The files of the operating system. A contract knows only how often they failed.
+/// The files of the operating system. A contract knows only the paths at which they failed.
 #[derive(Drop)]
 pub struct SystemFiles<'a, R> {
     rt: &'a R,
-    failures: u64,
+    failed: Trail,
 }
 
 impl<'a, R> SystemFiles<'a, R> {
     /// Returns the files that a runtime reaches, with no failure yet.
     pub fn new(rt: &'a R) -> SystemFiles<'a, R>
-        ensures { result.failures ≡ 0 }
+        ensures { result.failed.paths ≡ [] }
     {
-        SystemFiles { rt, failures: 0 }
+        SystemFiles {
+            rt,
+            failed: Trail::new(),
+        }
     }
 
-    // Counts the failure of a call, if it failed.
-    fn count<T>(&mut self, answer: io::Result<T>) -> io::Result<T>
-        requires { self.old.failures < 2 ^ 63 }
+    // Adds the path of a call, if the call failed.
+    fn note<T>(&mut self, path: &str, answer: io::Result<T>) -> io::Result<T>
         ensures same { result ≡ answer }
-        ensures failures { AddsFailures io_failures result self.old.failures self.new.failures }
+        ensures failed { AddsPaths (io_paths path.now) result self.old.failed.paths self.new.failed.paths }
     {
         if let Err(error) = &answer
             && error.kind() != ErrorKind::OutOfMemory
         {
-            self.failures += 1;
+            self.failed = self.failed.and(path);
         }
         answer
     }
@@ -215,7 +215,7 @@ impl<R: Files + AllocGlobal + Clone + Drop> SystemFiles<'_, R> {
 impl<R: Files + AllocGlobal + Clone + Drop> FileSystem for SystemFiles<'_, R> {
     type Input = SystemFile<R::File>;
 
-    ghost files = { λ system. record { bytes = None; names = λ _. []; failures = system.failures } };
+    ghost files = { λ system. record { bytes = None; names = λ _. []; failed = system.failed.paths } };
 
     fn alloc(&self) -> Global {
         self.rt.alloc()
@@ -223,41 +223,41 @@ impl<R: Files + AllocGlobal + Clone + Drop> FileSystem for SystemFiles<'_, R> {
 
     fn open(&mut self, path: &str) -> io::Result<SystemFile<R::File>> {
         let opened = fs::open(self.rt, path);
-        match self.count(opened) {
+        match self.note(path, opened) {
             Ok(inner) => Ok(SystemFile { inner, failures: 0 }),
             Err(error) => Err(error),
         }
     }
 
-    fn count_failed_reads(&mut self, input: &SystemFile<R::File>) {
+    fn note_failed_reads(&mut self, path: &str, input: &SystemFile<R::File>) {
         if input.failures > 0 {
-            self.failures += 1;
+            self.failed = self.failed.and(path);
         }
     }
 
     fn read(&mut self, path: &str, most: u64) -> io::Result<Vec<u8>> {
         let bytes = self.read_from(path, most);
-        self.count(bytes)
+        self.note(path, bytes)
     }
 
     fn list(&mut self, folder: &str) -> io::Result<Vec<String>> {
         let names = self.names_in(folder);
-        self.count(names)
+        self.note(folder, names)
     }
 
     fn is_file(&mut self, path: &str) -> io::Result<bool> {
         let is = self.is_regular(path);
-        self.count(is)
+        self.note(path, is)
     }
 
-    fn write_new<C: Contents>(&mut self, path: &str, contents: &C) -> io::Result<()> {
+    fn write_new<C: Contents>(&mut self, path: &str, target: &str, contents: &C) -> io::Result<()> {
         let written = self.write_at(path, contents);
-        self.count(written)
+        self.note(target, written)
     }
 
     fn rename(&mut self, from: &str, to: &str) -> io::Result<()> {
         let renamed = fs::rename(self.rt, from, to);
-        self.count(renamed)
+        self.note(to, renamed)
     }
 
     fn remove(&mut self, path: &str) {

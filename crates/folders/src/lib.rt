@@ -2,7 +2,7 @@
 //!
 //! - `folder_names`, `listing`: the names of files in a folder, and their paths; the files of a folder by their keys
 //! - `file_system`: `FileSystem`, files by their paths as contracts see them, and `SystemFiles`, the files of the operating
-//!   system
+//!   system; `trail`: the paths at which they failed, which only contracts see
 //! - `reading`, `writing`, `fault`: reading folders into host files; writing a changed file; why either fails, and the message
 #![tactic(auto)]
 
@@ -11,6 +11,7 @@ mod file_system;
 mod folder_names;
 mod listing;
 mod reading;
+mod trail;
 mod writing;
 
 pub use fault::{Failure, Fault, read_failure};

@@ -1,13 +1,13 @@
 // Reading folders as host files.
 
-ghost use Rattle.std.specs.Prelude.{◌≡◌, ◌≢◌, ◌<◌, ◌^◌, ◌∷◌, ◌++◌, [], ℕ, List, true, false, None, Some, IfOk, IfErr, IfSome, OnOk, OnErr, slice_index};
+ghost use Rattle.std.specs.Prelude.{◌≡◌, ◌≢◌, ◌∷◌, ◌++◌, [], ℕ, List, true, false, None, Some, IfOk, IfErr, IfSome, OnOk, OnErr, slice_index};
 ghost use Rattle.std.specs.FinMap as finmap;
 ghost use Rattle.filenames.specs.Drives.{drive_number};
 ghost use Rattle.hostfiles.specs.Hosts.{records_in, refusal_of};
-ghost use Rattle.folders.specs.FolderNames.{key_in, path_text};
-ghost use Rattle.folders.specs.Failures.{KeepsFiles, io_failures};
-ghost use Rattle.folders.specs.Faults.{FailsBy, reported_failures};
-ghost use Rattle.folders.specs.Folders.{AreFromFolders, AreFromFolder, FailsFile, FailsFolder, FailsFolders, FailsListed, HaveBytesOf, HasBytesOf, RefusesAs, KeepsFilesWhere};
+ghost use Rattle.folders.specs.FolderNames.{path_text};
+ghost use Rattle.folders.specs.Failures.{KeepsFiles};
+ghost use Rattle.folders.specs.Faults.{FailsBy, failure_paths};
+ghost use Rattle.folders.specs.Folders.{AreFromFolders, AreFromFolder, FailsFile, FailsFolder, FailsFolders, FailsListed, FailsListing, HaveBytesOf, HasBytesOf, IsEntryFault, RefusesAs, KeepsFilesWhere};
 ghost use Rattle.folders.specs.Listings.{Finds, ListsFolder};
 
 use crate::fault::{Failure, Fault, read_failure};
@@ -17,7 +17,6 @@ use crate::listing::Listing;
 use filenames::{Drive, Key, Name};
 use hostfiles::host::FILE_LIMIT;
 use hostfiles::{FilesError, HostFiles};
-use std::io;
 
 /// The largest number of bytes that are read of a file: one more than a host file can have, so that a longer one is refused and
 /// not read on.
@@ -28,7 +27,7 @@ fn set(files: &mut HostFiles, name: Name, bytes: &[u8]) -> Result<(), Failure>
     ensures ok { OnOk result (files.new ≡ finmap.insert files.old name (records_in bytes.now)) }
     ensures err { OnErr result (files.new ≡ files.old) }
     ensures refusal { RefusesAs (refusal_of files.old name bytes.now) name result }
-    ensures unfailed { IfErr result (λ failure. reported_failures failure ≡ 0) }
+    ensures unfailed { IfErr result (λ failure. failure_paths failure ≡ []) }
 {
     match files.set(name, bytes) {
         Ok(()) => Ok(()),
@@ -43,19 +42,25 @@ fn host_file<S: FileSystem>(
     drive: Drive,
     folder: &str,
     file: &str,
-) -> io::Result<Option<Name>>
-    requires { (S.files system.old).failures < 2 ^ 63 }
+) -> Result<Option<Name>, Failure>
     ensures drive { IfOk result
         (λ found. IfSome found (λ name. slice_index name 0 ≡ drive_number drive)) }
     ensures finds { IfOk result (λ found. IfSome (S.files system.old).bytes (λ stored.
         Finds stored (drive_number drive) folder.now file.now found)) }
-    ensures unchanged { KeepsFiles io_failures result (S.files system.old) (S.files system.new) }
+    ensures fault { IfErr result (FailsBy (IsEntryFault (drive_number drive) folder.now file.now)) }
+    ensures unchanged { KeepsFiles failure_paths result (S.files system.old) (S.files system.new) }
 {
     let Some(name) = name_in_folder(drive, file) else {
         return Ok(None);
     };
-    let path = path_in(system.alloc(), folder, file)?;
-    if !system.is_file(path.as_str())? {
+    let Ok(entry) = path_in(system.alloc(), folder, file) else {
+        return Err(Failure::OutOfMemory);
+    };
+    let is_file = match system.is_file(entry.as_str()) {
+        Ok(is_file) => is_file,
+        Err(error) => return Err(read_failure(error, entry)),
+    };
+    if !is_file {
         return Ok(None);
     }
     Ok(Some(name))
@@ -67,34 +72,51 @@ fn add_file<S: FileSystem>(
     folder: &str,
     file: &str,
     listing: &mut Listing,
-) -> io::Result<()>
-    requires { (S.files system.old).failures < 2 ^ 63 }
+) -> Result<(), Failure>
     ensures drive { listing.new.drive ≡ listing.old.drive }
     ensures lists { OnOk result (IfSome (S.files system.old).bytes (λ stored. (names : List (List ℕ))
         → ListsFolder stored
         (drive_number listing.old.drive) folder.now names listing.old.files listing.old.duplicate
         → ListsFolder stored (drive_number listing.old.drive) folder.now (names ++ file.now ∷ [])
         listing.new.files listing.new.duplicate)) }
-    ensures unchanged { KeepsFiles io_failures result (S.files system.old) (S.files system.new) }
+    ensures fault { IfErr result
+        (FailsBy (IsEntryFault (drive_number listing.old.drive) folder.now file.now)) }
+    ensures unchanged { KeepsFiles failure_paths result (S.files system.old) (S.files system.new) }
 {
-    if let Some(name) = host_file(system, listing.drive, folder, file)? {
-        let file = String::from_str(system.alloc(), file)?;
-        listing.add(&name, file)?;
+    let Some(name) = host_file(system, listing.drive, folder, file)? else {
+        return Ok(());
+    };
+    let Ok(file) = String::from_str(system.alloc(), file) else {
+        return Err(Failure::OutOfMemory);
+    };
+    match listing.add(&name, file) {
+        Ok(()) => Ok(()),
+        Err(_) => Err(Failure::OutOfMemory),
     }
-    Ok(())
 }
 
 /// Lists the host files in the folder of a drive, by their names.
-pub fn list<S: FileSystem>(system: &mut S, drive: Drive, folder: &str) -> io::Result<Listing>
-    requires { (S.files system.old).failures < 2 ^ 63 }
+///
+/// # Errors
+///
+/// Returns `Err` if the folder or what is at a valid name in it cannot be read, or an allocation fails.
+pub fn list<S: FileSystem>(system: &mut S, drive: Drive, folder: &str) -> Result<Listing, Failure>
     ensures drive { IfOk result (λ listing. listing.drive ≡ drive) }
     ensures lists { IfOk result (λ listing. IfSome (S.files system.old).bytes (λ stored.
         ListsFolder stored (drive_number drive) folder.now ((S.files system.old).names folder.now)
         listing.files listing.duplicate)) }
-    ensures unchanged { KeepsFiles io_failures result (S.files system.old) (S.files system.new) }
+    ensures fault { IfErr result
+        (FailsBy (FailsListing (S.files system.old) (drive_number drive) folder.now)) }
+    ensures unchanged { KeepsFiles failure_paths result (S.files system.old) (S.files system.new) }
 {
     let mut listing = Listing::new(system.alloc(), drive);
-    let names = system.list(folder)?;
+    let Ok(path) = String::from_str(system.alloc(), folder) else {
+        return Err(Failure::OutOfMemory);
+    };
+    let names = match system.list(folder) {
+        Ok(names) => names,
+        Err(error) => return Err(read_failure(error, path)),
+    };
     for name in &names {
         add_file(system, folder, name.as_str(), &mut listing)?;
     }
@@ -109,7 +131,6 @@ fn read_one<S: FileSystem>(
     name: Name,
     files: &mut HostFiles,
 ) -> Result<(), Failure>
-    requires { (S.files system.old).failures < 2 ^ 63 }
     ensures others { KeepsFilesWhere (λ k. k ≢ name) files.old files.new }
     ensures there { OnOk result (finmap.contains_key files.new name ≡ true) }
     ensures read { OnOk result (IfSome (S.files system.old).bytes (λ stored.
@@ -118,7 +139,7 @@ fn read_one<S: FileSystem>(
     ensures fault { IfErr result
         (FailsBy (FailsFile (S.files system.old).bytes (path_text folder.now file.now)
         files.old name)) }
-    ensures unchanged { KeepsFiles reported_failures result (S.files system.old) (S.files system.new) }
+    ensures unchanged { KeepsFiles failure_paths result (S.files system.old) (S.files system.new) }
 {
     let Ok(path) = path_in(system.alloc(), folder, file) else {
         return Err(Failure::OutOfMemory);
@@ -136,7 +157,6 @@ fn read_listed<S: FileSystem>(
     listing: &Listing,
     files: &mut HostFiles,
 ) -> Result<(), Failure>
-    requires failures { (S.files system.old).failures < 2 ^ 63 }
     requires alone { listing.now.duplicate ≡ None }
     ensures others { KeepsFilesWhere
         (λ k. finmap.contains_key listing.now.files k ≡ false) files.old files.new }
@@ -144,7 +164,7 @@ fn read_listed<S: FileSystem>(
         (HaveBytesOf (S.files system.old).bytes folder.now listing.now.files files.new) }
     ensures fault { IfErr result (FailsBy (FailsListed (S.files system.old).bytes folder.now
         listing.now.files files.new)) }
-    ensures unchanged { KeepsFiles reported_failures result (S.files system.old) (S.files system.new) }
+    ensures unchanged { KeepsFiles failure_paths result (S.files system.old) (S.files system.new) }
 {
     let mut after: Option<Key> = None;
     while let Some((key, file)) = listing.files.next_key_value(after) {
@@ -170,8 +190,7 @@ pub fn read_folder<S: FileSystem>(
     folder: &str,
     files: &mut HostFiles,
 ) -> Result<(), Failure>
-    requires failures { (S.files system.old).failures < 2 ^ 63 }
-    requires none { (k : List ℕ) → slice_index k 0 ≡ drive_number drive
+    requires { (k : List ℕ) → slice_index k 0 ≡ drive_number drive
         → finmap.contains_key files.old k ≡ false }
     ensures others { KeepsFilesWhere (λ k. slice_index k 0 ≢ drive_number drive) files.old files.new }
     ensures read { OnOk result (IfSome (S.files system.old).bytes (λ stored.
@@ -179,15 +198,9 @@ pub fn read_folder<S: FileSystem>(
         (drive_number drive) folder.now files.new)) }
     ensures fault { IfErr result (FailsBy (FailsFolder (S.files system.old)
         (drive_number drive) folder.now files.new)) }
-    ensures unchanged { KeepsFiles reported_failures result (S.files system.old) (S.files system.new) }
+    ensures unchanged { KeepsFiles failure_paths result (S.files system.old) (S.files system.new) }
 {
-    let Ok(path) = String::from_str(system.alloc(), folder) else {
-        return Err(Failure::OutOfMemory);
-    };
-    let listing = match list(system, drive, folder) {
-        Ok(listing) => listing,
-        Err(error) => return Err(read_failure(error, path)),
-    };
+    let listing = list(system, drive, folder)?;
     if let Some(name) = listing.duplicate {
         return Err(Failure::AtFault(Fault::TwoFiles(name)));
     }
@@ -200,10 +213,9 @@ pub fn read_folders<S: FileSystem>(
     system: &mut S,
     folders: &[Option<&str>; 4],
 ) -> Result<HostFiles, Failure>
-    requires { (S.files system.old).failures < 2 ^ 63 }
     ensures files { IfOk result (AreFromFolders (S.files system.old) folders.now) }
     ensures fault { IfErr result (FailsFolders (S.files system.old) folders.now) }
-    ensures unchanged { KeepsFiles reported_failures result (S.files system.old) (S.files system.new) }
+    ensures unchanged { KeepsFiles failure_paths result (S.files system.old) (S.files system.new) }
 {
     let mut files = HostFiles::new(system.alloc());
     for drive in Drive::ALL {

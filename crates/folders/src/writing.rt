@@ -1,10 +1,10 @@
 // Writing a changed file into a folder.
 
-ghost use Rattle.std.specs.Prelude.{◌≡◌, ◌≢◌, ◌<◌, ◌^◌, Some, OnOk, OnErr, IfOk, IfErr, slice_index, string_bytes};
+ghost use Rattle.std.specs.Prelude.{◌≡◌, ◌≢◌, Some, OnOk, OnErr, IfOk, IfErr, slice_index, string_bytes};
 ghost use Rattle.std.specs.Io.KnownBytes.{Appends};
 ghost use Rattle.folders.specs.FolderNames.{folder_name, path_text, temporary_text};
-ghost use Rattle.folders.specs.Failures.{CountsFailures, io_failures};
-ghost use Rattle.folders.specs.Faults.{FailsBy, IsWriteFault, reported_failures};
+ghost use Rattle.folders.specs.Failures.{ReportsPaths, io_paths};
+ghost use Rattle.folders.specs.Faults.{FailsBy, IsWriteFault, failure_paths};
 ghost use Rattle.folders.specs.FileSystem.{ChangesAt, PutsInPlace};
 ghost use Rattle.folders.specs.Folders.{FailsToWrite, LeavesIn, WritesInto, folder_of};
 ghost use Rattle.folders.specs.ChangedBytes.{file_bytes};
@@ -43,16 +43,15 @@ fn write_and_rename<S: FileSystem, C: Contents>(
     temporary: &str,
     path: &str,
 ) -> io::Result<()>
-    requires failures { (S.files system.old).failures < 2 ^ 63 }
-    requires apart { temporary.now ≢ path.now }
+    requires { temporary.now ≢ path.now }
     ensures written { OnOk result (PutsInPlace (S.files system.old).bytes (S.files system.new).bytes
         path.now temporary.now (C.bytes contents.now)) }
     ensures err { OnErr result
         (ChangesAt temporary.now (S.files system.old).bytes (S.files system.new).bytes) }
-    ensures failures { CountsFailures io_failures result (S.files system.old) (S.files system.new) }
+    ensures failed { ReportsPaths (io_paths path.now) result (S.files system.old) (S.files system.new) }
 {
     system.remove(temporary);
-    system.write_new(temporary, contents)?;
+    system.write_new(temporary, path, contents)?;
     system.rename(temporary, path)
 }
 
@@ -69,13 +68,12 @@ pub fn write_file<S: FileSystem, C: Contents>(
     name: &Name,
     contents: &C,
 ) -> Result<(), Failure>
-    requires { (S.files system.old).failures < 2 ^ 63 }
     ensures written { OnOk result (WritesInto (Some folder.now)
         (S.files system.old).bytes (S.files system.new).bytes name.now (C.bytes contents.now)) }
     ensures err { OnErr result (LeavesIn (Some folder.now)
         (S.files system.old).bytes (S.files system.new).bytes name.now) }
     ensures fault { IfErr result (FailsBy (IsWriteFault (path_text folder.now (folder_name name.now)))) }
-    ensures failures { CountsFailures reported_failures result (S.files system.old) (S.files system.new) }
+    ensures failed { ReportsPaths failure_paths result (S.files system.old) (S.files system.new) }
 {
     let Ok((path, temporary)) = paths(system.alloc(), folder, name) else {
         return Err(Failure::OutOfMemory);
@@ -110,13 +108,12 @@ pub fn write_to_drive<S: FileSystem, C: Contents>(
     name: &Name,
     contents: &C,
 ) -> Result<(), Failure>
-    requires { (S.files system.old).failures < 2 ^ 63 }
     ensures written { OnOk result (WritesInto (folder_of folders.now (slice_index name.now 0))
         (S.files system.old).bytes (S.files system.new).bytes name.now (C.bytes contents.now)) }
     ensures err { OnErr result (LeavesIn (folder_of folders.now (slice_index name.now 0))
         (S.files system.old).bytes (S.files system.new).bytes name.now) }
     ensures fault { IfErr result (FailsToWrite folders.now name.now) }
-    ensures failures { CountsFailures reported_failures result (S.files system.old) (S.files system.new) }
+    ensures failed { ReportsPaths failure_paths result (S.files system.old) (S.files system.new) }
 {
     match folders[name.drive().number() as usize] {
         Some(folder) => write_file(system, folder, name, contents),

@@ -1,6 +1,7 @@
 -- The errors of loading. (This project's own.)
-use Rattle.std.specs.Prelude.{ℕ}
-use Rattle.folders.specs.Faults.{fault_failures}
+use Rattle.std.specs.Prelude.{List, [], ◌∷◌}
+use Rattle.folders.specs.Faults.{fault_paths}
+use Rattle.folders.specs.FileSystem.{Path}
 use Rattle.folders.specs.declared.fault.Failure.{Failure}
 use Rattle.folders.specs.declared.fault.Failure.TheVariants as failure
 use Rattle.loading.specs.declared.fault.LoadFault.{LoadFault}
@@ -11,9 +12,9 @@ abbrev pub fault_of : Failure → LoadFault
 fault_of (failure.AtFault f) = Folders f
 fault_of failure.OutOfMemory = OutOfMemory
 
--- The failures of the file system that an error reports: one if a file or a folder could not be read.
-abbrev pub load_failures : LoadFault → ℕ
-load_failures (CannotRead path) = 1
-load_failures (Folders f) = fault_failures f
-load_failures (Refused n) = 0
-load_failures OutOfMemory = 0
+-- The path at which the file system failed, if an error reports that a file or a folder could not be read.
+abbrev pub load_paths : LoadFault → List Path
+load_paths (CannotRead path) = path.now ∷ []
+load_paths (Folders f) = fault_paths f
+load_paths (Refused n) = []
+load_paths OutOfMemory = []

@@ -62,9 +62,17 @@ abbrev pub IsReadFaultIfAny : Option (List ℕ) → LoadFault → Type 0
 IsReadFaultIfAny None f = ⊥
 IsReadFaultIfAny (Some path) f = IsReadFaultOf path f
 
--- Why no session is loaded from the files of the words.
+-- The program was read, and then the folders.
+abbrev pub ReadsProgram : StoredFiles → SessionWords → Type 0
+ReadsProgram files w = (program : List ℕ) × IsProgramOf files w program
+
+abbrev pub ReadsFolders : StoredFiles → SessionWords → Type 0
+ReadsFolders files w = (host : Host) × AreFromFolders files w.files host
+
+-- Why no session is loaded from the files of the words, which are read in this order: the program, the folders and the script.
 abbrev pub FailsToLoad : StoredFiles → SessionWords → LoadFault → Type 0
-FailsToLoad files w (CannotRead p) = (p.now ≡ w.program.now) ⊎ (text_of w.console ≡ Some p.now)
-FailsToLoad files w (Folders f) = FailsFolders files w.files (AtFault f)
+FailsToLoad files w (CannotRead p) =
+    (p.now ≡ w.program.now) ⊎ (ReadsProgram files w × ReadsFolders files w × (text_of w.console ≡ Some p.now))
+FailsToLoad files w (Folders f) = ReadsProgram files w × FailsFolders files w.files (AtFault f)
 FailsToLoad files w (Refused n) = IsSessionRefusal files w n
 FailsToLoad files w OutOfMemory = Unit {0}

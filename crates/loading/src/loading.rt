@@ -1,11 +1,11 @@
 // Loading a session from the files of the command line.
 
-ghost use Rattle.std.specs.Prelude.{◌≡◌, ◌+◌, ◌<◌, ◌^◌, IfOk, IfErr};
+ghost use Rattle.std.specs.Prelude.{◌≡◌, ◌+◌, IfOk, IfErr};
 ghost use Rattle.command_words.specs.CommandLine.{text_of};
-ghost use Rattle.folders.specs.Failures.{KeepsFiles, io_failures};
+ghost use Rattle.folders.specs.Failures.{KeepsFiles, io_paths};
 ghost use Rattle.folders.specs.FileSystem.{Opens, ReadsFile};
 ghost use Rattle.machine.specs.Session.{session_or_refusal};
-ghost use Rattle.loading.specs.Faults.{load_failures};
+ghost use Rattle.loading.specs.Faults.{load_paths};
 ghost use Rattle.loading.specs.Loading.{IsLoadedFrom, IsScriptAt, MadeOrRefused, FailsToLoad, IsReadFaultOf, IsReadFaultIfAny};
 
 use crate::fault::LoadFault;
@@ -27,7 +27,7 @@ const SCRIPT_READ: u64 = SCRIPT_LIMIT as u64 + 1;
 /// Returns the `LoadFault` for an error of opening or reading this file.
 fn read_fault<'a>(error: io::Error, path: &'a str) -> LoadFault<'a>
     ensures fault { IsReadFaultOf path.now result }
-    ensures failures { load_failures result ≡ io_failures error }
+    ensures paths { load_paths result ≡ io_paths path.now error }
 {
     if error.kind() == ErrorKind::OutOfMemory {
         LoadFault::OutOfMemory
@@ -42,11 +42,10 @@ fn read_fault<'a>(error: io::Error, path: &'a str) -> LoadFault<'a>
 ///
 /// Returns `Err` if the file cannot be opened or an allocation fails.
 pub fn open<'a, S: FileSystem>(system: &mut S, path: &'a str) -> Result<S::Input, LoadFault<'a>>
-    requires { (S.files system.old).failures < 2 ^ 63 }
     ensures opens { IfOk result (λ input. Opens (S.files system.old).bytes path.now (S.Input.left input)) }
     ensures unfailed { IfOk result (λ input. S.Input.failures input ≡ 0) }
     ensures fault { IfErr result (IsReadFaultOf path.now) }
-    ensures unchanged { KeepsFiles load_failures result (S.files system.old) (S.files system.new) }
+    ensures unchanged { KeepsFiles load_paths result (S.files system.old) (S.files system.new) }
 {
     match system.open(path) {
         Ok(file) => Ok(file),
@@ -56,11 +55,10 @@ pub fn open<'a, S: FileSystem>(system: &mut S, path: &'a str) -> Result<S::Input
 
 /// Reads the program at this path.
 fn program_at<'a, S: FileSystem>(system: &mut S, path: &'a str) -> Result<Vec<u8>, LoadFault<'a>>
-    requires { (S.files system.old).failures < 2 ^ 63 }
     ensures program { IfOk result
         (λ program. ReadsFile (S.files system.old).bytes path.now (PROGRAM_LIMIT + 1) program.items) }
     ensures fault { IfErr result (IsReadFaultOf path.now) }
-    ensures unchanged { KeepsFiles load_failures result (S.files system.old) (S.files system.new) }
+    ensures unchanged { KeepsFiles load_paths result (S.files system.old) (S.files system.new) }
 {
     match system.read(path, PROGRAM_READ) {
         Ok(program) => Ok(program),
@@ -73,11 +71,10 @@ fn script_at<'a, S: FileSystem>(
     system: &mut S,
     path: Option<&'a str>,
 ) -> Result<Vec<u8>, LoadFault<'a>>
-    requires { (S.files system.old).failures < 2 ^ 63 }
     ensures script { IfOk result
         (λ script. IsScriptAt (S.files system.old).bytes (text_of path.entry) script.items) }
     ensures fault { IfErr result (IsReadFaultIfAny (text_of path.entry)) }
-    ensures unchanged { KeepsFiles load_failures result (S.files system.old) (S.files system.new) }
+    ensures unchanged { KeepsFiles load_paths result (S.files system.old) (S.files system.new) }
 {
     let Some(path) = path else {
         return Ok(Vec::new(system.alloc()));
@@ -124,10 +121,9 @@ pub fn load<'a, S: FileSystem>(
     system: &mut S,
     words: &SessionWords<'a>,
 ) -> Result<Session, LoadFault<'a>>
-    requires { (S.files system.old).failures < 2 ^ 63 }
     ensures session { IfOk result (IsLoadedFrom (S.files system.old) words.now) }
     ensures fault { IfErr result (FailsToLoad (S.files system.old) words.now) }
-    ensures unchanged { KeepsFiles load_failures result (S.files system.old) (S.files system.new) }
+    ensures unchanged { KeepsFiles load_paths result (S.files system.old) (S.files system.new) }
 {
     let tail = tail_of(system.alloc(), words)?;
     let program = program_at(system, words.program)?;

@@ -1,10 +1,9 @@
 -- The folders of the drives, with the names of their files. (This project's profile.)
 use Rattle.std.specs.Prelude.{◌≡◌, ℕ, ◌⊎◌, ◌<◌, List, Option, Some, None, get_or, option_map}
 use Rattle.filenames.specs.Drives.{drive_number}
-use Rattle.folders.specs.FileSystem.{FileBytes, Path}
-use Rattle.folders.specs.Faults.{IsReadFault}
+use Rattle.folders.specs.FileSystem.{FileBytes, Path, StoredFiles}
 use Rattle.folders.specs.declared.fault.Fault.{Fault}
-use Rattle.folders.specs.Folders.{folder_of}
+use Rattle.folders.specs.Folders.{FailsListing, folder_of}
 use Rattle.folders.specs.Listings.{ListsFolder}
 use Rattle.std.specs.Borrow.{Bor}
 use Rattle.make_rules.specs.declared.drives.DriveFolder.{DriveFolder}
@@ -29,12 +28,13 @@ ListsDrives stored names folders found = (drive : ℕ) → drive < 4 → ListsDr
 abbrev pub text_of : Option (Bor (List ℕ)) → Option Path
 text_of = option_map (λ s. s.now)
 
--- Why the folder of a drive is not listed: it cannot be read.
-abbrev pub FailsToList : Option Path → Fault → Type 0
-FailsToList None fault = ⊥
-FailsToList (Some folder) fault = IsReadFault folder fault
+-- Why the folder of a drive is not listed, if it has one.
+abbrev pub FailsToList : StoredFiles → ℕ → Option Path → Fault → Type 0
+FailsToList files drive None fault = ⊥
+FailsToList files drive (Some folder) fault = FailsListing files drive folder fault
 
 -- The folder of one of the drives A to D is not listed.
-abbrev pub FailsToListAny : List (Option (Bor (List ℕ))) → Fault → Type 0
-FailsToListAny folders fault =
-    FailsToList (folder_of folders 0) fault ⊎ FailsToList (folder_of folders 1) fault ⊎ FailsToList (folder_of folders 2) fault ⊎ FailsToList (folder_of folders 3) fault
+abbrev pub FailsToListAny : StoredFiles → List (Option (Bor (List ℕ))) → Fault → Type 0
+FailsToListAny files folders fault =
+    FailsToList files 0 (folder_of folders 0) fault ⊎ FailsToList files 1 (folder_of folders 1) fault
+    ⊎ FailsToList files 2 (folder_of folders 2) fault ⊎ FailsToList files 3 (folder_of folders 3) fault

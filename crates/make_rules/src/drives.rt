@@ -1,13 +1,13 @@
 // The folders of the drives, with the names of their files.
 
-ghost use Rattle.std.specs.Prelude.{◌≡◌, ◌<◌, ◌^◌, IfOk, IfErr, IfSome};
+ghost use Rattle.std.specs.Prelude.{◌≡◌, IfOk, IfErr, IfSome};
 ghost use Rattle.filenames.specs.Drives.{drive_number};
 ghost use Rattle.folders.specs.Failures.{KeepsFiles};
-ghost use Rattle.folders.specs.Faults.{FailsBy, IsReadFault, reported_failures};
+ghost use Rattle.folders.specs.Faults.{FailsBy, failure_paths};
 ghost use Rattle.make_rules.specs.Drives.{FailsToList, FailsToListAny, ListsDrive, ListsDrives, text_of};
 
 use filenames::Drive;
-use folders::{Failure, FileSystem, Listing, list, read_failure};
+use folders::{Failure, FileSystem, Listing, list};
 
 /// The folder of a drive, with the names of its files.
 #[derive(Drop)]
@@ -24,38 +24,32 @@ fn list_drive<'a, S: FileSystem>(
     drive: Drive,
     folder: Option<&'a str>,
 ) -> Result<Option<DriveFolder<'a>>, Failure>
-    requires { (S.files system.old).failures < 2 ^ 63 }
     ensures lists { IfOk result (λ found. IfSome (S.files system.old).bytes (λ stored.
         ListsDrive stored (S.files system.old).names (drive_number drive) (text_of folder.entry) found)) }
-    ensures fault { IfErr result (FailsBy (FailsToList (text_of folder.entry))) }
-    ensures unchanged { KeepsFiles reported_failures result (S.files system.old) (S.files system.new) }
+    ensures fault { IfErr result
+        (FailsBy (FailsToList (S.files system.old) (drive_number drive) (text_of folder.entry))) }
+    ensures unchanged { KeepsFiles failure_paths result (S.files system.old) (S.files system.new) }
 {
     let Some(folder) = folder else {
         return Ok(None);
     };
-    let Ok(path) = String::from_str(system.alloc(), folder) else {
-        return Err(Failure::OutOfMemory);
-    };
-    match list(system, drive, folder) {
-        Ok(listing) => Ok(Some(DriveFolder { folder, listing })),
-        Err(error) => Err(read_failure(error, path)),
-    }
+    let listing = list(system, drive, folder)?;
+    Ok(Some(DriveFolder { folder, listing }))
 }
 
 /// Lists the folders of the drives A to D, as far as they have folders.
 ///
 /// # Errors
 ///
-/// Returns `Err` if a folder cannot be read, or an allocation fails.
+/// Returns `Err` if a folder or what is at a valid name in it cannot be read, or an allocation fails.
 pub fn list_folders<'a, S: FileSystem>(
     system: &mut S,
     folders: &[Option<&'a str>; 4],
 ) -> Result<[Option<DriveFolder<'a>>; 4], Failure>
-    requires { (S.files system.old).failures < 2 ^ 63 }
     ensures lists { IfOk result (λ found. IfSome (S.files system.old).bytes (λ stored.
         ListsDrives stored (S.files system.old).names folders.now found)) }
-    ensures fault { IfErr result (FailsBy (FailsToListAny folders.now)) }
-    ensures unchanged { KeepsFiles reported_failures result (S.files system.old) (S.files system.new) }
+    ensures fault { IfErr result (FailsBy (FailsToListAny (S.files system.old) folders.now)) }
+    ensures unchanged { KeepsFiles failure_paths result (S.files system.old) (S.files system.new) }
 {
     let a = list_drive(system, Drive::A, folders[0])?;
     let b = list_drive(system, Drive::B, folders[1])?;

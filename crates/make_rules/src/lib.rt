@@ -2,7 +2,7 @@
 //!
 //! - `carried`, `escapes`: the paths that a rule can have, and how it has them
 //! - `drives`: the folders of the drives, with the names of their files
-//! - `files`, `missing`: the host files on which a run depends; those that were asked for and are not there
+//! - `files`, `missing`: the host files on which a run depends; the ones that are not there
 //! - `rule`: the rule
 #![tactic(auto)]
 

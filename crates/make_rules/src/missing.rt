@@ -134,7 +134,8 @@ fn push_absent_folder(
     key: &Key,
 ) -> Result<(), AllocError>
     ensures { OnOk result (map string_bytes paths.new.items
-        ≡ map string_bytes paths.old.items ++ texts.absent_folder_part target.now host.now drives.now key.now) }
+        ≡ map string_bytes paths.old.items
+        ++ texts.absent_folder_part target.now host.now drives.now key.now) }
 {
     let Some(name) = absent_name(host, key) else {
         return Ok(());
@@ -158,7 +159,8 @@ pub fn push_absent_folders(
     drives: &[Option<DriveFolder<'_>>; 4],
 ) -> Result<(), AllocError>
     ensures { OnOk result (map string_bytes paths.new.items
-        ≡ map string_bytes paths.old.items ++ texts.all_absent_folders target.now host.now asked.now drives.now) }
+        ≡ map string_bytes paths.old.items
+        ++ texts.all_absent_folders target.now host.now asked.now drives.now) }
 {
     let mut after: Option<Key> = None;
     while let Some(key) = asked.has.next_key(after) {

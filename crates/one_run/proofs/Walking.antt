@@ -1,5 +1,5 @@
 -- The changed files of a run, written one after the other.
-use Rattle.std.proofs.Common.{◌≡◌, ℕ, true, false, cond, List, [], ◌∷◌, ◌<◌, length, arith, inl, inr, refl, sym, ap, subst, ◌∙◌, Option, Some, None, filter}
+use Rattle.std.proofs.Common.{◌≡◌, ℕ, true, false, cond, List, [], ◌∷◌, inl, inr, refl, sym, ap, subst, ◌∙◌, Option, Some, None, filter}
 use Rattle.std.specs.Borrow.{Bor}
 use Rattle.std.specs.FinMap.{contains_key}
 use Rattle.hostfiles.proofs.ChangedWalk.{keys_above, keys_above_none}

@@ -1,13 +1,13 @@
 // One run of a session, without edits.
 
 ghost use Rattle.std.specs.Prelude.{◌≡◌, ◌^◌, ◌<◌, ◌≤◌, ◌++◌, IfOk, IfErr, OnOk, OnErr, string_bytes};
-ghost use Rattle.folders.specs.Failures.{CountsFailures};
-ghost use Rattle.folders.specs.Faults.{reported_failures};
+ghost use Rattle.folders.specs.Failures.{ReportsPaths};
+ghost use Rattle.folders.specs.Faults.{failure_paths};
 ghost use Rattle.hostfiles.specs.Files.{files};
 ghost use Rattle.replay.specs.Report.{run_of, session_of};
 ghost use Rattle.report_lines.specs.ChangedLines.{gone_lines};
 ghost use Rattle.report_lines.specs.Streams.{WritesOrFails, WritesText};
-ghost use Rattle.one_run.specs.Faults.{run_failures};
+ghost use Rattle.one_run.specs.Faults.{run_paths};
 ghost use Rattle.one_run.specs.RawRun.{BreaksRun, FailsToWriteAll, RunsOnce, WritesAll, stop_line, stop_status};
 ghost use Rattle.one_run.specs.World.{world};
 
@@ -52,13 +52,12 @@ fn write_changed<S: FileSystem>(
     host: &HostFiles,
     journal: &Journal,
 ) -> Result<(), Failure>
-    requires { (S.files system.old).failures < 2 ^ 63 }
     ensures written { OnOk result (WritesAll folders.now host.now (files host.now journal.now.entries)
         (S.files system.old).bytes (S.files system.new).bytes) }
     ensures fault { IfErr result
         (FailsToWriteAll folders.now host.now (files host.now journal.now.entries)
         (S.files system.old).bytes (S.files system.new).bytes) }
-    ensures failures { CountsFailures reported_failures result (S.files system.old) (S.files system.new) }
+    ensures failed { ReportsPaths failure_paths result (S.files system.old) (S.files system.new) }
 {
     let mut after: Option<Name> = None;
     while let Some(changed) = next_changed(host, journal, after.as_ref()) {
@@ -120,7 +119,6 @@ fn report_run<S: FileSystem, O: Writer, E: Writer>(
     out: &mut O,
     err: &mut E,
 ) -> Result<u8, RunFault>
-    requires system { (S.files system.old).failures < 2 ^ 63 }
     requires out { (O.output out.old).failures < 2 ^ 63 }
     requires err { (E.output err.old).failures < 2 ^ 63 }
     ensures done { IfOk result (λ status. RunsOnce folders.now (session_of report.now) status
@@ -130,7 +128,7 @@ fn report_run<S: FileSystem, O: Writer, E: Writer>(
         (world (S.files system.old) (O.output out.old) (E.output err.old))
         (world (S.files system.new) (O.output out.new) (E.output err.new))) }
     ensures untold { OnErr result (err.new ≡ err.old) }
-    ensures failures { CountsFailures run_failures result (S.files system.old) (S.files system.new) }
+    ensures failed { ReportsPaths run_paths result (S.files system.old) (S.files system.new) }
 {
     let Ok(()) = write_all(out, report.text()) else {
         return Err(RunFault::CannotWrite);
@@ -150,7 +148,6 @@ fn run_and_report<S: FileSystem, O: Writer, E: Writer>(
     err: &mut E,
 ) -> Result<u8, RunFault>
     requires meter { meter.old ≤ 2 ^ 63 }
-    requires system { (S.files system.old).failures < 2 ^ 63 }
     requires out { (O.output out.old).failures < 2 ^ 63 }
     requires err { (E.output err.old).failures < 2 ^ 63 }
     ensures done { IfOk result (λ status. RunsOnce folders.now runner.old.session status
@@ -160,7 +157,7 @@ fn run_and_report<S: FileSystem, O: Writer, E: Writer>(
         (world (S.files system.old) (O.output out.old) (E.output err.old))
         (world (S.files system.new) (O.output out.new) (E.output err.new))) }
     ensures untold { OnErr result (err.new ≡ err.old) }
-    ensures failures { CountsFailures run_failures result (S.files system.old) (S.files system.new) }
+    ensures failed { ReportsPaths run_paths result (S.files system.old) (S.files system.new) }
 {
     let Ok(report) = runner.rerun(meter) else {
         return Err(RunFault::OutOfMemory);
@@ -184,7 +181,6 @@ pub fn run_once<S: FileSystem, O: Writer, E: Writer>(
     err: &mut E,
 ) -> Result<u8, RunFault>
     requires meter { meter.old ≤ 2 ^ 63 }
-    requires system { (S.files system.old).failures < 2 ^ 63 }
     requires out { (O.output out.old).failures < 2 ^ 63 }
     requires err { (E.output err.old).failures < 2 ^ 63 }
     ensures done { IfOk result (λ status. RunsOnce folders.now session status
@@ -194,7 +190,7 @@ pub fn run_once<S: FileSystem, O: Writer, E: Writer>(
         (world (S.files system.old) (O.output out.old) (E.output err.old))
         (world (S.files system.new) (O.output out.new) (E.output err.new))) }
     ensures untold { OnErr result (err.new ≡ err.old) }
-    ensures failures { CountsFailures run_failures result (S.files system.old) (S.files system.new) }
+    ensures failed { ReportsPaths run_paths result (S.files system.old) (S.files system.new) }
 {
     let Ok(mut runner) = Runner::for_one_run(system.alloc(), session) else {
         return Err(RunFault::OutOfMemory);

@@ -1,7 +1,8 @@
 -- The exit status and the message of each error. (This project's own.)
-use Rattle.std.specs.Prelude.{◌≡◌, ℕ, ◌+◌, List, [], ◌⊎◌, ◌++◌, codes, string_bytes}
+use Rattle.std.specs.Prelude.{◌≡◌, ℕ, List, [], ◌∷◌, ◌⊎◌, ◌++◌, codes, string_bytes}
 use Rattle.std.specs.Fmt.{decimal}
-use Rattle.folders.specs.Faults.{fault_failures, text_of}
+use Rattle.folders.specs.Faults.{fault_paths, text_of}
+use Rattle.folders.specs.FileSystem.{Path}
 use Rattle.loading.specs.declared.fault.LoadFault.{LoadFault}
 use Rattle.loading.specs.declared.fault.LoadFault.TheVariants as load
 use Rattle.one_run.specs.declared.fault.RunFault.{RunFault}
@@ -26,18 +27,18 @@ of_run run.CannotWrite = CannotWrite
 of_run (run.Folders f) = Folders f
 of_run run.OutOfMemory = OutOfMemory
 
--- The failures of the file system that an error reports: one if a file or a folder could not be read or written.
-abbrev pub file_failures : Fault → ℕ
-file_failures (Usage text) = 0
-file_failures NotText = 0
-file_failures (CannotRead path) = 1
-file_failures CannotWrite = 0
-file_failures (Folders f) = fault_failures f
-file_failures (Refused n) = 0
-file_failures (Malformed k) = 0
-file_failures (TooLong k) = 0
-file_failures (RulePath path) = 0
-file_failures OutOfMemory = 0
+-- The path at which the file system failed, if an error reports that a file or a folder could not be read or written.
+abbrev pub file_paths : Fault → List Path
+file_paths (Usage text) = []
+file_paths NotText = []
+file_paths (CannotRead path) = path.now ∷ []
+file_paths CannotWrite = []
+file_paths (Folders f) = fault_paths f
+file_paths (Refused n) = []
+file_paths (Malformed k) = []
+file_paths (TooLong k) = []
+file_paths (RulePath path) = []
+file_paths OutOfMemory = []
 
 -- The exit status of an error.
 abbrev pub status_of : Fault → ℕ
@@ -99,9 +100,10 @@ abbrev pub ReportsFaultOrMemory : Tool → Fault → ℕ → Output → Output �
 ReportsFaultOrMemory tool f status before after = ReportsFault tool f status before after ⊎ (NamesAValue f × ReportsFault tool OutOfMemory status before after)
 
 -- An error occurred and was reported with its status, or "out of memory" if there was no memory to put its value into the
--- message. A call of the file system failed exactly if the error reports that. `Comes` holds for the errors that can occur here.
+-- message. If the error reports that something could not be read or written, its path is the last at which the file system failed, and
+-- the only one; if not, no call of the file system failed. `Comes` holds for the errors that can occur here.
 pub record EndsWithFault (tool : Tool) (Comes : Fault → Type 0) (status : ℕ) (before after : World) : Type 0 where
   pub fault : Fault
   pub comes : Comes fault
-  pub failed : after.files.failures ≡ before.files.failures + file_failures fault
+  pub failed : after.files.failed ≡ file_paths fault ++ before.files.failed
   pub telling : ReportsFaultOrMemory tool fault status before.err after.err

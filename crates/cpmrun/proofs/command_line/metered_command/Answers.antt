@@ -7,7 +7,7 @@ pub returns-in-Err-clause-ends : goal.returns-in-Err-clause-ends
 returns-in-Err-clause-ends g c = inr (record {
   fault = c.in-Err.fault;
   comes = c.in-Err.ensures.fault;
-  failed = c.in-Err.ensures.failures;
+  failed = c.in-Err.ensures.failed;
   telling = rw c.in-Err.ensures.untold at c.report_fault.ensures;
 })
 

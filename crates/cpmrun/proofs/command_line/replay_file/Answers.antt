@@ -29,9 +29,9 @@ returns-in-Err-Read-clause-fault g c = (
 
 pub returns-in-Err-Read-clause-unchanged : goal.returns-in-Err-Read-clause-unchanged
 returns-in-Err-Read-clause-unchanged g c = record {
-  bytes = c.count_failed_reads.ensures.bytes ∙ c.in_ok-input.ensures.unchanged.bytes;
-  names = c.count_failed_reads.ensures.names ∙ c.in_ok-input.ensures.unchanged.names;
-  failures = one_failed _ _ _ _ _ c.in_ok-input.ensures.unfailed (c.in-Err-Read.ensures.read (ap Err c.in-Err-Read.field-0-is)) c.in_ok-input.ensures.unchanged.failures c.count_failed_reads.ensures.failures;
+  bytes = c.note_failed_reads.ensures.bytes ∙ c.in_ok-input.ensures.unchanged.bytes;
+  names = c.note_failed_reads.ensures.names ∙ c.in_ok-input.ensures.unchanged.names;
+  failed = one_failed _ _ _ _ _ _ c.in_ok-input.ensures.unfailed (c.in-Err-Read.ensures.read (ap Err c.in-Err-Read.field-0-is)) c.in_ok-input.ensures.unchanged.failed c.note_failed_reads.ensures.failed;
 }
 
 pub returns-in-Err-Write-clause-fault : goal.returns-in-Err-Write-clause-fault

@@ -12,7 +12,7 @@ returns-in_default-clause-done g c =
     (world (g.S.FileSystem.files c.args.system.now) (g.O.Writer.output c.args.out.now) (g.E.Writer.output c.args.err.now))
     (world (g.S.FileSystem.files c.run_once.new.system) (g.O.Writer.output c.run_once.new.out) (g.E.Writer.output c.run_once.new.err))
     c.run_once.new.meter (rw c.session.ensures at c.in_ok-session.ensures.session) c.in_ok-run_once.field-0 c.in_default.is
-    (c.in_ok-run_once.ensures.failures ∙ c.in_ok-session.ensures.unchanged.failures) (rw (same_files c.in_ok-session.ensures.unchanged) at c.in_ok-run_once.ensures.done)
+    (c.in_ok-run_once.ensures.failed ∙ c.in_ok-session.ensures.unchanged.failed) (rw (same_files c.in_ok-session.ensures.unchanged) at c.in_ok-run_once.ensures.done)
 
 pub returns-in_err-run_once-clause-fault : goal.returns-in_err-run_once-clause-fault
 returns-in_err-run_once-clause-fault g c =
@@ -42,5 +42,5 @@ returns-clause-done g c =
     (world (g.S.FileSystem.files c.args.system.now) (g.O.Writer.output c.args.out.now) (g.E.Writer.output c.args.err.now))
     (world (g.S.FileSystem.files c.replay_file.new.system) (g.O.Writer.output c.replay_file.new.out) (g.E.Writer.output c.args.err.now))
     c.replay_file.new.meter (rw c.session.ensures at c.in_ok-session.ensures.session) c.in-Some.path c.in-Some.is refl (c.replay_file.ensures.unchanged.bytes ∙ c.load.ensures.unchanged.bytes)
-    (c.in_ok-replay_file.ensures.unchanged.failures ∙ c.in_ok-session.ensures.unchanged.failures)
+    (c.in_ok-replay_file.ensures.unchanged.failed ∙ c.in_ok-session.ensures.unchanged.failed)
     (rw (c.load.ensures.unchanged.bytes, c.options.ensures) at c.in_ok-replay_file.ensures.done)

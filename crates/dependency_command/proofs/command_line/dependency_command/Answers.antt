@@ -11,6 +11,6 @@ pub returns-in-Err-clause-ends : goal.returns-in-Err-clause-ends
 returns-in-Err-clause-ends g c = inr (record {
   fault = c.in-Err.fault;
   comes = c.in-Err.ensures.fault (g.E.Writer.output c.args.err.now);
-  failed = c.in-Err.ensures.unchanged.failures;
+  failed = c.in-Err.ensures.unchanged.failed;
   telling = rw c.in-Err.ensures.unreported at c.report_fault.ensures;
 })

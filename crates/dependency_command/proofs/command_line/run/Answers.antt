@@ -23,7 +23,7 @@ returns-clause-done g c =
     let kept = c.in_ok-session.ensures.unchanged in
     answered _ c.in-Session.words are (g.S.FileSystem.files c.args.system.now) (g.S.FileSystem.files c.write_answer.new.system) c.in_ok-session.session c.in_ok-session.ensures.session
     c.in_ok-check_paths.ensures.allowed (g.O.Writer.output c.args.out.now) (g.O.Writer.output c.write_answer.new.out) (g.S.FileSystem.files c.load.new.system) kept.bytes
-    kept.names c.write_answer.result (g.E.Writer.output c.args.err.now) (g.E.Writer.output c.write_answer.new.err) kept.failures c.write_answer.ensures.unchanged
+    kept.names c.write_answer.result (g.E.Writer.output c.args.err.now) (g.E.Writer.output c.write_answer.new.err) kept.failed c.write_answer.ensures.unchanged
     c.write_answer.ensures.done c.write_answer.ensures.reported
 
 pub returns-clause-fault : goal.returns-clause-fault

@@ -9,7 +9,7 @@ returns-in_err-text-clause-fault g c =
     let files = g.S.FileSystem.files c.args.system.now in
     let left = err_from_is_err_and c.from_residual.result c.from_residual.ensures.1 in
     rw (left.1 ∙ ap Err left.2) (breaks_answer c.args.words.now c.args.target files.bytes files.names c.args.session.now c.in-Ok.dependencies c.in-Ok.ensures
-    (FailsToListAny c.args.words.now.files) (g.O.Writer.output c.args.out.now) c.in_err-text.field-0.0 c.in_err-text.ensures.fault)
+    (FailsToListAny files c.args.words.now.files) (g.O.Writer.output c.args.out.now) c.in_err-text.field-0.0 c.in_err-text.ensures.fault)
 
 pub returns-in-Ok-write_all-clause-done : goal.returns-in-Ok-write_all-clause-done
 returns-in-Ok-write_all-clause-done g c =

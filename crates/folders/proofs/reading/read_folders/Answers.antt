@@ -16,10 +16,8 @@ loop-drive-init g c =
 pub read_folder-requires : goal.read_folder-requires
 read_folder-requires g c =
     let drive = c.loop-drive.drive-index in
-    let same = number_in drive c.loop-drive-test.true in record {
-      failures = rw c.loop-drive.invariant.0 c.requires;
-      none = λ k on. nothing_yet (g.S.FileSystem.files c.args.system.now) c.args.folders.now drive c.loop-drive.files c.loop-drive.invariant.1 k (on ∙ same);
-    }
+    let same = number_in drive c.loop-drive-test.true in
+    λ k on. nothing_yet (g.S.FileSystem.files c.args.system.now) c.args.folders.now drive c.loop-drive.files c.loop-drive.invariant.1 k (on ∙ same)
 
 pub returns-in_err-read_folder-clause-unchanged : goal.returns-in_err-read_folder-clause-unchanged
 returns-in_err-read_folder-clause-unchanged g c =

@@ -15,9 +15,6 @@ use Rattle.folders.proofs.reading.read_listed.Goals as goal
 pub loop-key-init : goal.loop-key-init
 loop-key-init g c = (refl, none_set _ _ _)
 
-pub read_one-requires : goal.read_one-requires
-read_one-requires g c = rw c.loop-key.invariant.0 c.requires.failures
-
 pub loop-key-preserved : goal.loop-key-preserved
 loop-key-preserved g c =
     let key = c.in-Some.key.now in

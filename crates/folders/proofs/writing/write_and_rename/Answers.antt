@@ -5,7 +5,7 @@ pub returns-clause-written : goal.returns-clause-written
 returns-clause-written g c =
     placed_at_ok c.args.path.now c.args.temporary.now (g.C.Contents.bytes c.args.contents.now)
     (g.S.FileSystem.files c.args.system.now).bytes (g.S.FileSystem.files c.remove.new.self).bytes (g.S.FileSystem.files c.write_new.new.self).bytes (g.S.FileSystem.files c.rename.new.self).bytes
-    c.rename.result c.requires.apart c.remove.ensures.others c.in_ok-write_new.ensures.written c.rename.ensures.moved
+    c.rename.result c.requires c.remove.ensures.others c.in_ok-write_new.ensures.written c.rename.ensures.moved
 
 pub returns-clause-err : goal.returns-clause-err
 returns-clause-err g c =

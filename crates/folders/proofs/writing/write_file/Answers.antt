@@ -4,8 +4,8 @@ use Rattle.folders.specs.FileSystem.{ChangesAt, PutsInPlace}
 use Rattle.folders.proofs.WriteLemmas.{changes_twice, paths_differ, unchanged}
 use Rattle.folders.proofs.writing.write_file.Goals as goal
 
-pub write_and_rename-requires-clause-apart : goal.write_and_rename-requires-clause-apart
-write_and_rename-requires-clause-apart g c = λ e.
+pub write_and_rename-requires : goal.write_and_rename-requires
+write_and_rename-requires g c = λ e.
     paths_differ c.args.folder.now c.args.name.now
     (sym c.in-Ok.ensures.temporary ∙ sym c.as_str.ensures.value ∙ e ∙ c.as_str-2.ensures.value ∙ c.in-Ok.ensures.path)
 

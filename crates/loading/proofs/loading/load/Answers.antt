@@ -1,6 +1,6 @@
 use Rattle.std.proofs.lemmas.Result.{err_from_is_err_and}
 use Rattle.folders.proofs.FilesLemmas.{same_files}
-use Rattle.loading.proofs.Refusing.{refused_of_words, script_unread}
+use Rattle.loading.proofs.Refusing.{folders_unread, refused_of_words, script_unread}
 use Rattle.loading.proofs.loading.load.Goals as goal
 
 pub returns-clause-fault : goal.returns-clause-fault
@@ -13,4 +13,13 @@ returns-clause-fault g c =
 pub returns-in_err-script-clause-fault : goal.returns-in_err-script-clause-fault
 returns-in_err-script-clause-fault g c =
     let left = err_from_is_err_and c.from_residual-in_err-script.result c.from_residual-in_err-script.ensures.1 in
-    rw (left.1, left.2) (script_unread (g.S.FileSystem.files c.args.system.now) c.args.words.now c.in_err-script.field-0.0 c.in_err-script.ensures.fault)
+    rw (left.1, left.2) (script_unread (g.S.FileSystem.files c.args.system.now) c.args.words.now c.in_ok-program.program.items c.in_ok-files.files
+    c.in_err-script.field-0.0 c.in_ok-program.ensures.program
+    (rw (same_files c.in_ok-program.ensures.unchanged) at c.in_ok-files.ensures.files) c.in_err-script.ensures.fault)
+
+pub returns-in_err-files-clause-fault : goal.returns-in_err-files-clause-fault
+returns-in_err-files-clause-fault g c =
+    let left = err_from_is_err_and c.from_residual-in_err-files.result c.from_residual-in_err-files.ensures.1 in
+    rw (left.1, left.2) (folders_unread (g.S.FileSystem.files c.args.system.now) c.args.words.now c.in_ok-program.program.items
+    c.in_err-files.field-0.0 c.in_ok-program.ensures.program
+    (rw (same_files c.in_ok-program.ensures.unchanged) at c.in_err-files.ensures.fault))

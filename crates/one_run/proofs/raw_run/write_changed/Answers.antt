@@ -1,8 +1,8 @@
-use Rattle.std.proofs.Common.{◌≡◌, Bool, [], Some, ap, ◌+◌, refl, subst, sym, unwrap_or, ◌∙◌}
+use Rattle.std.proofs.Common.{◌≡◌, Bool, [], Some, ap, ◌++◌, refl, subst, sym, unwrap_or, ◌∙◌}
 use Rattle.std.proofs.lemmas.Result.{err_from_is_err_and}
 use Rattle.std.specs.FinMap.{contains_key}
 use Rattle.std.specs.List.{concat}
-use Rattle.folders.specs.Faults.{reported_failures}
+use Rattle.folders.specs.Faults.{failure_paths}
 use Rattle.folders.specs.Folders.{WritesInto}
 use Rattle.hostfiles.specs.Files.{OwnFiles, files, has}
 use Rattle.hostfiles.specs.Hosts.{Key, Host}
@@ -22,9 +22,6 @@ there_at {host' = host'} {own' = own'} {key' = key'} h o k e = sym (there_is hos
 
 pub loop-changed-init : goal.loop-changed-init
 loop-changed-init g c = (refl, begins c.args.folders.now c.args.host.now c.args.journal.now.entries (g.S.FileSystem.files c.args.system.now).bytes)
-
-pub write_to_drive-requires : goal.write_to_drive-requires
-write_to_drive-requires g c = rw c.loop-changed.invariant.0 c.requires
 
 pub loop-changed-smaller : goal.loop-changed-smaller
 loop-changed-smaller g c =
@@ -52,7 +49,7 @@ loop-changed-preserved g c =
     elim c.if-is_there.branch [
       | then-is_there+in_ok-write_to_drive w ↦
           let next = (g.S.FileSystem.files w.write_to_drive.new.system).bytes in (
-            rw w.system-is (w.in_ok-write_to_drive.ensures.failures ∙ c.loop-changed.invariant.0),
+            rw w.system-is (w.in_ok-write_to_drive.ensures.failed ∙ c.loop-changed.invariant.0),
             subst (λ x. WritesOn folders host own before (Some name) (g.S.FileSystem.files x).bytes) (sym w.system-is)
                 (one_written folders host own before low now next name c.loop-changed.invariant.1 split (there ∙ w.if-is_there.true)
                 (subst (λ t. WritesInto (drive_folder folders name) now next name (concat (unwrap_or t [])))
@@ -85,7 +82,7 @@ returns-in_err-write_to_drive g c =
       written = tt;
       fault = stops folders host own c.in_err-write_to_drive.field-0.0 before low now last name c.loop-changed.invariant.1 split (there ∙ c.if-is_there.true)
           c.in_err-write_to_drive.ensures.fault c.in_err-write_to_drive.ensures.err;
-      failures = c.in_err-write_to_drive.ensures.failures ∙ ap (λ n. n + reported_failures c.in_err-write_to_drive.field-0.0) c.loop-changed.invariant.0;
+      failed = c.in_err-write_to_drive.ensures.failed ∙ ap (λ paths. failure_paths c.in_err-write_to_drive.field-0.0 ++ paths) c.loop-changed.invariant.0;
     })
 
 pub returns : goal.returns
@@ -96,5 +93,5 @@ returns g c =
     let none = changed_none host own low (rw c.as_ref.ensures.value at c.in_default.ensures.least) in record {
       written = ends c.args.folders.now host own (g.S.FileSystem.files c.args.system.now).bytes low (g.S.FileSystem.files c.loop-changed.system).bytes c.loop-changed.invariant.1 none;
       fault = tt;
-      failures = c.loop-changed.invariant.0;
+      failed = c.loop-changed.invariant.0;
     }

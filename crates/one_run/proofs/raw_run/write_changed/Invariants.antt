@@ -7,7 +7,7 @@ use Rattle.one_run.proofs.raw_run.write_changed.Given as goal
 -- Some first files were written, and the files with names above the last one are left.
 abbrev pub invariant-loop-changed : goal.invariant-loop-changed
 invariant-loop-changed g l =
-    ((g.S.FileSystem.files l.system).failures ≡ (g.S.FileSystem.files l.initial.system).failures)
+    ((g.S.FileSystem.files l.system).failed ≡ (g.S.FileSystem.files l.initial.system).failed)
     × WritesOn l.folders l.host l.journal.entries (g.S.FileSystem.files l.initial.system).bytes l.after (g.S.FileSystem.files l.system).bytes
 
 -- The changed names above the last one are left.
