@@ -359,10 +359,28 @@ class WrittenFileTest(CommandTest):
         self.expect_bytes(folder / 'B', B_OF_THREE)
         self.expect_bytes(folder / 'C', B_OF_THREE)
 
-    def test_a_folder_without_a_name_is_the_current_one(self) -> None:
+    def test_the_current_folder_is_written_to(self) -> None:
         folder = self.make_folder('written')
-        self.expect(0, '.', WARM_BOOT, self.three, 'a', '--out', '', cwd=folder)
+        self.expect(0, '.', WARM_BOOT, self.three, 'a', '--out', '.', cwd=folder)
         self.expect_names(folder, 'A', 'B', 'C')
+
+    def test_an_empty_path_is_a_usage_error(self) -> None:
+        for words, name in [([self.three, f'--{option}', ''], f'--{option} <{value}>') for option, value in
+                            [('files', 'DIR'), ('files-b', 'DIR'), ('console', 'FILE'), ('edits', 'FILE'), ('out', 'DIR'), ('out-d', 'DIR')]] + [
+                                ([''], '<PROGRAM>')]:
+            with self.subTest(name):
+                done = self.run_command(PROGRAM, *words)
+                self.assertEqual((done.returncode, done.stdout, done.stderr.decode().splitlines()[0]),
+                                 (1, b'', f"error: a value is required for '{name}' but none was supplied"))
+
+    def test_a_changed_file_keeps_its_mode(self) -> None:
+        folder = self.make_folder('private')
+        for name, mode in ('A', 0o600), ('B', 0o444):
+            (folder / name).write_text('old')
+            (folder / name).chmod(mode)
+        self.expect(0, '.', WARM_BOOT, self.three, 'a', '--out', folder)
+        self.expect_bytes(folder / 'A', A_OF_THREE)
+        self.assertEqual([(folder / name).stat().st_mode & 0o777 for name in 'ABC'], [0o600, 0o444, 0o644])
 
     def test_a_missing_folder_is_not_written_to(self) -> None:
         none = self.work / 'none'

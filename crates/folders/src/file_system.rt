@@ -8,8 +8,9 @@ ghost use Rattle.folders.specs.FileSystem.{Becomes, ChangesAt, Opens, ReadsFile,
 
 use crate::trail::Trail;
 use std::alloc::Global;
-use std::fs::{OpenOptions, read_dir};
+use std::fs::{OpenFile, OpenOptions, Permissions, read_dir};
 use std::io::{BufWriter, ErrorKind, Read, Write};
+use std::os::unix::fs::OpenOptionsExt;
 use std::rt::Files;
 use std::{fs, io};
 
@@ -85,8 +86,8 @@ pub trait FileSystem {
             (λ is. IfSome (files self.old).bytes (λ stored. is ≡ contains_key stored path.now)) }
         ensures unchanged { KeepsFiles (io_paths path.now) result (files self.old) (files self.new) };
 
-    /// Writes a new file, if nothing is at the path, that is then to be moved to a target. An error may leave a part of it there; the
-    /// path that failed is the target, as it is not written.
+    /// Writes a new file, if nothing is at the path, that is then to be moved to a target, with the mode of the file that is there, if
+    /// one is. An error may leave a part of it; the path that failed is the target, as it is not written.
     fn write_new<C: Contents>(&mut self, path: &str, target: &str, contents: &C) -> io::Result<()>
         ensures written { OnOk result (Becomes (files self.old).bytes (files self.new).bytes
             (λ stored. insert stored path.now (C.bytes contents.now))) }
@@ -202,13 +203,28 @@ impl<R: Files + AllocGlobal + Clone + Drop> SystemFiles<'_, R> {
         read_first(self.rt.alloc(), fs::open(self.rt, path)?, most)
     }
 
-    fn write_at<C: Contents>(&self, path: &str, contents: &C) -> io::Result<()> {
-        let file = OpenOptions::new()
-            .write(true)
-            .create_new(true)
-            .open(self.rt, path)?;
-        write_whole(self.rt.alloc(), file, contents)?;
-        Ok(())
+    // Returns the permissions of the regular file at a path, if there is one.
+    fn permissions_at(&self, path: &str) -> Option<Permissions> {
+        match fs::symlink_metadata(self.rt, path) {
+            Ok(found) if found.is_file() => Some(found.permissions()),
+            _ => None,
+        }
+    }
+
+    // Writes a new file with the permissions of the file that it replaces. Until then nobody else can read it.
+    fn write_at<C: Contents>(&self, path: &str, target: &str, contents: &C) -> io::Result<()> {
+        let permissions = self.permissions_at(target);
+        let mut options = OpenOptions::new();
+        options.write(true).create_new(true);
+        if permissions.is_some() {
+            options.mode(0o600);
+        }
+        let file = options.open(self.rt, path)?;
+        let written = write_whole(self.rt.alloc(), file, contents)?;
+        match permissions {
+            Some(permissions) => written.set_permissions(permissions),
+            None => Ok(()),
+        }
     }
 }
 
@@ -251,7 +267,7 @@ impl<R: Files + AllocGlobal + Clone + Drop> FileSystem for SystemFiles<'_, R> {
     }
 
     fn write_new<C: Contents>(&mut self, path: &str, target: &str, contents: &C) -> io::Result<()> {
-        let written = self.write_at(path, contents);
+        let written = self.write_at(path, target, contents);
         self.note(target, written)
     }
 

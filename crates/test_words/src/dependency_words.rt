@@ -70,8 +70,8 @@ const READ: &[Read<'_>] = &[
         ..PROGRAM
     },
     Read {
-        words: &["p.com", "--make=", "--by-step"],
-        target: Some(""),
+        words: &["p.com", "--make=made", "--by-step"],
+        target: Some("made"),
         by_step: true,
         ..PROGRAM
     },
@@ -89,6 +89,13 @@ const UNREAD: &[Unread<'_>] = &[
     (&[], UsageError, &["Usage: cpmdeps", "<PROGRAM>"]),
     (&["p.com", "a", "b"], UsageError, &[]),
     (&["p.com", "--make"], UsageError, &["--make <TARGET>"]),
+    (&["p.com", "--make="], UsageError, &["--make <TARGET>"]),
+    (
+        &["p.com", "--files-b", ""],
+        UsageError,
+        &["--files-b <DIR>"],
+    ),
+    (&[""], UsageError, &["<PROGRAM>"]),
     (&["p.com", "--by-step=true"], UsageError, &[]),
     (&["p.com", "--by-step", "--by-step"], UsageError, &[]),
     (&["p.com", "--limit", "4000000001"], UsageError, &[]),

@@ -33,6 +33,10 @@ const ROWS: &[Row<'_>] = &[
     (&["p.com", "--limit"], MISUSE),
     (&["p.com", "--limit", "5", "--limit", "6"], MISUSE),
     (&["p.com", "--files-e", "dir"], MISUSE),
+    (&["p.com", "--out", ""], MISUSE),
+    (&["p.com", "--edits="], MISUSE),
+    (&["p.com", "--console", ""], MISUSE),
+    (&[""], MISUSE),
     (&["p.com", "-x"], MISUSE),
     (
         &["p.com", "--slots", "0"],
