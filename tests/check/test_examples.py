@@ -146,3 +146,8 @@ class FixtureTest(ProgramTest):
         self.assertEqual(done.stderr.decode(), 'least: the run asked for the directory of drive A, so it depends on each name there\n')
         self.expect_names(self.work, 'disk', 'search.com')
         self.assertEqual(self.least('none.com').stderr, b'cpmdeps: cannot read none.com\n')
+
+    def test_a_run_that_was_cut_is_an_error(self) -> None:
+        done = self.least(self.put('open.com', self.OPEN_TWO), 'one.txt two', '--limit', '3')
+        self.assertEqual((done.returncode, done.stderr), (1, b'least: the run ended by stop Limit, so a longer one may ask for more\n'))
+        self.assertFalse((self.work / 'new').exists())

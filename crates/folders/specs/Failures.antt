@@ -14,7 +14,7 @@ kind_paths path _ = path ∷ []
 abbrev pub io_paths : Path → Error → List Path
 io_paths path e = kind_paths path (error_kind e)
 
--- The effect of a call on the paths that failed, the last of which comes first: none if it succeeds, or else those that its error
+-- The effect of a call on the paths that failed, the last of which comes first: none if it succeeds, or else the ones that its error
 -- reports are added.
 abbrev pub AddsPaths : {T E : Type 0} → (E → List Path) → Result T E → List Path → List Path → Type 0
 AddsPaths reported (Ok x) before after = after ≡ before

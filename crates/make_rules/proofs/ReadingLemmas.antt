@@ -1,5 +1,5 @@
 -- How make reads a written line.
-use Rattle.std.proofs.Common.{◌≡◌, ℕ, zero, suc, refl, ◌-◌, ◌==◌, ◌&&◌, ◌||◌, not, eqb, nat_lt, Bool, true, false, List, [], ◌∷◌, ◌++◌, map, filter, length, slice_get, codes, Option, Some, None, inl, inr, ap, sym, ◌∙◌, append_assoc, append-nil, arith}
+use Rattle.std.proofs.Common.{◌≡◌, ℕ, suc, refl, ◌-◌, ◌&&◌, not, nat_lt, Bool, true, false, List, [], ◌∷◌, ◌++◌, map, filter, length, slice_get, codes, Option, Some, None, inl, inr, ap, sym, ◌∙◌, append_assoc, append-nil, arith}
 use Rattle.std.proofs.lemmas.Bool.{cases_Bool, false≢true, true≢false}
 use Rattle.std.proofs.lemmas.Bool.Decides.{eqb_tells}
 use Rattle.std.proofs.lemmas.List.Folds.{list_all-append}
@@ -11,10 +11,10 @@ use Rattle.folders.specs.FolderNames.{folder_name, path_text}
 use Rattle.hostfiles.specs.Hosts.{Host}
 use Rattle.std.specs.Char.{to_ascii_lowercase}
 use Rattle.make_rules.specs.Carried.{ends_with_meaning, fits_call, has_home, has_meaning, has_meaning_in_call, has_meaning_last, is_carried, is_own_target, without_dot}
-use Rattle.make_rules.specs.Escapes.{argument, backslashes, escaped, prerequisite}
+use Rattle.make_rules.specs.Escapes.{backslashes, escaped, prerequisite}
 use Rattle.make_rules.specs.Files.{drive_of, in_call_part, is_absent, is_target, path_in_call, paths_in_call}
 use Rattle.make_rules.specs.declared.drives.DriveFolder.{DriveFolder}
-use Rattle.make_rules.specs.Reading.{ReadsRule, Sign, Named, Mark, Backslashes, Call, after, after_blanks, before, between_blanks, names, signs, signs_of, value_of, with_name}
+use Rattle.make_rules.specs.Reading.{ReadsRule, Sign, Named, Mark, Backslashes, after, after_blanks, before, between_blanks, names, signs, signs_of, value_of, with_name}
 use Rattle.std.specs.FinMap.{keys}
 use Rattle.first_looks.specs.FirstLooks.{FirstLooksView}
 use Rattle.machine.specs.Inputs.{Session}
@@ -22,7 +22,7 @@ use Rattle.make_rules.specs.Paths.{ArePathsOf, paths_with}
 use Rattle.make_rules.specs.Rule.{IsReadByMake, all_paths, call, missing_paths, needed_paths, rule_line}
 use Rattle.make_rules.specs.declared.rule.Paths.{Paths}
 use Rattle.make_rules.specs.declared.rule.RuleWords.{RuleWords}
-use Rattle.make_rules.proofs.SignLemmas.{AllInCall, AllPlain, arguments_signs, ends_plainly, or_false, path_signs, prerequisite_signs}
+use Rattle.make_rules.proofs.SignLemmas.{AllInCall, AllPlain, arguments_signs, ends_plainly, path_signs, prerequisite_signs}
 
 and_true : (x y : Bool) → (x && y) ≡ true → (x ≡ true) × (y ≡ true)
 and_true true y h = (refl, h)

@@ -1,12 +1,12 @@
 -- How make reads the paths and the calls of a written line, one after the other.
-use Rattle.std.proofs.Common.{◌≡◌, ℕ, zero, suc, refl, ◌+◌, ◌/◌, ◌%◌, ◌==◌, ◌||◌, eqb, Bool, true, false, if◌then◌else◌, List, [], ◌∷◌, ◌++◌, map, filter, replicate, codes, inl, inr, ap, ap₂, sym, ◌∙◌, append_assoc, append-nil, add-one, arith}
+use Rattle.std.proofs.Common.{◌≡◌, ℕ, zero, suc, refl, ◌+◌, ◌/◌, ◌%◌, ◌==◌, ◌||◌, eqb, Bool, true, false, if◌then◌else◌, List, [], ◌∷◌, ◌++◌, map, replicate, inl, inr, ap, ap₂, sym, ◌∙◌, append_assoc, append-nil, add-one, arith}
 use Rattle.std.proofs.lemmas.Bool.{eqb-true, true≢false}
 use Rattle.std.proofs.lemmas.Bool.Decides.{eqb_tells}
 use Rattle.std.specs.List.{flat_map, list_any}
 use Rattle.folders.specs.FileSystem.{Path}
 use Rattle.make_rules.specs.Carried.{has_meaning, has_meaning_in_call}
 use Rattle.make_rules.specs.Escapes.{argument, backslashes, doubled, escaped, escaped_from, prerequisite}
-use Rattle.make_rules.specs.Reading.{Sign, Named, Mark, Place, Backslashes, Dollar, Call, DollarInCall, after_blanks, signs, slashed}
+use Rattle.make_rules.specs.Reading.{Sign, Named, Mark, Backslashes, Call, after_blanks, signs, slashed}
 
 pub or_false : (x y : Bool) → (x || y) ≡ false → (x ≡ false) × (y ≡ false)
 or_false false y h = (refl, h)

@@ -1,5 +1,5 @@
 -- The paths that a rule can have. (GNU make 4.3: no escape keeps the others from another meaning, as a target or as a prerequisite.)
-use Rattle.std.specs.Prelude.{ℕ, ◌-◌, ◌==◌, ◌&&◌, ◌||◌, not, Bool, false, if◌then◌else◌, nat_le, nat_lt, List, [], ◌∷◌, Option, slice_get, length, drop}
+use Rattle.std.specs.Prelude.{ℕ, ◌-◌, ◌==◌, ◌&&◌, ◌||◌, not, Bool, false, if◌then◌else◌, nat_le, nat_lt, List, [], ◌∷◌, slice_get, length}
 use Rattle.std.specs.List.{list_all, list_any}
 use Rattle.std.specs.Option.{option_map_or}
 use Rattle.std.specs.Char.{is_ascii_uppercase}

@@ -1,6 +1,5 @@
 -- A path as a rule for GNU make has it. (This project's profile; `Reading` says how make reads it.)
-use Rattle.std.specs.Prelude.{ℕ, ◌+◌, ◌==◌, ◌||◌, Bool, if◌then◌else◌, List, [], ◌∷◌, ◌++◌, map, replicate}
-use Rattle.std.specs.List.{concat}
+use Rattle.std.specs.Prelude.{ℕ, ◌+◌, ◌==◌, ◌||◌, Bool, if◌then◌else◌, List, [], ◌∷◌, ◌++◌, replicate}
 use Rattle.folders.specs.FileSystem.{Path}
 
 -- A blank or `#`, which a path has only after a backslash.

@@ -1,8 +1,7 @@
 -- Why there is no rule. (This project's profile.)
-use Rattle.std.specs.Prelude.{◌≡◌, ℕ, false, List, ◌∷◌, ◌++◌, Option, string_bytes}
+use Rattle.std.specs.Prelude.{◌≡◌, false, List, Option, string_bytes}
 use Rattle.std.specs.List.{Contains}
 use Rattle.first_looks.specs.FirstLooks.{FirstLooksView}
-use Rattle.folders.specs.FileSystem.{Path}
 use Rattle.machine.specs.Inputs.{Session}
 use Rattle.make_rules.specs.Carried.{is_carried}
 use Rattle.make_rules.specs.Rule.{all_paths}

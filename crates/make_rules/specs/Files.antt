@@ -2,9 +2,7 @@
 use Rattle.std.specs.Prelude.{ℕ, ◌∷◌, ◌++◌, ◌||◌, ◌&&◌, not, Bool, if◌then◌else◌, is_some, List, [], map, get_or, slice_index, Option, Some, None, String, string_bytes, codes, bytes_eq}
 use Rattle.std.specs.Char.{to_ascii_lowercase}
 use Rattle.std.specs.List.{flat_map}
-use Rattle.std.specs.Ordering.{nat_cmp}
-use Rattle.std.specs.Cmp.Lexicographic.{slice_cmp}
-use Rattle.std.specs.FinMap.{FinMap, contains_key, get, keys}
+use Rattle.std.specs.FinMap.{contains_key, get, keys}
 use Rattle.filenames.specs.Drives.{drive_number}
 use Rattle.filenames.specs.Names.{Key, display_text, is_sayable}
 use Rattle.hostfiles.specs.Hosts.{Host}

@@ -5,7 +5,7 @@ use Rattle.std.specs.List.{flat_map, list_all}
 use Rattle.first_looks.specs.FirstLooks.{FirstLooksView}
 use Rattle.folders.specs.FileSystem.{Path}
 use Rattle.machine.specs.Cause.{Cause}
-use Rattle.machine.specs.Cause.TheVariants.{WarmBoot, Halt, Limit, Undefined, SystemArea, ConsoleExhausted, NoDollar, Unsupported, BadDrive}
+use Rattle.machine.specs.Cause.TheVariants.{WarmBoot}
 use Rattle.machine.specs.Inputs.{Session}
 use Rattle.dependencies.specs.Ranges.{rows_from}
 use Rattle.dependencies.specs.declared.ranges.LookRange.{LookRange}
