@@ -1,5 +1,5 @@
 -- How a session whose run is answered for, or cannot be, ends the program.
-use Rattle.std.proofs.Common.{◌≡◌, ◌∙◌, sym, ℕ, List, refl, true, false, inl, inr, Result, Ok, Err, IfErr, IfOk, OnOk}
+use Rattle.std.proofs.Common.{◌≡◌, ◌∙◌, ℕ, List, refl, false, inl, inr, Result, Ok, Err, IfErr, OnOk}
 use Rattle.std.proofs.lemmas.Result.{IfErr-weaker}
 use Rattle.command_words.specs.declared.words.DependencyWords.{DependencyWords}
 use Rattle.machine.specs.Inputs.{Session}

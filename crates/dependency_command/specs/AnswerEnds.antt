@@ -1,5 +1,5 @@
 -- The ways in which `cpmdeps` ends. (This project's profile.)
-use Rattle.std.specs.Prelude.{◌≡◌, ℕ, ◌⊎◌, true, false, List}
+use Rattle.std.specs.Prelude.{◌≡◌, ℕ, ◌⊎◌, false, List}
 use Rattle.command_words.specs.DependencyLine.{dependency_faults}
 use Rattle.command_words.specs.ErrorClass.{HasErrorClass}
 use Rattle.command_words.specs.declared.error_classes.ErrorClass.{ErrorClass}
