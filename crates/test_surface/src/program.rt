@@ -48,7 +48,6 @@ pub fn whole<S: FileSystem, O: Writer, E: Writer>(
     out: &mut O,
     err: &mut E,
 ) -> u8
-    requires system { (S.files system.old).failures < 2 ^ 63 }
     requires out { (O.output out.old).failures < 2 ^ 63 }
     requires err { (E.output err.old).failures < 2 ^ 63 }
 {
