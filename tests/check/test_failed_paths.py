@@ -1,0 +1,84 @@
+"""Which path a message names when a call of the system fails, and what comes first when two things are wrong."""
+from failures import FailureTest, Wanted
+from helpers import DEPENDENCIES_PROGRAM, HI, ProgramTest
+
+
+class CallsTest(FailureTest):
+    """Each call of one kind fails in turn."""
+
+    library = 'fail'
+
+    def expect_messages(self, calls: str, *messages: str) -> None:
+        """Expects one of these messages for each failing call of the kinds of these letters, and each message at some call."""
+        words, files = self.drive_words()
+        self.environment = {'FAIL_CALLS': calls}
+        told = set()
+        for at in range(1, 1001):
+            done = self.run_with_failure(at, self.program, *words)
+            self.take_written(Wanted(b'', files=files))
+            if not self.mark.exists():
+                break
+            with self.subTest(calls=calls, at=at):
+                self.assertEqual(done.returncode, 1)
+                self.assertIn(done.stderr.decode(), [f'cpmrun: {message}\n' for message in messages])
+            told.add(done.stderr.decode())
+        self.assertEqual(len(told), len(messages))
+
+    def test_the_state_of_a_file_names_the_file(self) -> None:
+        self.host()
+        self.expect_messages('s', f'cannot read {self.work}/host/x')
+
+    def test_the_entries_of_a_folder_name_the_folder(self) -> None:
+        self.host()
+        self.expect_messages('d', f'cannot read {self.work}/host')
+
+    def test_a_rename_names_the_file_that_is_written(self) -> None:
+        self.host()
+        self.expect_messages('n', *(f'cannot write {self.work}/written/{drive}/X' for drive in 'abcd'))
+
+    def test_a_write_names_the_file_that_is_written(self) -> None:
+        self.host()
+        self.expect_messages('w', *(f'cannot write {self.work}/written/{drive}/X' for drive in 'abcd'))
+
+    def test_an_open_names_what_is_opened(self) -> None:
+        self.host()
+        self.expect_messages('o', f'cannot read {self.work}/drives.com', f'cannot read {self.work}/host', f'cannot read {self.work}/host/x',
+                             *(f'cannot write {self.work}/written/{drive}/X' for drive in 'abcd'))
+
+
+class OrderTest(ProgramTest):
+
+    def test_a_path_that_a_rule_cannot_have_comes_before_a_program_that_is_missing(self) -> None:
+        for words in ['none.com', '--make', 'a\nb'], ['none\n.com', '--make', 'a'], ['none.com', '--make', 'a', '--files', 'no\nne']:
+            with self.subTest(words=words):
+                done = self.run_command(DEPENDENCIES_PROGRAM, *words)
+                self.assertEqual((done.returncode, done.stdout), (1, b''))
+                self.assertRegex(done.stderr, b'^cpmdeps: a rule for make cannot have ')
+
+    def test_a_program_that_is_missing_comes_before_a_folder_and_the_script(self) -> None:
+        for message, words in [
+            ('none.com', ['none.com', '--files', 'none', '--console', 'none.txt']),
+            ('none', [HI, '--files', 'none', '--files-b', 'other', '--console', 'none.txt']),
+            ('none.txt', [HI, '--files', self.work, '--console', 'none.txt']),
+        ]:
+            self.expect(1, '', f'cpmrun: cannot read {message}\n', *words)
+
+
+class EdgesTest(ProgramTest):
+
+    def test_a_deletion_of_513_files(self) -> None:
+        """A folder has 512 files, and the program makes one more and deletes them all: MVI C,22; LXI D,5CH; CALL 5; MVI C,19;
+        LXI D,111H; CALL 5; RET; and a control block with `*.*`. The file that it made is not reported as gone."""
+        program = self.put('delete.com', bytes.fromhex('0e16 115c00 cd0500 0e13 111101 cd0500 c9 00') + b'?' * 11 + bytes(24))
+        (self.work / 'full').mkdir()
+        names = [f'F{number:03}' for number in range(512)]
+        for name in names:
+            self.put(f'full/{name}', 'one')
+        gone = ''.join(f'gone {name}\n' for name in names)
+        self.expect(0, '', f'stop WarmBoot\n{gone}', program, 'new', '--files', self.work / 'full')
+
+    def test_stax_to_a_cell_that_is_ready_near_the_top_of_memory(self) -> None:
+        """Stores two bytes at FDEFH, one after the other, and prints the cell: LXI D,FDEFH; MVI A,41H; STAX D; INR A; STAX D; LDAX D;
+        MOV E,A; MVI C,2; CALL 5; RET."""
+        program = self.put('stax.com', bytes.fromhex('11effd 3e41 12 3c 12 1a 5f 0e02 cd0500 c9'))
+        self.expect(0, 'B', 'stop WarmBoot\n', program)
