@@ -26,7 +26,7 @@ class CallsTest(FailureTest):
 
     def test_the_state_of_a_file_names_the_file(self) -> None:
         self.host()
-        self.expect_messages('s', f'cannot read {self.work}/host/x')
+        self.expect_messages('s', f'cannot read {self.work}/host/x', *(f'cannot write {self.work}/written/{drive}/X' for drive in 'abcd'))
 
     def test_the_entries_of_a_folder_name_the_folder(self) -> None:
         self.host()

@@ -204,16 +204,18 @@ impl<R: Files + AllocGlobal + Clone + Drop> SystemFiles<'_, R> {
     }
 
     // Returns the permissions of the regular file at a path, if there is one.
-    fn permissions_at(&self, path: &str) -> Option<Permissions> {
+    fn permissions_at(&self, path: &str) -> io::Result<Option<Permissions>> {
         match fs::symlink_metadata(self.rt, path) {
-            Ok(found) if found.is_file() => Some(found.permissions()),
-            _ => None,
+            Ok(found) if found.is_file() => Ok(Some(found.permissions())),
+            Ok(_) => Ok(None),
+            Err(error) if error.kind() == ErrorKind::NotFound => Ok(None),
+            Err(error) => Err(error),
         }
     }
 
     // Writes a new file with the permissions of the file that it replaces. Until then nobody else can read it.
     fn write_at<C: Contents>(&self, path: &str, target: &str, contents: &C) -> io::Result<()> {
-        let permissions = self.permissions_at(target);
+        let permissions = self.permissions_at(target)?;
         let mut options = OpenOptions::new();
         options.write(true).create_new(true);
         if permissions.is_some() {
