@@ -53,7 +53,7 @@ BreaksReplay path source s old new (Folders f) = ⊥
 BreaksReplay path source s old new (Refused n) = ⊥
 BreaksReplay path source s old new (Malformed k) = BreaksOffWith (replay_fault.Malformed k) source s old new
 BreaksReplay path source s old new (TooLong k) = BreaksOffWith (replay_fault.LineTooLong k) source s old new
-BreaksReplay path source s old new (RulePath path) = ⊥
+BreaksReplay path source s old new (RulePath p) = ⊥
 BreaksReplay path source s old new OutOfMemory = (new ≡ old) ⊎ BreaksOffWith replay_fault.OutOfMemory source s old new
 
 -- The session that the words describe, loaded from these files and folders.
