@@ -141,7 +141,6 @@ class MessageTest(CommandTest):
         self.expect_error(f'cannot read {self.work}', HI, '--console', self.work)
         self.expect_error(f'cannot read {self.work}', HI, '--edits', self.work)
         self.expect_error(f'cannot read {self.ret}', HI, '--files', self.ret)
-        self.expect_error('cannot read ', HI, '--files', '')
 
     def test_each_message_shows_a_path_of_300_bytes(self) -> None:
         path = 'a' * 150 + '/' + 'b' * 149
@@ -323,11 +322,13 @@ class PermissionTest(CommandTest):
             (closed / 'f001', [closed / 'f001']),
             (closed / 'f001', [self.ret, '--console', closed / 'f001']),
             (shut, [self.ret, '--files-c', shut]),
-            (listed, [self.ret, '--files-d', listed]),
             (edits, [self.ret, '--edits', edits]),
         ]:
             with self.subTest(words=words):
                 self.expect_command(1, '', f'cpmrun: cannot read {path}\n', *self.nobody, *words)
+        done = self.run_command(*self.nobody, self.ret, '--files-d', listed)
+        self.assertEqual((done.returncode, done.stdout), (1, b''))
+        self.assertIn(done.stderr.decode(), [f'cpmrun: cannot read {path}\n' for path in listed.iterdir()], 'the first one in the folder')
 
     def test_an_unwritable_folder_is_reported(self) -> None:
         folder = self.make_folder('sealed')
