@@ -52,7 +52,7 @@ dist: stage
 	@name=$$($(PROGRAM) --version | tr ' ' -)-linux-x86_64 && tar -C $(STAGE) --transform "s,^\.,$$name," -czf $$name.tar.gz . && echo $$name.tar.gz
 
 bench: all
-	@status=0; for script in benchmark calls edits 'listings $(DEPENDENCIES_PROGRAM)'; do \
+	@status=0; for script in benchmark instructions calls edits 'listings $(DEPENDENCIES_PROGRAM)'; do \
 	    tests/measure/$$script $(PROGRAM) || status=1; done; exit "$$status"
 
 # the crates that a crate needs, itself included: the lines of crates.txt that name them

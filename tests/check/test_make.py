@@ -3,7 +3,7 @@ import shutil
 
 from helpers import TOP, ProgramTest, read_crates
 
-SCRIPTS = ['benchmark', 'calls', 'edits', 'listings']
+SCRIPTS = ['benchmark', 'instructions', 'calls', 'edits', 'listings']
 
 
 class MakeTest(ProgramTest):
@@ -19,7 +19,7 @@ class MakeTest(ProgramTest):
         return done.returncode, done.stdout.decode().splitlines()
 
     def test_all_that_measures_runs_and_the_status_tells(self) -> None:
-        lines = ['benchmark one', 'calls one', 'edits one', 'listings two one']
+        lines = ['benchmark one', 'instructions one', 'calls one', 'edits one', 'listings two one']
         self.assertEqual(self.bench(), (0, lines))
         for name in SCRIPTS:
             self.assertEqual(self.bench(name), (2, lines), name)
