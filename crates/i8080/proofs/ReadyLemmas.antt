@@ -1,5 +1,5 @@
 -- Which cells were ready earlier.
-use Rattle.std.proofs.Common.{◌≡◌, ℕ, ◌==◌, ◌||◌, Bool, true, false, refl, ap, sym, ◌∙◌, List, [], ◌∷◌, map, IsTrue, eq-eqb}
+use Rattle.std.proofs.Common.{◌≡◌, ℕ, ◌==◌, ◌||◌, Bool, true, false, refl, sym, ◌∙◌, List, ◌∷◌, map, IsTrue, eq-eqb}
 use Rattle.i8080.specs.Memory.{is_among}
 use Rattle.i8080.specs.Performs.{KeepsReady, WritesUnready}
 

@@ -4,19 +4,22 @@
 //!   conditions on them
 //! - `opcode`, `decoder`: the instructions, without the bytes that follow the opcode; decoding of a byte
 //! - `bus`: `Bus`, the trait of a memory, and reads and writes of more than one cell
+//! - `access`: `Access`, the trait of a memory that may refuse a read or a write, as each `Bus` is
 //! - `instructions`: one function for each kind of instruction
 //! - `execution`, `outcome`: `execute`, which reads and executes the instruction at PC; how an instruction ended
 #![tactic(auto)]
 
+mod access;
 mod bus;
 mod decoder;
 mod execution;
 mod flags;
-mod instructions;
+pub mod instructions;
 pub mod opcode;
 mod outcome;
 mod registers;
 
+pub use access::Access;
 pub use bus::{Bus, fetch, fetch_word};
 pub use decoder::{bytes_have_one_instruction, decode, opcodes_differ};
 pub use execution::execute;

@@ -8,15 +8,15 @@ use crate::opcode::{Arithmetic, Pair, Register};
 /// The 8-bit registers `a` to `l`, the stack pointer `sp`, the program counter `pc` and the flags.
 #[derive(Clone, Copy, Debug, PartialEq, Eq, Default)]
 pub struct Regs {
-    pub a: u8,
-    pub b: u8,
     pub c: u8,
-    pub d: u8,
+    pub b: u8,
     pub e: u8,
-    pub h: u8,
+    pub d: u8,
     pub l: u8,
+    pub h: u8,
     pub sp: u16,
     pub pc: u16,
+    pub a: u8,
     pub flags: Flags,
 }
 

@@ -2,7 +2,7 @@
 
 use crate::fixtures::blank;
 use i8080::{Bus, fetch};
-use pagemem::{BlankMarks, Cells, Image, Overlay, View, memories_agree};
+use pagemem::{Beneath, BlankMarks, Cells, Image, Overlay, View, memories_agree};
 use std::alloc::AllocError;
 use std::process::Abort;
 use std::test::Fail;
@@ -117,7 +117,9 @@ fn cells_are_shared_and_copied(rt: HostRuntime) -> Result<(), Fail> {
     cells.ready(0x0101)?;
     cells.write(0x0101, 0x5a);
     cells.share()?;
-    let mut copy = Overlay::from_parts(BlankMarks::new(rt.alloc())?, cells.snapshot()?);
+    let beneath = Beneath::of(&[0; 256], &Vec::new(rt.alloc()));
+    let marks = BlankMarks::new(rt.alloc())?;
+    let mut copy = Overlay::from_parts(marks, cells.snapshot()?, beneath);
     copy_is_as_before(&rt, &mut cells, &mut copy)
 }
 

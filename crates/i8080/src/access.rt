@@ -1,0 +1,157 @@
+ghost use Rattle.std.specs.Prelude.{◌≡◌, ◌<◌, ℕ, Bool, true, false, IsTrue, IfOk, OnOk, OnErr};
+ghost use Rattle.i8080.specs.Memory.{Memory, bytes, look, write};
+ghost use Rattle.i8080.specs.Reading.{Cell, Done};
+ghost use Rattle.i8080.specs.Instruction.{word_at};
+ghost use Rattle.i8080.specs.Performs.{KeepsReady};
+ghost use Rattle.i8080.specs.Attempts.{MayRead};
+
+use crate::bus::{Bus, fetch_operand};
+use crate::registers::word_of;
+use std::alloc::AllocError;
+
+/// A memory that may refuse a read or a write. Each `Bus` is one that refuses no read.
+pub trait Access {
+    /// Why a read or a write was refused.
+    type Refusal: Drop;
+
+    /// The written bytes, the bytes beneath them and the looks.
+    ghost memory: { Self → Memory };
+
+    /// Whether a cell may be written.
+    ghost is_ready: { Self → ℕ → Bool };
+
+    /// Whether no read is refused, and a write only if its cell was not ready. If not, a read is no look.
+    ghost is_sure: { Bool };
+
+    /// The address below which opcodes are read.
+    ghost opcode_limit: { ℕ };
+
+    /// Makes a cell ready to be written. No byte changes.
+    ///
+    /// # Errors
+    ///
+    /// The memory refuses the write. Cells that were ready stay ready.
+    fn make_ready(&mut self, a: u16) -> Result<(), Self::Refusal>
+        ensures ready { OnOk result (IsTrue (is_ready self.new a)) }
+        ensures unready { OnErr result (is_sure ≡ true → is_ready self.old a ≡ false) }
+        ensures kept { (q : ℕ) → IsTrue (is_ready self.old q) → IsTrue (is_ready self.new q) }
+        ensures memory { memory self.new ≡ memory self.old };
+
+    /// Reads the byte of a cell. If the memory is sure, this is a look, unless the cell was written.
+    ///
+    /// # Errors
+    ///
+    /// The memory refuses the read.
+    fn try_read(&mut self, a: u16) -> Result<u8, Self::Refusal>
+        ensures value { IfOk result (λ v. v ≡ bytes (memory self.old) a) }
+        ensures looks { OnOk result ((memory self.new).looks
+            ≡ look (memory self.old).own (memory self.old).looks a) }
+        ensures refused { OnErr result (is_sure ≡ false) }
+        ensures quiet { is_sure ≡ false → (memory self.new).looks ≡ (memory self.old).looks }
+        ensures kept { (q : ℕ) → IsTrue (is_ready self.old q) → IsTrue (is_ready self.new q) }
+        ensures own { (memory self.new).own ≡ (memory self.old).own }
+        ensures beneath { (memory self.new).beneath ≡ (memory self.old).beneath }
+        ensures lender { (memory self.new).lender ≡ (memory self.old).lender };
+
+    /// Reads the byte of a cell as an opcode. A memory may keep opcodes apart, to read them faster, and may have them only below an
+    /// address.
+    ///
+    /// # Errors
+    ///
+    /// The memory refuses the read.
+    fn try_opcode(&mut self, a: u16) -> Result<u8, Self::Refusal>
+        ensures value { IfOk result (λ v. v ≡ bytes (memory self.old) a) }
+        ensures looks { OnOk result ((memory self.new).looks
+            ≡ look (memory self.old).own (memory self.old).looks a) }
+        ensures low { OnOk result (a < opcode_limit) }
+        ensures refused { OnErr result (is_sure ≡ false) }
+        ensures quiet { is_sure ≡ false → (memory self.new).looks ≡ (memory self.old).looks }
+        ensures kept { (q : ℕ) → IsTrue (is_ready self.old q) → IsTrue (is_ready self.new q) }
+        ensures own { (memory self.new).own ≡ (memory self.old).own }
+        ensures beneath { (memory self.new).beneath ≡ (memory self.old).beneath }
+        ensures lender { (memory self.new).lender ≡ (memory self.old).lender };
+
+    /// Reads the word at an address, with its low byte in the addressed cell and its high byte in the next one. The cell after
+    /// 0FFFFH is 0000H.
+    ///
+    /// # Errors
+    ///
+    /// The memory refuses one of the reads.
+    #[tactic(auto, using(crate::proofs::ReadyLemmas::readiness))]
+    #[inline(always)]
+    fn try_word(&mut self, a: u16) -> Result<u16, Self::Refusal>
+        ensures reads { MayRead is_sure (word_at a Done) (memory self.old) result (memory self.new) }
+        ensures kept { KeepsReady (is_ready self.old) (is_ready self.new) }
+    {
+        let low = self.try_read(a)?;
+        let high = self.try_read(a.wrapping_add(1))?;
+        Ok(word_of(low, high))
+    }
+
+    /// Writes a ready cell.
+    fn put(&mut self, a: u16, value: u8)
+        requires { IsTrue (is_ready self.old a) }
+        ensures kept { (q : ℕ) → IsTrue (is_ready self.old q) → IsTrue (is_ready self.new q) }
+        ensures own { (memory self.new).own ≡ write (memory self.old).own a value }
+        ensures looks { (memory self.new).looks ≡ (memory self.old).looks }
+        ensures beneath { (memory self.new).beneath ≡ (memory self.old).beneath }
+        ensures lender { (memory self.new).lender ≡ (memory self.old).lender };
+}
+
+// Reads the byte of a cell.
+#[inline(always)]
+pub(crate) fn read_byte<M: Access>(bus: &mut M, a: u16) -> Result<u8, M::Refusal>
+    ensures reads { MayRead M.is_sure (Cell a Done) (M.memory bus.old) result (M.memory bus.new) }
+    ensures kept { KeepsReady (M.is_ready bus.old) (M.is_ready bus.new) }
+{
+    bus.try_read(a)
+}
+
+// Reads a word that is not an operand, cell by cell, low byte first.
+#[tactic(auto, using(crate::proofs::ReadyLemmas::readiness))]
+#[inline(always)]
+pub(crate) fn read_word<M: Access>(bus: &mut M, a: u16) -> Result<u16, M::Refusal>
+    ensures reads { MayRead M.is_sure (word_at a Done) (M.memory bus.old) result (M.memory bus.new) }
+    ensures kept { KeepsReady (M.is_ready bus.old) (M.is_ready bus.new) }
+{
+    let low = read_byte(bus, a)?;
+    let high = read_byte(bus, a.wrapping_add(1))?;
+    Ok(word_of(low, high))
+}
+
+impl<B: Bus> Access for B {
+    type Refusal = AllocError;
+
+    ghost memory = { λ s. B.memory s };
+
+    ghost is_ready = { λ s. B.is_ready s };
+
+    ghost is_sure = { true };
+
+    ghost opcode_limit = { 65536 };
+
+    #[inline(always)]
+    fn make_ready(&mut self, a: u16) -> Result<(), AllocError> {
+        self.ready(a)
+    }
+
+    #[inline(always)]
+    fn try_read(&mut self, a: u16) -> Result<u8, AllocError> {
+        Ok(self.read(a))
+    }
+
+    #[inline(always)]
+    fn try_opcode(&mut self, a: u16) -> Result<u8, AllocError> {
+        Ok(self.read(a))
+    }
+
+    #[inline(always)]
+    fn try_word(&mut self, a: u16) -> Result<u16, AllocError> {
+        Ok(fetch_operand(self, a))
+    }
+
+    #[inline(always)]
+    fn put(&mut self, a: u16, value: u8) {
+        self.write(a, value);
+    }
+}
