@@ -3,4 +3,6 @@ pub mod Laws
 pub mod PartLemmas
 pub mod RunLaws
 pub mod ListingLemmas
-pub mod SettledLemmas
+pub mod KnownLemmas
+pub mod KnownCells
+pub mod LearnedLemmas

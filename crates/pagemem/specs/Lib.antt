@@ -1,10 +1,11 @@
 pub mod Agreement
 pub mod Plain
-pub mod Settled
+pub mod Learned
+pub mod Known
+pub mod Beneath
 pub mod Image
 pub mod ImageView
 pub mod Pages
 pub mod Cells
 pub mod CellMarks
 pub mod Overlay
-pub mod ViewParts

@@ -3,6 +3,7 @@ use Rattle.std.specs.Prelude.{ℕ, Bool}
 use Rattle.i8080.specs.Memory.{Own, Looks}
 use Rattle.pagemem.specs.declared.overlay.Overlay.{Overlay}
 use Rattle.pagemem.specs.Cells.{own_in, is_ready_in}
+use Rattle.pagemem.specs.Beneath.{cells_beneath}
 
 -- The byte last written to each cell, if any.
 abbrev pub own_of : Overlay → Own
@@ -15,3 +16,7 @@ looks_of o = o.looks
 -- Whether a cell may be written.
 abbrev pub is_ready_at : Overlay → ℕ → Bool
 is_ready_at o = is_ready_in o.cells
+
+-- The byte of each cell of the image that the known cells belong to.
+abbrev pub beneath_of : Overlay → ℕ → ℕ
+beneath_of o = cells_beneath o.beneath

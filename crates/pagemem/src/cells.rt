@@ -1,4 +1,4 @@
-ghost use Rattle.std.specs.Prelude.{◌≡◌, true, false, ◌<◌, ◌≤◌, ◌+◌, ◌%◌, ℕ, vec_len, IsTrue, IfOk, OnOk, OnErr, None, length, get_or, slice_index};
+ghost use Rattle.std.specs.Prelude.{◌≡◌, true, false, ◌<◌, ◌≤◌, ◌+◌, ◌/◌, ◌%◌, ℕ, vec_len, IsTrue, IfOk, OnOk, OnErr, None, length, get_or, slice_index};
 ghost use Rattle.pagemem.specs.Pages.{IsLaid, IsNotOwned, own_at, ready_at, is_owned_at};
 ghost use Rattle.i8080.specs.End.{cells_from};
 ghost use Rattle.i8080.specs.Memory.{write, write_all};
@@ -38,6 +38,34 @@ impl Cells {
     {
         let alloc = self.alloc;
         make_ready(&mut self.slots, (a / 256) as usize, alloc)
+    }
+
+    /// Returns whether a cell may be written.
+    #[inline(always)]
+    pub fn is_ready(&self, a: u16) -> bool
+        ensures { result ≡ is_ready_in self.now a }
+    {
+        match &self.slots[(a / 256) as usize] {
+            Slot::Owned(_) => true,
+            Slot::Empty | Slot::Shared(_) => false,
+        }
+    }
+
+    /// Returns whether a page exists. In any other page, no cell was written.
+    #[tactic(auto, unfolding(crate::specs::Pages::own_at))]
+    pub fn has_page(&self, page: usize) -> bool
+        requires { page < 256 }
+        ensures { result ≡ false → (q : ℕ) → q / 256 ≡ page → own_in self.now q ≡ None }
+    {
+        match &self.slots[page] {
+            Slot::Empty => false,
+            Slot::Owned(_) | Slot::Shared(_) => true,
+        }
+    }
+
+    /// Returns the allocator.
+    pub fn allocator(&self) -> Global {
+        self.alloc
     }
 
     /// Returns the byte that was last written to a cell, or `None` if none was.

@@ -1,8 +1,5 @@
 ghost use Rattle.std.specs.Prelude.{◌≡◌, ◌<◌, ◌≤◌, ◌+◌, ◌%◌, ℕ, IfSome, length, slice_index};
-ghost use Rattle.i8080.specs.Registers.{onward, word};
 ghost use Rattle.pagemem.specs.Image.{image_at};
-
-use i8080::word_of;
 
 /// The cells of a page past the program.
 static ZEROS: [u8; 256] = [0; 256];
@@ -41,26 +38,6 @@ impl<'a> Image<'a> {
         } else {
             0
         }
-    }
-
-    /// Returns the word at an address, low byte first, if both of its bytes are in the program or both are in page zero.
-    #[inline(always)]
-    pub fn word(self, a: u16) -> Option<u16>
-        ensures { IfSome result (λ w. w
-            ≡ word (cells_of self.entry a) (cells_of self.entry (onward a 1))) }
-    {
-        // As in `at`, an address below 0100H wraps past every program.
-        let low = a.wrapping_sub(256) as usize;
-        let high = low + 1;
-        if high < self.program.len() {
-            return Some(word_of(self.program[low], self.program[high]));
-        }
-        let low = a as usize;
-        let high = low + 1;
-        if high < 256 {
-            return Some(word_of(self.page_zero[low], self.page_zero[high]));
-        }
-        None
     }
 
     /// Returns the bytes of `count` cells of one page, starting at `at`, if they are contiguous: all in page zero, all in the

@@ -1,4 +1,4 @@
-ghost use Rattle.std.specs.Prelude.{◌≡◌, ◌<◌, ◌≤◌, ◌∷◌, ◌++◌, [], ℕ, IfOk, IfNone, IfSome, length, slice_index, false, get_or, count_by, vec_len, if◌then◌else◌};
+ghost use Rattle.std.specs.Prelude.{◌≡◌, ◌<◌, ◌≤◌, ◌+◌, ◌∷◌, ◌++◌, [], ℕ, IfOk, IfNone, IfSome, length, slice_index, false, get_or, count_by, vec_len, if◌then◌else◌};
 ghost use Rattle.i8080.specs.Memory.{is_among};
 
 use std::alloc::{AllocError, Global};
@@ -58,6 +58,17 @@ impl Looks {
             self.order[self.count] = a;
             self.count += 1;
         }
+    }
+
+    /// Returns for each of `count` cells, starting at `at`, whether it was looked at.
+    #[inline(always)]
+    pub fn marks(&self, at: u16, count: usize) -> &[bool]
+        requires { at + count ≤ 65536 }
+        ensures length { length result.now ≡ count }
+        ensures marks { (i : ℕ) → i < count → get_or result.now i false ≡ is_among (at + i) self.now }
+    {
+        let from = usize::from(at);
+        &self.marks[from..from + count]
     }
 
     /// Returns the number of cells that were looked at.

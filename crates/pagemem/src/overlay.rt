@@ -1,48 +1,53 @@
-ghost use Rattle.std.specs.Prelude.{◌≡◌, true, false, ◌<◌, ◌≤◌, ◌+◌, ◌%◌, ◌∷◌, ◌++◌, [], ℕ, IsTrue, IfOk, OnOk, OnErr};
-ghost use Rattle.std.specs.Prelude.{IfNone, IfSome, None, Some, length, slice_index};
+ghost use Rattle.std.specs.Prelude.{◌≡◌, true, false, ◌<◌, ◌≤◌, ◌+◌, ◌*◌, ◌⊎◌, ◌%◌, ◌∷◌, ◌++◌, [], ℕ, IsTrue, IfOk, OnOk, OnErr};
+ghost use Rattle.std.specs.Prelude.{IfNone, IfSome, None, Some, length, slice_index, is_some};
 ghost use Rattle.i8080.specs.End.{cells_from};
 ghost use Rattle.i8080.specs.Memory.{bytes, look, write, write_all, is_among, over};
 ghost use Rattle.i8080.specs.Registers.{onward, word};
 ghost use Rattle.pagemem.specs.Cells.{own_in, is_ready_in};
-ghost use Rattle.pagemem.specs.Settled.{is_settled, IsSettledCell};
+ghost use Rattle.pagemem.specs.Known.{is_known, byte_in, IsKnownCell};
+ghost use Rattle.pagemem.specs.Beneath.{cells_beneath};
 
+use crate::beneath::Beneath;
 use crate::cells::Cells;
 use crate::image::Image;
+use crate::known::Known;
 use crate::looks::Looks;
-use crate::settled::Settled;
+use i8080::word_of;
 use std::alloc::{AllocError, Global};
 
-/// What a run wrote, with the cells that it looked at.
+/// What a run wrote, with the cells that it looked at, and the bytes of the cells that are known over one image.
 #[derive(Drop)]
 pub struct Overlay {
     cells: Cells,
     looks: Looks,
-    settled: Settled,
-    ghost rests: { (q : ℕ) → IsTrue (is_settled settled q) → IsSettledCell (own_in cells) looks q },
+    known: Known,
+    beneath: Beneath,
+    ghost agrees: { (q : ℕ) → IsTrue (is_known known q)
+        → IsKnownCell (own_in cells) (cells_beneath beneath) looks q (byte_in known q) },
 }
 
-/// The memory for the marks of an overlay, with no looks. A discarded overlay passes it to the next one, so that it is
+/// The memory for the marks of an overlay, with no looks and no known cells. A discarded overlay passes it to the next one, so that it is
 /// neither allocated nor cleared again.
 #[derive(Drop)]
 pub struct BlankMarks {
     looks: Looks,
-    settled: Settled,
+    known: Known,
     ghost unlooked: { looks ≡ [] },
-    ghost unsettled: { (q : ℕ) → is_settled settled q ≡ false },
+    ghost unknown: { (q : ℕ) → is_known known q ≡ false },
 }
 
 impl BlankMarks {
     /// Allocates the memory. `Err` means out of memory.
     pub fn new(alloc: Global) -> Result<BlankMarks, AllocError> {
         let looks = Looks::new(alloc)?;
-        let settled = Settled::new(alloc)?;
-        Ok(BlankMarks { looks, settled })
+        let known = Known::new(alloc)?;
+        Ok(BlankMarks { looks, known })
     }
 }
 
 impl Overlay {
     ghost use Rattle.pagemem.specs.ImageView.{cells_of};
-    ghost use Rattle.pagemem.specs.Overlay.{own_of, looks_of, is_ready_at};
+    ghost use Rattle.pagemem.specs.Overlay.{own_of, looks_of, is_ready_at, beneath_of};
 
     /// Creates an overlay with nothing written and no looks. `Err` means out of memory.
     pub fn new(alloc: Global) -> Result<Overlay, AllocError>
@@ -50,24 +55,27 @@ impl Overlay {
         ensures looks { IfOk result (λ o. looks_of o ≡ []) }
     {
         let cells = Cells::new(alloc)?;
-        Ok(Overlay::from_parts(BlankMarks::new(alloc)?, cells))
+        let beneath = no_image(alloc);
+        Ok(Overlay::from_parts(BlankMarks::new(alloc)?, cells, beneath))
     }
 
-    /// Creates an overlay of these cells, with no looks. Allocates nothing.
-    pub fn from_parts(marks: BlankMarks, cells: Cells) -> Overlay
+    /// Creates an overlay of these cells, with no looks, whose known cells belong to this image. Allocates nothing.
+    pub fn from_parts(marks: BlankMarks, cells: Cells, beneath: Beneath) -> Overlay
         ensures own { own_of result ≡ own_in cells }
         ensures looks { looks_of result ≡ [] }
         ensures ready { is_ready_at result ≡ is_ready_in cells }
+        ensures beneath { beneath_of result ≡ cells_beneath beneath }
     {
-        let BlankMarks { looks, settled } = marks;
+        let BlankMarks { looks, known } = marks;
         Overlay {
             cells,
             looks,
-            settled,
+            known,
+            beneath,
         }
     }
 
-    /// Returns the cells and the cleared marks. Allocates nothing, and takes time proportional to the number of looks.
+    /// Returns the cells and the cleared marks. Allocates nothing, and takes time proportional to the number of looks and of pages.
     pub fn into_parts(self) -> (Cells, BlankMarks)
         ensures own { own_in result.0 ≡ own_of self }
         ensures ready { is_ready_in result.0 ≡ is_ready_at self }
@@ -77,9 +85,11 @@ impl Overlay {
         let Overlay {
             cells,
             looks,
-            settled,
+            mut known,
+            beneath: _,
         } = overlay;
-        (cells, BlankMarks { looks, settled })
+        remove_written(&mut known, &cells);
+        (cells, BlankMarks { looks, known })
     }
 
     // Removes all looks.
@@ -99,6 +109,7 @@ impl Overlay {
         ensures shared { IfOk result (λ c. (q : ℕ) → is_ready_in c q ≡ false) }
         ensures own { own_of self.new ≡ own_of self.old }
         ensures looks { looks_of self.new ≡ looks_of self.old }
+        ensures beneath { self.new.beneath ≡ self.old.beneath }
     {
         self.share()?;
         self.cells.snapshot()
@@ -114,6 +125,7 @@ impl Overlay {
         ensures kept { (q : ℕ) → IsTrue (is_ready_at self.old q) → IsTrue (is_ready_at self.new q) }
         ensures own { own_of self.new ≡ own_of self.old }
         ensures looks { looks_of self.new ≡ looks_of self.old }
+        ensures beneath { beneath_of self.new ≡ beneath_of self.old }
     {
         self.cells.ready(a)
     }
@@ -132,54 +144,90 @@ impl Overlay {
         self.looks.contains(a)
     }
 
-    /// Returns the byte of a cell: the written one if there is one, otherwise the image's, which is a look.
+    /// Returns whether a cell may be written.
+    #[inline(always)]
+    pub fn is_ready(&self, a: u16) -> bool
+        ensures { result ≡ is_ready_at self.now a }
+    {
+        self.cells.is_ready(a)
+    }
+
+    /// Returns the byte of a cell over any image: the written one if there is one, otherwise the image's, which is a look. No cell
+    /// becomes known.
     #[inline(always)]
     pub fn read(&mut self, image: Image<'_>, a: u16) -> u8
         ensures value { result ≡ over (own_of self.old) (cells_of image.entry) a }
         ensures kept { (q : ℕ) → IsTrue (is_ready_at self.old q) → IsTrue (is_ready_at self.new q) }
         ensures own { own_of self.new ≡ own_of self.old }
         ensures looks { looks_of self.new ≡ look (own_of self.old) (looks_of self.old) a }
+        ensures beneath { beneath_of self.new ≡ beneath_of self.old }
     {
-        if self.settled.contains(a) {
-            return image.at(a);
-        }
         match self.cells.written(a) {
             Some(value) => value,
             None => {
-                self.look(a);
+                self.looks.add(a);
                 image.at(a)
             }
         }
     }
 
-    /// Returns the word at an address, low byte first, if both of its cells are settled and their bytes are contiguous in the
-    /// image. This is no look.
+    /// Returns the byte of a cell over the image that the known cells belong to. The cell is known from then on.
     #[inline(always)]
-    pub fn known_word(&self, image: Image<'_>, a: u16) -> Option<u16>
-        ensures value { IfSome result (λ w. w ≡ word (over (own_of self.now) (cells_of image.entry) a)
-            (over (own_of self.now) (cells_of image.entry) (onward a 1))) }
+    pub fn learn(&mut self, image: Image<'_>, a: u16) -> u8
+        requires { beneath_of self.old ≡ cells_of image }
+        ensures value { result ≡ over (own_of self.old) (cells_of image.entry) a }
+        ensures kept { (q : ℕ) → IsTrue (is_ready_at self.old q) → IsTrue (is_ready_at self.new q) }
+        ensures own { own_of self.new ≡ own_of self.old }
+        ensures looks { looks_of self.new ≡ look (own_of self.old) (looks_of self.old) a }
+        ensures beneath { beneath_of self.new ≡ beneath_of self.old }
+    {
+        let byte = self.read(image, a);
+        self.known.set(a, byte);
+        byte
+    }
+
+    /// Returns the byte of a cell over the image that the known cells belong to, or `None` if the cell is not known. This is no
+    /// new look.
+    #[inline(always)]
+    pub fn known(&self, a: u16) -> Option<u8>
+        ensures value { IfSome result (λ v. v ≡ over (own_of self.now) (beneath_of self.now) a) }
+        ensures unlooked { IfSome result (λ _.
+            look (own_of self.now) (looks_of self.now) a ≡ looks_of self.now) }
+    {
+        self.known.get(a)
+    }
+
+    /// Returns the byte of a cell as an opcode, over the image that the known cells belong to, if the cell is known and below the
+    /// system area. This is no new look.
+    #[inline(always)]
+    pub fn opcode(&mut self, a: u16) -> Option<u8>
+        ensures value { IfSome result (λ v. v ≡ over (own_of self.old) (beneath_of self.old) a) }
+        ensures unlooked { IfSome result (λ _.
+            look (own_of self.old) (looks_of self.old) a ≡ looks_of self.old) }
+        ensures low { IfSome result (λ _. a < 65024) }
+        ensures own { own_of self.new ≡ own_of self.old }
+        ensures looks { looks_of self.new ≡ looks_of self.old }
+        ensures kept { (q : ℕ) → IsTrue (is_ready_at self.old q) → IsTrue (is_ready_at self.new q) }
+        ensures beneath { self.new.beneath ≡ self.old.beneath }
+    {
+        self.known.opcode(a)
+    }
+
+    /// Returns the word at an address over the image that the known cells belong to, low byte first, if both of its cells are
+    /// known; the cell after 0FFFFH is 0000H. This is no new look.
+    #[inline(always)]
+    pub fn known_word(&self, a: u16) -> Option<u16>
+        ensures value { IfSome result (λ w. w ≡ word (over (own_of self.now) (beneath_of self.now) a)
+            (over (own_of self.now) (beneath_of self.now) (onward a 1))) }
         ensures low { IfSome result (λ _.
             look (own_of self.now) (looks_of self.now) a ≡ looks_of self.now) }
         ensures high { IfSome result (λ _.
             look (own_of self.now) (looks_of self.now) (onward a 1) ≡ looks_of self.now) }
     {
-        if self.settled.contains(a) && self.settled.contains(a.wrapping_add(1)) {
-            return image.word(a);
+        match (self.known(a), self.known(a.wrapping_add(1))) {
+            (Some(low), Some(high)) => Some(word_of(low, high)),
+            _ => None,
         }
-        None
-    }
-
-    // Adds a look at a cell that was not written. Out of line, because most reads add no look.
-    #[cold]
-    #[inline(never)]
-    fn look(&mut self, a: u16)
-        requires { own_of self.old a ≡ None }
-        ensures kept { (q : ℕ) → IsTrue (is_ready_at self.old q) → IsTrue (is_ready_at self.new q) }
-        ensures own { own_of self.new ≡ own_of self.old }
-        ensures looks { looks_of self.new ≡ look (own_of self.old) (looks_of self.old) a }
-    {
-        self.looks.add(a);
-        self.settled.add(a);
     }
 
     /// Writes a ready cell.
@@ -189,9 +237,10 @@ impl Overlay {
         ensures kept { (q : ℕ) → IsTrue (is_ready_at self.old q) → IsTrue (is_ready_at self.new q) }
         ensures own { own_of self.new ≡ write (own_of self.old) a value }
         ensures looks { looks_of self.new ≡ looks_of self.old }
+        ensures beneath { beneath_of self.new ≡ beneath_of self.old }
     {
         self.cells.write(a, value);
-        self.settled.remove(a);
+        self.known.set(a, value);
     }
 
     // Writes bytes to ready cells of one page, starting at `at`.
@@ -201,9 +250,10 @@ impl Overlay {
         ensures kept { (q : ℕ) → IsTrue (is_ready_at self.old q) → IsTrue (is_ready_at self.new q) }
         ensures own { own_of self.new ≡ write_all (own_of self.old) (cells_from at values.now) }
         ensures looks { looks_of self.new ≡ looks_of self.old }
+        ensures beneath { beneath_of self.new ≡ beneath_of self.old }
     {
         self.cells.write_in_page(at, values);
-        self.settled.remove_cells(at, values.len());
+        self.known.set_cells(at, values);
     }
 
     /// Writes bytes to ready cells, starting at `at`; the cell after 0FFFFH is 0000H.
@@ -212,6 +262,7 @@ impl Overlay {
         ensures kept { (q : ℕ) → IsTrue (is_ready_at self.old q) → IsTrue (is_ready_at self.new q) }
         ensures own { own_of self.new ≡ write_all (own_of self.old) (cells_from at values.now) }
         ensures looks { looks_of self.new ≡ looks_of self.old }
+        ensures beneath { beneath_of self.new ≡ beneath_of self.old }
     {
         let mut address = at;
         let mut done = 0;
@@ -234,6 +285,7 @@ impl Overlay {
         ensures kept { (q : ℕ) → IsTrue (is_ready_at self.old q) → IsTrue (is_ready_at self.new q) }
         ensures own { own_of self.new ≡ own_of self.old }
         ensures looks { looks_of self.new ≡ looks_of self.old }
+        ensures beneath { beneath_of self.new ≡ beneath_of self.old }
     {
         // One cell of each page: making it ready makes the page ready.
         let mut done = 0;
@@ -297,7 +349,7 @@ impl Overlay {
         let Some(beneath) = image.cells(at, cells.len()) else {
             return false;
         };
-        let marks = self.settled.marks(at, cells.len());
+        let marks = self.looks.marks(at, cells.len());
         self.cells.copy_over(at, beneath, marks, cells)
     }
 
@@ -324,9 +376,10 @@ impl Overlay {
         ensures some { IfSome result (λ a. looks_of self.old ≡ looks_of self.new ++ a ∷ []) }
         ensures own { own_of self.new ≡ own_of self.old }
         ensures ready { is_ready_at self.new ≡ is_ready_at self.old }
+        ensures beneath { beneath_of self.new ≡ beneath_of self.old }
     {
         let last = self.looks.take()?;
-        self.settled.remove(last);
+        self.known.remove(last);
         Some(last)
     }
 
@@ -336,6 +389,7 @@ impl Overlay {
         ensures shared { OnOk result ((q : ℕ) → is_ready_at self.new q ≡ false) }
         ensures own { own_of self.new ≡ own_of self.old }
         ensures looks { looks_of self.new ≡ looks_of self.old }
+        ensures beneath { self.new.beneath ≡ self.old.beneath }
     {
         self.cells.share()
     }
@@ -348,13 +402,43 @@ impl Overlay {
     {
         let cells = self.cells.snapshot()?;
         let looks = self.looks.snapshot()?;
-        let settled = self.settled.cleared()?;
+        let known = self.known.cleared()?;
+        let beneath = no_image(self.cells.allocator());
         Ok(Overlay {
             cells,
             looks,
-            settled,
+            known,
+            beneath,
         })
     }
+}
+
+// Returns an image for an overlay of which no cell is known.
+fn no_image(alloc: Global) -> Beneath {
+    Beneath::of(&[0; 256], &Vec::new(alloc))
+}
+
+// Removes all known cells, each of which was written.
+fn remove_written(known: &mut Known, cells: &Cells)
+    requires { (q : ℕ) → is_known known.old q ≡ true → is_some (own_in cells.now q) ≡ true }
+    ensures { (q : ℕ) → is_known known.new q ≡ false }
+{
+    for page in 0..256 {
+        remove_written_in(known, cells, page);
+    }
+}
+
+// Removes the known cells of a page, each of which was written.
+fn remove_written_in(known: &mut Known, cells: &Cells, page: usize)
+    requires page { page < 256 }
+    requires written { (q : ℕ) → is_known known.old q ≡ true → is_some (own_in cells.now q) ≡ true }
+    ensures kept { (q : ℕ) → is_known known.new q ≡ true → is_known known.old q ≡ true }
+    ensures gone { (q : ℕ) → is_known known.new q ≡ true → (q < 256 * page) ⊎ (256 * page + 256 ≤ q) }
+{
+    if !cells.has_page(page) {
+        return;
+    }
+    known.remove_page(page);
 }
 
 // Returns how many of `left` bytes fit in the page of a cell, starting with this cell.

@@ -1,6 +1,6 @@
-ghost use Rattle.std.specs.Prelude.{◌≡◌, ℕ, Bool, Some, length};
+ghost use Rattle.std.specs.Prelude.{◌≡◌, ℕ, Bool, Some};
 ghost use Rattle.i8080.specs.Memory.{Memory};
-ghost use Rattle.pagemem.specs.Overlay.{own_of, looks_of, is_ready_at};
+ghost use Rattle.pagemem.specs.Overlay.{own_of, looks_of, is_ready_at, beneath_of};
 ghost use Rattle.pagemem.specs.ImageView.{cells_of};
 
 use crate::image::Image;
@@ -8,7 +8,7 @@ use crate::overlay::Overlay;
 use i8080::Bus;
 use std::alloc::AllocError;
 
-/// An overlay's written cells laid over an image.
+/// An overlay's written cells laid over any image. No cell becomes known by a read.
 #[derive(Drop)]
 pub struct View<'a> {
     image: Image<'a>,
@@ -16,8 +16,6 @@ pub struct View<'a> {
 }
 
 impl<'a> View<'a> {
-    ghost use Rattle.pagemem.specs.ViewParts.{overlay_in};
-
     /// Joins an image and an overlay, which is lent for as long as the view exists.
     #[inline(always)]
     pub fn new(image: Image<'a>, overlay: &'a mut Overlay) -> View<'a>
@@ -26,13 +24,25 @@ impl<'a> View<'a> {
     {
         View { image, overlay }
     }
+}
 
-    /// Returns the number of cells that were looked at.
+/// An overlay's written cells laid over the image that its known cells belong to. Each cell that is read becomes known.
+#[derive(Drop)]
+pub struct LearningView<'a> {
+    image: Image<'a>,
+    overlay: &'a mut Overlay,
+    ghost same_image: { beneath_of overlay.now ≡ cells_of image },
+}
+
+impl<'a> LearningView<'a> {
+    /// Joins the image and the overlay, which is lent for as long as the view exists.
     #[inline(always)]
-    pub fn look_count(&self) -> usize
-        ensures { result ≡ length (looks_of (overlay_in self.now)) }
+    pub fn new(image: Image<'a>, overlay: &'a mut Overlay) -> LearningView<'a>
+        requires { beneath_of overlay.old ≡ cells_of image }
+        ensures image { result.image ≡ image.entry }
+        ensures overlay { result.overlay ≡ overlay.entry }
     {
-        self.overlay.look_count()
+        LearningView { image, overlay }
     }
 }
 
@@ -74,9 +84,54 @@ impl Bus for View<'_> {
     fn known_cells(&self, at: u16, cells: &mut [u8]) -> bool {
         self.overlay.known_cells(self.image, at, cells)
     }
+}
+
+impl Bus for LearningView<'_> {
+    ghost memory = { λ v. record {
+      own = own_of v.overlay.now;
+      beneath = cells_of v.image;
+      looks = looks_of v.overlay.now;
+      lender = Some v.overlay.ghost_name;
+    } };
+
+    ghost is_ready = { λ v. is_ready_at v.overlay.now };
+
+    #[inline(always)]
+    fn ready(&mut self, a: u16) -> Result<(), AllocError> {
+        self.overlay.ready(a)
+    }
+
+    #[inline(always)]
+    fn read(&mut self, a: u16) -> u8 {
+        match self.overlay.known(a) {
+            Some(byte) => byte,
+            None => {
+                let image = self.image;
+                self.overlay.learn(image, a)
+            }
+        }
+    }
+
+    #[inline(always)]
+    fn write(&mut self, a: u16, value: u8) {
+        self.overlay.write(a, value)
+    }
+
+    fn ready_cells(&mut self, at: u16, count: u16) -> Result<(), AllocError> {
+        self.overlay.ready_cells(at, count)
+    }
+
+    fn write_cells(&mut self, at: u16, values: &[u8]) {
+        self.overlay.write_cells(at, values)
+    }
+
+    #[inline(always)]
+    fn known_cells(&self, at: u16, cells: &mut [u8]) -> bool {
+        self.overlay.known_cells(self.image, at, cells)
+    }
 
     #[inline(always)]
     fn known_word(&self, a: u16) -> Option<u16> {
-        self.overlay.known_word(self.image, a)
+        self.overlay.known_word(a)
     }
 }

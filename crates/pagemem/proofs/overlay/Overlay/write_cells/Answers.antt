@@ -27,4 +27,5 @@ loop-done-preserved c =
           (let long = length-drop c.loop-done.done c.args.values.now in omega (arith, long, within, i.within)) (c.write_in_page.ensures.own ∙ ap (λ n. write_all (own_of c.loop-done.self) (cells_from c.loop-done.address (take n (drop c.loop-done.done c.args.values.now)))) (let e : c.loop-done.done + c.count_in_page-count.result - c.loop-done.done ≡ c.count_in_page-count.result = omega arith in e))
           ∙ i.rest;
       looks = c.write_in_page.ensures.looks ∙ i.looks;
+      beneath = c.write_in_page.ensures.beneath ∙ i.beneath;
     }

@@ -1,0 +1,195 @@
+ghost use Rattle.std.specs.Prelude.{◌≡◌, ◌==◌, ◌+◌, ◌*◌, ◌<◌, ◌≤◌, ◌⊎◌, ℕ, true, false, if◌then◌else◌, IfOk, IfSome, length, vec_len, slice_index, get_or};
+ghost use Rattle.pagemem.specs.Learned.{IsLearned};
+ghost use Rattle.pagemem.specs.declared.known.TheConstants.{NO_OPCODE};
+
+use crate::looks::{CELLS, blank_marks};
+use std::alloc::{AllocError, Global};
+
+/// HLT, which marks a cell that has no learned opcode: HLT itself is never learned.
+pub const NO_OPCODE: u8 = 0x76;
+
+/// The first cell of the system area, where no opcode is learned.
+const SYSTEM_AREA: u16 = 0xfe00;
+
+/// The bytes of the known cells. A read of a known cell returns its byte and is no new look, so that it needs neither the pages
+/// nor the looks. A learned opcode is the byte of a known cell below the system area at which an instruction began.
+#[derive(Drop)]
+pub struct Known {
+    marks: Vec<bool>,
+    bytes: Vec<u8>,
+    opcodes: Vec<u8>,
+    ghost all_marks: { vec_len marks ≡ 65536 },
+    ghost all_bytes: { vec_len bytes ≡ 65536 },
+    ghost all_opcodes: { vec_len opcodes ≡ 65536 },
+    ghost learned: { (q : ℕ) → (get_or opcodes.items q NO_OPCODE ≡ NO_OPCODE → ⊥)
+        → IsLearned (get_or marks.items q false) (slice_index bytes.items q) q
+        (get_or opcodes.items q NO_OPCODE) },
+}
+
+impl Known {
+    ghost use Rattle.pagemem.specs.Known.{is_known, byte_in};
+
+    /// Creates a set with no cells. `Err` means out of memory.
+    pub fn new(alloc: Global) -> Result<Known, AllocError>
+        ensures { IfOk result (λ k. (q : ℕ) → is_known k q ≡ false) }
+    {
+        let marks = blank_marks(alloc, CELLS)?;
+        let bytes = vec![in alloc; 0; CELLS]?;
+        let opcodes = blank_opcodes(alloc, CELLS)?;
+        Ok(Known {
+            marks,
+            bytes,
+            opcodes,
+        })
+    }
+
+    /// Creates a set with no cells, with the same allocator. `Err` means out of memory.
+    pub fn cleared(&self) -> Result<Known, AllocError>
+        ensures { IfOk result (λ k. (q : ℕ) → is_known k q ≡ false) }
+    {
+        Known::new(*self.marks.allocator())
+    }
+
+    /// Returns the byte of a cell, or `None` if the cell is not known.
+    #[inline(always)]
+    pub fn get(&self, a: u16) -> Option<u8>
+        ensures known { IfSome result (λ _. is_known self.now a ≡ true) }
+        ensures byte { IfSome result (λ v. v ≡ byte_in self.now a) }
+    {
+        let at = a as usize;
+        if self.marks[at] {
+            return Some(self.bytes[at]);
+        }
+        None
+    }
+
+    /// Returns the byte of a cell as an opcode, if the cell is known and below the system area. The opcode is learned from then on.
+    #[inline(always)]
+    pub fn opcode(&mut self, a: u16) -> Option<u8>
+        ensures known { IfSome result (λ _. is_known self.old a ≡ true) }
+        ensures byte { IfSome result (λ v. v ≡ byte_in self.old a) }
+        ensures low { IfSome result (λ _. a < 65024) }
+        ensures marks { (q : ℕ) → is_known self.new q ≡ is_known self.old q }
+        ensures bytes { (q : ℕ) → byte_in self.new q ≡ byte_in self.old q }
+    {
+        let opcode = self.opcodes[a as usize];
+        if opcode == NO_OPCODE {
+            return self.learn_opcode(a);
+        }
+        Some(opcode)
+    }
+
+    // Does the same for a cell without a learned opcode, to which most programs come once.
+    #[inline(always)]
+    fn learn_opcode(&mut self, a: u16) -> Option<u8>
+        ensures known { IfSome result (λ _. is_known self.old a ≡ true) }
+        ensures byte { IfSome result (λ v. v ≡ byte_in self.old a) }
+        ensures low { IfSome result (λ _. a < 65024) }
+        ensures marks { (q : ℕ) → is_known self.new q ≡ is_known self.old q }
+        ensures bytes { (q : ℕ) → byte_in self.new q ≡ byte_in self.old q }
+    {
+        let at = a as usize;
+        if a >= SYSTEM_AREA || !self.marks[at] {
+            return None;
+        }
+        let opcode = self.bytes[at];
+        self.opcodes[at] = opcode;
+        Some(opcode)
+    }
+
+    /// Sets the byte of a cell, which is known from then on. No opcode is learned there.
+    #[tactic(auto, using(crate::proofs::Laws::set_read))]
+    #[inline(always)]
+    pub fn set(&mut self, a: u16, value: u8)
+        ensures marks { (q : ℕ) → is_known self.new q ≡ (if q == a then true else is_known self.old q) }
+        ensures bytes { (q : ℕ) → byte_in self.new q ≡ (if q == a then value else byte_in self.old q) }
+    {
+        self.marks[a as usize] = true;
+        self.bytes[a as usize] = value;
+        self.opcodes[a as usize] = NO_OPCODE;
+    }
+
+    /// Sets the bytes of consecutive cells, starting at `at`, which are known from then on.
+    pub fn set_cells(&mut self, at: u16, values: &[u8])
+        requires { at + length values.now ≤ 65536 }
+        ensures inside { (i : ℕ) → i < length values.now
+            → byte_in self.new (at + i) ≡ slice_index values.now i }
+        ensures outside { (q : ℕ) → (q < at) ⊎ (at + length values.now ≤ q)
+            → (is_known self.new q ≡ is_known self.old q) × (byte_in self.new q ≡ byte_in self.old q) }
+    {
+        let from = usize::from(at);
+        mark_cells(&mut self.marks, from, values.len(), true);
+        copy_cells(&mut self.bytes, from, values);
+        clear_cells(&mut self.opcodes, from, values.len());
+    }
+
+    /// Removes a cell.
+    #[tactic(auto, using(crate::proofs::Laws::set_read))]
+    #[inline(always)]
+    pub fn remove(&mut self, a: u16)
+        ensures marks { (q : ℕ) → is_known self.new q ≡ (if q == a then false else is_known self.old q) }
+        ensures bytes { (q : ℕ) → byte_in self.new q ≡ byte_in self.old q }
+    {
+        let at = a as usize;
+        self.marks[at] = false;
+        self.opcodes[at] = NO_OPCODE;
+    }
+
+    /// Removes the cells of a page.
+    pub fn remove_page(&mut self, page: usize)
+        requires { page < 256 }
+        ensures kept { (q : ℕ) → is_known self.new q ≡ true → is_known self.old q ≡ true }
+        ensures gone { (q : ℕ) → is_known self.new q ≡ true → (q < 256 * page) ⊎ (256 * page + 256 ≤ q) }
+        ensures bytes { (q : ℕ) → byte_in self.new q ≡ byte_in self.old q }
+    {
+        let from = 256 * page;
+        mark_cells(&mut self.marks, from, 256, false);
+        clear_cells(&mut self.opcodes, from, 256);
+    }
+}
+
+// Returns `count` cells, none of which has a learned opcode.
+#[tactic(auto, using(crate::proofs::LearnedLemmas::none_kept))]
+fn blank_opcodes(alloc: Global, count: usize) -> Result<Vec<u8>, AllocError>
+    ensures len { IfOk result (λ v. vec_len v ≡ count) }
+    ensures none { IfOk result (λ v. (q : ℕ) → get_or v.items q NO_OPCODE ≡ NO_OPCODE) }
+{
+    vec![in alloc; NO_OPCODE; count]
+}
+
+// Sets the marks of consecutive cells.
+fn mark_cells(marks: &mut Vec<bool>, from: usize, count: usize, mark: bool)
+    requires { from + count ≤ vec_len marks.old }
+    ensures length { vec_len marks.new ≡ vec_len marks.old }
+    ensures inside { (i : ℕ) → i < count → get_or marks.new.items (from + i) false ≡ mark }
+    ensures outside { (q : ℕ) → (q < from) ⊎ (from + count ≤ q)
+        → get_or marks.new.items q false ≡ get_or marks.old.items q false }
+{
+    let part = &mut marks[from..from + count];
+    part.fill(mark);
+}
+
+// Copies bytes to consecutive cells.
+fn copy_cells(bytes: &mut Vec<u8>, from: usize, values: &[u8])
+    requires { from + length values.now ≤ vec_len bytes.old }
+    ensures length { vec_len bytes.new ≡ vec_len bytes.old }
+    ensures inside { (i : ℕ) → i < length values.now
+        → slice_index bytes.new.items (from + i) ≡ slice_index values.now i }
+    ensures outside { (q : ℕ) → (q < from) ⊎ (from + length values.now ≤ q)
+        → slice_index bytes.new.items q ≡ slice_index bytes.old.items q }
+{
+    let part = &mut bytes[from..from + values.len()];
+    part.copy_from_slice(values);
+}
+
+// Removes the opcodes of consecutive cells.
+fn clear_cells(opcodes: &mut Vec<u8>, from: usize, count: usize)
+    requires { from + count ≤ vec_len opcodes.old }
+    ensures length { vec_len opcodes.new ≡ vec_len opcodes.old }
+    ensures inside { (i : ℕ) → i < count → get_or opcodes.new.items (from + i) NO_OPCODE ≡ NO_OPCODE }
+    ensures outside { (q : ℕ) → (q < from) ⊎ (from + count ≤ q)
+        → get_or opcodes.new.items q NO_OPCODE ≡ get_or opcodes.old.items q NO_OPCODE }
+{
+    let part = &mut opcodes[from..from + count];
+    part.fill(NO_OPCODE);
+}
