@@ -1,0 +1,120 @@
+-- What an attempt comes to over a memory of which reads are no looks.
+use Rattle.std.proofs.Common.{◌≡◌, ◌<◌, ◌+◌, ℕ, zero, suc, Bool, true, false, cond, Option, Some, Ok, Err, refl, sym, subst, ap, ◌∙◌, add-one, arith}
+use Rattle.std.specs.Borrow.{GName}
+use Rattle.std.specs.declared.result.Result.{Result}
+use Rattle.i8080.specs.declared.registers.Regs.{Regs}
+use Rattle.i8080.specs.declared.outcome.Did.{Did}
+use Rattle.i8080.specs.declared.outcome.Did.TheVariants as did
+use Rattle.i8080.specs.declared.opcode.Op.{Op}
+use Rattle.i8080.specs.Memory.{Own, Looks, Memory, bytes, look, look_all}
+use Rattle.i8080.specs.Reading.{Reading, end_of, asked}
+use Rattle.i8080.specs.End.{End, Went, Halt, Undefined}
+use Rattle.i8080.specs.Instruction.{instruction, decided}
+use Rattle.i8080.specs.Opcodes.{decoded, opcode_of}
+use Rattle.i8080.proofs.Decoding.{decoded_some}
+use Rattle.i8080.specs.Performs.{Performs, did_of, regs_after, own_after}
+use Rattle.i8080.specs.Attempts.{Attempts, Tries, TriesByte}
+use Rattle.known_run.specs.KnownRun.{GoesOn, RunsKnown}
+
+-- Two memories with the same parts are one.
+pub same_parts : (m m' : Memory) → m'.own ≡ m.own → m'.beneath ≡ m.beneath → m'.looks ≡ m.looks → m'.lender ≡ m.lender → m' ≡ m
+same_parts m m' o b k l =
+    let made : Own → (ℕ → ℕ) → Looks → Option GName → Memory = λ o b k l. record { own = o; beneath = b; looks = k; lender = l } in
+    ap (λ x. made x m'.beneath m'.looks m'.lender) o ∙ ap (λ x. made m.own x m'.looks m'.lender) b ∙ ap (λ x. made m.own m.beneath x m'.lender) k ∙ ap (λ x. made m.own m.beneath m.looks x) l
+
+pub goes_on : {X : Type 0} (sure : Bool) (r : Regs) (m : Memory) (ready : ℕ → Bool) (r' : Regs) (m' : Memory) → sure ≡ false → Attempts {X = X} sure (instruction r) r m ready (Ok did.Went) r' m' → GoesOn r m r' m'
+goes_on sure r m ready r' m' e a = record {
+  performs = λ any. record { did = a.did; regs = a.regs; own = a.own; err_unready = a.err_regs; err_regs = a.err_regs; err_own = a.err_own; looks = a.looks; beneath = a.beneath; lender = a.lender };
+  quiet = a.quiet e;
+}
+
+-- A refusal changes nothing, nor do HLT and an undefined byte.
+pub same_after_refusal : {X : Type 0} (sure : Bool) (t : Reading End) (r : Regs) (m : Memory) (ready : ℕ → Bool) (x : X) (r' : Regs) (m' : Memory) → sure ≡ false → Attempts sure t r m ready (Err x) r' m' → (r' ≡ r) × (m' ≡ m)
+same_after_refusal sure t r m ready x r' m' e a = (a.err_regs, same_parts m m' a.err_own a.beneath (a.quiet e) a.lender)
+
+end_of_halt : (e : End) (r : Regs) (own : Own) → did.Halt ≡ did_of e → (regs_after e r ≡ r) × (own_after e own ≡ own)
+end_of_halt (Went x w) r own h = let no : did.Halt ≡ did.Went = h in cc
+end_of_halt Halt r own h = (refl, refl)
+end_of_halt (Undefined byte) r own h = (refl, refl)
+
+end_of_undefined : (e : End) (r : Regs) (own : Own) (byte : ℕ) → did.Undefined byte ≡ did_of e → (regs_after e r ≡ r) × (own_after e own ≡ own)
+end_of_undefined (Went x w) r own byte h = let no : did.Undefined byte ≡ did.Went = h in cc
+end_of_undefined Halt r own byte h = (refl, refl)
+end_of_undefined (Undefined b) r own byte h = (refl, refl)
+
+pub same_after_halt : {X : Type 0} (sure : Bool) (t : Reading End) (r : Regs) (m : Memory) (ready : ℕ → Bool) (r' : Regs) (m' : Memory) → sure ≡ false → Attempts {X = X} sure t r m ready (Ok did.Halt) r' m' → (r' ≡ r) × (m' ≡ m)
+same_after_halt sure t r m ready r' m' e a = let h = end_of_halt (end_of t (bytes m)) r m.own a.did in (a.regs ∙ h.0, same_parts m m' (a.own ∙ h.1) a.beneath (a.quiet e) a.lender)
+
+pub same_after_undefined : {X : Type 0} (sure : Bool) (t : Reading End) (r : Regs) (m : Memory) (ready : ℕ → Bool) (byte : ℕ) (r' : Regs) (m' : Memory) → sure ≡ false → Attempts {X = X} sure t r m ready (Ok (did.Undefined byte)) r' m' → (r' ≡ r) × (m' ≡ m)
+same_after_undefined sure t r m ready byte r' m' e a = let h = end_of_undefined (end_of t (bytes m)) r m.own byte a.did in (a.regs ∙ h.0, same_parts m m' (a.own ∙ h.1) a.beneath (a.quiet e) a.lender)
+
+module _ {M : Type 0} (memory : M → Memory) (limit n : ℕ) (r : Regs) (m : M) (x : Regs) (y : M) (r' : Regs) (m' : M) where
+  -- One more instruction.
+  pub runs_one_more : RunsKnown memory limit n r m x y → x.pc < limit → GoesOn x (memory y) r' (memory m') → RunsKnown memory limit (n + 1) r m r' m'
+  runs_one_more ran low goes = subst (λ (k : ℕ). RunsKnown memory limit k r m r' m') (sym (add-one n)) (x, y, ran, low, goes)
+
+-- The run ends where nothing has changed.
+pub runs_no_more : {M : Type 0} (memory : M → Memory) (limit n : ℕ) (r : Regs) (m : M) (x : Regs) (y : M) (r' : Regs) (m' : M) → RunsKnown memory limit n r m x y → r' ≡ x → memory m' ≡ memory y → RunsKnown memory limit n r m r' m'
+runs_no_more memory limit zero r m x y r' m' ran e f = (e ∙ ran.0, f ∙ ran.1)
+runs_no_more memory limit (suc n) r m x y r' m' ran e f =
+    (ran.0, ran.1, ran.2, ran.3, subst (λ (q : Memory). GoesOn ran.0 (memory ran.1) r' q) (sym f) (subst (λ (q : Regs). GoesOn ran.0 (memory ran.1) q (memory y)) (sym e) ran.4))
+
+-- ---- an instruction, by its opcode
+
+-- The instruction of the opcode at PC is the instruction at PC.
+module _ {X : Type 0} (r : Regs) (m : Memory) (ready : ℕ → Bool) (r' : Regs) (m' : Memory) (quiet : look m.own m.looks r.pc ≡ m.looks) where
+  pub at_pc : (result : Result Did X) → TriesByte false (bytes m r.pc) r m ready result r' m' → Attempts false (instruction r) r m ready result r' m'
+  unfolding instruction
+  at_pc (Ok did) a = record {
+    did = a.did;
+    regs = a.regs;
+    own = a.own;
+    looks = a.looks ∙ ap (look_all m.own (asked (decided (bytes m r.pc) (decoded (bytes m r.pc)) r) (bytes m))) (sym quiet);
+    err_unready = tt;
+    err_looks = tt;
+    err_regs = tt;
+    err_own = tt;
+    quiet = a.quiet;
+    beneath = a.beneath;
+    lender = a.lender;
+  }
+  at_pc (Err e) a = record {
+    did = tt;
+    regs = tt;
+    own = tt;
+    looks = tt;
+    err_unready = λ no. absurd (let never : ⊥ = cc in never);
+    err_looks = λ no. absurd (let never : ⊥ = cc in never);
+    err_regs = a.err_regs;
+    err_own = a.err_own;
+    quiet = a.quiet;
+    beneath = a.beneath;
+    lender = a.lender;
+  }
+
+-- What an arm of the dispatch does for its byte, if it executes the instruction with this opcode.
+pub arm : {X M : Type 0} (memory : M → Memory) (sure : Bool) (byte : ℕ) (r : Regs) (m : Memory) (ready : ℕ → Bool) (result : Result Did X) (r' : Regs) (m' : M) (op : Op) (done : Result Did X) (x : Regs) (y : M)
+    → byte ≡ opcode_of op → result ≡ done → r' ≡ x → m' ≡ y → Tries sure op r m ready done x (memory y) → TriesByte sure byte r m ready result r' (memory m')
+arm memory sure byte r m ready result r' m' op done x y e f g h a = let decodes : decoded byte ≡ Some op = decoded_some op byte (sym e) in rw (decodes, f, g, h) a.attempts
+
+-- The same for an arm that executes the instruction of its byte.
+pub arm_of_byte : {X M : Type 0} (memory : M → Memory) (sure : Bool) (byte : ℕ) (r : Regs) (m : Memory) (ready : ℕ → Bool) (result : Result Did X) (r' : Regs) (m' : M) (done : Result Did X) (x : Regs) (y : M)
+    → result ≡ done → r' ≡ x → m' ≡ y → TriesByte sure byte r m ready done x (memory y) → TriesByte sure byte r m ready result r' (memory m')
+arm_of_byte memory sure byte r m ready result r' m' done x y f g h a = rw (f, g, h) a
+
+-- After an instruction that went, and after one that did not.
+module _ {X : Type 0} {M : Type 0} (memory : M → Memory) (limit n : ℕ) (r : Regs) (m : M) (x : Regs) (y : M) (r' : Regs) (m' : M) (ran : RunsKnown memory limit n r m x y) (low : x.pc < limit) (ready : ℕ → Bool) where
+  stays : (result : Result Did X) → (result ≡ Ok did.Went → ⊥) → Attempts false (instruction x) x (memory y) ready result r' (memory m') → (r' ≡ x) × (memory m' ≡ memory y)
+  stays (Ok did.Went) apart a = absurd (apart refl)
+  stays (Ok did.Halt) apart a = same_after_halt false (instruction x) x (memory y) ready r' (memory m') refl a
+  stays (Ok (did.Undefined byte)) apart a = same_after_undefined false (instruction x) x (memory y) ready byte r' (memory m') refl a
+  stays (Err e) apart a = same_after_refusal false (instruction x) x (memory y) ready e r' (memory m') refl a
+
+  pub next : (went : Bool) (k : ℕ) (result : Result Did X) → k ≡ cond went 1 0 → (went ≡ true → result ≡ Ok did.Went) → (went ≡ false → result ≡ Ok did.Went → ⊥)
+      → Attempts false (instruction x) x (memory y) ready result r' (memory m') → RunsKnown memory limit (n + k) r m r' m'
+  next true k result e gone other a =
+      let goes = goes_on false x (memory y) ready r' (memory m') refl (subst (λ (z : Result Did X). Attempts false (instruction x) x (memory y) ready z r' (memory m')) (gone refl) a) in
+      rw e (runs_one_more memory limit n r m x y r' m' ran low goes)
+  next false k result e gone other a =
+      let same = stays result (other refl) a in
+      subst (λ (j : ℕ). RunsKnown memory limit j r m r' m') (omega (arith, e)) (runs_no_more memory limit n r m x y r' m' ran same.0 same.1)
