@@ -15,7 +15,7 @@ use Rattle.first_looks.specs.Questions.{is_in}
 use Rattle.first_looks.specs.FirstLooks.{FirstLooksView, with_seen}
 
 module _ (s : Session) (end n m : ℕ) (old new : FirstLooksView) (st : PartialState) (looked after_step left : AllLooks) (known : AreNotedBelow s old n looked) (drained : HasNoQuestions left) (same_cells : left.cells ≡ after_step.cells) where
-  module _ (stretch : RunsStretch s n end looked m (Ok None) (record { state = st; looked = after_step })) (more : n < m) (noted : NotesSeenStep (with_seen old (m - 1)) new (looks_from (length looked.cells) after_step)) where
+  module _ {beneath : List ℕ × List ℕ} (stretch : RunsStretch s n end looked m (Ok None) (record { state = st; looked = after_step; beneath = beneath })) (more : n < m) (noted : NotesSeenStep (with_seen old (m - 1)) new (looks_from (length looked.cells) after_step)) where
     notes_stretch : NotesStretch (session_answers s) old new n m left 0 0
     notes_stretch = stretch_kept s end n m old new 0 0 st looked after_step left stretch more known.first (λ _. known.all)
         (λ low. absurd (omega (arith, low, known.seen))) same_cells (λ ne. absurd (ne (sym known.seen))) (λ _. inl (noted, refl, drained))
@@ -26,7 +26,7 @@ module _ (s : Session) (end n m : ℕ) (old new : FirstLooksView) (st : PartialS
         let seen : new.seen ≡ m = omega (arith, noted.seen, more) in
         record { first = notes_stretch.noted; seen = seen; all = notes_stretch.looks (omega (arith, seen)) }
 
-  module _ (cause : Cause) (stretch : RunsStretch s n end looked m (Ok (Some cause)) (record { state = st; looked = after_step })) (noted : NotesSeenStep (with_seen old m) new (looks_from (length looked.cells) after_step)) where
+  module _ (cause : Cause) {beneath : List ℕ × List ℕ} (stretch : RunsStretch s n end looked m (Ok (Some cause)) (record { state = st; looked = after_step; beneath = beneath })) (noted : NotesSeenStep (with_seen old m) new (looks_from (length looked.cells) after_step)) where
     notes_stop : Notes (session_answers s) (with_seen old m) new m left 0 0
     notes_stop =
         let quiet : LooksAtNothingNew (session_answers s) looked old.seen m = subst (λ (k : ℕ). LooksAtNothingNew (session_answers s) looked k m) (sym known.seen) stretch.before_stop in

@@ -1,6 +1,7 @@
 ghost use Rattle.std.specs.Prelude.{◌≡◌, ◌≤◌, IfOk, OnOk, length};
 ghost use Rattle.machine.specs.Machine.{HasNoQuestions, looks_from, start};
 ghost use Rattle.machine.specs.FirstLooks.{NotesSeenStep};
+ghost use Rattle.machine.specs.Bound.{IsBound};
 ghost use Rattle.first_looks.specs.FirstLooks.{with_seen};
 ghost use Rattle.dependencies.specs.Dependencies.{AreDependencies, AreNotedBelow};
 
@@ -47,6 +48,7 @@ fn note_run(
     looks: &mut FirstLooks,
 ) -> Result<(u64, Cause), AllocError>
     requires state { running.old.state ≡ start }
+    requires bound { IsBound session.now running.old }
     requires noted { AreNotedBelow session.now looks.old 0 running.old.looked }
     ensures { IfOk result (λ r. AreDependencies session.now looks.new r.0 r.1) }
 {
@@ -81,6 +83,7 @@ fn note_looks_of(
     ensures drained { OnOk result (HasNoQuestions running.new.looked) }
     ensures state { running.new.state ≡ running.old.state }
     ensures cells { running.new.looked.cells ≡ running.old.looked.cells }
+    ensures beneath { running.new.beneath ≡ running.old.beneath }
 {
     looks.advance_to(step);
     running.note_looks(from, looks)?;

@@ -4,6 +4,7 @@ pub mod TakeLemmas
 pub mod FitLemmas
 pub mod StepLemmas
 pub mod StretchLemmas
+pub mod KnownSteps
 pub mod JoinedStretches
 pub mod TidyFiles
 pub mod WholeFiles

@@ -54,7 +54,7 @@ pub record NotesStretch (f : Answers) (old new : FirstLooksView) (n m : ℕ) (lo
   pub counted : (refused ≤ refuses) × (refuses ≤ refused + 1)
   pub all : refuses ≡ refused → n ≤ old.seen → m ≤ new.seen
 
-module _ (s : Session) (end n m : ℕ) (old new : FirstLooksView) (refused refuses : ℕ) (st : PartialState) (looked after_step left : AllLooks) (stretch : RunsStretch s n end looked m (Ok None) (record { state = st; looked = after_step })) (more : n < m)
+module _ (s : Session) (end n m : ℕ) (old new : FirstLooksView) (refused refuses : ℕ) (st : PartialState) (looked after_step left : AllLooks) {beneath : List ℕ × List ℕ} (stretch : RunsStretch s n end looked m (Ok None) (record { state = st; looked = after_step; beneath = beneath })) (more : n < m)
     (known : IsFirstLooks (session_answers s) old) (all : n ≤ old.seen → AllNoted old looked) (seen : n < old.seen → m ≤ old.seen) (same_cells : left.cells ≡ after_step.cells) where
   -- The state before the last step.
   before_last_step : (b : PartialState) × (after (session_answers s) (m - 1) ≡ Some b)

@@ -1,17 +1,12 @@
 -- Along a run no record is past the end of a file, and a file that is not there has length 0.
-use Rattle.std.proofs.Common.{◌≡◌, ℕ, Bool, true, false, cond, List, [], ◌∷◌, length, Option, Some, None, is_some, unwrap_or, refl, sym, subst}
-use Rattle.std.specs.Ordering.{nat_cmp, eq_by_cmp}
-use Rattle.std.specs.Cmp.Lexicographic.{slice_cmp, nat_list_cmp_total}
-use Rattle.std.specs.FinMap.{get, insert, empty, get-empty, get-insert}
+use Rattle.std.proofs.Common.{◌≡◌, ℕ, true, false, List, [], ◌∷◌, length, Option, Some, None, is_some, unwrap_or, refl, sym, subst}
+use Rattle.std.specs.FinMap.{get, insert, empty}
 use Rattle.interaction_trees.specs.Tree.{result_of}
 use Rattle.interaction_trees.specs.Outcome.{Step}
 use Rattle.interaction_trees.specs.Dependence as dependence
-use Rattle.hostfiles.proofs.Views.{same_key, key_of}
 use Rattle.hostfiles.specs.Hosts.{Key, Record, Host}
-use Rattle.hostfiles.specs.Files.{OwnFiles, entry_at, untouched_entry, new_entry, gone_entry, renamed_from, base_renamed_from, is_there, length_of, length_at, has, after_delete, after_write, entry_after_write}
+use Rattle.hostfiles.specs.Files.{OwnFiles, entry_at, untouched_entry, new_entry, gone_entry, renamed_from, is_there, length_of, length_at, has, after_delete, after_write, entry_after_write}
 use Rattle.hostfiles.specs.Laid.{HasNoRecordPastEnd}
-use Rattle.hostfiles.specs.declared.journal.Base.{Base}
-use Rattle.hostfiles.specs.declared.journal.Base.TheVariants.{Same, Gone, New, Moved}
 use Rattle.hostfiles.specs.declared.journal.Entry.{Entry}
 use Rattle.hostfiles.specs.declared.journal.Gap.{Gap}
 use Rattle.hostfiles.proofs.JournalLemmas.{each_untouched, each_with}

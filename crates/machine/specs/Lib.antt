@@ -2,6 +2,7 @@ pub mod Inputs
 pub mod CellCount
 pub mod StateView
 pub mod Session
+pub mod Bound
 pub mod SessionError
 pub mod Step
 pub mod Machine

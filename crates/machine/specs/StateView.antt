@@ -77,7 +77,8 @@ pub record AllLooks : Type 0 where
   pub offsets : ScriptLooks
   pub files : FileLooks
 
--- A state and its looks.
+-- A state and its looks, with page zero and the program of the image that its known cells belong to.
 pub record StateView : Type 0 where
   pub state : PartialState
   pub looked : AllLooks
+  pub beneath : List ℕ × List ℕ

@@ -3,16 +3,10 @@ use Rattle.std.specs.Prelude.{◌≡◌, ℕ, ◌+◌, ◌<◌, ◌≤◌, ◌-�
 use Rattle.std.specs.declared.result.Result.{Result}
 use Rattle.std.specs.declared.alloc.AllocError.{AllocError}
 use Rattle.interaction_trees.specs.Outcome.{Stop}
-use Rattle.i8080.specs.declared.registers.Regs.{Regs}
-use Rattle.pagemem.specs.declared.overlay.Overlay.{Overlay}
-use Rattle.pagemem.specs.declared.view.View.{View}
-use Rattle.pagemem.specs.ViewParts.{overlay_in, image_in}
 use Rattle.console_calls.specs.declared.cause.Cause.{Cause}
 use Rattle.machine.specs.Inputs.{Session}
 use Rattle.machine.specs.StateView.{AllLooks, StateView}
-use Rattle.machine.specs.Session.{image_of}
-use Rattle.machine.specs.WrittenCells.{DeskAndFiles}
-use Rattle.machine.specs.TakesStep.{view_with}
+use Rattle.machine.specs.Bound.{image_beneath, IsBound}
 use Rattle.first_looks.specs.declared.question.Question.{Question}
 use Rattle.first_looks.specs.Questions.{is_in}
 use Rattle.machine.specs.Machine.{Answers, session_answers, after, outcome, looks, is_looked_at, AddsLooks, KeepsLooks, AddsNoOtherLooks}
@@ -38,19 +32,13 @@ pub record RunsStretch (s : Session) (from end : ℕ) (looked : AllLooks) (n : �
   pub extends : KeepsLooks looked new.looked
   pub bounded : OnErr result (AddsNoOtherLooks looked (looks (session_answers s) n) new.looked)
 
--- At most `steps` steps led from one state to another, whatever the step of the first; how many they were, and how they ended.
-abbrev pub RunsSteps : Session → ℕ → StateView → ℕ × Result (Option Cause) AllocError → StateView → Type 0
-RunsSteps s steps old reached new =
-    (from : ℕ) → after (session_answers s) from ≡ Some old.state → RunsStretch s from (from + steps) old.looked (from + reached.0) reached.1 new
-
--- At most `steps` instructions over a view did so, with any devices.
-abbrev pub RunsInstructions : ℕ → Regs → View → ℕ × Result (Option Cause) AllocError → Regs → View → Type 0
-RunsInstructions steps r v reached r' v' =
-    (s : Session) (d : DeskAndFiles) → image_in v ≡ image_of s → RunsSteps s steps (view_with r d (overlay_in v)) reached (view_with r' d (overlay_in v'))
-
--- At most `steps` instructions over the image of a session did so, with any devices.
-abbrev pub RunsOverOverlay : Session → ℕ → Regs → Overlay → ℕ × Result (Option Cause) AllocError → Regs → Overlay → Type 0
-RunsOverOverlay s steps r o reached r' o' = (d : DeskAndFiles) → RunsSteps s steps (view_with r d o) reached (view_with r' d o')
+-- n steps led from one state to another, whatever the step of the first, in each session whose image the known cells belong to; none
+-- of them looked at anything new.
+pub record RunsQuietly (n : ℕ) (old new : StateView) : Type 0 where
+  pub at : (s : Session) → IsBound s old → (from : ℕ) → after (session_answers s) from ≡ Some old.state → after (session_answers s) (from + n) ≡ Some new.state
+  pub quiet : (s : Session) → IsBound s old → (from : ℕ) → after (session_answers s) from ≡ Some old.state → LooksAtNothingNew (session_answers s) old.looked from (from + n)
+  pub looked : new.looked ≡ old.looked
+  pub beneath : image_beneath new ≡ image_beneath old
 
 -- How a run ended, without the step that it reached.
 abbrev pub ended_of : Result (ℕ × Option Cause) AllocError → Result (Option Cause) AllocError

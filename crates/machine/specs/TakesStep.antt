@@ -1,5 +1,5 @@
 -- A step over pages. (This project's own.)
-use Rattle.std.specs.Prelude.{◌≡◌, Option, Some, None, IfOk, OnOk, OnErr, IfSome}
+use Rattle.std.specs.Prelude.{◌≡◌, ℕ, List, Option, Some, None, IfOk, OnOk, OnErr, IfSome}
 use Rattle.std.specs.declared.result.Result.{Result}
 use Rattle.std.specs.declared.alloc.AllocError.{AllocError}
 use Rattle.interaction_trees.specs.Outcome.{Outcome, Step, Stop}
@@ -34,9 +34,13 @@ outcome_from (Some cause) st = Stop cause
 abbrev pub looks_in : Overlay → DeskAndFiles → AllLooks
 looks_in o d = record { cells = looks_of o; offsets = d.offsets; files = d.asks }
 
+-- Page zero and the program of the image that the known cells of an overlay belong to.
+abbrev pub parts_beneath : Overlay → List ℕ × List ℕ
+parts_beneath o = (o.beneath.page_zero.value, o.beneath.program.value.items)
+
 -- The state with its looks of registers, devices and an overlay.
 abbrev pub view_with : Regs → DeskAndFiles → Overlay → StateView
-view_with r d o = record { state = state_with r d (own_of o); looked = looks_in o d }
+view_with r d o = record { state = state_with r d (own_of o); looked = looks_in o d; beneath = parts_beneath o }
 
 -- The effect of one step: the outcome of the state, and its looks. A stop and an error leave the state unchanged.
 pub record TakesStep (s : Session) (old : StateView) (result : Result (Option Cause) AllocError) (new : StateView) : Type 0 where

@@ -94,8 +94,10 @@ impl State {
 }
 
 impl SavedState {
-    ghost use Rattle.pagemem.specs.Overlay.{own_of, looks_of};
+    ghost use Rattle.pagemem.specs.Overlay.{own_of, looks_of, beneath_of};
+    ghost use Rattle.machine.specs.Bound.{image_beneath};
     ghost use Rattle.machine.specs.Machine.{cell_at};
+    ghost use Rattle.machine.specs.Session.{image_of};
 
     /// Returns the length of the text, in bytes.
     pub fn text_length(&self) -> usize
@@ -111,14 +113,15 @@ impl SavedState {
         self.regs
     }
 
-    /// Returns what was written as an overlay with no looks, over the given memory for its marks. `Err` means out of
-    /// memory.
-    pub fn overlay(&self, marks: BlankMarks) -> Result<Overlay, AllocError>
+    /// Returns what was written as an overlay with no looks, for runs of this session, over the given memory for its marks. `Err`
+    /// means out of memory.
+    pub fn overlay(&self, session: &Session, marks: BlankMarks) -> Result<Overlay, AllocError>
         ensures own { IfOk result (λ o. written_cells (own_of o) ≡ self.now.own.cells) }
         ensures looks { IfOk result (λ o. looks_of o ≡ []) }
+        ensures beneath { IfOk result (λ o. beneath_of o ≡ image_of session.now) }
     {
         let cells = self.cells.snapshot()?;
-        Ok(Overlay::from_parts(marks, cells))
+        Ok(Overlay::from_parts(marks, cells, session.beneath()))
     }
 
     /// Returns what was done to the files, with no looks at the host files. `Err` means out of memory.
@@ -141,6 +144,7 @@ impl SavedState {
         requires text { length text.items ≡ self.now.length }
         ensures state { result.state ≡ state_with_text self.now text.items }
         ensures looked { HasNoLooks result.looked }
+        ensures beneath { image_beneath result ≡ beneath_of overlay }
     {
         State {
             regs: self.regs,

@@ -2,12 +2,13 @@ ghost use Rattle.std.specs.Prelude.{[], None, vec_len, true, OnOk, OnErr, ◌≡
 ghost use Rattle.std.specs.List.{list_all};
 ghost use Rattle.std.specs.FinMap as finmap;
 ghost use Rattle.pagemem.specs.ImageView.{cells_of};
+ghost use Rattle.pagemem.specs.Beneath.{cells_beneath};
 ghost use Rattle.hostfiles.specs.Hosts.{has_room};
 ghost use Rattle.machine.specs.Session.{is_tail_byte, image_of, session_or_refusal, splice, written_over};
 
 use command_tail::{TAIL_LIMIT, page_zero};
 use hostfiles::{HostFile, HostFiles, Name};
-use pagemem::Image;
+use pagemem::{Beneath, Image};
 use std::alloc::AllocError;
 use std::marker::Model;
 use thiserror::Error;
@@ -198,6 +199,14 @@ impl Session {
         ensures { cells_of result ≡ image_of self.now }
     {
         Image::new(&self.first_page, &self.program)
+    }
+
+    /// Returns the image that known cells of a run of this session belong to.
+    #[inline(always)]
+    pub(crate) fn beneath(&self) -> Beneath
+        ensures { cells_beneath result ≡ image_of self.now }
+    {
+        Beneath::of(&self.first_page, &self.program)
     }
 
     /// Overwrites the program's bytes from index `at` on. The new bytes end within the program.

@@ -4,6 +4,7 @@ ghost use Rattle.hostfiles.specs.declared.looks.Ask.{Ask};
 ghost use Rattle.first_looks.specs.FirstLooks.{NotesLooks, SameBelow};
 ghost use Rattle.machine.specs.Machine.{start, HasNoLooks, HasNoQuestions, is_looked_at, looks_from};
 ghost use Rattle.machine.specs.TakesQuestion.{TakesQuestion};
+ghost use Rattle.machine.specs.Bound.{IsBound};
 
 use crate::session::{STEP_LIMIT, Session};
 use console_calls::{Desk, ScriptLooks};
@@ -30,7 +31,7 @@ impl Model for State {
     ghost use Rattle.pagemem.specs.Overlay.{own_of};
     ghost use Rattle.machine.specs.StateView.{StateView, cells_code, changes_code, looks_code};
     ghost use Rattle.machine.specs.WrittenCells.{devices_of, state_with};
-    ghost use Rattle.machine.specs.TakesStep.{looks_in};
+    ghost use Rattle.machine.specs.TakesStep.{looks_in, parts_beneath};
 
     ghost Value = { StateView };
 
@@ -39,6 +40,7 @@ impl Model for State {
     ghost view = { λ r. record {
       state = state_with r.regs (devices_of r.desk r.changes) (own_of r.overlay);
       looked = looks_in r.overlay (devices_of r.desk r.changes);
+      beneath = parts_beneath r.overlay;
     } };
 }
 
@@ -48,21 +50,27 @@ impl State {
     /// # Errors
     ///
     /// `Err` means out of memory.
-    pub fn load(alloc: Global, _session: &Session) -> Result<State, AllocError>
+    pub fn load(alloc: Global, session: &Session) -> Result<State, AllocError>
         ensures state { IfOk result (λ r. r.state ≡ start) }
         ensures looked { IfOk result (λ r. HasNoLooks r.looked) }
+        ensures bound { IfOk result (λ r. IsBound session.now r) }
     {
-        State::load_over(alloc, BlankMarks::new(alloc)?)
+        State::load_over(alloc, session, BlankMarks::new(alloc)?)
     }
 
-    /// Returns the loaded state of any session, over memory for its marks that an earlier run may have given back.
+    /// Returns the loaded state of a session, over memory for its marks that an earlier run may have given back.
     ///
     /// # Errors
     ///
     /// `Err` means out of memory.
-    pub fn load_over(alloc: Global, marks: BlankMarks) -> Result<State, AllocError>
+    pub fn load_over(
+        alloc: Global,
+        session: &Session,
+        marks: BlankMarks,
+    ) -> Result<State, AllocError>
         ensures state { IfOk result (λ r. r.state ≡ start) }
         ensures looked { IfOk result (λ r. HasNoLooks r.looked) }
+        ensures bound { IfOk result (λ r. IsBound session.now r) }
     {
         let cells = Cells::new(alloc)?;
         Ok(State {
@@ -84,7 +92,7 @@ impl State {
                     cy: false,
                 },
             },
-            overlay: Overlay::from_parts(marks, cells),
+            overlay: Overlay::from_parts(marks, cells, session.beneath()),
             desk: Desk::new(alloc),
             changes: Changes::new(alloc),
         })
@@ -134,6 +142,7 @@ impl State {
         requires { next.old ≤ length self.old.looked.cells }
         ensures taken { TakesQuestion next.old self.old.looked result next.new self.new.looked }
         ensures state { self.new.state ≡ self.old.state }
+        ensures beneath { self.new.beneath ≡ self.old.beneath }
     {
         if *next < self.look_count() {
             let cell = self.nth_look(*next);
@@ -173,6 +182,7 @@ impl State {
         ensures seen { first_looks.new.seen ≡ first_looks.old.seen }
         ensures state { self.new.state ≡ self.old.state }
         ensures cells { self.new.looked.cells ≡ self.old.looked.cells }
+        ensures beneath { self.new.beneath ≡ self.old.beneath }
     {
         let mut next = from;
         while let Some(question) = self.take_question(&mut next) {
@@ -188,6 +198,7 @@ impl State {
         ensures state { self.new.state ≡ self.old.state }
         ensures cells { self.new.looked.cells ≡ self.old.looked.cells }
         ensures none { HasNoQuestions self.new.looked }
+        ensures beneath { self.new.beneath ≡ self.old.beneath }
     {
         self.changes.forget_looks();
         self.desk.forget_looks();

@@ -1,10 +1,15 @@
 // Steps one after another.
 
-ghost use Rattle.std.specs.Prelude.{◌≡◌, ◌+◌, ◌-◌, ◌^◌, ◌<◌, ◌≤◌, Some, IfOk, IfNone, IfSome, OnErr};
-ghost use Rattle.pagemem.specs.ViewParts.{loan_of};
+ghost use Rattle.std.specs.Prelude.{◌≡◌, ◌+◌, ◌-◌, ◌^◌, ◌<◌, ◌≤◌, true, Some, IfOk, IfNone, IfSome, OnErr};
+ghost use Rattle.i8080.specs.Instruction.{instruction};
+ghost use Rattle.i8080.specs.Performs.{Performs};
+ghost use Rattle.pagemem.specs.Overlay.{beneath_of, is_ready_at};
+ghost use Rattle.machine.specs.Bound.{IsBound};
 ghost use Rattle.machine.specs.Machine.{session_answers, after, IsReached};
-ghost use Rattle.machine.specs.TakesStep.{TakesStep};
-ghost use Rattle.machine.specs.Stretch.{RunsSteps, RunsInstructions, RunsOverOverlay, RunsTo};
+ghost use Rattle.machine.specs.Session.{image_of};
+ghost use Rattle.machine.specs.Stops.{stop_of_instruction};
+ghost use Rattle.machine.specs.TakesStep.{memory_over_image, TakesStep};
+ghost use Rattle.machine.specs.Stretch.{RunsQuietly, RunsTo};
 
 use crate::meter::Meter;
 use crate::session::Session;
@@ -12,87 +17,90 @@ use crate::state::State;
 use crate::system_area::{SYSTEM_AREA, enter_system};
 use console_calls::Cause;
 use i8080::{Did, Regs, execute};
-use pagemem::{Overlay, View};
+use known_run::run_known;
+use pagemem::{LearningView, Overlay, View};
 use std::alloc::AllocError;
 
-// Executes at most `steps` instructions, up to the system area, to an instruction that looks at something new, or to
-// a stop. Returns the number of executed instructions, and how it ended.
-#[inline(always)]
-fn run_instructions_over(
-    regs: &mut Regs,
-    view: &mut View<'_>,
-    steps: u64,
-) -> (u64, Result<Option<Cause>, AllocError>)
-    ensures goes { RunsInstructions steps regs.old view.old result regs.new view.new }
-    ensures progress { regs.old.pc < 0xfe00 → 0 < steps
-        → IfOk result.1 (λ stop. IfNone stop (0 < result.0)) }
-    ensures loan { loan_of view.new ≡ loan_of view.old }
+// Executes at most `steps` instructions below the system area that need only known cells. Returns how many they were. It is never
+// inlined and calls nothing, so that the loop has all registers of the processor.
+#[inline(never)]
+fn run_quietly(running: &mut State, steps: u64) -> u64
+    ensures within { result ≤ steps }
+    ensures runs { RunsQuietly result running.old running.new }
 {
-    let looks = view.look_count();
-    let mut n = 0;
-    while n < steps && regs.pc < SYSTEM_AREA {
-        match execute(regs, view) {
-            Ok(Did::Went) => {}
-            Ok(Did::Halt) => return (n, Ok(Some(Cause::Halt))),
-            Ok(Did::Undefined(byte)) => return (n, Ok(Some(Cause::Undefined(byte)))),
-            Err(error) => return (n, Err(error)),
-        }
-        n += 1;
-        if view.look_count() != looks {
-            return (n, Ok(None));
-        }
-    }
-    (n, Ok(None))
+    run_known(&mut running.regs, &mut running.overlay, steps)
 }
 
-// Executes instructions over a session's image. The registers and the overlay are borrowed separately, so that the
-// loop need not store the registers.
-#[inline(always)]
-fn run_instructions(
+// Executes an instruction over a session's image.
+fn execute_over(
     regs: &mut Regs,
     overlay: &mut Overlay,
     session: &Session,
-    steps: u64,
-) -> (u64, Result<Option<Cause>, AllocError>)
-    ensures goes { RunsOverOverlay session.now steps regs.old overlay.old result regs.new overlay.new }
-    ensures progress { regs.old.pc < 0xfe00 → 0 < steps
-        → IfOk result.1 (λ stop. IfNone stop (0 < result.0)) }
+) -> Result<Did, AllocError>
+    ensures { Performs (instruction regs.old) regs.old (memory_over_image session.now overlay.old)
+        (is_ready_at overlay.old) result regs.new (memory_over_image session.now overlay.new) }
 {
     let mut view = View::new(session.image(), overlay);
-    run_instructions_over(regs, &mut view, steps)
+    execute(regs, &mut view)
 }
 
-// Executes at most `steps` steps: one in the system area, or instructions. Returns the number of executed steps, and how it
-// ended.
+// Does the same, and makes each cell that it reads known. It is never inlined, because most instructions are executed by the loop
+// over known cells.
+#[inline(never)]
+fn execute_learning(
+    regs: &mut Regs,
+    overlay: &mut Overlay,
+    session: &Session,
+) -> Result<Did, AllocError>
+    requires { beneath_of overlay.old ≡ image_of session.now }
+    ensures performs { Performs (instruction regs.old) regs.old
+        (memory_over_image session.now overlay.old) (is_ready_at overlay.old) result regs.new
+        (memory_over_image session.now overlay.new) }
+    ensures beneath { beneath_of overlay.new ≡ image_of session.now }
+{
+    let mut view = LearningView::new(session.image(), overlay);
+    execute(regs, &mut view)
+}
+
+// Returns the cause if an instruction stopped.
 #[inline(always)]
-fn run_some(
+fn stop_of_instruction(did: Did) -> Option<Cause>
+    ensures { result ≡ stop_of_instruction did }
+{
+    match did {
+        Did::Went => None,
+        Did::Halt => Some(Cause::Halt),
+        Did::Undefined(byte) => Some(Cause::Undefined(byte)),
+    }
+}
+
+// Executes one step, or returns the cause of a stop. If `learns`, each cell that it reads becomes known.
+#[inline(always)]
+fn take_step(
     running: &mut State,
     session: &Session,
-    steps: u64,
-) -> (u64, Result<Option<Cause>, AllocError>)
-    requires some { 0 < steps }
+    learns: bool,
+) -> Result<Option<Cause>, AllocError>
     requires at { IsReached (session_answers session.now) running.old.state }
-    ensures goes { RunsSteps session.now steps running.old result running.new }
-    ensures progress { IfOk result.1 (λ stop. IfNone stop (0 < result.0)) }
-    ensures within { result.0 ≤ steps }
+    requires bound { learns ≡ true → IsBound session.now running.old }
+    ensures step { TakesStep session.now running.old result running.new }
+    ensures bound { learns ≡ true → IsBound session.now running.new }
 {
-    if running.regs.pc < SYSTEM_AREA {
-        return run_instructions(&mut running.regs, &mut running.overlay, session, steps);
+    if running.regs.pc >= SYSTEM_AREA {
+        return enter_system(running, session, learns);
     }
-    match enter_system(running, session) {
-        Ok(None) => (1, Ok(None)),
-        Ok(Some(cause)) => (0, Ok(Some(cause))),
-        Err(error) => (0, Err(error)),
+    if learns {
+        let did = execute_learning(&mut running.regs, &mut running.overlay, session)?;
+        return Ok(stop_of_instruction(did));
     }
+    let did = execute_over(&mut running.regs, &mut running.overlay, session)?;
+    Ok(stop_of_instruction(did))
 }
 
 /// Executes steps from step `from` on: up to step `end`, to a step that looks at something new, or to a stop. Returns the
 /// step that was reached, and the cause of a stop. Without a stop, at least one step is executed.
 ///
 /// A stop leaves the state that was reached, with the earlier looks and the looks of the step that stops.
-///
-/// This function contains the loop of instructions and is never inlined, so that nothing passes through memory between calls and
-/// instructions.
 ///
 /// # Errors
 ///
@@ -109,19 +117,26 @@ pub fn run_from(
     requires order { from < end }
     requires at { after (session_answers session.now) from ≡ Some running.old.state }
     requires room { meter.old + (end - from) < 2 ^ 64 }
+    requires bound { IsBound session.now running.old }
     ensures runs { RunsTo session.now from end (running.old, meter.old) result (running.new, meter.new) }
     ensures progress { IfOk result (λ r. IfNone r.1 (from < r.0)) }
+    ensures bound { IsBound session.now running.new }
 {
     let cells = running.look_count();
     let offsets = running.script_looks();
     let mut n = from;
     while n < end {
-        let (steps, stop) = run_some(running, session, end - n);
-        meter.tick_by(steps);
-        n += steps;
-        if let Some(cause) = stop? {
+        let count = run_quietly(running, end - n);
+        meter.tick_by(count);
+        n += count;
+        if n == end {
+            return Ok((n, None));
+        }
+        if let Some(cause) = take_step(running, session, true)? {
             return Ok((n, Some(cause)));
         }
+        meter.tick();
+        n += 1;
         if !running.looks_at_no_more(cells, offsets) {
             return Ok((n, None));
         }
@@ -147,7 +162,9 @@ pub fn step(
     ensures stopped { IfOk result (λ r. IfSome r (λ _. meter.new ≡ meter.old)) }
     ensures failed { OnErr result (meter.new ≡ meter.old) }
 {
-    let (count, stop) = run_some(running, session, 1);
-    meter.tick_by(count);
-    stop
+    let stop = take_step(running, session, false)?;
+    if stop.is_none() {
+        meter.tick();
+    }
+    Ok(stop)
 }

@@ -1,11 +1,14 @@
 // A step in the system area.
 
-ghost use Rattle.std.specs.Prelude.{◌≡◌, ◌≤◌};
+ghost use Rattle.std.specs.Prelude.{◌≡◌, ◌≤◌, true};
 ghost use Rattle.std.specs.Borrow.{GName};
 ghost use Rattle.file_calls.specs.HostTrees.{AreSoundOwnFiles};
 ghost use Rattle.console_calls.specs.PerformsCall.{scene};
 ghost use Rattle.bdos.specs.PerformsSystemCall.{MakesSystemCall};
 ghost use Rattle.bdos.specs.SystemCalls as system_calls;
+ghost use Rattle.pagemem.specs.Overlay.{beneath_of};
+ghost use Rattle.machine.specs.Bound.{IsBound};
+ghost use Rattle.machine.specs.Session.{image_of};
 ghost use Rattle.machine.specs.Step.{script_limit};
 ghost use Rattle.machine.specs.TakesStep.{memory_over_image, drives_in, TakesStep};
 ghost use Rattle.machine.specs.Stops.{stop_of_call};
@@ -17,7 +20,7 @@ use console_calls::{Cause, Desk, Served};
 use cpmfiles::Table;
 use hostfiles::Changes;
 use i8080::Regs;
-use pagemem::{Overlay, View};
+use pagemem::{LearningView, Overlay, View};
 use std::alloc::AllocError;
 
 /// The address of the warm start, to which the jump at 0000H leads.
@@ -48,6 +51,27 @@ fn serve(
     call(regs, &mut view, &mut table, desk, session.script())
 }
 
+// Does the same, and makes each cell that it reads known.
+fn serve_learning(
+    regs: &mut Regs,
+    overlay: &mut Overlay,
+    desk: &mut Desk,
+    changes: &mut Changes,
+    session: &Session,
+) -> Result<Served, AllocError>
+    requires { beneath_of overlay.old ≡ image_of session.now }
+    ensures served { (g : GName) → MakesSystemCall (system_calls.call script_limit) session.now.script
+        (scene regs.old (memory_over_image session.now overlay.old) desk.old)
+        (drives_in session.now changes.old g) result
+        (scene regs.new (memory_over_image session.now overlay.new) desk.new)
+        (drives_in session.now changes.new g) }
+    ensures beneath { beneath_of overlay.new ≡ image_of session.now }
+{
+    let mut view = LearningView::new(session.image(), overlay);
+    let mut table = Table::new(session.files(), changes);
+    call(regs, &mut view, &mut table, desk, session.script())
+}
+
 // Returns the cause if a call stopped.
 fn stop_of_call(served: Served) -> Option<Cause>
     ensures { result ≡ stop_of_call served }
@@ -58,15 +82,19 @@ fn stop_of_call(served: Served) -> Option<Cause>
     }
 }
 
-// Executes a step with PC in the system area: the call at the address of the BDOS, or a stop anywhere else.
+// Executes a step with PC in the system area: the call at the address of the BDOS, or a stop anywhere else. If `learns`, each
+// cell that it reads becomes known.
 #[inline(always)]
 pub(crate) fn enter_system(
     running: &mut State,
     session: &Session,
+    learns: bool,
 ) -> Result<Option<Cause>, AllocError>
     requires area { 0xfe00 ≤ running.old.state.core.regs.pc }
     requires sound { AreSoundOwnFiles session.now.files running.old.state.own.files }
-    ensures { TakesStep session.now running.old result running.new }
+    requires bound { learns ≡ true → IsBound session.now running.old }
+    ensures step { TakesStep session.now running.old result running.new }
+    ensures bound { learns ≡ true → IsBound session.now running.new }
 {
     let State {
         regs,
@@ -79,6 +107,10 @@ pub(crate) fn enter_system(
     }
     if regs.pc != BDOS_ENTRY {
         return Ok(Some(Cause::SystemArea(regs.pc)));
+    }
+    if learns {
+        let served = serve_learning(regs, overlay, desk, changes, session)?;
+        return Ok(stop_of_call(served));
     }
     let served = serve(regs, overlay, desk, changes, session)?;
     Ok(stop_of_call(served))

@@ -1,11 +1,11 @@
 -- What always holds for the parts of a runner, through edits and drops.
-use Rattle.std.proofs.Common.{◌≡◌, ◌==◌, ◌||◌, Bool, true, false, cond, nat_lt, ℕ, zero, suc, ◌-◌, ◌<◌, ◌≤◌, List, [], ◌∷◌, length, map, Option, Some, None, sym, ◌∙◌, refl, ap, arith}
+use Rattle.std.proofs.Common.{◌≡◌, ◌==◌, ◌||◌, Bool, true, false, cond, nat_lt, ℕ, zero, suc, ◌-◌, ◌<◌, ◌≤◌, List, [], ◌∷◌, length, map, Option, Some, None, refl, ap, arith}
 use Rattle.std.specs.Prelude.{slice_get}
 use Rattle.std.proofs.lemmas.Bool.{eqb-false, ltb-false}
 use Rattle.circular_buffer.specs.Buffer.{Buffer, buffer, keep_last}
 use Rattle.machine.specs.Inputs.{Session}
 use Rattle.first_looks.specs.declared.question.Question.{Question}
-use Rattle.machine.specs.Machine.{Answers, session_answers, looks}
+use Rattle.machine.specs.Machine.{Answers, session_answers}
 use Rattle.replay.specs.declared.ring.Checkpoint.{Checkpoint as KeptCheckpoint}
 use Rattle.replay.specs.declared.ring.Checkpoints.{Checkpoints}
 use Rattle.first_looks.specs.FirstLooks.{step_of, step_below}

@@ -1,5 +1,5 @@
 -- How a run resumes from a kept step, and how it leaves the checkpoints. (This project's own.)
-use Rattle.std.specs.Prelude.{◌≡◌, ℕ, ◌+◌, ◌<◌, ◌≤◌, ◌⊎◌, Result, Some, MatchResult, Option, length}
+use Rattle.std.specs.Prelude.{◌≡◌, ℕ, ◌+◌, ◌≤◌, ◌⊎◌, Result, Some, MatchResult, Option, length}
 use Rattle.machine.specs.Cause.{Cause}
 use Rattle.machine.specs.Inputs.{Session}
 use Rattle.machine.specs.StateView.{StateView}

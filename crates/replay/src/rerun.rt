@@ -3,6 +3,7 @@ ghost use Rattle.machine.specs.Machine.{HasNoLooks, session_answers, after};
 ghost use Rattle.machine.specs.SavedState.{saved_state_of};
 ghost use Rattle.machine.specs.Session.{IsSession};
 ghost use Rattle.machine.specs.Machine.{cold_run};
+ghost use Rattle.machine.specs.Bound.{IsBound};
 ghost use Rattle.replay.specs.Resuming.{AddsWhileResumed, resume_step};
 ghost use Rattle.replay.specs.Ring.{Each, Rising, IsValidFor, SomeStep, start_step};
 ghost use Rattle.replay.specs.Fits.{kept_length};
@@ -85,16 +86,17 @@ fn begin(
     ensures step { IfOk result (λ r. r.0 ≡ start_step session.now.limit ring.now.items) }
     ensures started { IfOk result (λ r. (r.0 ≡ 0) ⊎ SomeStep ring.now.items r.0) }
     ensures room { length ring.now.items ≤ ring.now.capacity }
+    ensures bound { IfOk result (λ r. IsBound session.now r.1) }
     ensures copied { text_use ≡ TextUse.Copy → text.new.items ≡ text.old.items }
     ensures err { OnErr result (text.new.items ≡ text.old.items) }
 {
     let Some(checkpoint) = latest_within(ring, session.limit()) else {
         let marks = take_marks(alloc, spare)?;
-        let running = State::load_over(alloc, marks)?;
+        let running = State::load_over(alloc, session, marks)?;
         return Ok((0, running));
     };
     let marks = take_marks(alloc, spare)?;
-    let overlay = checkpoint.state.overlay(marks)?;
+    let overlay = checkpoint.state.overlay(session, marks)?;
     let changes = checkpoint.state.changes(alloc)?;
     let own = text_prefix(alloc, text, checkpoint.state.text_length(), text_use)?;
     Ok((

@@ -2,6 +2,7 @@ ghost use Rattle.std.specs.Prelude.{◌≡◌, ℕ, ◌+◌, ◌-◌, ◌^◌, �
 ghost use Rattle.machine.specs.Outcome.{Stop};
 ghost use Rattle.machine.specs.Machine.{HasNoQuestions, session_answers, after, outcome, looks_from};
 ghost use Rattle.machine.specs.Machine.{cold_run};
+ghost use Rattle.machine.specs.Bound.{IsBound};
 ghost use Rattle.first_looks.specs.FirstLooks.{with_seen};
 ghost use Rattle.machine.specs.FirstLooks.{AllNoted, IsFirstLooks, AreFirstLooksAt, NotesSeenStep, ForgetsSeenStep};
 ghost use Rattle.replay.specs.Resuming.{CountsLooks, IsResumePoint, AreCheckpointsOf, AddsWhileResumed};
@@ -30,6 +31,7 @@ fn note_last_step(notes: &mut RunNotes, running: &mut State, noted: usize, n: u6
         × (notes.new.alloc_failures ≡ notes.old.alloc_failures + 1)) }
     ensures state { running.new.state ≡ running.old.state }
     ensures cells { running.new.looked.cells ≡ running.old.looked.cells }
+    ensures beneath { running.new.beneath ≡ running.old.beneath }
 {
     if n != notes.looks.seen() {
         running.forget_questions();
@@ -72,6 +74,7 @@ fn advance(
     requires noted { AreFirstLooksAt (session_answers session.now) notes.old.looks from running.old.looked }
     requires order { (from ≤ end) × (end ≤ STEP_LIMIT) }
     requires room { (meter.old + (end - from) < 2 ^ 64) × (notes.old.alloc_failures ≤ STEP_LIMIT + from) }
+    requires bound { IsBound session.now running.old }
     ensures at { (n : ℕ) × (after (session_answers session.now) n ≡ Some running.new.state)
         × (from ≤ n) × (n ≤ end)
         × IfOk result (λ r. r.0 ≡ n) × (meter.new + from ≡ meter.old + n) }
@@ -82,6 +85,7 @@ fn advance(
         (r.0 ≤ notes.new.looks.seen → AllNoted notes.new.looks running.new.looked) (λ _. Unit {0})) }
     ensures seen { (notes.old.looks.seen ≤ notes.new.looks.seen) × (notes.new.looks.seen ≤ STEP_LIMIT) }
     ensures counts { CountsLooks notes.old from notes.new result }
+    ensures bound { IsBound session.now running.new }
 {
     let mut n = from;
     while n < end {
@@ -117,6 +121,7 @@ pub fn resume(
     requires sound { AreCheckpointsOf (session_answers session.now) checkpoints.old }
     requires newest { IsNewest newest checkpoints.old.ring.items }
     requires counts { (meter.old ≤ 2 ^ 63) × (checkpoints.old.notes.alloc_failures ≡ 0) }
+    requires bound { IsBound session.now running.old }
     ensures cold { IfOk result (λ r. cold_run session.now
         ≡ record { state = running.new.state; steps = r.0; cause = r.1 }) }
     ensures at { (n : ℕ) × (after (session_answers session.now) n ≡ Some running.new.state)

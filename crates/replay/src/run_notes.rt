@@ -72,6 +72,7 @@ pub fn note_or_count(notes: &mut RunNotes, running: &mut State, from: usize)
         × (notes.new.alloc_failures ≡ notes.old.alloc_failures + 1)) }
     ensures state { running.new.state ≡ running.old.state }
     ensures cells { running.new.looked.cells ≡ running.old.looked.cells }
+    ensures beneath { running.new.beneath ≡ running.old.beneath }
 {
     match running.note_looks(from, &mut notes.looks) {
         Ok(()) => notes.looks.next_step(),

@@ -6,6 +6,7 @@ use Rattle.machine.specs.Stretch.{RunsStretch}
 use Rattle.machine.proofs.RunLemmas.{after_zero}
 use Rattle.dependencies.proofs.StepNotes.{stretch_noted, stop_noted}
 use Rattle.dependencies.proofs.DecideLemmas.{stopped_with, limited_with}
+use Rattle.machine.proofs.JoinedStretches.{still_bound}
 use Rattle.dependencies.proofs.dependencies.note_run.Goals as goal
 
 pub loop-n-init : goal.loop-n-init
@@ -14,6 +15,7 @@ loop-n-init c = record {
   noted = c.requires.noted;
   high = omega arith;
   meter = c.new-meter.ensures;
+  bound = c.requires.bound;
 }
 
 pub returns-in-Some : goal.returns-in-Some
@@ -44,6 +46,7 @@ loop-n-preserved c =
           c.note_looks_of-in-loop-n.new.running.looked i.noted c.in_ok-note_looks_of-2.ensures.drained c.note_looks_of-in-loop-n.ensures.cells stretch more noted;
       high = omega (arith, stretch.within);
       meter = omega (arith, metered, same, i.meter);
+      bound = still_bound c.args.session.now c.run_from.new.running c.note_looks_of-in-loop-n.new.running c.note_looks_of-in-loop-n.ensures.beneath c.run_from.ensures.bound;
     }
 
 pub returns : goal.returns

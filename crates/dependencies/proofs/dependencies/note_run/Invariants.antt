@@ -1,5 +1,6 @@
 use Rattle.std.proofs.Common.{◌≡◌, ◌-◌, ◌≤◌, Some}
 use Rattle.machine.specs.Machine.{session_answers, after}
+use Rattle.machine.specs.Bound.{IsBound}
 use Rattle.dependencies.specs.Dependencies.{AreNotedBelow}
 use Rattle.dependencies.proofs.dependencies.note_run.Given as goal
 
@@ -9,6 +10,7 @@ invariant-loop-n l = record {
   noted : AreNotedBelow l.session l.looks l.n l.running.looked;
   high : l.n ≤ l.limit;
   meter : l.meter ≡ l.n;
+  bound : IsBound l.session l.running;
 }
 
 abbrev pub decreases-loop-n : goal.decreases-loop-n

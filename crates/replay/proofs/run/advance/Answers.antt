@@ -9,6 +9,7 @@ use Rattle.replay.specs.declared.run_notes.RunNotes.{RunNotes}
 use Rattle.first_looks.specs.FirstLooks.{FirstLooksView}
 use Rattle.machine.specs.FirstLooks.{IsFirstLooks}
 use Rattle.machine.proofs.StretchNotes.{stretch_kept, passed}
+use Rattle.machine.proofs.JoinedStretches.{still_bound}
 use Rattle.replay.proofs.OutcomeLemmas.{match_err}
 use Rattle.replay.proofs.RefusalLemmas.{none_counted, once_on, once_at_stop}
 use Rattle.replay.proofs.run.advance.Goals as goal
@@ -42,6 +43,7 @@ loop-n-preserved c =
       low = omega (arith, more, i.low);
       high = omega (arith, stretch.within, c.bound_of-bound.ensures.within);
       meter = omega (arith, metered, same, i.meter);
+      bound = still_bound c.args.session.now c.run_from.new.running c.note_last_step.new.running c.note_last_step.ensures.beneath c.run_from.ensures.bound;
     }
 
 pub returns-in-Some-clause-noted : goal.returns-in-Some-clause-noted
@@ -97,6 +99,7 @@ loop-n-init c = record {
   low = omega arith;
   high = c.requires.order.0;
   meter = refl;
+  bound = c.requires.bound;
 }
 
 pub returns-clause-counts : goal.returns-clause-counts

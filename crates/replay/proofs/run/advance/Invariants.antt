@@ -1,6 +1,7 @@
 use Rattle.std.proofs.Common.{◌≡◌, ◌+◌, ◌-◌, ◌≤◌, Some}
 use Rattle.machine.specs.declared.session.TheConstants.{STEP_LIMIT}
 use Rattle.machine.specs.Machine.{session_answers, after}
+use Rattle.machine.specs.Bound.{IsBound}
 use Rattle.machine.specs.FirstLooks.{AllNoted, IsFirstLooks}
 use Rattle.replay.specs.AllocFailures.{FailsLooksOnce}
 use Rattle.replay.proofs.run.advance.Given as goal
@@ -18,6 +19,7 @@ invariant-loop-n l = record {
   low : l.from ≤ l.n;
   high : l.n ≤ l.end;
   meter : l.meter + l.from ≡ l.initial.meter + l.n;
+  bound : IsBound l.session l.running;
 }
 
 abbrev pub decreases-loop-n : goal.decreases-loop-n

@@ -19,6 +19,7 @@ loop-n-init c = record {
   low = omega arith;
   high = rw c.limit-limit.ensures.value c.requires.begins.low;
   meter = refl;
+  bound = c.requires.bound;
   spacing = refl;
   capacity = refl;
   valid = c.requires.sound.valid;
@@ -191,6 +192,7 @@ loop-n-preserved c =
       low = omega (arith, low);
       high = omega (arith, ends, c.due_after-end.ensures.later);
       meter = omega (arith, a.4, a.5, i.meter);
+      bound = rw c.push_checkpoint-newest_tried.ensures.running c.advance.ensures.bound;
       on = λ r. elim refused [
         | inl e ↦ c.in_ok-reached.ensures.counts.1.all (i.on (omega (arith, counted.grows, e, r))) (omega (arith, counted.grows, e, r))
         | inr e ↦ absurd (omega (arith, e.2, r))

@@ -1,6 +1,7 @@
 use Rattle.std.proofs.Common.{◌≡◌, ◌+◌, ◌*◌, ◌-◌, ◌/◌, ◌%◌, ◌<◌, ◌≤◌, ◌⊎◌, max, Some}
 use Rattle.machine.specs.declared.session.TheConstants.{STEP_LIMIT}
 use Rattle.machine.specs.Machine.{session_answers, after}
+use Rattle.machine.specs.Bound.{IsBound}
 use Rattle.machine.specs.FirstLooks.{AllNoted, IsFirstLooks}
 use Rattle.replay.specs.Ring.{Each, IsValid}
 use Rattle.replay.proofs.RingLemmas.{Adding}
@@ -17,6 +18,7 @@ invariant-loop-n l = record {
   low : l.from ≤ l.n;
   high : l.n ≤ l.limit;
   meter : l.meter + l.from ≡ l.initial.meter + l.n;
+  bound : IsBound l.session l.running;
   spacing : l.checkpoints.spacing ≡ l.initial.checkpoints.spacing;
   capacity : l.checkpoints.ring.capacity ≡ l.initial.checkpoints.ring.capacity;
   valid : Each (IsValid (session_answers l.session)) l.checkpoints.ring.items;

@@ -13,6 +13,7 @@ invariant-loop-question l = record {
   few : l.next ≤ length l.self.looked.cells;
   state : l.self.state ≡ l.initial.self.state;
   cells : l.self.looked.cells ≡ l.initial.self.looked.cells;
+  beneath : l.self.beneath ≡ l.initial.self.beneath;
 }
 
 abbrev pub decreases-loop-question : goal.decreases-loop-question

@@ -1,6 +1,5 @@
-use Rattle.std.proofs.Common.{◌≡◌, ap, ◌∙◌}
-use Rattle.hostfiles.specs.Files.{OwnFiles, files}
-use Rattle.hostfiles.specs.FileView.{view_own}
+use Rattle.std.proofs.Common.{ap, ◌∙◌}
+use Rattle.hostfiles.specs.Files.{files}
 use Rattle.hostfiles.specs.Hosts.{Host}
 use Rattle.replay.proofs.report.Report.file.Goals as goal
 
