@@ -5,6 +5,10 @@ use crate::model::{Cause, Run};
 use std::collections::{BTreeMap, BTreeSet};
 use std::fmt;
 
+const OWN_CODE: &str = "Runs of code that they changed";
+// At least this many sessions must have a run of each kind of changed code.
+const MANY_SESSIONS: u64 = 1000;
+
 // The calls that a program may make, and all the others as one.
 const CALLS: [u8; 29] =
     [0, 1, 2, 6, 7, 8, 9, 10, 11, 12, 13, 14, 15, 16, 17, 18, 19, 20, 21, 22, 23, 24, 25, 26, 33, 34, 35, 36, 40];
@@ -57,6 +61,16 @@ impl Counts {
             self.count("Calls made", call, 1);
         }
         self.opcodes.extend(&run.opcodes);
+        let code = &run.own_code;
+        self.count(OWN_CODE, "with other bytes than the loaded ones", (code.written > 0) as u64);
+        self.count(OWN_CODE, "executed before the change", (code.changed > 0) as u64);
+        self.count(OWN_CODE, "with bytes on two pages", (code.changed_on_two_pages > 0) as u64);
+        self.count(OWN_CODE, "changed by a call", (code.changed_by_a_call > 0) as u64);
+    }
+
+    // Returns whether there are many sessions, and none of them has a run of one kind of changed code.
+    pub fn lacks_a_kind(&self) -> bool {
+        self.sessions >= MANY_SESSIONS && self.counts.iter().any(|((title, _), count)| *title == OWN_CODE && *count == 0)
     }
 
     // Counts each run but the first, with the lines between it and the run before. A checkpoint of the run before may stand where both
@@ -71,6 +85,7 @@ impl Counts {
             self.count("Reruns", "all", 1);
             self.count("Reruns", "that a checkpoint may stand for", stands as u64);
             self.count("Reruns", answer, 1);
+            self.count(OWN_CODE, "after a step of a likely checkpoint", (stands && after.own_code.last_changed > same) as u64);
             if let [edit] = between {
                 self.count("Reruns after one line", format!("{}: {answer}", edit.verb()), 1);
             }

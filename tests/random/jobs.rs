@@ -89,5 +89,8 @@ pub fn test_all(usage: &str, programs: usize, check: Check) -> ! {
     });
     let counts = all.into_inner().unwrap();
     print!("{counts}");
-    exit((counts.differences > 0) as i32);
+    if counts.lacks_a_kind() {
+        println!("one of the counts of runs of changed code is 0");
+    }
+    exit((counts.differences > 0 || counts.lacks_a_kind()) as i32);
 }

@@ -17,6 +17,7 @@ pub use self::{
     listing::Rows,
 };
 
+use asked::operand_bytes;
 use calls::{names_a_file, Desk};
 pub use files::{matches, name_in_folder, printed, File, Files, Key, RECORD};
 use processor::{Did, Processor, A, B, C, D, E, H, L};
@@ -200,6 +201,20 @@ pub struct Run {
     pub trace: Vec<Moment>,
     pub keys: Vec<Key>,
     pub taken: usize,
+    pub own_code: OwnCode,
+}
+
+// How many of the executed instructions of a run had a byte that the run had changed.
+#[derive(Default)]
+pub struct OwnCode {
+    // A byte that is not the loaded one.
+    pub written: u64,
+    // A byte that was another when it was last executed, and, of these instructions, those on two pages and those that a call changed.
+    pub changed: u64,
+    pub changed_on_two_pages: u64,
+    pub changed_by_a_call: u64,
+    // The last step that executed a changed instruction.
+    pub last_changed: usize,
 }
 
 // What is called at each step: with the state before it, and, if the step was executed, with the state after it.
@@ -220,15 +235,55 @@ struct Notes {
     calls: Vec<u8>,
     trace: Vec<Moment>,
     keys: Vec<Key>,
-    last: Option<(Moment, u8)>,
+    // What is executed next, with its bytes.
+    last: Option<(Moment, Vec<u8>)>,
+    own_code: OwnCode,
+    loaded: Vec<u8>,
+    // The byte of each cell when it was last executed, and whether a call has changed it since.
+    executed: Vec<Option<u8>>,
+    by_a_call: Vec<bool>,
+    before_the_call: Option<Box<[u8; 65536]>>,
+}
+
+impl Notes {
+    fn note_bytes(&mut self, start: u16, bytes: &[u8]) {
+        let (mut is_written, mut is_changed, mut is_by_a_call) = (false, false, false);
+        for (offset, byte) in bytes.iter().enumerate() {
+            let cell = start.wrapping_add(offset as u16) as usize;
+            is_written |= *byte != self.loaded[cell];
+            if self.executed[cell].is_some_and(|before| before != *byte) {
+                is_changed = true;
+                is_by_a_call |= self.by_a_call[cell];
+            }
+            self.executed[cell] = Some(*byte);
+            self.by_a_call[cell] = false;
+        }
+        let last = start as usize + bytes.len() - 1;
+        let code = &mut self.own_code;
+        code.written += is_written as u64;
+        code.changed += is_changed as u64;
+        code.changed_on_two_pages += (is_changed && start as usize / 256 != last / 256) as u64;
+        code.changed_by_a_call += is_by_a_call as u64;
+        if is_changed {
+            code.last_changed = self.trace.len();
+        }
+    }
 }
 
 impl Watch for Notes {
     fn tries(&mut self, state: &State) {
         let moment = state.moment();
         let number = moment.registers[C];
-        self.last = Some((moment, state.processor.byte(moment.next)));
+        let processor = &state.processor;
+        if self.loaded.is_empty() {
+            self.loaded = processor.memory.to_vec();
+            self.executed = vec![None; 65536];
+            self.by_a_call = vec![false; 65536];
+        }
+        let count = operand_bytes(processor.byte(moment.next)) + 1;
+        self.last = Some((moment, (0..count).map(|offset| processor.byte(moment.next.wrapping_add(offset))).collect()));
         if moment.next == ENTRY_FOR_CALLS {
+            self.before_the_call = Some(processor.memory.clone());
             self.calls.push(number);
             if names_a_file(number) {
                 self.keys.extend(state.key(1).ok());
@@ -236,10 +291,15 @@ impl Watch for Notes {
         }
     }
 
-    fn went(&mut self, _: &State) {
-        let (moment, opcode) = self.last.expect("a step is tried before it went");
+    fn went(&mut self, state: &State) {
+        let (moment, bytes) = self.last.take().expect("a step is tried before it went");
         if moment.next < SYSTEM_AREA {
-            self.opcodes.push(opcode);
+            self.opcodes.push(bytes[0]);
+            self.note_bytes(moment.next, &bytes);
+        }
+        if let Some(before) = self.before_the_call.take() {
+            let cells = state.processor.memory.iter().zip(before.iter()).enumerate();
+            cells.filter(|(_, (after, before))| after != before).for_each(|(cell, _)| self.by_a_call[cell] = true);
         }
         self.trace.push(moment);
     }
@@ -344,7 +404,7 @@ pub fn run(session: &Session) -> Run {
     let lines: String = changed.iter().map(changed_line).collect();
     let report = format!("stop {cause}\nsteps {steps}\n{registers}text {text}\n{lines}end\n");
     let changed = changed.into_iter().map(|(key, bytes)| (key, bytes.map(<[u8]>::to_vec))).collect();
-    let Notes { opcodes, calls, trace, keys, .. } = notes;
+    let Notes { opcodes, calls, trace, keys, own_code, .. } = notes;
     let State { desk, .. } = state;
-    Run { cause, report, text: desk.text, changed, opcodes, calls, trace, keys, taken: desk.cursor }
+    Run { cause, report, text: desk.text, changed, opcodes, calls, trace, keys, taken: desk.cursor, own_code }
 }

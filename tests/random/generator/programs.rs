@@ -1,5 +1,6 @@
 // Programs made at random from a grammar of 8080 instructions and CP/M calls: code, and behind it the data that it works on.
 
+mod changes;
 pub mod statements;
 
 use super::any_name;

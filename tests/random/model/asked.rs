@@ -149,7 +149,7 @@ fn cells_from(start: u16, offsets: Range<u16>) -> impl Iterator<Item = u16> {
     offsets.map(move |offset| start.wrapping_add(offset))
 }
 
-fn operand_bytes(opcode: u8) -> u16 {
+pub(super) fn operand_bytes(opcode: u8) -> u16 {
     match opcode {
         0x01 | 0x11 | 0x21 | 0x31 | 0x22 | 0x2a | 0x32 | 0x3a | 0xc3 | 0xcd => 2,
         0xd3 | 0xdb => 1,

@@ -34,7 +34,7 @@ pub fn any_instruction(random: &mut Random) -> u8 {
 }
 
 type Statement = fn(&mut Builder);
-const STATEMENTS: [(usize, Statement); 31] = [
+const STATEMENTS: [(usize, Statement); 36] = [
     (10, Builder::print_byte),
     (10, Builder::print_string),
     (6, Builder::print_cell),
@@ -57,6 +57,11 @@ const STATEMENTS: [(usize, Statement); 31] = [
     (13, Builder::arithmetic),
     (5, Builder::on_the_stack),
     (6, Builder::change_code),
+    (7, Builder::change_again),
+    (4, Builder::change_copy),
+    (3, Builder::read_code),
+    (3, Builder::restore_code),
+    (3, Builder::type_code),
     (6, Builder::on_a_cell),
     (5, Builder::copy),
     (10, Builder::repeat),
@@ -110,7 +115,7 @@ impl Builder {
 
 // Statements of the console and of the processor.
 impl Builder {
-    fn print_byte(&mut self) {
+    pub(super) fn print_byte(&mut self) {
         let byte = self.random.printable();
         self.call_with_byte(2, byte);
     }
@@ -286,7 +291,7 @@ impl Builder {
         self.copy_cells(from, to, count);
     }
 
-    fn copy_cells(&mut self, from: At, to: At, count: usize) {
+    pub(super) fn copy_cells(&mut self, from: At, to: At, count: usize) {
         self.with_address(LOAD_H, from);
         self.with_address(LOAD_D, to);
         self.with_number(NUMBER_B, Kind::Count, count as u8);
@@ -397,7 +402,7 @@ impl Builder {
     }
 
     // Does something so often, with a counter on the stack.
-    fn times(&mut self, count: usize, body: impl FnOnce(&mut Self)) {
+    pub(super) fn times(&mut self, count: usize, body: impl FnOnce(&mut Self)) {
         if count == 1 {
             return body(self);
         }
