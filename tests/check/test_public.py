@@ -12,11 +12,9 @@ from sources import Function, RuleTest, code_of, functions_of
 
 ALLOWED = {
     'filenames::Fcb::dr': 'the drive byte of a control block',
-    'filenames::Fcb::set_place': 'sets the place of a control block',
     'hostfiles::HostFiles::records_with': 'how many records a file has after a run',
     'hostfiles::HostFiles::record_with': 'a record of a file after a run',
     'hostfiles::HostFiles::next_with': 'the names after a run',
-    'machine::Meter::tick': 'counts one step',
     'machine::Session::tail': "part of the library's surface, as the other parts of a session are",
     'machine::step': 'one step',
     'replay::Runner::kept': 'the steps of the checkpoints',
@@ -32,6 +30,7 @@ AMBIGUOUS = {
     'console_calls::Desk::looked': 'whether a script offset was looked at',
     'console_calls::Desk::snapshot': 'a copy of a desk',
     'console_calls::Spot::snapshot': 'a copy of a spot',
+    'filenames::Fcb::set_place': 'sets the place of a control block',
     'hostfiles::Changes::looked': 'whether the host files were asked something',
     'hostfiles::Changes::snapshot': 'a copy of what a run did to files',
     'machine::State::load': 'the loaded state of a session',

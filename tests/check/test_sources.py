@@ -74,7 +74,7 @@ def item(crates: str, names: str) -> str:
 
 
 METER = r'\bMeter>?::|\bMeter as\b|\b(type|impl|for)\b.*\bMeter\b'
-EXECUTE = item('i8080', 'execute')
+EXECUTE = rf'{item("i8080", "execute|instructions")}|{item("known_run", "run_known")}'
 CALL = item('console_calls|bdos', 'console_call|calls?')
 STEPS = rf'\brun_from\b|{item("machine", "step")}'
 COMMAND = 'crates/cpmrun/src/command_line.rt'
@@ -192,13 +192,13 @@ class SourcesTest(RuleTest):
         self.expect_count(1, METER, COMMAND)
         self.expect_count(1, r'\bMeter::new\(\)', COMMAND)
 
-    def test_only_machine_and_the_tests_use_execute(self) -> None:
-        self.refuse(in_code(EXECUTE, 'crates/machine/', 'crates/i8080/'))
+    def test_only_machine_and_the_tests_execute_instructions(self) -> None:
+        self.refuse(in_code(EXECUTE, 'crates/machine/', 'crates/i8080/', 'crates/known_run/'))
 
     def test_only_machine_bdos_and_the_tests_make_a_system_call(self) -> None:
         self.refuse(in_code(CALL, 'crates/machine/', 'crates/console_calls/', 'crates/bdos/'))
 
-    def test_machine_does_not_reexport_execute_or_calls(self) -> None:
+    def test_machine_does_not_reexport_instructions_or_calls(self) -> None:
         exports = re.compile(rf' *pub.*({EXECUTE}|{CALL})')
         self.refuse(line for line in code_lines() if line.path.startswith('crates/machine/') and exports.match(line.text))
 
@@ -214,7 +214,7 @@ class SourcesTest(RuleTest):
         self.refuse(in_code(r'\bextern crate\b'))
 
     def test_no_function_that_executes_steps_has_another_name(self) -> None:
-        self.refuse(in_code(r'\buse\b.*\b(execute|calls?|step|run_from) as\b'))
+        self.refuse(in_code(r'\buse\b.*\b(execute|calls?|step|run_from|run_known) as\b'))
 
     def test_no_macro_is_defined(self) -> None:
         """A macro can write any name."""

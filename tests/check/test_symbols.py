@@ -1,50 +1,76 @@
-"""Checks by the names of functions in the built program that the usual path of the loop of a run is one function, and that rare paths are
-outside of it."""
+"""Checks by the symbols and the machine code of the built program that the loop over known cells is one function that calls nothing, and that
+rare paths are outside of it."""
 import re
+from dataclasses import dataclass
 
 from helpers import PROGRAM, ProgramTest
 
+LOOP = ('known_run::run::run_known', 'machine::stretch::run_quietly')
+"""The function with the loop: the first, unless the compiler inlines it into the second."""
+
+JUMP_TABLES = 2
+"""One for the opcodes that programs use most, and one for the others."""
+
 APART = [
     'machine::stretch::run_from',
+    'machine::stretch::execute_learning',
     'machine::state::State::note_looks',
     'pagemem::page::Slot::own',
-    'pagemem::overlay::Overlay::look',
-    'i8080::instructions::call_if_apart',
-    'i8080::instructions::ret_if_apart',
-    'i8080::instructions::rst_apart',
     'i8080::bus::fetch_word_apart',
-    'i8080::instructions::xthl_apart',
-    'i8080::instructions::input_apart',
-    'i8080::instructions::output_apart',
 ]
-"""What must be a function of its own: the loop, and the rare and long paths."""
+"""What must be a function of its own apart from the loop: the rare and long paths, and what calls the loop."""
 
-INSIDE = '|'.join([
-    'i8080::(execution|instructions|registers|flags|bus)::[^ ]*',
-    'machine::(system_area|stretch)::[^ ]*',
-    'pagemem::(image|view)::[^ ]*',
-    'pagemem::page::Page::(get|set)',
-    'pagemem::page::Slot::make_owned',
-    'pagemem::cells::(make_ready|Cells::(ready|written|write))',
-    'pagemem::(overlay::Overlay::(ready|read|write|known_word)|looks::Looks::(add|contains)|settled::Settled::(contains|add|remove))',
-])
-"""What a step goes through, which must be part of the loop."""
+
+@dataclass(frozen=True)
+class Symbol:
+    """A function of the program, from its first address to the one past its end."""
+
+    name: str
+    start: int
+    end: int
 
 
 class SymbolTest(ProgramTest):
 
     def setUp(self) -> None:
         super().setUp()
-        done = self.run_command('nm', '-C', PROGRAM)
-        self.assertEqual(done.returncode, 0, done.stderr)
-        names = re.findall(r'^[0-9a-f]+ [tT] (.*)$', done.stdout.decode(), re.MULTILINE)
-        self.names = [re.sub(r'::<#[0-9a-f]+>$', '', name) for name in names]
+        found = re.findall(r'^([0-9a-f]+) ([0-9a-f]+) [tT] (.*)$', self.output_of('nm', '-C', '-S', PROGRAM), re.MULTILINE)
+        self.symbols = [
+            Symbol(re.sub(r'::<#[0-9a-f]+>$', '', name), int(start, 16), int(start, 16) + int(size, 16)) for start, size, name in found]
 
-    def test_the_loop_and_the_rare_paths_are_one_function_each(self) -> None:
+    def output_of(self, *words: object) -> str:
+        done = self.run_command(*words)
+        self.assertEqual(done.returncode, 0, done.stderr)
+        return done.stdout.decode()
+
+    def named(self, name: str) -> list[Symbol]:
+        """Returns the functions with this name."""
+        return [symbol for symbol in self.symbols if symbol.name == name]
+
+    def loop(self) -> Symbol:
+        found = next(filter(None, map(self.named, LOOP)), [])
+        self.assertEqual(len(found), 1, LOOP)
+        return found[0]
+
+    def machine_code(self, symbol: Symbol) -> list[str]:
+        """Returns the machine instructions of a function, in the syntax of AT&T."""
+        range_words = (f'--start-address={symbol.start:#x}', f'--stop-address={symbol.end:#x}')
+        lines = self.output_of('objdump', '-d', '-M', 'att', '--no-show-raw-insn', *range_words, PROGRAM)
+        return re.findall(r'^ *[0-9a-f]+:\t(.*?) *$', lines, re.MULTILINE)
+
+    def test_each_rare_path_is_one_function(self) -> None:
         for name in APART:
             with self.subTest(name):
-                self.assertEqual(self.names.count(name), 1)
+                self.assertEqual(len(self.named(name)), 1)
 
-    def test_a_step_is_part_of_the_loop(self) -> None:
-        inside = [name for name in self.names if re.fullmatch(INSIDE, name)]
-        self.assertEqual(sorted(set(inside) - set(APART)), [])
+    def test_the_loop_calls_nothing(self) -> None:
+        loop = self.loop()
+        code = self.machine_code(loop)
+        self.assertGreater(len(code), 1000)
+        self.assertEqual([line for line in code if re.search(r'\bl?call[a-z]?\b', line)], [])
+        targets = [int(target, 16) for line in code for target in re.findall(r'\bj[a-z]+ +([0-9a-f]+)\b', line)]
+        self.assertEqual([hex(target) for target in targets if not loop.start <= target < loop.end], [])
+
+    def test_the_loop_has_a_jump_table_for_common_and_one_for_rare_opcodes(self) -> None:
+        jumps = [line for line in self.machine_code(self.loop()) if re.search(r'\bjmp[a-z]? +\*', line)]
+        self.assertEqual(len(jumps), JUMP_TABLES, jumps)
