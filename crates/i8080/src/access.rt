@@ -4,10 +4,14 @@ ghost use Rattle.i8080.specs.Reading.{Cell, Done};
 ghost use Rattle.i8080.specs.Instruction.{word_at};
 ghost use Rattle.i8080.specs.Performs.{KeepsReady};
 ghost use Rattle.i8080.specs.Attempts.{MayRead};
+ghost use Rattle.i8080.specs.declared.access.TheConstants.{HLT};
 
-use crate::bus::{Bus, fetch_operand};
+use crate::bus::{Bus, fetch_word};
 use crate::registers::word_of;
 use std::alloc::AllocError;
+
+/// The opcode of HLT.
+pub const HLT: u8 = 0x76;
 
 /// A memory that may refuse a read or a write. Each `Bus` is one that refuses no read.
 pub trait Access {
@@ -23,7 +27,7 @@ pub trait Access {
     /// Whether no read is refused, and a write only if its cell was not ready. If not, a read is no look.
     ghost is_sure: { Bool };
 
-    /// The address below which opcodes are read.
+    /// The address below which opcodes are kept.
     ghost opcode_limit: { ℕ };
 
     /// Makes a cell ready to be written. No byte changes.
@@ -53,23 +57,13 @@ pub trait Access {
         ensures beneath { (memory self.new).beneath ≡ (memory self.old).beneath }
         ensures lender { (memory self.new).lender ≡ (memory self.old).lender };
 
-    /// Reads the byte of a cell as an opcode. A memory may keep opcodes apart, to read them faster, and may have them only below an
-    /// address.
-    ///
-    /// # Errors
-    ///
-    /// The memory refuses the read.
-    fn try_opcode(&mut self, a: u16) -> Result<u8, Self::Refusal>
-        ensures value { IfOk result (λ v. v ≡ bytes (memory self.old) a) }
-        ensures looks { OnOk result ((memory self.new).looks
-            ≡ look (memory self.old).own (memory self.old).looks a) }
-        ensures low { OnOk result (a < opcode_limit) }
-        ensures refused { OnErr result (is_sure ≡ false) }
-        ensures quiet { is_sure ≡ false → (memory self.new).looks ≡ (memory self.old).looks }
-        ensures kept { (q : ℕ) → IsTrue (is_ready self.old q) → IsTrue (is_ready self.new q) }
-        ensures own { (memory self.new).own ≡ (memory self.old).own }
-        ensures beneath { (memory self.new).beneath ≡ (memory self.old).beneath }
-        ensures lender { (memory self.new).lender ≡ (memory self.old).lender };
+    /// Returns the byte of a cell as an opcode, or HLT if the memory does not keep it as one. This is no look. A memory that keeps
+    /// opcodes a second time can return them faster than it reads.
+    fn opcode(&self, a: u16) -> u8
+        ensures value { (result ≡ HLT → ⊥) → result ≡ bytes (memory self.now) a }
+        ensures unlooked { (result ≡ HLT → ⊥)
+            → look (memory self.now).own (memory self.now).looks a ≡ (memory self.now).looks }
+        ensures low { (result ≡ HLT → ⊥) → a < opcode_limit };
 
     /// Reads the word at an address, with its low byte in the addressed cell and its high byte in the next one. The cell after
     /// 0FFFFH is 0000H.
@@ -107,18 +101,6 @@ pub(crate) fn read_byte<M: Access>(bus: &mut M, a: u16) -> Result<u8, M::Refusal
     bus.try_read(a)
 }
 
-// Reads a word that is not an operand, cell by cell, low byte first.
-#[tactic(auto, using(crate::proofs::ReadyLemmas::readiness))]
-#[inline(always)]
-pub(crate) fn read_word<M: Access>(bus: &mut M, a: u16) -> Result<u16, M::Refusal>
-    ensures reads { MayRead M.is_sure (word_at a Done) (M.memory bus.old) result (M.memory bus.new) }
-    ensures kept { KeepsReady (M.is_ready bus.old) (M.is_ready bus.new) }
-{
-    let low = read_byte(bus, a)?;
-    let high = read_byte(bus, a.wrapping_add(1))?;
-    Ok(word_of(low, high))
-}
-
 impl<B: Bus> Access for B {
     type Refusal = AllocError;
 
@@ -128,7 +110,7 @@ impl<B: Bus> Access for B {
 
     ghost is_sure = { true };
 
-    ghost opcode_limit = { 65536 };
+    ghost opcode_limit = { 0 };
 
     #[inline(always)]
     fn make_ready(&mut self, a: u16) -> Result<(), AllocError> {
@@ -141,13 +123,14 @@ impl<B: Bus> Access for B {
     }
 
     #[inline(always)]
-    fn try_opcode(&mut self, a: u16) -> Result<u8, AllocError> {
-        Ok(self.read(a))
+    fn opcode(&self, a: u16) -> u8 {
+        let _ = a;
+        HLT
     }
 
     #[inline(always)]
     fn try_word(&mut self, a: u16) -> Result<u16, AllocError> {
-        Ok(fetch_operand(self, a))
+        Ok(fetch_word(self, a))
     }
 
     #[inline(always)]

@@ -120,22 +120,10 @@ pub fn fetch<B: Bus>(bus: &mut B, a: u16) -> u8
 }
 
 /// Reads the word at an address, with its low byte in the addressed cell and its high byte in the next one. The cell after
-/// 0FFFFH is 0000H.
+/// 0FFFFH is 0000H. Tries `known_word` first, which is faster and returns most words.
 #[tactic(auto, using(crate::proofs::ReadyLemmas::readiness))]
 #[inline(always)]
 pub fn fetch_word<B: Bus>(bus: &mut B, a: u16) -> u16
-    ensures reads { Reads (word_at a Done) (B.memory bus.old) result (B.memory bus.new) }
-    ensures kept { KeepsReady (B.is_ready bus.old) (B.is_ready bus.new) }
-{
-    let low = fetch(bus, a);
-    let high = fetch(bus, a.wrapping_add(1));
-    word_of(low, high)
-}
-
-/// Reads an operand word, as `fetch_word` does. Tries `known_word` first, which is faster and returns most operands.
-#[tactic(auto, using(crate::proofs::ReadyLemmas::readiness))]
-#[inline(always)]
-pub fn fetch_operand<B: Bus>(bus: &mut B, a: u16) -> u16
     ensures reads { Reads (word_at a Done) (B.memory bus.old) result (B.memory bus.new) }
     ensures kept { KeepsReady (B.is_ready bus.old) (B.is_ready bus.new) }
 {
@@ -145,11 +133,14 @@ pub fn fetch_operand<B: Bus>(bus: &mut B, a: u16) -> u16
     }
 }
 
-// Reads a word cell by cell. Out of line, because `known_word` returns most operands.
+// Reads a word cell by cell. Out of line, because `known_word` returns most words.
+#[tactic(auto, using(crate::proofs::ReadyLemmas::readiness))]
 #[inline(never)]
 fn fetch_word_apart<B: Bus>(bus: &mut B, a: u16) -> u16
     ensures reads { Reads (word_at a Done) (B.memory bus.old) result (B.memory bus.new) }
     ensures kept { KeepsReady (B.is_ready bus.old) (B.is_ready bus.new) }
 {
-    fetch_word(bus, a)
+    let low = fetch(bus, a);
+    let high = fetch(bus, a.wrapping_add(1));
+    word_of(low, high)
 }

@@ -10,7 +10,7 @@ ghost use Rattle.i8080.specs.Instruction.{from_place, to_place, base_of, one_byt
 ghost use Rattle.i8080.specs.declared.opcode.Source.TheVariants.{At, Immediate};
 ghost use Rattle.i8080.specs.declared.opcode.Op.TheVariants.{Nop, Mov, MovToMemory, Mvi, Lxi, Lda, Sta, Lhld, Shld, Ldax, Stax, Xchg, Accumulate, Inr, Dcr, Inx, Dcx, Dad, Rotate, Daa, Cma, Stc, Cmc, Jmp, JumpIf, Call, CallIf, Ret, RetIf, Rst, Pchl, Push, Pop, Xthl, Sphl, In, Out};
 
-use crate::access::{Access, read_byte, read_word};
+use crate::access::{Access, read_byte};
 use crate::flags::Flags;
 use crate::opcode::{Arithmetic, Base, Condition, Pair, Place, Register, Restart, Rotation, Saved};
 use crate::outcome::Did;
@@ -186,7 +186,7 @@ pub fn lhld<M: Access>(regs: &mut Regs, bus: &mut M) -> Ended<M>
         result regs.new (M.memory bus.new) }
 {
     let from = bus.try_word(regs.pc.wrapping_add(1))?;
-    let value = read_word(bus, from)?;
+    let value = bus.try_word(from)?;
     regs.set_pair(Pair::Hl, value);
     advance(regs, 3)
 }
@@ -434,7 +434,7 @@ pub fn ret<M: Access>(regs: &mut Regs, bus: &mut M) -> Ended<M>
     ensures { Tries M.is_sure Ret regs.old (M.memory bus.old) (M.is_ready bus.old)
         result regs.new (M.memory bus.new) }
 {
-    regs.pc = read_word(bus, regs.sp)?;
+    regs.pc = bus.try_word(regs.sp)?;
     regs.sp = regs.sp.wrapping_add(2);
     Ok(Did::Went)
 }
@@ -491,7 +491,7 @@ pub fn pop<M: Access>(regs: &mut Regs, bus: &mut M, what: Saved) -> Ended<M>
     ensures { Tries M.is_sure (Pop what) regs.old (M.memory bus.old) (M.is_ready bus.old)
         result regs.new (M.memory bus.new) }
 {
-    let value = read_word(bus, regs.sp)?;
+    let value = bus.try_word(regs.sp)?;
     match what {
         Saved::BcPair => regs.set_pair(Pair::Bc, value),
         Saved::DePair => regs.set_pair(Pair::De, value),
@@ -511,7 +511,7 @@ pub fn xthl<M: Access>(regs: &mut Regs, bus: &mut M) -> Ended<M>
     ensures { Tries M.is_sure Xthl regs.old (M.memory bus.old) (M.is_ready bus.old)
         result regs.new (M.memory bus.new) }
 {
-    let value = read_word(bus, regs.sp)?;
+    let value = bus.try_word(regs.sp)?;
     store_word(bus, regs.sp, regs.pair(Pair::Hl))?;
     regs.set_pair(Pair::Hl, value);
     advance(regs, 1)

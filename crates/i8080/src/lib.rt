@@ -19,7 +19,7 @@ pub mod opcode;
 mod outcome;
 mod registers;
 
-pub use access::Access;
+pub use access::{Access, HLT};
 pub use bus::{Bus, fetch, fetch_word};
 pub use decoder::{bytes_have_one_instruction, decode, opcodes_differ};
 pub use execution::execute;

@@ -6,13 +6,14 @@ use Rattle.i8080.specs.declared.registers.Regs.{Regs}
 use Rattle.i8080.specs.declared.outcome.Did.{Did}
 use Rattle.i8080.specs.declared.outcome.Did.TheVariants as did
 use Rattle.i8080.specs.declared.opcode.Op.{Op}
+use Rattle.i8080.specs.declared.opcode.Op.TheVariants.{Hlt}
 use Rattle.i8080.specs.Memory.{Own, Looks, Memory, bytes, look, look_all}
 use Rattle.i8080.specs.Reading.{Reading, end_of, asked}
 use Rattle.i8080.specs.End.{End, Went, Halt, Undefined}
 use Rattle.i8080.specs.Instruction.{instruction, decided}
 use Rattle.i8080.specs.Opcodes.{decoded, opcode_of}
 use Rattle.i8080.proofs.Decoding.{decoded_some}
-use Rattle.i8080.specs.Performs.{Performs, did_of, regs_after, own_after}
+use Rattle.i8080.specs.Performs.{did_of, regs_after, own_after}
 use Rattle.i8080.specs.Attempts.{Attempts, Tries, TriesByte}
 use Rattle.known_run.specs.KnownRun.{GoesOn, RunsKnown}
 
@@ -102,19 +103,33 @@ pub arm_of_byte : {X M : Type 0} (memory : M → Memory) (sure : Bool) (byte : �
     → result ≡ done → r' ≡ x → m' ≡ y → TriesByte sure byte r m ready done x (memory y) → TriesByte sure byte r m ready result r' (memory m')
 arm_of_byte memory sure byte r m ready result r' m' done x y f g h a = rw (f, g, h) a
 
--- After an instruction that went, and after one that did not.
-module _ {X : Type 0} {M : Type 0} (memory : M → Memory) (limit n : ℕ) (r : Regs) (m : M) (x : Regs) (y : M) (r' : Regs) (m' : M) (ran : RunsKnown memory limit n r m x y) (low : x.pc < limit) (ready : ℕ → Bool) where
-  stays : (result : Result Did X) → (result ≡ Ok did.Went → ⊥) → Attempts false (instruction x) x (memory y) ready result r' (memory m') → (r' ≡ x) × (memory m' ≡ memory y)
+-- HLT does not go on.
+halts : {X : Type 0} (byte : ℕ) (r : Regs) (m : Memory) (ready : ℕ → Bool) (r' : Regs) (m' : Memory) → byte ≡ 118 → TriesByte {X = X} false byte r m ready (Ok did.Went) r' m' → ⊥
+halts byte r m ready r' m' e a =
+    let decodes : decoded byte ≡ Some Hlt = decoded_some Hlt byte (sym e) in
+    let no : did.Went ≡ did.Halt = a.did ∙ ap (λ op. did_of (end_of (decided byte op r) (bytes m))) decodes in
+    let never : ⊥ = cc in never
+
+-- After an instruction that went, and after one that did not. The byte is the opcode at PC, or HLT in its place.
+module _ {X : Type 0} {M : Type 0} (memory : M → Memory) (limit n : ℕ) (r : Regs) (m : M) (x : Regs) (y : M) (r' : Regs) (m' : M) (ran : RunsKnown memory limit n r m x y) (ready : ℕ → Bool) (byte : ℕ) where
+  stays : (result : Result Did X) → (result ≡ Ok did.Went → ⊥) → TriesByte false byte x (memory y) ready result r' (memory m') → (r' ≡ x) × (memory m' ≡ memory y)
   stays (Ok did.Went) apart a = absurd (apart refl)
-  stays (Ok did.Halt) apart a = same_after_halt false (instruction x) x (memory y) ready r' (memory m') refl a
-  stays (Ok (did.Undefined byte)) apart a = same_after_undefined false (instruction x) x (memory y) ready byte r' (memory m') refl a
-  stays (Err e) apart a = same_after_refusal false (instruction x) x (memory y) ready e r' (memory m') refl a
+  stays (Ok did.Halt) apart a = same_after_halt false (decided byte (decoded byte) x) x (memory y) ready r' (memory m') refl a
+  stays (Ok (did.Undefined other)) apart a = same_after_undefined false (decided byte (decoded byte) x) x (memory y) ready other r' (memory m') refl a
+  stays (Err e) apart a = same_after_refusal false (decided byte (decoded byte) x) x (memory y) ready e r' (memory m') refl a
+
+  went_on : ((byte ≡ 118 → ⊥) → byte ≡ bytes (memory y) x.pc) → ((byte ≡ 118 → ⊥) → look (memory y).own (memory y).looks x.pc ≡ (memory y).looks) → ((byte ≡ 118 → ⊥) → x.pc < limit)
+      → TriesByte {X = X} false byte x (memory y) ready (Ok did.Went) r' (memory m') → RunsKnown memory limit (n + 1) r m r' m'
+  went_on value unlooked low a =
+      let some : byte ≡ 118 → ⊥ = λ e. halts byte x (memory y) ready r' (memory m') e a in
+      let here = subst (λ (b : ℕ). TriesByte {X = X} false b x (memory y) ready (Ok did.Went) r' (memory m')) (value some) a in
+      runs_one_more memory limit n r m x y r' m' ran (low some) (goes_on false x (memory y) ready r' (memory m') refl (at_pc x (memory y) ready r' (memory m') (unlooked some) (Ok did.Went) here))
 
   pub next : (went : Bool) (k : ℕ) (result : Result Did X) → k ≡ cond went 1 0 → (went ≡ true → result ≡ Ok did.Went) → (went ≡ false → result ≡ Ok did.Went → ⊥)
-      → Attempts false (instruction x) x (memory y) ready result r' (memory m') → RunsKnown memory limit (n + k) r m r' m'
-  next true k result e gone other a =
-      let goes = goes_on false x (memory y) ready r' (memory m') refl (subst (λ (z : Result Did X). Attempts false (instruction x) x (memory y) ready z r' (memory m')) (gone refl) a) in
-      rw e (runs_one_more memory limit n r m x y r' m' ran low goes)
-  next false k result e gone other a =
+      → ((byte ≡ 118 → ⊥) → byte ≡ bytes (memory y) x.pc) → ((byte ≡ 118 → ⊥) → look (memory y).own (memory y).looks x.pc ≡ (memory y).looks) → ((byte ≡ 118 → ⊥) → x.pc < limit)
+      → TriesByte false byte x (memory y) ready result r' (memory m') → RunsKnown memory limit (n + k) r m r' m'
+  next true k result e gone other value unlooked low a =
+      rw e (went_on value unlooked low (subst (λ (z : Result Did X). TriesByte false byte x (memory y) ready z r' (memory m')) (gone refl) a))
+  next false k result e gone other value unlooked low a =
       let same = stays result (other refl) a in
       subst (λ (j : ℕ). RunsKnown memory limit j r m r' m') (omega (arith, e)) (runs_no_more memory limit n r m x y r' m' ran same.0 same.1)

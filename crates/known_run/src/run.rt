@@ -269,12 +269,10 @@ pub fn run_known<M: Access>(regs: &mut Regs, bus: &mut M, steps: u64) -> u64
     ensures within { result ≤ steps }
     ensures ran { RunsKnown M.memory M.opcode_limit result regs.old bus.old regs.new bus.new }
 {
-    let mut n = 0;
+    let mut left = steps;
     let mut went = true;
-    while went && n < steps {
-        let Ok(byte) = bus.try_opcode(regs.pc) else {
-            return n;
-        };
+    while went && left > 0 {
+        let byte = bus.opcode(regs.pc);
         let ended = match byte {
             0x00 => nop(regs, bus),
             0x01 => lxi(regs, bus, Pair::Bc),
@@ -441,11 +439,11 @@ pub fn run_known<M: Access>(regs: &mut Regs, bus: &mut M, steps: u64) -> u64
             0xff => rst(regs, bus, Restart::Rst7),
             _ => match rare(regs, bus, byte) {
                 Some(ended) => ended,
-                None => return n,
+                None => return steps - left,
             },
         };
         went = has_gone::<M>(ended);
-        n += u64::from(went);
+        left -= u64::from(went);
     }
-    n
+    steps - left
 }

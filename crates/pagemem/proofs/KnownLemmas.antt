@@ -1,5 +1,5 @@
 -- Known cells stay known after reads, writes and removed looks.
-use Rattle.std.proofs.Common.{inl, inr, ◌≡◌, ℕ, Bool, true, false, cond, ◌||◌, ◌++◌, ◌∷◌, [], List, IsTrue, is_some, refl, sym, ◌∙◌, ap, subst, eqb, length, get_or, ◌<◌, ◌≤◌, ◌+◌, ◌-◌, ◌⊎◌, slice_index, arith, unwrap_or}
+use Rattle.std.proofs.Common.{inl, inr, ◌≡◌, ◌≢◌, ℕ, Bool, true, false, cond, ◌||◌, ◌++◌, ◌∷◌, [], List, IsTrue, is_some, refl, sym, ◌∙◌, ap, subst, eqb, length, get_or, ◌<◌, ◌≤◌, ◌+◌, ◌-◌, ◌⊎◌, slice_index, arith, unwrap_or}
 use Rattle.std.proofs.lemmas.Bool.Decides.{eqb_tells}
 use Rattle.std.proofs.lemmas.Bool.{cases_lt}
 use Rattle.std.proofs.lemmas.List.{get_or_past}
@@ -114,5 +114,8 @@ pub seen_after : (own own' : Own) (looks looks' : Looks) (a : ℕ) → own' ≡ 
 seen_after own own' looks looks' a e f = rw (e, f) (seen_now own looks a)
 
 -- No cell past the last is known.
-pub none_past : (marks : List Bool) (q : ℕ) → length marks ≡ 65536 → 65536 ≤ q → get_or marks q false ≡ false
-none_past marks q e h = get_or_past marks q false (omega (arith, e, h))
+pub none_past : (marks : List Bool) (q : ℕ) → length marks ≡ 65537 → get_or marks 65536 false ≡ false → 65536 ≤ q → get_or marks q false ≡ false
+none_past marks q e end h = elim (eqb_tells q 65536) [
+  | inl same ↦ subst (λ (k : ℕ). get_or marks k false ≡ false) (sym same.1) end
+  | inr other ↦ get_or_past marks q false (let apart : q ≢ 65536 = other.1 in omega (arith, e, h, apart))
+]

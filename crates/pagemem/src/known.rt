@@ -1,12 +1,17 @@
 ghost use Rattle.std.specs.Prelude.{◌≡◌, ◌==◌, ◌+◌, ◌*◌, ◌<◌, ◌≤◌, ◌⊎◌, ℕ, true, false, if◌then◌else◌, IfOk, IfSome, length, vec_len, slice_index, get_or};
 ghost use Rattle.pagemem.specs.Learned.{IsLearned};
-ghost use Rattle.pagemem.specs.declared.known.TheConstants.{NO_OPCODE};
+ghost use Rattle.i8080.specs.Registers.{word};
+ghost use Rattle.i8080.specs.declared.access.TheConstants.{HLT};
 
 use crate::looks::{CELLS, blank_marks};
+use i8080::{HLT, word_of};
 use std::alloc::{AllocError, Global};
 
-/// HLT, which marks a cell that has no learned opcode: HLT itself is never learned.
-pub const NO_OPCODE: u8 = 0x76;
+/// One cell more than memory has, which is never known: the byte after the last cell is not the high byte of a word here.
+const CELLS_AND_END: usize = CELLS + 1;
+
+/// The marks of two known cells as one word.
+const BOTH_MARKED: u16 = 0x0101;
 
 /// The first cell of the system area, where no opcode is learned.
 const SYSTEM_AREA: u16 = 0xfe00;
@@ -18,12 +23,13 @@ pub struct Known {
     marks: Vec<bool>,
     bytes: Vec<u8>,
     opcodes: Vec<u8>,
-    ghost all_marks: { vec_len marks ≡ 65536 },
-    ghost all_bytes: { vec_len bytes ≡ 65536 },
+    ghost all_marks: { vec_len marks ≡ 65537 },
+    ghost all_bytes: { vec_len bytes ≡ 65537 },
     ghost all_opcodes: { vec_len opcodes ≡ 65536 },
-    ghost learned: { (q : ℕ) → (get_or opcodes.items q NO_OPCODE ≡ NO_OPCODE → ⊥)
+    ghost end: { get_or marks.items 65536 false ≡ false },
+    ghost learned: { (q : ℕ) → (get_or opcodes.items q HLT ≡ HLT → ⊥)
         → IsLearned (get_or marks.items q false) (slice_index bytes.items q) q
-        (get_or opcodes.items q NO_OPCODE) },
+        (get_or opcodes.items q HLT) },
 }
 
 impl Known {
@@ -33,8 +39,8 @@ impl Known {
     pub fn new(alloc: Global) -> Result<Known, AllocError>
         ensures { IfOk result (λ k. (q : ℕ) → is_known k q ≡ false) }
     {
-        let marks = blank_marks(alloc, CELLS)?;
-        let bytes = vec![in alloc; 0; CELLS]?;
+        let marks = blank_marks(alloc, CELLS_AND_END)?;
+        let bytes = vec![in alloc; 0; CELLS_AND_END]?;
         let opcodes = blank_opcodes(alloc, CELLS)?;
         Ok(Known {
             marks,
@@ -63,38 +69,43 @@ impl Known {
         None
     }
 
-    /// Returns the byte of a cell as an opcode, if the cell is known and below the system area. The opcode is learned from then on.
+    /// Returns the word at an address, low byte first, if both of its cells are known. The word at 0FFFFH is not returned.
     #[inline(always)]
-    pub fn opcode(&mut self, a: u16) -> Option<u8>
-        ensures known { IfSome result (λ _. is_known self.old a ≡ true) }
-        ensures byte { IfSome result (λ v. v ≡ byte_in self.old a) }
-        ensures low { IfSome result (λ _. a < 65024) }
-        ensures marks { (q : ℕ) → is_known self.new q ≡ is_known self.old q }
-        ensures bytes { (q : ℕ) → byte_in self.new q ≡ byte_in self.old q }
+    pub fn word(&self, a: u16) -> Option<u16>
+        ensures low { IfSome result (λ _. is_known self.now a ≡ true) }
+        ensures high { IfSome result (λ _. is_known self.now (a + 1) ≡ true) }
+        ensures inside { IfSome result (λ _. a < 65535) }
+        ensures word { IfSome result (λ w. w ≡ word (byte_in self.now a) (byte_in self.now (a + 1))) }
     {
-        let opcode = self.opcodes[a as usize];
-        if opcode == NO_OPCODE {
-            return self.learn_opcode(a);
+        let at = a as usize;
+        // As numbers, so that both marks are read and compared at once.
+        let marks = word_of(u8::from(self.marks[at]), u8::from(self.marks[at + 1]));
+        if marks == BOTH_MARKED {
+            return Some(word_of(self.bytes[at], self.bytes[at + 1]));
         }
-        Some(opcode)
+        None
     }
 
-    // Does the same for a cell without a learned opcode, to which most programs come once.
+    /// Returns the learned opcode of a cell, or HLT if it has none.
     #[inline(always)]
-    fn learn_opcode(&mut self, a: u16) -> Option<u8>
-        ensures known { IfSome result (λ _. is_known self.old a ≡ true) }
-        ensures byte { IfSome result (λ v. v ≡ byte_in self.old a) }
-        ensures low { IfSome result (λ _. a < 65024) }
+    pub fn opcode(&self, a: u16) -> u8
+        ensures known { (result ≡ HLT → ⊥) → is_known self.now a ≡ true }
+        ensures byte { (result ≡ HLT → ⊥) → result ≡ byte_in self.now a }
+        ensures low { (result ≡ HLT → ⊥) → a < 65024 }
+    {
+        self.opcodes[a as usize]
+    }
+
+    /// Learns the byte of a cell as an opcode, if the cell is known and below the system area.
+    #[inline(always)]
+    pub fn learn_opcode(&mut self, a: u16)
         ensures marks { (q : ℕ) → is_known self.new q ≡ is_known self.old q }
         ensures bytes { (q : ℕ) → byte_in self.new q ≡ byte_in self.old q }
     {
         let at = a as usize;
-        if a >= SYSTEM_AREA || !self.marks[at] {
-            return None;
+        if a < SYSTEM_AREA && self.marks[at] {
+            self.opcodes[at] = self.bytes[at];
         }
-        let opcode = self.bytes[at];
-        self.opcodes[at] = opcode;
-        Some(opcode)
     }
 
     /// Sets the byte of a cell, which is known from then on. No opcode is learned there.
@@ -106,7 +117,7 @@ impl Known {
     {
         self.marks[a as usize] = true;
         self.bytes[a as usize] = value;
-        self.opcodes[a as usize] = NO_OPCODE;
+        self.opcodes[a as usize] = HLT;
     }
 
     /// Sets the bytes of consecutive cells, starting at `at`, which are known from then on.
@@ -132,7 +143,7 @@ impl Known {
     {
         let at = a as usize;
         self.marks[at] = false;
-        self.opcodes[at] = NO_OPCODE;
+        self.opcodes[at] = HLT;
     }
 
     /// Removes the cells of a page.
@@ -152,9 +163,9 @@ impl Known {
 #[tactic(auto, using(crate::proofs::LearnedLemmas::none_kept))]
 fn blank_opcodes(alloc: Global, count: usize) -> Result<Vec<u8>, AllocError>
     ensures len { IfOk result (λ v. vec_len v ≡ count) }
-    ensures none { IfOk result (λ v. (q : ℕ) → get_or v.items q NO_OPCODE ≡ NO_OPCODE) }
+    ensures none { IfOk result (λ v. (q : ℕ) → get_or v.items q HLT ≡ HLT) }
 {
-    vec![in alloc; NO_OPCODE; count]
+    vec![in alloc; HLT; count]
 }
 
 // Sets the marks of consecutive cells.
@@ -186,10 +197,10 @@ fn copy_cells(bytes: &mut Vec<u8>, from: usize, values: &[u8])
 fn clear_cells(opcodes: &mut Vec<u8>, from: usize, count: usize)
     requires { from + count ≤ vec_len opcodes.old }
     ensures length { vec_len opcodes.new ≡ vec_len opcodes.old }
-    ensures inside { (i : ℕ) → i < count → get_or opcodes.new.items (from + i) NO_OPCODE ≡ NO_OPCODE }
+    ensures inside { (i : ℕ) → i < count → get_or opcodes.new.items (from + i) HLT ≡ HLT }
     ensures outside { (q : ℕ) → (q < from) ⊎ (from + count ≤ q)
-        → get_or opcodes.new.items q NO_OPCODE ≡ get_or opcodes.old.items q NO_OPCODE }
+        → get_or opcodes.new.items q HLT ≡ get_or opcodes.old.items q HLT }
 {
     let part = &mut opcodes[from..from + count];
-    part.fill(NO_OPCODE);
+    part.fill(HLT);
 }

@@ -43,9 +43,14 @@ impl Access for Overlay {
     }
 
     #[inline(always)]
-    fn try_opcode(&mut self, a: u16) -> Result<u8, Refused> {
-        match self.opcode(a) {
-            Some(opcode) => Ok(opcode),
+    fn opcode(&self, a: u16) -> u8 {
+        self.learned_opcode(a)
+    }
+
+    #[inline(always)]
+    fn try_word(&mut self, a: u16) -> Result<u16, Refused> {
+        match self.known_word(a) {
+            Some(word) => Ok(word),
             None => Err(Refused),
         }
     }

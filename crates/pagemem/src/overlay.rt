@@ -4,6 +4,7 @@ ghost use Rattle.i8080.specs.End.{cells_from};
 ghost use Rattle.i8080.specs.Memory.{bytes, look, write, write_all, is_among, over};
 ghost use Rattle.i8080.specs.Registers.{onward, word};
 ghost use Rattle.pagemem.specs.Cells.{own_in, is_ready_in};
+ghost use Rattle.i8080.specs.declared.access.TheConstants.{HLT};
 ghost use Rattle.pagemem.specs.Known.{is_known, byte_in, IsKnownCell};
 ghost use Rattle.pagemem.specs.Beneath.{cells_beneath};
 
@@ -12,7 +13,6 @@ use crate::cells::Cells;
 use crate::image::Image;
 use crate::known::Known;
 use crate::looks::Looks;
-use i8080::word_of;
 use std::alloc::{AllocError, Global};
 
 /// What a run wrote, with the cells that it looked at, and the bytes of the cells that are known over one image.
@@ -197,24 +197,31 @@ impl Overlay {
         self.known.get(a)
     }
 
-    /// Returns the byte of a cell as an opcode, over the image that the known cells belong to, if the cell is known and below the
-    /// system area. This is no new look.
+    /// Returns the learned opcode of a cell over the image that the known cells belong to, or HLT if it has none. This is no new
+    /// look.
     #[inline(always)]
-    pub fn opcode(&mut self, a: u16) -> Option<u8>
-        ensures value { IfSome result (λ v. v ≡ over (own_of self.old) (beneath_of self.old) a) }
-        ensures unlooked { IfSome result (λ _.
-            look (own_of self.old) (looks_of self.old) a ≡ looks_of self.old) }
-        ensures low { IfSome result (λ _. a < 65024) }
-        ensures own { own_of self.new ≡ own_of self.old }
-        ensures looks { looks_of self.new ≡ looks_of self.old }
-        ensures kept { (q : ℕ) → IsTrue (is_ready_at self.old q) → IsTrue (is_ready_at self.new q) }
-        ensures beneath { self.new.beneath ≡ self.old.beneath }
+    pub fn learned_opcode(&self, a: u16) -> u8
+        ensures value { (result ≡ HLT → ⊥) → result ≡ over (own_of self.now) (beneath_of self.now) a }
+        ensures unlooked { (result ≡ HLT → ⊥)
+            → look (own_of self.now) (looks_of self.now) a ≡ looks_of self.now }
+        ensures low { (result ≡ HLT → ⊥) → a < 65024 }
     {
         self.known.opcode(a)
     }
 
+    /// Learns the byte of a cell as an opcode, if the cell is known and below the system area. This is no look.
+    #[inline(always)]
+    pub fn learn_opcode(&mut self, a: u16)
+        ensures own { own_of self.new ≡ own_of self.old }
+        ensures looks { looks_of self.new ≡ looks_of self.old }
+        ensures ready { is_ready_at self.new ≡ is_ready_at self.old }
+        ensures beneath { self.new.beneath ≡ self.old.beneath }
+    {
+        self.known.learn_opcode(a)
+    }
+
     /// Returns the word at an address over the image that the known cells belong to, low byte first, if both of its cells are
-    /// known; the cell after 0FFFFH is 0000H. This is no new look.
+    /// known, or `None`, as for the word at 0FFFFH. This is no new look.
     #[inline(always)]
     pub fn known_word(&self, a: u16) -> Option<u16>
         ensures value { IfSome result (λ w. w ≡ word (over (own_of self.now) (beneath_of self.now) a)
@@ -224,10 +231,7 @@ impl Overlay {
         ensures high { IfSome result (λ _.
             look (own_of self.now) (looks_of self.now) (onward a 1) ≡ looks_of self.now) }
     {
-        match (self.known(a), self.known(a.wrapping_add(1))) {
-            (Some(low), Some(high)) => Some(word_of(low, high)),
-            _ => None,
-        }
+        self.known.word(a)
     }
 
     /// Writes a ready cell.

@@ -1,21 +1,21 @@
 use mir.Val.{bool_byte}
-use Rattle.std.proofs.Common.{◌≡◌, ◌+◌, ◌≤◌, ℕ, Bool, true, false, cond, refl, sym, subst, ap, ◌∙◌, arith}
-use Rattle.i8080.specs.Memory.{Memory, bytes}
+use Rattle.std.proofs.Common.{◌≡◌, ◌-◌, ◌≤◌, ℕ, Bool, true, false, cond, subst, arith}
+use Rattle.known_run.specs.KnownRun.{RunsKnown}
 use Rattle.i8080.specs.Attempts.{TriesByte}
-use Rattle.i8080.specs.declared.opcode.Op.TheVariants.{Nop, Mov, MovToMemory, Mvi, Lxi, Lda, Sta, Lhld, Shld, Ldax, Stax, Xchg, Accumulate, Inr, Dcr, Inx, Dcx, Dad, Rotate, Daa, Cma, Stc, Cmc, Jmp, JumpIf, Call, CallIf, Ret, RetIf, Rst, Pchl, Push, Pop, Xthl, Sphl, In, Out, Di, Ei}
+use Rattle.i8080.specs.declared.opcode.Op.TheVariants.{Nop, Mov, MovToMemory, Mvi, Lxi, Lda, Sta, Lhld, Shld, Ldax, Stax, Xchg, Accumulate, Inr, Dcr, Inx, Dcx, Dad, Rotate, Daa, Jmp, JumpIf, Call, Ret, RetIf, Rst, Push, Pop}
 use Rattle.i8080.specs.declared.opcode.Place.TheVariants.{InRegister, Memory as AtHl}
 use Rattle.i8080.specs.declared.opcode.Register.TheVariants.{B, C, D, E, H, L, A}
-use Rattle.i8080.specs.declared.opcode.Pair.TheVariants.{Bc, De, Hl, Sp}
+use Rattle.i8080.specs.declared.opcode.Pair.TheVariants.{Bc, De, Hl}
 use Rattle.i8080.specs.declared.opcode.Saved.TheVariants.{BcPair, DePair, HlPair, Psw}
 use Rattle.i8080.specs.declared.opcode.Base.TheVariants.{InBc, InDe}
 use Rattle.i8080.specs.declared.opcode.Source.TheVariants.{At, Immediate}
-use Rattle.i8080.specs.declared.opcode.Arithmetic.TheVariants.{Add, Adc, Sub, Sbb, Ana, Xra, Ora, Cmp}
-use Rattle.i8080.specs.declared.opcode.Condition.TheVariants.{NotZero, Zero, NoCarry, Carry, ParityOdd, ParityEven, Plus, Minus}
+use Rattle.i8080.specs.declared.opcode.Arithmetic.TheVariants.{Add, Adc, Sub, Ana, Xra, Ora, Cmp}
+use Rattle.i8080.specs.declared.opcode.Condition.TheVariants.{NotZero, Zero, NoCarry, Carry}
 use Rattle.i8080.specs.declared.opcode.Rotation.TheVariants.{Rlc, Rrc, Ral, Rar}
-use Rattle.i8080.specs.declared.opcode.Restart.TheVariants.{Rst0, Rst1, Rst2, Rst3, Rst4, Rst5, Rst6, Rst7}
-use Rattle.known_run.proofs.KnownRunLemmas.{arm, arm_of_byte, at_pc, next, same_parts, runs_no_more}
+use Rattle.i8080.specs.declared.opcode.Restart.TheVariants.{Rst7}
+use Rattle.known_run.proofs.KnownRunLemmas.{arm, arm_of_byte, next, runs_no_more}
 use Rattle.known_run.proofs.run.run_known.Goals as goal
-use Rattle.known_run.proofs.run.run_known.Goals.{in-0, in-1, in-3, in-4, in-5, in-6, in-7, in-9, in-10, in-11, in-12, in-13, in-14, in-15, in-17, in-18, in-19, in-20, in-21, in-22, in-23, in-25, in-26, in-27, in-28, in-29, in-30, in-31, in-33, in-34, in-35, in-36, in-37, in-38, in-39, in-41, in-42, in-43, in-44, in-45, in-46, in-50, in-52, in-53, in-54, in-58, in-60, in-61, in-62, in-65, in-66, in-67, in-68, in-69, in-70, in-71, in-72, in-74, in-75, in-76, in-77, in-78, in-79, in-80, in-81, in-83, in-84, in-85, in-86, in-87, in-88, in-89, in-90, in-92, in-93, in-94, in-95, in-96, in-97, in-98, in-99, in-101, in-102, in-103, in-104, in-105, in-106, in-107, in-108, in-110, in-111, in-112, in-113, in-114, in-115, in-116, in-117, in-119, in-120, in-121, in-122, in-123, in-124, in-125, in-126, in-128, in-129, in-130, in-131, in-132, in-133, in-134, in-135, in-137, in-150, in-151, in-166, in-167, in-175, in-176, in-177, in-178, in-179, in-180, in-181, in-182, in-183, in-184, in-185, in-186, in-187, in-188, in-189, in-190, in-191, in-192, in-193, in-194, in-195, in-197, in-198, in-200, in-201, in-202, in-205, in-206, in-208, in-209, in-210, in-213, in-214, in-216, in-218, in-225, in-229, in-230, in-235, in-238, in-241, in-245, in-246, in-254, in-255, in_default-byte+in-Some}
+use Rattle.known_run.proofs.run.run_known.Goals.{in-0, in-1, in-3, in-4, in-5, in-6, in-7, in-9, in-10, in-11, in-12, in-13, in-14, in-15, in-17, in-18, in-19, in-20, in-21, in-22, in-23, in-25, in-26, in-27, in-28, in-29, in-30, in-31, in-33, in-34, in-35, in-36, in-37, in-38, in-39, in-41, in-42, in-43, in-44, in-45, in-46, in-50, in-52, in-53, in-54, in-58, in-60, in-61, in-62, in-65, in-66, in-67, in-68, in-69, in-70, in-71, in-72, in-74, in-75, in-76, in-77, in-78, in-79, in-80, in-81, in-83, in-84, in-85, in-86, in-87, in-88, in-89, in-90, in-92, in-93, in-94, in-95, in-96, in-97, in-98, in-99, in-101, in-102, in-103, in-104, in-105, in-106, in-107, in-108, in-110, in-111, in-112, in-113, in-114, in-115, in-116, in-117, in-119, in-120, in-121, in-122, in-123, in-124, in-125, in-126, in-128, in-129, in-130, in-131, in-132, in-133, in-134, in-135, in-137, in-150, in-151, in-166, in-167, in-175, in-176, in-177, in-178, in-179, in-180, in-181, in-182, in-183, in-184, in-185, in-186, in-187, in-188, in-189, in-190, in-191, in-192, in-193, in-194, in-195, in-197, in-198, in-200, in-201, in-202, in-205, in-206, in-208, in-209, in-210, in-213, in-214, in-216, in-218, in-225, in-229, in-230, in-235, in-238, in-241, in-245, in-246, in-254, in-255, in_default+in-Some}
 
 -- A truth value as a number.
 bit : (b : Bool) (k : ℕ) → k ≡ bool_byte b → k ≡ cond b 1 0
@@ -26,31 +26,20 @@ at_most : (b : Bool) (k : ℕ) → k ≡ bool_byte b → k ≤ 1
 at_most true k e = omega (arith, e)
 at_most false k e = omega (arith, e)
 
-pub returns-in_default-clause-ran : goal.returns-in_default-clause-ran
-returns-in_default-clause-ran g c =
-    let e = c.try_opcode.ensures in
-    let memory = g.M.Access.memory in
-    runs_no_more memory g.M.Access.opcode_limit c.loop-went.n c.args.regs.now c.args.bus.now c.loop-went.regs c.loop-went.bus c.loop-went.regs c.try_opcode.new.self c.loop-went.invariant.ran refl
-    (same_parts (memory c.loop-went.bus) (memory c.try_opcode.new.self) e.own e.beneath (e.quiet c.requires) e.lender)
-
 pub returns-in-None-clause-ran : goal.returns-in-None-clause-ran
 returns-in-None-clause-ran g c =
-    let e = c.try_opcode.ensures in
-    let memory = g.M.Access.memory in
-    runs_no_more memory g.M.Access.opcode_limit c.loop-went.n c.args.regs.now c.args.bus.now c.loop-went.regs c.loop-went.bus _ _ c.loop-went.invariant.ran c.in-None.ensures.regs
-    (c.in-None.ensures.memory ∙ same_parts (memory c.loop-went.bus) (memory c.try_opcode.new.self) e.own e.beneath (e.quiet c.requires) e.lender)
+    runs_no_more g.M.Access.memory g.M.Access.opcode_limit (c.args.steps - c.loop-went.left) c.args.regs.now c.args.bus.now c.loop-went.regs c.loop-went.bus _ _ c.loop-went.invariant.ran c.in-None.ensures.regs c.in-None.ensures.memory
 
 pub loop-went-preserved : goal.loop-went-preserved
 loop-went-preserved g c =
     let memory = g.M.Access.memory in
-    let ready = g.M.Access.is_ready c.try_opcode.new.self in
+    let bus = c.loop-went.bus in
+    let ready = g.M.Access.is_ready bus in
     let x = c.loop-went.regs in
-    let y = memory c.loop-went.bus in
-    let e = c.try_opcode.ensures in
-    let same : memory c.try_opcode.new.self ≡ y = same_parts y (memory c.try_opcode.new.self) e.own e.beneath (e.quiet c.requires) e.lender in
-    let before = memory c.try_opcode.new.self in
-    let does = arm memory g.M.Access.is_sure c.in-Ok.byte x before ready c.match-byte.ended c.match-byte.regs c.match-byte.bus in
-    let tried : TriesByte g.M.Access.is_sure c.in-Ok.byte x (memory c.try_opcode.new.self) ready c.match-byte.ended c.match-byte.regs (memory c.match-byte.bus) =
+    let byte = c.opcode-byte.result in
+    let e = c.opcode-byte.ensures in
+    let does = arm memory g.M.Access.is_sure byte x (memory bus) ready c.match-byte.ended c.match-byte.regs c.match-byte.bus in
+    let tried : TriesByte g.M.Access.is_sure byte x (memory bus) ready c.match-byte.ended c.match-byte.regs (memory c.match-byte.bus) =
     elim c.match-byte.branch [
       | in-0 w ↦ does Nop _ _ _ w.in-0.is w.ended-is w.regs-is w.bus-is w.nop-ended.ensures
       | in-1 w ↦ does (Lxi Bc) _ _ _ w.in-1.is w.ended-is w.regs-is w.bus-is w.lxi-ended.ensures
@@ -215,14 +204,13 @@ loop-went-preserved g c =
       | in-246 w ↦ does (Accumulate Ora Immediate) _ _ _ w.in-246.is w.ended-is w.regs-is w.bus-is w.accumulate_immediate-ended-in-246.ensures
       | in-254 w ↦ does (Accumulate Cmp Immediate) _ _ _ w.in-254.is w.ended-is w.regs-is w.bus-is w.accumulate_immediate-ended-in-254.ensures
       | in-255 w ↦ does (Rst Rst7) _ _ _ w.in-255.is w.ended-is w.regs-is w.bus-is w.rst-ended.ensures
-      | in_default-byte+in-Some w ↦ arm_of_byte memory g.M.Access.is_sure c.in-Ok.byte x before ready c.match-byte.ended c.match-byte.regs c.match-byte.bus _ _ _ w.ended-is w.regs-is w.bus-is w.in-Some.ensures.executed
+      | in_default+in-Some w ↦ arm_of_byte memory g.M.Access.is_sure byte x (memory bus) ready c.match-byte.ended c.match-byte.regs c.match-byte.bus _ _ _ w.ended-is w.regs-is w.bus-is w.in-Some.ensures.executed
     ] in
-    let here = subst (λ (b : ℕ). TriesByte false b x y ready c.match-byte.ended c.match-byte.regs (memory c.match-byte.bus)) c.in-Ok.ensures.value
-    (subst (λ (q : Memory). TriesByte false c.in-Ok.byte x q ready c.match-byte.ended c.match-byte.regs (memory c.match-byte.bus)) same
-    (subst (λ (s : Bool). TriesByte s c.in-Ok.byte x (memory c.try_opcode.new.self) ready c.match-byte.ended c.match-byte.regs (memory c.match-byte.bus)) c.requires tried)) in
-    let went = at_pc x y ready c.match-byte.regs (memory c.match-byte.bus) (sym c.in-Ok.ensures.looks ∙ e.quiet c.requires) c.match-byte.ended here in
+    let quiet = subst (λ (s : Bool). TriesByte s byte x (memory bus) ready c.match-byte.ended c.match-byte.regs (memory c.match-byte.bus)) c.requires tried in
+    let done = c.args.steps - c.loop-went.left in
+    let went = next memory g.M.Access.opcode_limit done c.args.regs.now c.args.bus.now x bus c.match-byte.regs c.match-byte.bus c.loop-went.invariant.ran ready byte
+    c.has_gone-went.result c.from-left.result c.match-byte.ended (bit c.has_gone-went.result c.from-left.result c.from-left.ensures) c.has_gone-went.ensures.gone c.has_gone-went.ensures.other e.value e.unlooked e.low quiet in
     record {
-      within = omega (arith, at_most c.has_gone-went.result c.from-n.result c.from-n.ensures);
-      ran = next memory g.M.Access.opcode_limit c.loop-went.n c.args.regs.now c.args.bus.now x c.loop-went.bus c.match-byte.regs c.match-byte.bus c.loop-went.invariant.ran c.in-Ok.ensures.low ready
-          c.has_gone-went.result c.from-n.result c.match-byte.ended (bit c.has_gone-went.result c.from-n.result c.from-n.ensures) c.has_gone-went.ensures.gone c.has_gone-went.ensures.other went;
+      within = omega (arith, at_most c.has_gone-went.result c.from-left.result c.from-left.ensures, c.loop-went.invariant.within);
+      ran = subst (λ (j : ℕ). RunsKnown memory g.M.Access.opcode_limit j c.args.regs.now c.args.bus.now c.match-byte.regs c.match-byte.bus) (omega (arith, at_most c.has_gone-went.result c.from-left.result c.from-left.ensures, c.loop-went.invariant.within)) went;
     }

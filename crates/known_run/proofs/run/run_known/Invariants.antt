@@ -4,9 +4,9 @@ use Rattle.known_run.proofs.run.run_known.Given as goal
 
 abbrev pub invariant-loop-went : goal.invariant-loop-went
 invariant-loop-went g l = record {
-  within : l.n ≤ l.steps;
-  ran : RunsKnown g.M.Access.memory g.M.Access.opcode_limit l.n l.fn.regs l.fn.bus l.regs l.bus;
+  within : l.left ≤ l.steps;
+  ran : RunsKnown g.M.Access.memory g.M.Access.opcode_limit (l.steps - l.left) l.fn.regs l.fn.bus l.regs l.bus;
 }
 
 abbrev pub decreases-loop-went : goal.decreases-loop-went
-decreases-loop-went g l = l.steps - l.n + cond l.went 1 0
+decreases-loop-went g l = l.left + cond l.went 1 0

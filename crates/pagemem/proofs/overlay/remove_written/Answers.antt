@@ -24,4 +24,4 @@ unknown false q past none = refl
 pub returns : goal.returns
 returns c q =
     let k = c.loop-page.known in
-    unknown (is_known k q) q (λ h. let i = c.loop-page.invariant q h in omega (arith, i.0)) (λ past. none_past k.marks.items q (let e = k.all_marks in omega (arith, e)) past)
+    unknown (is_known k q) q (λ h. let i = c.loop-page.invariant q h in omega (arith, i.0)) (λ past. none_past k.marks.items q (let e = k.all_marks in omega (arith, e)) k.end past)
