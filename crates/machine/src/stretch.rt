@@ -44,25 +44,8 @@ fn execute_over(
     execute(regs, &mut view)
 }
 
-// Does the same, and makes each cell that it reads known.
-#[inline(always)]
-fn execute_in_view(
-    regs: &mut Regs,
-    overlay: &mut Overlay,
-    session: &Session,
-) -> Result<Did, AllocError>
-    requires { beneath_of overlay.old ≡ image_of session.now }
-    ensures performs { Performs (instruction regs.old) regs.old
-        (memory_over_image session.now overlay.old) (is_ready_at overlay.old) result regs.new
-        (memory_over_image session.now overlay.new) }
-    ensures beneath { beneath_of overlay.new ≡ image_of session.now }
-{
-    let mut view = LearningView::new(session.image(), overlay);
-    execute(regs, &mut view)
-}
-
-// Does the same, and learns the opcode of the instruction. It is never inlined, because most instructions are executed by the loop
-// over known cells.
+// Does the same, makes each cell that it reads known, and learns the opcode of the instruction. It is never inlined, because most
+// instructions are executed by the loop over known cells.
 #[inline(never)]
 fn execute_learning(
     regs: &mut Regs,
@@ -76,7 +59,8 @@ fn execute_learning(
     ensures beneath { beneath_of overlay.new ≡ image_of session.now }
 {
     let at = regs.pc;
-    let did = execute_in_view(regs, overlay, session)?;
+    let mut view = LearningView::new(session.image(), overlay);
+    let did = execute(regs, &mut view)?;
     overlay.learn_opcode(at);
     Ok(did)
 }
