@@ -1,7 +1,7 @@
 // What a run wrote and looked at, over an image.
 
 use crate::fixtures::blank;
-use i8080::{Bus, fetch};
+use i8080::{Bus, HLT, fetch};
 use pagemem::{Beneath, BlankMarks, Cells, Image, Overlay, View, memories_agree};
 use std::alloc::AllocError;
 use std::process::Abort;
@@ -129,5 +129,42 @@ fn copy_is_as_before(rt: &impl Abort, cells: &mut Cells, copy: &mut Overlay) -> 
     cells.write(0x0101, 0x11);
     assert!(rt; [copy.written(0x0101), cells.written(0x0101)] == [Some(0x5a), Some(0x11)]);
     assert!(rt; copy.take_look() == None);
+    Ok(())
+}
+
+#[test]
+fn words_of_known_cells_are_read_at_once(rt: HostRuntime) -> Result<(), Fail> {
+    let mut overlay = Overlay::new(rt.alloc())?;
+    put(&mut overlay, 0xfffe, 0x34)?;
+    put(&mut overlay, 0xffff, 0x12)?;
+    put(&mut overlay, 0x0000, 0x56)?;
+    assert!(rt; overlay.known_word(0xfffe) == Some(0x1234));
+    // The word at 0FFFFH, whose high byte is in 0000H, is read cell by cell; 0FFFDH is not known.
+    assert!(rt; overlay.known_word(0xffff).is_none());
+    assert!(rt; overlay.known_word(0xfffd).is_none());
+    Ok(())
+}
+
+#[test]
+fn an_opcode_is_learned_until_its_cell_is_written(rt: HostRuntime) -> Result<(), Fail> {
+    let mut overlay = Overlay::new(rt.alloc())?;
+    overlay.learn_opcode(0x0100);
+    assert!(rt; overlay.learned_opcode(0x0100) == HLT);
+    put(&mut overlay, 0x0100, 0x04)?;
+    assert!(rt; overlay.learned_opcode(0x0100) == HLT);
+    overlay.learn_opcode(0x0100);
+    assert!(rt; overlay.learned_opcode(0x0100) == 0x04);
+    put(&mut overlay, 0x0100, 0x05)?;
+    assert!(rt; overlay.learned_opcode(0x0100) == HLT);
+    in_the_system_area(&rt, &mut overlay)
+}
+
+fn in_the_system_area(rt: &impl Abort, overlay: &mut Overlay) -> Result<(), Fail> {
+    put(overlay, 0xfdff, 0x04)?;
+    put(overlay, 0xfe00, 0x04)?;
+    overlay.learn_opcode(0xfdff);
+    overlay.learn_opcode(0xfe00);
+    assert!(rt; overlay.learned_opcode(0xfdff) == 0x04);
+    assert!(rt; overlay.learned_opcode(0xfe00) == HLT);
     Ok(())
 }
