@@ -38,7 +38,8 @@ fn fetch_each<B: Bus>(bus: &mut B, at: u16, cells: &mut [u8])
 }
 
 /// Writes bytes into the cells from an address on, after all of them are ready. `Err` means out of memory and writes
-/// nothing.
+/// nothing. It is inlined, as `fetch_cells` is.
+#[inline(always)]
 pub fn put_cells<B: Bus>(bus: &mut B, at: u16, bytes: &[u8]) -> Result<(), AllocError>
     requires { length bytes.now ≤ 128 }
     ensures { Writes (cells_from at bytes.now) (B.memory bus.old) result (B.memory bus.new) }
@@ -77,8 +78,9 @@ pub fn write_place<B: Bus>(bus: &mut B, at: u16, record_number: u32)
 }
 
 /// Writes a record into the buffer, and then the sequential record number of a control block, after all cells are
-/// ready. `Err` means out of memory and writes nothing.
+/// ready. `Err` means out of memory and writes nothing. It is inlined, as `fetch_cells` is.
 #[tactic(auto, using(crate::proofs::Runs::written_both))]
+#[inline(always)]
 pub fn put_record<B: Bus>(
     bus: &mut B,
     buffer: u16,

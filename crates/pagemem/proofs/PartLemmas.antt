@@ -1,6 +1,7 @@
 -- Lists of which a part was written.
-use Rattle.std.proofs.Common.{◌≡◌, ◌+◌, ◌-◌, ◌<◌, ◌≤◌, ℕ, List, ◌++◌, length, get_or, take, drop, ap, ◌∙◌, arith, min}
+use Rattle.std.proofs.Common.{◌≡◌, ◌+◌, ◌-◌, ◌<◌, ◌≤◌, ◌%◌, ℕ, List, ◌++◌, length, get_or, take, drop, ap, ◌∙◌, arith, min}
 use Rattle.std.proofs.lemmas.List.{length-take, length-drop, length-append, get_or-take, get_or-drop, get_or_append_left, get_or-append_right}
+use Rattle.i8080.specs.Registers.{onward}
 use borrow.Rule.Slice.PartMut.{put_mid, post_of}
 
 -- The length of a part.
@@ -29,3 +30,7 @@ module _ {X : Type 0} (a k : ℕ) (xs ys : List X) (fits : a + k ≤ length xs) 
   put_above j d low =
       get_or-append_right (take a xs) (ys ++ post_of a k xs) a j d before (omega (arith, low)) ∙ get_or-append_right ys (post_of a k xs) k (j - a) d long (omega (arith, low))
       ∙ get_or-drop k (drop a xs) (j - a - k) d ∙ get_or-drop a xs (k + (j - a - k)) d ∙ ap (λ n. get_or xs n d) (let e : a + (k + (j - a - k)) ≡ j = omega (arith, low) in e)
+
+-- A cell of the page in which another one lies.
+pub in_page : (a count i : ℕ) → a < 65536 → count ≤ 256 - a % 256 → i < count → a + i ≡ onward a i
+in_page a count i low fits below = omega (arith, low, fits, below)

@@ -100,6 +100,7 @@ impl Cells {
 
     /// Writes bytes to ready cells of one page, starting at `at`.
     #[tactic(auto, using(crate::proofs::Laws::ready_kept, crate::proofs::RunLaws::own_write_all))]
+    #[inline(always)]
     pub fn write_in_page(&mut self, at: u16, values: &[u8])
         requires ready { IsTrue (is_ready_in self.old at) }
         requires page { at % 256 + length values.now ≤ 256 }

@@ -4,6 +4,7 @@ ghost use Rattle.i8080.specs.Registers.{word};
 ghost use Rattle.i8080.specs.declared.access.TheConstants.{HLT};
 
 use crate::looks::{CELLS, blank_marks};
+use crate::page::all_set;
 use i8080::{HLT, word_of};
 use std::alloc::{AllocError, Global};
 
@@ -33,7 +34,7 @@ pub struct Known {
 }
 
 impl Known {
-    ghost use Rattle.pagemem.specs.Known.{is_known, byte_in};
+    ghost use Rattle.pagemem.specs.Known.{is_known, byte_in, opcode_in};
 
     /// Creates a set with no cells. `Err` means out of memory.
     pub fn new(alloc: Global) -> Result<Known, AllocError>
@@ -86,9 +87,29 @@ impl Known {
         None
     }
 
+    /// Copies the bytes of consecutive cells, starting at `at`, if all of them are known. Returns `false` otherwise; the bytes in
+    /// `cells` are then unspecified.
+    #[inline(always)]
+    pub fn copy_to(&self, at: u16, cells: &mut [u8]) -> bool
+        requires { at + length cells.old ≤ 65536 }
+        ensures length { length cells.new ≡ length cells.old }
+        ensures known { result ≡ true → (i : ℕ) → i < length cells.old → is_known self.now (at + i) ≡ true }
+        ensures bytes { result ≡ true → (i : ℕ) → i < length cells.old
+            → slice_index cells.new i ≡ byte_in self.now (at + i) }
+    {
+        let from = usize::from(at);
+        let end = from + cells.len();
+        if !all_set(&self.marks[from..end]) {
+            return false;
+        }
+        cells.copy_from_slice(&self.bytes[from..end]);
+        true
+    }
+
     /// Returns the learned opcode of a cell, or HLT if it has none.
     #[inline(always)]
     pub fn opcode(&self, a: u16) -> u8
+        ensures kept { result ≡ opcode_in self.now a }
         ensures known { (result ≡ HLT → ⊥) → is_known self.now a ≡ true }
         ensures byte { (result ≡ HLT → ⊥) → result ≡ byte_in self.now a }
         ensures low { (result ≡ HLT → ⊥) → a < 65024 }
@@ -101,6 +122,7 @@ impl Known {
     pub fn learn_opcode(&mut self, a: u16)
         ensures marks { (q : ℕ) → is_known self.new q ≡ is_known self.old q }
         ensures bytes { (q : ℕ) → byte_in self.new q ≡ byte_in self.old q }
+        ensures learned { is_known self.old a ≡ true → a < 65024 → opcode_in self.new a ≡ byte_in self.old a }
     {
         let at = a as usize;
         if a < SYSTEM_AREA && self.marks[at] {
@@ -121,6 +143,7 @@ impl Known {
     }
 
     /// Sets the bytes of consecutive cells, starting at `at`, which are known from then on.
+    #[inline(always)]
     pub fn set_cells(&mut self, at: u16, values: &[u8])
         requires { at + length values.now ≤ 65536 }
         ensures inside { (i : ℕ) → i < length values.now
@@ -169,6 +192,7 @@ fn blank_opcodes(alloc: Global, count: usize) -> Result<Vec<u8>, AllocError>
 }
 
 // Sets the marks of consecutive cells.
+#[inline(always)]
 fn mark_cells(marks: &mut Vec<bool>, from: usize, count: usize, mark: bool)
     requires { from + count ≤ vec_len marks.old }
     ensures length { vec_len marks.new ≡ vec_len marks.old }
@@ -181,6 +205,7 @@ fn mark_cells(marks: &mut Vec<bool>, from: usize, count: usize, mark: bool)
 }
 
 // Copies bytes to consecutive cells.
+#[inline(always)]
 fn copy_cells(bytes: &mut Vec<u8>, from: usize, values: &[u8])
     requires { from + length values.now ≤ vec_len bytes.old }
     ensures length { vec_len bytes.new ≡ vec_len bytes.old }
@@ -194,6 +219,7 @@ fn copy_cells(bytes: &mut Vec<u8>, from: usize, values: &[u8])
 }
 
 // Removes the opcodes of consecutive cells.
+#[inline(always)]
 fn clear_cells(opcodes: &mut Vec<u8>, from: usize, count: usize)
     requires { from + count ≤ vec_len opcodes.old }
     ensures length { vec_len opcodes.new ≡ vec_len opcodes.old }

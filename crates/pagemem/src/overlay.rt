@@ -5,7 +5,7 @@ ghost use Rattle.i8080.specs.Memory.{bytes, look, write, write_all, is_among, ov
 ghost use Rattle.i8080.specs.Registers.{onward, word};
 ghost use Rattle.pagemem.specs.Cells.{own_in, is_ready_in};
 ghost use Rattle.i8080.specs.declared.access.TheConstants.{HLT};
-ghost use Rattle.pagemem.specs.Known.{is_known, byte_in, IsKnownCell};
+ghost use Rattle.pagemem.specs.Known.{is_known, byte_in, opcode_in, IsKnownCell};
 ghost use Rattle.pagemem.specs.Beneath.{cells_beneath};
 
 use crate::beneath::Beneath;
@@ -201,6 +201,7 @@ impl Overlay {
     /// look.
     #[inline(always)]
     pub fn learned_opcode(&self, a: u16) -> u8
+        ensures kept { result ≡ opcode_in self.now.known a }
         ensures value { (result ≡ HLT → ⊥) → result ≡ over (own_of self.now) (beneath_of self.now) a }
         ensures unlooked { (result ≡ HLT → ⊥)
             → look (own_of self.now) (looks_of self.now) a ≡ looks_of self.now }
@@ -216,6 +217,8 @@ impl Overlay {
         ensures looks { looks_of self.new ≡ looks_of self.old }
         ensures ready { is_ready_at self.new ≡ is_ready_at self.old }
         ensures beneath { self.new.beneath ≡ self.old.beneath }
+        ensures learned { is_known self.old.known a ≡ true → a < 65024
+            → opcode_in self.new.known a ≡ byte_in self.old.known a }
     {
         self.known.learn_opcode(a)
     }
@@ -248,6 +251,7 @@ impl Overlay {
     }
 
     // Writes bytes to ready cells of one page, starting at `at`.
+    #[inline(always)]
     fn write_in_page(&mut self, at: u16, values: &[u8])
         requires ready { IsTrue (is_ready_at self.old at) }
         requires page { at % 256 + length values.now ≤ 256 }
@@ -261,7 +265,24 @@ impl Overlay {
     }
 
     /// Writes bytes to ready cells, starting at `at`; the cell after 0FFFFH is 0000H.
+    #[inline(always)]
     pub fn write_cells(&mut self, at: u16, values: &[u8])
+        requires { (i : ℕ) → i < length values.now → IsTrue (is_ready_at self.old (onward at i)) }
+        ensures kept { (q : ℕ) → IsTrue (is_ready_at self.old q) → IsTrue (is_ready_at self.new q) }
+        ensures own { own_of self.new ≡ write_all (own_of self.old) (cells_from at values.now) }
+        ensures looks { looks_of self.new ≡ looks_of self.old }
+        ensures beneath { beneath_of self.new ≡ beneath_of self.old }
+    {
+        if !values.is_empty() && values.len() <= 256 - usize::from(at % 256) {
+            // The usual case, in which the count is often a constant at the call.
+            return self.write_in_page(at, values);
+        }
+        self.write_in_pages(at, values)
+    }
+
+    // Does the same, one page after another.
+    #[inline(never)]
+    fn write_in_pages(&mut self, at: u16, values: &[u8])
         requires { (i : ℕ) → i < length values.now → IsTrue (is_ready_at self.old (onward at i)) }
         ensures kept { (q : ℕ) → IsTrue (is_ready_at self.old q) → IsTrue (is_ready_at self.new q) }
         ensures own { own_of self.new ≡ write_all (own_of self.old) (cells_from at values.now) }
@@ -299,6 +320,19 @@ impl Overlay {
             done += 256 - u32::from(address % 256);
         }
         Ok(())
+    }
+
+    /// Copies the bytes of cells of one page over the image that the known cells belong to, starting at `at`, if all of them are
+    /// known. This is no new look. Returns `false` otherwise; the bytes in `cells` are then unspecified.
+    #[inline(always)]
+    pub fn copy_known(&self, at: u16, cells: &mut [u8]) -> bool
+        ensures length { length cells.new ≡ length cells.old }
+        ensures value { result ≡ true → (i : ℕ) → i < length cells.old
+            → slice_index cells.new i ≡ over (own_of self.now) (beneath_of self.now) (onward at i) }
+        ensures unlooked { result ≡ true → (i : ℕ) → i < length cells.old
+            → look (own_of self.now) (looks_of self.now) (onward at i) ≡ looks_of self.now }
+    {
+        cells.len() <= 256 - usize::from(at % 256) && self.known.copy_to(at, cells)
     }
 
     /// Copies the bytes of cells over an image, starting at `at`, if each was written or looked at before; the cell after

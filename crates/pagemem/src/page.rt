@@ -6,9 +6,6 @@ ghost use Rattle.i8080.specs.Memory.{write, write_all};
 use std::alloc::{AllocError, Global};
 use std::rc::Rc;
 
-// The number of cells from which it pays to check first whether all of them were written, as those of a record mostly were.
-const LONG_RUN: usize = 64;
-
 /// The bytes of 256 cells, and which of them were written.
 #[derive(Clone, Copy)]
 pub struct Page {
@@ -60,6 +57,7 @@ impl Page {
     }
 
     /// Writes cells of the page, starting at `from`.
+    #[inline(always)]
     pub fn set_cells(&mut self, from: u8, values: &[u8])
         requires { from + length values.now ≤ 256 }
         ensures { page_own self.new ≡ write_all (page_own self.old) (cells_from from values.now) }
@@ -84,9 +82,6 @@ impl Page {
             → IsLaid (page_own self.now (from + i)) (slice_index beneath.now i) (get_or marks.now i false)
             (slice_index cells.new i) }
     {
-        if cells.len() >= LONG_RUN && self.copy_written(from, cells) {
-            return true;
-        }
         let mut is_known = true;
         for i in 0..cells.len() {
             let is_written = self.written[from + i];
@@ -94,22 +89,6 @@ impl Page {
             is_known &= is_written | marks[i];
         }
         is_known
-    }
-
-    // Copies the bytes of cells of the page, starting at `from`, if all of them were written. Returns `false` otherwise.
-    #[inline(always)]
-    fn copy_written(&self, from: usize, cells: &mut [u8]) -> bool
-        requires page { from + length cells.old ≤ 256 }
-        ensures length { length cells.new ≡ length cells.old }
-        ensures written { result ≡ true → (i : ℕ) → i < length cells.old
-            → page_own self.now (from + i) ≡ Some (slice_index cells.new i) }
-    {
-        let end = from + cells.len();
-        if !all_set(&self.written[from..end]) {
-            return false;
-        }
-        cells.copy_from_slice(&self.bytes[from..end]);
-        true
     }
 }
 

@@ -121,13 +121,14 @@ impl Bus for LearningView<'_> {
         self.overlay.ready_cells(at, count)
     }
 
+    #[inline(always)]
     fn write_cells(&mut self, at: u16, values: &[u8]) {
         self.overlay.write_cells(at, values)
     }
 
     #[inline(always)]
     fn known_cells(&self, at: u16, cells: &mut [u8]) -> bool {
-        self.overlay.known_cells(self.image, at, cells)
+        self.overlay.copy_known(at, cells) || self.overlay.known_cells(self.image, at, cells)
     }
 
     #[inline(always)]

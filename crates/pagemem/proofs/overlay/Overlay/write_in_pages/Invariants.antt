@@ -3,7 +3,7 @@ use Rattle.i8080.specs.Memory.{write_all}
 use Rattle.i8080.specs.Registers.{onward}
 use Rattle.i8080.specs.End.{cells_from}
 use Rattle.pagemem.specs.Overlay.{own_of, looks_of, is_ready_at, beneath_of}
-use Rattle.pagemem.proofs.overlay.Overlay.write_cells.Given as goal
+use Rattle.pagemem.proofs.overlay.Overlay.write_in_pages.Given as goal
 
 abbrev pub invariant-loop-done : goal.invariant-loop-done
 invariant-loop-done l = record {

@@ -5,7 +5,7 @@ use Rattle.i8080.specs.Registers.{onward}
 use Rattle.i8080.specs.End.{cells_from}
 use Rattle.pagemem.specs.Overlay.{own_of}
 use Rattle.pagemem.proofs.RunLaws.{write_split}
-use Rattle.pagemem.proofs.overlay.Overlay.write_cells.Goals as goal
+use Rattle.pagemem.proofs.overlay.Overlay.write_in_pages.Goals as goal
 
 -- Writing a piece of the rest, and then what is left, is writing the rest.
 piece : (own now : Own) (a done count : ℕ) (values : List ℕ) → a < 65536 → count ≤ length (drop done values) → now ≡ write_all own (cells_from a (take count (drop done values)))
