@@ -1,5 +1,6 @@
 -- What an attempt comes to over a memory of which reads are no looks.
-use Rattle.std.proofs.Common.{◌≡◌, ◌<◌, ◌+◌, ℕ, zero, suc, Bool, true, false, cond, Option, Some, Ok, Err, refl, sym, subst, ap, ◌∙◌, add-one, arith}
+use mir.Val.{bool_byte}
+use Rattle.std.proofs.Common.{◌≡◌, ◌<◌, ◌≤◌, ◌+◌, ℕ, zero, suc, Bool, true, false, cond, Option, Some, Ok, Err, refl, sym, subst, ap, ◌∙◌, add-one, arith}
 use Rattle.std.specs.Borrow.{GName}
 use Rattle.std.specs.declared.result.Result.{Result}
 use Rattle.i8080.specs.declared.registers.Regs.{Regs}
@@ -60,6 +61,13 @@ runs_no_more memory limit zero r m x y r' m' ran e f = (e ∙ ran.0, f ∙ ran.1
 runs_no_more memory limit (suc n) r m x y r' m' ran e f =
     (ran.0, ran.1, ran.2, ran.3, subst (λ (q : Memory). GoesOn ran.0 (memory ran.1) r' q) (sym f) (subst (λ (q : Regs). GoesOn ran.0 (memory ran.1) q (memory y)) (sym e) ran.4))
 
+-- One run after another is a run.
+pub runs_on : {M : Type 0} (memory : M → Memory) (limit n k : ℕ) (r : Regs) (m : M) (x : Regs) (y : M) (r' : Regs) (m' : M) → RunsKnown memory limit n r m x y → RunsKnown memory limit k x y r' m' → RunsKnown memory limit (n + k) r m r' m'
+runs_on memory limit n zero r m x y r' m' ran on = subst (λ (j : ℕ). RunsKnown memory limit j r m r' m') (let e : n ≡ n + 0 = omega arith in e) (runs_no_more memory limit n r m x y r' m' ran on.0 on.1)
+runs_on memory limit n (suc k) r m x y r' m' ran on =
+    let longer : RunsKnown memory limit (suc (n + k)) r m r' m' = (on.0, on.1, runs_on memory limit n k r m x y on.0 on.1 ran on.2, on.3, on.4) in
+    subst (λ (j : ℕ). RunsKnown memory limit j r m r' m') (let e : suc (n + k) ≡ n + suc k = omega arith in e) longer
+
 -- ---- an instruction, by its opcode
 
 -- The instruction of the opcode at PC is the instruction at PC.
@@ -98,10 +106,14 @@ pub arm : {X M : Type 0} (memory : M → Memory) (sure : Bool) (byte : ℕ) (r :
     → byte ≡ opcode_of op → result ≡ done → r' ≡ x → m' ≡ y → Tries sure op r m ready done x (memory y) → TriesByte sure byte r m ready result r' (memory m')
 arm memory sure byte r m ready result r' m' op done x y e f g h a = let decodes : decoded byte ≡ Some op = decoded_some op byte (sym e) in rw (decodes, f, g, h) a.attempts
 
--- The same for an arm that executes the instruction of its byte.
-pub arm_of_byte : {X M : Type 0} (memory : M → Memory) (sure : Bool) (byte : ℕ) (r : Regs) (m : Memory) (ready : ℕ → Bool) (result : Result Did X) (r' : Regs) (m' : M) (done : Result Did X) (x : Regs) (y : M)
-    → result ≡ done → r' ≡ x → m' ≡ y → TriesByte sure byte r m ready done x (memory y) → TriesByte sure byte r m ready result r' (memory m')
-arm_of_byte memory sure byte r m ready result r' m' done x y f g h a = rw (f, g, h) a
+-- A truth value as a number.
+pub bit : (b : Bool) (k : ℕ) → k ≡ bool_byte b → k ≡ cond b 1 0
+bit true k e = e
+bit false k e = e
+
+pub at_most : (b : Bool) (k : ℕ) → k ≡ bool_byte b → k ≤ 1
+at_most true k e = omega (arith, e)
+at_most false k e = omega (arith, e)
 
 -- HLT does not go on.
 halts : {X : Type 0} (byte : ℕ) (r : Regs) (m : Memory) (ready : ℕ → Bool) (r' : Regs) (m' : Memory) → byte ≡ 118 → TriesByte {X = X} false byte r m ready (Ok did.Went) r' m' → ⊥

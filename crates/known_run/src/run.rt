@@ -259,12 +259,12 @@ fn rare<M: Access>(regs: &mut Regs, bus: &mut M, byte: u8) -> Option<Result<Did,
     }
 }
 
-/// Executes at most `steps` instructions, up to the first that the memory refuses, HLT or an undefined byte. Returns the number of
-/// executed instructions.
-///
-/// The loop contains the code of every instruction and calls nothing.
+// Executes at most `steps` instructions that programs use most, up to the first other one or the first that the memory refuses.
+// Returns the number of executed instructions.
+//
+// The match has an arm for each byte, so that its jump table needs no test of the byte.
 #[inline(always)]
-pub fn run_known<M: Access>(regs: &mut Regs, bus: &mut M, steps: u64) -> u64
+fn run_common<M: Access>(regs: &mut Regs, bus: &mut M, steps: u64) -> u64
     requires { M.is_sure ≡ false }
     ensures within { result ≤ steps }
     ensures ran { RunsKnown M.memory M.opcode_limit result regs.old bus.old regs.new bus.new }
@@ -276,11 +276,13 @@ pub fn run_known<M: Access>(regs: &mut Regs, bus: &mut M, steps: u64) -> u64
         let ended = match byte {
             0x00 => nop(regs, bus),
             0x01 => lxi(regs, bus, Pair::Bc),
+            0x02 => return steps - left,
             0x03 => inx(regs, bus, Pair::Bc),
             0x04 => inr(regs, bus, IN_B),
             0x05 => dcr(regs, bus, IN_B),
             0x06 => mvi(regs, bus, IN_B),
             0x07 => rotate(regs, bus, Rotation::Rlc),
+            0x08 => return steps - left,
             0x09 => dad(regs, bus, Pair::Bc),
             0x0a => ldax(regs, bus, Base::InBc),
             0x0b => dcx(regs, bus, Pair::Bc),
@@ -288,6 +290,7 @@ pub fn run_known<M: Access>(regs: &mut Regs, bus: &mut M, steps: u64) -> u64
             0x0d => dcr(regs, bus, IN_C),
             0x0e => mvi(regs, bus, IN_C),
             0x0f => rotate(regs, bus, Rotation::Rrc),
+            0x10 => return steps - left,
             0x11 => lxi(regs, bus, Pair::De),
             0x12 => stax(regs, bus, Base::InDe),
             0x13 => inx(regs, bus, Pair::De),
@@ -295,6 +298,7 @@ pub fn run_known<M: Access>(regs: &mut Regs, bus: &mut M, steps: u64) -> u64
             0x15 => dcr(regs, bus, IN_D),
             0x16 => mvi(regs, bus, IN_D),
             0x17 => rotate(regs, bus, Rotation::Ral),
+            0x18 => return steps - left,
             0x19 => dad(regs, bus, Pair::De),
             0x1a => ldax(regs, bus, Base::InDe),
             0x1b => dcx(regs, bus, Pair::De),
@@ -302,6 +306,7 @@ pub fn run_known<M: Access>(regs: &mut Regs, bus: &mut M, steps: u64) -> u64
             0x1d => dcr(regs, bus, IN_E),
             0x1e => mvi(regs, bus, IN_E),
             0x1f => rotate(regs, bus, Rotation::Rar),
+            0x20 => return steps - left,
             0x21 => lxi(regs, bus, Pair::Hl),
             0x22 => shld(regs, bus),
             0x23 => inx(regs, bus, Pair::Hl),
@@ -309,20 +314,31 @@ pub fn run_known<M: Access>(regs: &mut Regs, bus: &mut M, steps: u64) -> u64
             0x25 => dcr(regs, bus, IN_H),
             0x26 => mvi(regs, bus, IN_H),
             0x27 => daa(regs, bus),
+            0x28 => return steps - left,
             0x29 => dad(regs, bus, Pair::Hl),
             0x2a => lhld(regs, bus),
             0x2b => dcx(regs, bus, Pair::Hl),
             0x2c => inr(regs, bus, IN_L),
             0x2d => dcr(regs, bus, IN_L),
             0x2e => mvi(regs, bus, IN_L),
+            0x2f => return steps - left,
+            0x30 => return steps - left,
+            0x31 => return steps - left,
             0x32 => sta(regs, bus),
+            0x33 => return steps - left,
             0x34 => inr(regs, bus, AT_HL),
             0x35 => dcr(regs, bus, AT_HL),
             0x36 => mvi(regs, bus, AT_HL),
+            0x37 => return steps - left,
+            0x38 => return steps - left,
+            0x39 => return steps - left,
             0x3a => lda(regs, bus),
+            0x3b => return steps - left,
             0x3c => inr(regs, bus, IN_A),
             0x3d => dcr(regs, bus, IN_A),
             0x3e => mvi(regs, bus, IN_A),
+            0x3f => return steps - left,
+            0x40 => return steps - left,
             0x41 => to_b(regs, bus, IN_C),
             0x42 => to_b(regs, bus, IN_D),
             0x43 => to_b(regs, bus, IN_E),
@@ -331,6 +347,7 @@ pub fn run_known<M: Access>(regs: &mut Regs, bus: &mut M, steps: u64) -> u64
             0x46 => to_b(regs, bus, AT_HL),
             0x47 => to_b(regs, bus, IN_A),
             0x48 => to_c(regs, bus, IN_B),
+            0x49 => return steps - left,
             0x4a => to_c(regs, bus, IN_D),
             0x4b => to_c(regs, bus, IN_E),
             0x4c => to_c(regs, bus, IN_H),
@@ -339,6 +356,7 @@ pub fn run_known<M: Access>(regs: &mut Regs, bus: &mut M, steps: u64) -> u64
             0x4f => to_c(regs, bus, IN_A),
             0x50 => to_d(regs, bus, IN_B),
             0x51 => to_d(regs, bus, IN_C),
+            0x52 => return steps - left,
             0x53 => to_d(regs, bus, IN_E),
             0x54 => to_d(regs, bus, IN_H),
             0x55 => to_d(regs, bus, IN_L),
@@ -347,6 +365,7 @@ pub fn run_known<M: Access>(regs: &mut Regs, bus: &mut M, steps: u64) -> u64
             0x58 => to_e(regs, bus, IN_B),
             0x59 => to_e(regs, bus, IN_C),
             0x5a => to_e(regs, bus, IN_D),
+            0x5b => return steps - left,
             0x5c => to_e(regs, bus, IN_H),
             0x5d => to_e(regs, bus, IN_L),
             0x5e => to_e(regs, bus, AT_HL),
@@ -355,6 +374,7 @@ pub fn run_known<M: Access>(regs: &mut Regs, bus: &mut M, steps: u64) -> u64
             0x61 => to_h(regs, bus, IN_C),
             0x62 => to_h(regs, bus, IN_D),
             0x63 => to_h(regs, bus, IN_E),
+            0x64 => return steps - left,
             0x65 => to_h(regs, bus, IN_L),
             0x66 => to_h(regs, bus, AT_HL),
             0x67 => to_h(regs, bus, IN_A),
@@ -363,6 +383,7 @@ pub fn run_known<M: Access>(regs: &mut Regs, bus: &mut M, steps: u64) -> u64
             0x6a => to_l(regs, bus, IN_D),
             0x6b => to_l(regs, bus, IN_E),
             0x6c => to_l(regs, bus, IN_H),
+            0x6d => return steps - left,
             0x6e => to_l(regs, bus, AT_HL),
             0x6f => to_l(regs, bus, IN_A),
             0x70 => mov_to_memory(regs, bus, Register::B),
@@ -371,6 +392,7 @@ pub fn run_known<M: Access>(regs: &mut Regs, bus: &mut M, steps: u64) -> u64
             0x73 => mov_to_memory(regs, bus, Register::E),
             0x74 => mov_to_memory(regs, bus, Register::H),
             0x75 => mov_to_memory(regs, bus, Register::L),
+            0x76 => return steps - left,
             0x77 => mov_to_memory(regs, bus, Register::A),
             0x78 => to_a(regs, bus, IN_B),
             0x79 => to_a(regs, bus, IN_C),
@@ -379,6 +401,7 @@ pub fn run_known<M: Access>(regs: &mut Regs, bus: &mut M, steps: u64) -> u64
             0x7c => to_a(regs, bus, IN_H),
             0x7d => to_a(regs, bus, IN_L),
             0x7e => to_a(regs, bus, AT_HL),
+            0x7f => return steps - left,
             0x80 => add(regs, bus, IN_B),
             0x81 => add(regs, bus, IN_C),
             0x82 => add(regs, bus, IN_D),
@@ -387,11 +410,45 @@ pub fn run_known<M: Access>(regs: &mut Regs, bus: &mut M, steps: u64) -> u64
             0x85 => add(regs, bus, IN_L),
             0x86 => add(regs, bus, AT_HL),
             0x87 => add(regs, bus, IN_A),
+            0x88 => return steps - left,
             0x89 => adc(regs, bus, IN_C),
+            0x8a => return steps - left,
+            0x8b => return steps - left,
+            0x8c => return steps - left,
+            0x8d => return steps - left,
+            0x8e => return steps - left,
+            0x8f => return steps - left,
+            0x90 => return steps - left,
+            0x91 => return steps - left,
+            0x92 => return steps - left,
+            0x93 => return steps - left,
+            0x94 => return steps - left,
+            0x95 => return steps - left,
             0x96 => sub(regs, bus, AT_HL),
             0x97 => sub(regs, bus, IN_A),
+            0x98 => return steps - left,
+            0x99 => return steps - left,
+            0x9a => return steps - left,
+            0x9b => return steps - left,
+            0x9c => return steps - left,
+            0x9d => return steps - left,
+            0x9e => return steps - left,
+            0x9f => return steps - left,
+            0xa0 => return steps - left,
+            0xa1 => return steps - left,
+            0xa2 => return steps - left,
+            0xa3 => return steps - left,
+            0xa4 => return steps - left,
+            0xa5 => return steps - left,
             0xa6 => ana(regs, bus, AT_HL),
             0xa7 => ana(regs, bus, IN_A),
+            0xa8 => return steps - left,
+            0xa9 => return steps - left,
+            0xaa => return steps - left,
+            0xab => return steps - left,
+            0xac => return steps - left,
+            0xad => return steps - left,
+            0xae => return steps - left,
             0xaf => xra(regs, bus, IN_A),
             0xb0 => ora(regs, bus, IN_B),
             0xb1 => ora(regs, bus, IN_C),
@@ -413,37 +470,107 @@ pub fn run_known<M: Access>(regs: &mut Regs, bus: &mut M, steps: u64) -> u64
             0xc1 => pop(regs, bus, Saved::BcPair),
             0xc2 => jump_if(regs, bus, Condition::NotZero),
             0xc3 => jmp(regs, bus),
+            0xc4 => return steps - left,
             0xc5 => push(regs, bus, Saved::BcPair),
             0xc6 => accumulate_immediate(regs, bus, Arithmetic::Add),
+            0xc7 => return steps - left,
             0xc8 => ret_if(regs, bus, Condition::Zero),
             0xc9 => ret(regs, bus),
             0xca => jump_if(regs, bus, Condition::Zero),
+            0xcb => return steps - left,
+            0xcc => return steps - left,
             0xcd => call(regs, bus),
             0xce => accumulate_immediate(regs, bus, Arithmetic::Adc),
+            0xcf => return steps - left,
             0xd0 => ret_if(regs, bus, Condition::NoCarry),
             0xd1 => pop(regs, bus, Saved::DePair),
             0xd2 => jump_if(regs, bus, Condition::NoCarry),
+            0xd3 => return steps - left,
+            0xd4 => return steps - left,
             0xd5 => push(regs, bus, Saved::DePair),
             0xd6 => accumulate_immediate(regs, bus, Arithmetic::Sub),
+            0xd7 => return steps - left,
             0xd8 => ret_if(regs, bus, Condition::Carry),
+            0xd9 => return steps - left,
             0xda => jump_if(regs, bus, Condition::Carry),
+            0xdb => return steps - left,
+            0xdc => return steps - left,
+            0xdd => return steps - left,
+            0xde => return steps - left,
+            0xdf => return steps - left,
+            0xe0 => return steps - left,
             0xe1 => pop(regs, bus, Saved::HlPair),
+            0xe2 => return steps - left,
+            0xe3 => return steps - left,
+            0xe4 => return steps - left,
             0xe5 => push(regs, bus, Saved::HlPair),
             0xe6 => accumulate_immediate(regs, bus, Arithmetic::Ana),
+            0xe7 => return steps - left,
+            0xe8 => return steps - left,
+            0xe9 => return steps - left,
+            0xea => return steps - left,
             0xeb => xchg(regs, bus),
+            0xec => return steps - left,
+            0xed => return steps - left,
             0xee => accumulate_immediate(regs, bus, Arithmetic::Xra),
+            0xef => return steps - left,
+            0xf0 => return steps - left,
             0xf1 => pop(regs, bus, Saved::Psw),
+            0xf2 => return steps - left,
+            0xf3 => return steps - left,
+            0xf4 => return steps - left,
             0xf5 => push(regs, bus, Saved::Psw),
             0xf6 => accumulate_immediate(regs, bus, Arithmetic::Ora),
+            0xf7 => return steps - left,
+            0xf8 => return steps - left,
+            0xf9 => return steps - left,
+            0xfa => return steps - left,
+            0xfb => return steps - left,
+            0xfc => return steps - left,
             0xfe => accumulate_immediate(regs, bus, Arithmetic::Cmp),
             0xff => rst(regs, bus, Restart::Rst7),
-            _ => match rare(regs, bus, byte) {
-                Some(ended) => ended,
-                None => return steps - left,
-            },
+            // 0FDH, the only byte that is left.
+            _ => return steps - left,
         };
         went = has_gone::<M>(ended);
         left -= u64::from(went);
+    }
+    steps - left
+}
+
+// Does the same for at most one instruction, of those that programs use least.
+#[inline(always)]
+fn run_rare<M: Access>(regs: &mut Regs, bus: &mut M, steps: u64) -> u64
+    requires { M.is_sure ≡ false }
+    ensures within { result ≤ steps }
+    ensures ran { RunsKnown M.memory M.opcode_limit result regs.old bus.old regs.new bus.new }
+{
+    if steps == 0 {
+        return 0;
+    }
+    let byte = bus.opcode(regs.pc);
+    match rare(regs, bus, byte) {
+        Some(ended) => u64::from(has_gone::<M>(ended)),
+        None => 0,
+    }
+}
+
+/// Executes at most `steps` instructions, up to the first that the memory refuses, HLT or an undefined byte. Returns the number of
+/// executed instructions.
+///
+/// The loop contains the code of every instruction and calls nothing.
+#[inline(always)]
+pub fn run_known<M: Access>(regs: &mut Regs, bus: &mut M, steps: u64) -> u64
+    requires { M.is_sure ≡ false }
+    ensures within { result ≤ steps }
+    ensures ran { RunsKnown M.memory M.opcode_limit result regs.old bus.old regs.new bus.new }
+{
+    let mut left = steps;
+    let mut count = 1;
+    while count > 0 {
+        left -= run_common(regs, bus, left);
+        count = run_rare(regs, bus, left);
+        left -= count;
     }
     steps - left
 }

@@ -1,12 +1,12 @@
-use Rattle.std.proofs.Common.{◌-◌, ◌+◌, ◌≤◌, cond}
+use Rattle.std.proofs.Common.{◌-◌, ◌+◌, ◌≤◌}
 use Rattle.known_run.specs.KnownRun.{RunsKnown}
 use Rattle.known_run.proofs.run.run_known.Given as goal
 
-abbrev pub invariant-loop-went : goal.invariant-loop-went
-invariant-loop-went g l = record {
+abbrev pub invariant-loop-count : goal.invariant-loop-count
+invariant-loop-count g l = record {
   within : l.left ≤ l.steps;
   ran : RunsKnown g.M.Access.memory g.M.Access.opcode_limit (l.steps - l.left) l.fn.regs l.fn.bus l.regs l.bus;
 }
 
-abbrev pub decreases-loop-went : goal.decreases-loop-went
-decreases-loop-went g l = l.left + cond l.went 1 0
+abbrev pub decreases-loop-count : goal.decreases-loop-count
+decreases-loop-count g l = l.left + l.count
