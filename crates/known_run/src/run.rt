@@ -538,7 +538,7 @@ fn run_common<M: Access>(regs: &mut Regs, bus: &mut M, steps: u64) -> u64
     steps - left
 }
 
-// Does the same for at most one instruction, of those that programs use least.
+// Does the same for at most one of the other instructions.
 #[inline(always)]
 fn run_rare<M: Access>(regs: &mut Regs, bus: &mut M, steps: u64) -> u64
     requires { M.is_sure ≡ false }
