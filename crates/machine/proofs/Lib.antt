@@ -16,7 +16,9 @@ pub mod FirstLemmas
 pub mod AskedLemmas
 pub mod NoteLemmas
 pub mod StretchNotes
+pub mod StepNotes
 pub mod ColdLemmas
+pub mod WholeRuns
 pub use Rattle.i8080.proofs.LookLemmas
 pub use Rattle.interaction_trees.proofs.RunLemmas
 pub use Rattle.interaction_trees.proofs.DependenceLemmas

@@ -6,14 +6,14 @@ use Rattle.machine.proofs.LookLemmas.{is_among-append}
 use Rattle.machine.specs.Memory.{is_among}
 use Rattle.machine.specs.ScriptLooks.{is_within}
 use Rattle.hostfiles.specs.FileLooks.{is_looked}
-use Rattle.machine.specs.StateView.{PartialState, AllLooks}
+use Rattle.machine.specs.StateView.{AllLooks}
 use Rattle.first_looks.specs.declared.question.Question.{Question}
 use Rattle.first_looks.specs.declared.question.Question.TheVariants.{Cell, Script, Host as OfHost}
 use Rattle.first_looks.specs.Questions.{is_in}
-use Rattle.machine.specs.Machine.{Answers, is_looked_at, HasNoLooks, HasNoQuestions, looks_from, KeepsLooks, after, looks_at}
+use Rattle.machine.specs.Machine.{Answers, is_looked_at, HasNoLooks, HasNoQuestions, looks_from, KeepsLooks, AddsLooks, looks}
 use Rattle.first_looks.specs.FirstLooks.{FirstLooksView, step_of, or_else, step_if}
 use Rattle.machine.specs.FirstLooks.{first_look, IsFirstLooks, AllNoted, NotesSeenStep, ForgetsSeenStep}
-use Rattle.machine.proofs.FirstLemmas.{first-suc, looks_here, erased_known}
+use Rattle.machine.proofs.FirstLemmas.{first-suc, erased_known}
 use Rattle.machine.proofs.AskedLemmas.{noted_by}
 
 -- Noting the new looks alone has the same result as noting all.
@@ -44,8 +44,8 @@ pub record Notes (f : Answers) (old new : FirstLooksView) (n : ℕ) (looked : Al
   pub counted : (refused ≤ refuses) × (refuses ≤ refused + 1)
   pub all : refuses ≡ refused → n ≤ old.seen → n + 1 ≤ new.seen
 
-module _ (f : Answers) (old new : FirstLooksView) (n refused refuses : ℕ) (st : PartialState) (looked after_step left : AllLooks) (known : IsFirstLooks f old) (all : n ≤ old.seen → AllNoted old looked) (at : after f n ≡ Some st)
-    (extends : KeepsLooks looked after_step) (asks : (q : Question) → is_looked_at after_step q ≡ (is_looked_at looked q || is_in q (looks_at f st))) (same_cells : left.cells ≡ after_step.cells) where
+module _ (f : Answers) (old new : FirstLooksView) (n refused refuses : ℕ) (looked after_step left : AllLooks) (known : IsFirstLooks f old) (all : n ≤ old.seen → AllNoted old looked)
+    (extends : KeepsLooks looked after_step) (asks : AddsLooks looked (looks f n) after_step) (same_cells : left.cells ≡ after_step.cells) where
   or_both : (a b : Bool) → (a ≡ true → b ≡ true) → b ≡ (a || b)
   or_both true b h = h refl
   or_both false b h = refl
@@ -78,14 +78,14 @@ module _ (f : Answers) (old new : FirstLooksView) (n refused refuses : ℕ) (st 
 
   -- The step was seen before.
   seen_before : n < old.seen → AllNoted old after_step
-  seen_before below q asked none = elim (or_cases (is_looked_at looked q) (is_in q (looks_at f st)) (sym (asks q) ∙ asked)) [
+  seen_before below q asked none = elim (or_cases (is_looked_at looked q) (is_in q (looks f n)) (sym (asks q) ∙ asked)) [
     | inl h ↦ all (omega arith) q h none
     | inr h ↦ asked_here q h none
   ]
     where
-      asked_here : (q : Question) → is_in q (looks_at f st) ≡ true → step_of old q ≡ None → ⊥
+      asked_here : (q : Question) → is_in q (looks f n) ≡ true → step_of old q ≡ None → ⊥
       asked_here q asked none =
-          let (m, there, low) = noted_by f q old.seen n below (ap (is_in q) (looks_here f n st at) ∙ asked) in
+          let (m, there, low) = noted_by f q old.seen n below asked in
           let e : Some m ≡ None = sym there ∙ sym (known.entry q) ∙ none in cc
 
   -- The step is noted now.
@@ -107,9 +107,9 @@ module _ (f : Answers) (old new : FirstLooksView) (n refused refuses : ℕ) (st 
     entry : (q : Question) → step_of new q ≡ first_look f q (suc old.seen)
     entry q =
         entered q
-        ∙ same_mark (step_of old q) (is_looked_at looked q) (is_looked_at (looks_from (length looked.cells) after_step) q) (is_looked_at after_step q) (is_in q (looks_at f st)) old.seen (λ e o. before q e o) (more_looked q) (asks q)
-        ∙ ap (λ o. or_else o (step_if (is_in q (looks_at f st)) old.seen)) (known.entry q)
-        ∙ ap (λ qs. or_else (first_look f q old.seen) (step_if (is_in q qs) old.seen)) (sym (looks_here f old.seen st (ap (after f) (sym here) ∙ at)))
+        ∙ same_mark (step_of old q) (is_looked_at looked q) (is_looked_at (looks_from (length looked.cells) after_step) q) (is_looked_at after_step q) (is_in q (looks f n)) old.seen (λ e o. before q e o) (more_looked q) (asks q)
+        ∙ ap (λ o. or_else o (step_if (is_in q (looks f n)) old.seen)) (known.entry q)
+        ∙ ap (λ (k : ℕ). or_else (first_look f q old.seen) (step_if (is_in q (looks f k)) old.seen)) here
         ∙ sym (first-suc f q old.seen)
 
   -- An allocation for noting the step failed.

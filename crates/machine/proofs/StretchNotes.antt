@@ -1,18 +1,16 @@
 -- The looks of steps of which only the last looks at anything new.
-use Rattle.std.proofs.Common.{◌≡◌, ℕ, zero, suc, ◌+◌, ◌-◌, ◌<◌, ◌≤◌, Bool, true, false, ◌||◌, List, length, Option, Some, None, Ok, ◌⊎◌, inl, inr, refl, ap, sym, ◌∙◌, subst, arith}
+use Rattle.std.proofs.Common.{◌≡◌, ℕ, zero, suc, ◌+◌, ◌-◌, ◌<◌, ◌≤◌, Bool, true, false, List, length, Option, Some, None, Ok, ◌⊎◌, inl, inr, refl, ap, sym, ◌∙◌, subst, arith}
 use Rattle.std.proofs.lemmas.Bool.{cases_lt}
 use Rattle.std.proofs.Math.Nat.{eq-or-lt_of_le}
-use Rattle.machine.specs.Steps as steps
 use Rattle.machine.specs.Inputs.{Session}
 use Rattle.machine.specs.StateView.{PartialState, AllLooks}
 use Rattle.first_looks.specs.declared.question.Question.{Question}
 use Rattle.first_looks.specs.Questions.{is_in}
-use Rattle.machine.specs.Machine.{Answers, session_answers, outcome, after, is_looked_at, looks, looks_at, looks_from, HasNoQuestions}
+use Rattle.machine.specs.Machine.{Answers, session_answers, looks, looks_from, HasNoQuestions}
 use Rattle.machine.specs.Stretch.{LooksAtNothingNew, RunsStretch}
-use Rattle.machine.proofs.RunLemmas.{step_before}
 use Rattle.first_looks.specs.FirstLooks.{FirstLooksView, or_else, step_if, with_seen}
 use Rattle.machine.specs.FirstLooks.{first_look, IsFirstLooks, AllNoted, NotesSeenStep, ForgetsSeenStep}
-use Rattle.machine.proofs.FirstLemmas.{first-suc, looks_here}
+use Rattle.machine.proofs.FirstLemmas.{first-suc}
 use Rattle.machine.proofs.NoteLemmas.{Notes, looks_kept}
 
 kept_by : (o : Option ℕ) (b : Bool) (n : ℕ) → (b ≡ true → o ≡ None → ⊥) → or_else o (step_if b n) ≡ o
@@ -41,10 +39,6 @@ module _ (f : Answers) (t : FirstLooksView) (looked : AllLooks) (known : IsFirst
   pub all_passed : AllNoted (with_seen t upto) looked
   all_passed = all
 
-before_step : (f : Answers) (k : ℕ) (st : PartialState) → after f (suc k) ≡ Some st → (b : PartialState) × (after f k ≡ Some b)
-unfolding steps.after
-before_step f k st at = let (b, there, went) = step_before (outcome f) (after f k) st at in (b, there)
-
 -- The first looks after a stretch from step n to step m.
 pub record NotesStretch (f : Answers) (old new : FirstLooksView) (n m : ℕ) (looked : AllLooks) (refused refuses : ℕ) : Type 0 where
   pub noted : IsFirstLooks f new
@@ -56,19 +50,12 @@ pub record NotesStretch (f : Answers) (old new : FirstLooksView) (n m : ℕ) (lo
 
 module _ (s : Session) (end n m : ℕ) (old new : FirstLooksView) (refused refuses : ℕ) (st : PartialState) (looked after_step left : AllLooks) {beneath : List ℕ × List ℕ} (stretch : RunsStretch s n end looked m (Ok None) (record { state = st; looked = after_step; beneath = beneath })) (more : n < m)
     (known : IsFirstLooks (session_answers s) old) (all : n ≤ old.seen → AllNoted old looked) (seen : n < old.seen → m ≤ old.seen) (same_cells : left.cells ≡ after_step.cells) where
-  -- The state before the last step.
-  before_last_step : (b : PartialState) × (after (session_answers s) (m - 1) ≡ Some b)
-  before_last_step = before_step (session_answers s) (m - 1) st (ap (after (session_answers s)) (let e : suc (m - 1) ≡ m = omega arith in e) ∙ stretch.at)
-
-  asks : (q : Question) → is_looked_at after_step q ≡ (is_looked_at looked q || is_in q (looks_at (session_answers s) before_last_step.0))
-  asks q = stretch.last more q ∙ ap (λ (qs : List Question). is_looked_at looked q || is_in q qs) (looks_here (session_answers s) (m - 1) before_last_step.0 before_last_step.1)
-
   by_last_step : (t : FirstLooksView) → IsFirstLooks (session_answers s) t → (m - 1 ≤ t.seen → AllNoted t looked)
       → ((m - 1 ≡ t.seen → ⊥) → (new ≡ t) × (refuses ≡ refused) × HasNoQuestions left)
       → (m - 1 ≡ t.seen → (NotesSeenStep t new (looks_from (length looked.cells) after_step) × (refuses ≡ refused) × HasNoQuestions left) ⊎ (ForgetsSeenStep t new × (refuses ≡ refused + 1)))
       → Notes (session_answers s) t new (m - 1) left refused refuses
   by_last_step t is_known is_all other here =
-      looks_kept (session_answers s) t new (m - 1) refused refuses before_last_step.0 looked after_step left is_known is_all before_last_step.1 stretch.extends asks same_cells other here
+      looks_kept (session_answers s) t new (m - 1) refused refuses looked after_step left is_known is_all stretch.extends (stretch.last more) same_cells other here
 
   pub stretch_kept : ((n ≡ old.seen → ⊥) → (new ≡ old) × (refuses ≡ refused) × HasNoQuestions left)
       → (n ≡ old.seen → (NotesSeenStep (with_seen old (m - 1)) new (looks_from (length looked.cells) after_step) × (refuses ≡ refused) × HasNoQuestions left) ⊎ (ForgetsSeenStep (with_seen old (m - 1)) new × (refuses ≡ refused + 1)))

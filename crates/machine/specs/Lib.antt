@@ -11,6 +11,8 @@ pub mod FirstLooks
 pub mod SavedState
 pub mod TakesStep
 pub mod Stretch
+pub mod Runs
+pub mod RunCodes
 pub mod PlainFiles
 pub mod ChangedFiles
 pub mod PlainState

@@ -5,17 +5,21 @@
 //! - `system_area`: a step in the system area: the calls, and the stops there
 //! - `stretch`, `laws`: `run_from` executes a stretch of steps, and `step` one step; the law that the plain machine
 //!   makes the same steps
+//! - `run`, `noting`, `whole_run`: a run in progress, as a value; whether it notes its looks; a run that has ended
 //! - `saved_state`, `meter`: a saved state, and the state that is restored from it; the count of executed steps
 #![tactic(auto)]
 
 mod bytes;
 mod laws;
 mod meter;
+mod noting;
+mod run;
 mod saved_state;
 mod session;
 mod state;
 mod stretch;
 mod system_area;
+mod whole_run;
 
 pub use bytes::Bytes;
 pub use command_tail::TAIL_LIMIT;
@@ -25,8 +29,11 @@ pub use hostfiles::{Changes, HostFile, HostFiles, Journal, Name};
 pub use i8080::Regs;
 pub use laws::plain_machine_is_laid;
 pub use meter::Meter;
+pub use noting::Noting;
 pub use pagemem::BlankMarks;
+pub use run::Run;
 pub use saved_state::SavedState;
 pub use session::{PROGRAM_LIMIT, SCRIPT_LIMIT, STEP_LIMIT, Session, SessionError, limits};
 pub use state::State;
 pub use stretch::{run_from, step};
+pub use whole_run::WholeRun;

@@ -3,7 +3,6 @@ pub mod Options
 pub mod Edits
 pub mod EditAnswers
 pub mod Change
-pub mod Codes
 pub mod Ring
 pub mod AllocFailures
 pub mod Touch

@@ -9,7 +9,7 @@ ghost use Rattle.replay.specs.Fits.{kept_length};
 ghost use Rattle.replay.specs.LastState.{state_left_by};
 ghost use Rattle.machine.specs.PlainState.{plain_run};
 ghost use Rattle.machine.specs.PlainLaid.{plain_run_of};
-ghost use Rattle.replay.specs.Codes.{equal_runs-prop};
+ghost use Rattle.machine.specs.RunCodes.{equal_runs-prop};
 
 use hostfiles::{FileView, Record, next_changed};
 use machine::{BlankMarks, Cause, HostFiles, Journal, Name, Regs, SavedState, Session};

@@ -1,0 +1,36 @@
+-- What a run that ended at its limit, or at a stop before it, has done.
+use Rattle.std.proofs.Common.{◌≡◌, Option, Some, None, refl, ap, sym, ◌∙◌, arith, unwrap_or}
+use Rattle.std.proofs.lemmas.Bool.{lt-ltb, le-ltb}
+use Rattle.console_calls.specs.declared.cause.Cause.{Cause}
+use Rattle.console_calls.specs.declared.cause.Cause.TheVariants.{Limit}
+use Rattle.first_looks.specs.FirstLooks.{FirstLooksView}
+use Rattle.machine.specs.declared.noting.Noting.{Noting}
+use Rattle.machine.specs.declared.noting.Noting.TheVariants.{Looks, Nothing}
+use Rattle.machine.specs.Inputs.{Session}
+use Rattle.machine.specs.StateView.{PartialState, AllLooks}
+use Rattle.machine.specs.Machine.{session_answers, after, cold_run}
+use Rattle.machine.specs.Runs.{AreNoted, EndsBy, NotesWholeRun, RunView, asked_by, asking_steps, seen_by}
+use Rattle.machine.proofs.ColdLemmas.{cold_limit, cold_stop}
+
+module _ (s : Session) (r : RunView) (same : r.session ≡ s) where
+  -- It is the cold run.
+  pub is_cold : (st : PartialState) → after (session_answers r.session) r.step ≡ Some st → (stop : Option Cause) (cause : Cause) → EndsBy r s.limit stop → cause ≡ unwrap_or stop Limit
+      → cold_run s ≡ record { state = st; steps = r.step; cause = cause }
+  is_cold st at None cause ends is =
+      rw is (cold_limit s r.step st (ap (λ (x : Session). after (session_answers x) r.step) (sym same) ∙ at) ends)
+  is_cold st at (Some stop) cause (below, there, at_stop, stops) is =
+      let here : there ≡ st = let both : Some there ≡ Some st = sym at_stop ∙ at in cc in
+      rw is (cold_stop s r.step st stop (ap (λ (x : Session). after (session_answers x) r.step) (sym same) ∙ at) below
+      (rw (here, same) at stops))
+
+  asks : (stop : Option Cause) → EndsBy r s.limit stop → asked_by r.step stop ≡ asking_steps r.step s.limit
+  asks None ends = rw (le-ltb r.step s.limit (omega (arith, ends))) refl
+  asks (Some cause) ends = rw (lt-ltb r.step s.limit ends.0) refl
+
+  -- All of its looks are noted.
+  pub noted_whole : (t : FirstLooksView) (looked : AllLooks) (noting : Noting) (stop : Option Cause) → AreNoted noting (session_answers r.session) r.step t looked
+      → seen_by noting t.seen ≡ Some (asked_by r.step stop) → EndsBy r s.limit stop → NotesWholeRun s t r.step
+  noted_whole t looked Nothing stop noted is ends = absurd (cc)
+  noted_whole t looked Looks stop noted is ends =
+      let seen : t.seen ≡ asked_by r.step stop = cc in
+      (rw same at noted.0, seen ∙ asks stop ends)

@@ -1,0 +1,64 @@
+-- A run in progress, and a whole run. (This project's own.)
+use Rattle.std.specs.Prelude.{◌≡◌, ℕ, ◌+◌, ◌<◌, ◌≤◌, nat_lt, if◌then◌else◌, Option, Some, None}
+use Rattle.interaction_trees.specs.Outcome.{Stop}
+use Rattle.console_calls.specs.declared.cause.Cause.{Cause}
+use Rattle.first_looks.specs.FirstLooks.{FirstLooksView}
+use Rattle.machine.specs.declared.noting.Noting.{Noting}
+use Rattle.machine.specs.declared.noting.Noting.TheVariants.{Looks, Nothing}
+use Rattle.machine.specs.declared.session.TheConstants.{STEP_LIMIT}
+use Rattle.machine.specs.Bound.{IsBound}
+use Rattle.machine.specs.Inputs.{Session}
+use Rattle.machine.specs.StateView.{PartialState, AllLooks, StateView}
+use Rattle.machine.specs.Machine.{Answers, session_answers, after, outcome}
+use Rattle.machine.specs.FirstLooks.{AllNoted, IsFirstLooks}
+
+-- A run of a session: its number of steps, and the step below which its looks are noted, or `None` if they are not.
+pub record RunView : Type 0 where
+  pub session : Session
+  pub step : ℕ
+  pub seen : Option ℕ
+
+-- The step below which looks are noted, if they are.
+abbrev pub seen_by : Noting → ℕ → Option ℕ
+seen_by Nothing seen = None
+seen_by Looks seen = Some seen
+
+-- If looks are noted, the table has those of the steps below `seen`, and if that is the step of the run, those of its state.
+abbrev pub AreNoted : Noting → Answers → ℕ → FirstLooksView → AllLooks → Type 0
+AreNoted Nothing f step t looked = Unit {0}
+AreNoted Looks f step t looked = IsFirstLooks f t × (t.seen ≡ step → AllNoted t looked)
+
+-- The parts of a run belong together. The state is that after so many steps.
+pub record IsRun (s : Session) (st : StateView) (t : FirstLooksView) (step : ℕ) (noting : Noting) : Type 0 where
+  pub at : after (session_answers s) step ≡ Some st.state
+  pub within : step ≤ STEP_LIMIT
+  pub bound : IsBound s st
+  pub noted : AreNoted noting (session_answers s) step t st.looked
+
+-- A run went on, at most to this step.
+pub record GoesOn (old new : RunView) (end : ℕ) : Type 0 where
+  pub session : new.session ≡ old.session
+  pub low : old.step ≤ new.step
+  pub high : new.step ≤ end
+
+-- A stop comes after this many steps, which are fewer than `end`.
+abbrev pub StopsBelow : Answers → ℕ → ℕ → Cause → Type 0
+StopsBelow f end n cause = (n < end) × (st : PartialState) × (after f n ≡ Some st) × (outcome f st ≡ Stop cause)
+
+-- A run ended at this step, or at a stop before it.
+abbrev pub EndsBy : RunView → ℕ → Option Cause → Type 0
+EndsBy r end None = r.step ≡ end
+EndsBy r end (Some cause) = StopsBelow (session_answers r.session) end r.step cause
+
+-- How many steps asked when a run came to this step. A stop asks as the step after the last one.
+abbrev pub asked_by : ℕ → Option Cause → ℕ
+asked_by step None = step
+asked_by step (Some cause) = step + 1
+
+-- How many steps ask: those of a run, and a stop below the limit, which asks as the step after the last one.
+abbrev pub asking_steps : ℕ → ℕ → ℕ
+asking_steps steps limit = if nat_lt steps limit then steps + 1 else steps
+
+-- The table has the first looks of a whole run.
+abbrev pub NotesWholeRun : Session → FirstLooksView → ℕ → Type 0
+NotesWholeRun s t steps = IsFirstLooks (session_answers s) t × (t.seen ≡ asking_steps steps s.limit)

@@ -1,0 +1,205 @@
+ghost use Rattle.std.specs.Prelude.{◌≡◌, ◌+◌, ◌-◌, ◌^◌, ◌<◌, ◌≤◌, true, false, Some, IfNone, IfOk, IfSome, IsNone, OnOk, length};
+ghost use Rattle.first_looks.specs.FirstLooks.{with_seen};
+ghost use Rattle.machine.specs.FirstLooks.{NotesSeenStep};
+ghost use Rattle.machine.specs.Machine.{HasNoQuestions, looks_from, cold_run, session_answers};
+ghost use Rattle.machine.specs.Runs.{GoesOn, EndsBy, NotesWholeRun, StopsBelow, asked_by, seen_by};
+ghost use Rattle.machine.specs.declared.noting.Noting.TheVariants as noting;
+
+use crate::meter::Meter;
+use crate::noting::Noting;
+use crate::session::{STEP_LIMIT, Session};
+use crate::state::State;
+use crate::stretch::run_from;
+use crate::whole_run::WholeRun;
+use console_calls::Cause;
+use first_looks::FirstLooks;
+use std::alloc::{AllocError, Global};
+use std::marker::Model;
+
+/// A run of a session in progress: its state after `step` steps, and the first looks if it notes them.
+#[derive(Drop)]
+pub struct Run<'s> {
+    session: &'s Session,
+    state: State,
+    looks: FirstLooks,
+    step: u64,
+    noting: Noting,
+}
+
+impl<'s> Model for Run<'s> {
+    ghost use Rattle.std.specs.Coded.{codes};
+    ghost use Rattle.machine.specs.StateView.{files_code};
+    ghost use Rattle.machine.specs.Runs.{RunView, IsRun, seen_by};
+
+    ghost Value = { RunView };
+
+    ghost coded = { Prim.hlevel (codes, files_code) };
+
+    ghost view = { λ r. record {
+      session = r.session.now;
+      step = r.step;
+      seen = seen_by r.noting r.looks.seen;
+    } };
+
+    ghost invariant = { λ r. IsRun r.session.now r.state r.looks r.step r.noting };
+}
+
+impl<'s> Run<'s> {
+    /// Starts a run from the loaded state.
+    ///
+    /// # Errors
+    ///
+    /// `Err` means out of memory.
+    pub fn start(alloc: Global, session: &'s Session, noting: Noting) -> Result<Run<'s>, AllocError>
+        ensures { IfOk result (λ r. r
+            ≡ record { session = session.now; step = 0; seen = seen_by noting 0 }) }
+    {
+        let state = State::load(alloc, session)?;
+        Ok(Run {
+            session,
+            state,
+            looks: FirstLooks::new(alloc),
+            step: 0,
+            noting,
+        })
+    }
+
+    /// Returns the number of steps.
+    pub fn step(&self) -> u64
+        ensures { result ≡ self.now.step }
+    {
+        self.step
+    }
+
+    /// Runs up to step `end`, or to a stop, whose cause it returns. If looks are noted, they are those of all steps, and of the stop.
+    ///
+    /// # Errors
+    ///
+    /// `Err` means out of memory. The run is then at the step that it reached, and notes nothing any more.
+    pub fn advance(&mut self, end: u64, meter: &mut Meter) -> Result<Option<Cause>, AllocError>
+        requires order { (self.old.step ≤ end) × (end ≤ STEP_LIMIT) }
+        requires room { meter.old + (end - self.old.step) < 2 ^ 64 }
+        ensures goes { GoesOn self.old self.new end }
+        ensures ticks { meter.new + self.old.step ≡ meter.old + self.new.step }
+        ensures ends { IfOk result (λ stop. EndsBy self.new end stop) }
+        ensures noted { self.old.seen ≡ Some self.old.step
+            → IfOk result (λ stop. self.new.seen ≡ Some (asked_by self.new.step stop)) }
+    {
+        while self.step() < end {
+            if let Some(cause) = self.advance_once(end, meter)? {
+                return Ok(Some(cause));
+            }
+        }
+        Ok(None)
+    }
+
+    // Runs up to step `end`, to a step that looks at something new, or to a stop, and notes the looks.
+    fn advance_once(&mut self, end: u64, meter: &mut Meter) -> Result<Option<Cause>, AllocError>
+        requires order { (self.old.step < end) × (end ≤ STEP_LIMIT) }
+        requires room { meter.old + (end - self.old.step) < 2 ^ 64 }
+        ensures goes { GoesOn self.old self.new end }
+        ensures ticks { meter.new + self.old.step ≡ meter.old + self.new.step }
+        ensures moves { IfOk result (λ stop. IfNone stop (self.old.step < self.new.step)) }
+        ensures stops { IfOk result (λ stop. IfSome stop
+            (StopsBelow (session_answers self.new.session) end self.new.step)) }
+        ensures noted { self.old.seen ≡ Some self.old.step
+            → IfOk result (λ stop. self.new.seen ≡ Some (asked_by self.new.step stop)) }
+    {
+        let from = self.step;
+        let notes = is_noting_at(self.noting, self.looks.seen(), from);
+        let cells = self.state.look_count();
+        let before = meter.count();
+        self.noting = Noting::Nothing;
+        let ran = run_from(&mut self.state, self.session, meter, from, end);
+        self.step = from + (meter.count() - before);
+        let (reached, stop) = ran?;
+        if !notes {
+            self.state.forget_questions();
+            return Ok(stop);
+        }
+        let asking = last_asking(reached, stop);
+        note_looks_of(&mut self.looks, asking, &mut self.state, cells)?;
+        self.noting = Noting::Looks;
+        Ok(stop)
+    }
+
+    /// Runs to a stop or to the session's limit, and consumes the run.
+    ///
+    /// # Errors
+    ///
+    /// `Err` means out of memory.
+    pub fn finish(mut self, meter: &mut Meter) -> Result<WholeRun<'s>, AllocError>
+        requires within { self.step ≤ self.session.limit }
+        requires room { meter.old ≤ 2 ^ 63 }
+        ensures session { IfOk result (λ w. w.session.now ≡ self.entry.session) }
+        ensures cold { IfOk result (λ w. cold_run self.entry.session
+            ≡ record { state = w.state.state; steps = w.steps; cause = w.cause }) }
+        ensures looks { self.entry.seen ≡ Some self.entry.step
+            → IfOk result (λ w. NotesWholeRun self.entry.session w.looks w.steps) }
+        ensures ticks { IfOk result (λ w. meter.new + self.entry.step ≡ meter.old + w.steps) }
+        ensures metered { (meter.old ≤ meter.new)
+            × (meter.new + self.entry.step ≤ meter.old + self.entry.session.limit) }
+    {
+        let limit = self.session.limit();
+        let stop = self.advance(limit, meter)?;
+        let Run {
+            session,
+            state,
+            looks,
+            step,
+            ..
+        } = self;
+        Ok(WholeRun {
+            session,
+            state,
+            looks,
+            steps: step,
+            cause: stop.unwrap_or(Cause::Limit),
+        })
+    }
+}
+
+// Returns whether the looks of this step are to be noted next.
+fn is_noting_at(noting: Noting, seen: u64, step: u64) -> bool
+    ensures yes { result ≡ true → seen_by noting seen ≡ Some step }
+    ensures no { result ≡ false → seen_by noting seen ≡ Some step → ⊥ }
+{
+    match noting {
+        Noting::Nothing => false,
+        Noting::Looks => seen == step,
+    }
+}
+
+// Returns the last step that asked when a run reached this step: that before it, or a stop.
+fn last_asking(reached: u64, stop: Option<Cause>) -> u64
+    requires { IsNone stop → 0 < reached }
+    ensures { result + 1 ≡ asked_by reached stop }
+{
+    match stop {
+        Some(_) => reached,
+        None => reached - 1,
+    }
+}
+
+// Notes the new looks of a state, with the cells from index `from` on, as looks of this step. The earlier steps that were not seen
+// looked at nothing new.
+fn note_looks_of(
+    looks: &mut FirstLooks,
+    step: u64,
+    running: &mut State,
+    from: usize,
+) -> Result<(), AllocError>
+    requires order { (looks.old.seen ≤ step) × (step ≤ STEP_LIMIT) }
+    requires few { from ≤ length running.old.looked.cells }
+    ensures noted { OnOk result
+        (NotesSeenStep (with_seen looks.old step) looks.new (looks_from from running.old.looked)) }
+    ensures drained { OnOk result (HasNoQuestions running.new.looked) }
+    ensures state { running.new.state ≡ running.old.state }
+    ensures cells { running.new.looked.cells ≡ running.old.looked.cells }
+    ensures beneath { running.new.beneath ≡ running.old.beneath }
+{
+    looks.advance_to(step);
+    running.note_looks(from, looks)?;
+    looks.next_step();
+    Ok(())
+}
