@@ -16,7 +16,6 @@ ALLOWED = {
     'hostfiles::HostFiles::record_with': 'a record of a file after a run',
     'hostfiles::HostFiles::next_with': 'the names after a run',
     'machine::Session::tail': "part of the library's surface, as the other parts of a session are",
-    'machine::step': 'one step',
     'replay::Runner::kept': 'the steps of the checkpoints',
     'replay::Runner::alloc_failures': 'how often memory for a checkpoint was refused',
 }
@@ -34,11 +33,12 @@ AMBIGUOUS = {
     'hostfiles::Changes::looked': 'whether the host files were asked something',
     'hostfiles::Changes::snapshot': 'a copy of what a run did to files',
     'machine::State::load': 'the loaded state of a session',
+    'machine::step': 'one step',
     'pagemem::Overlay::looked': 'whether a cell was looked at',
     'pagemem::Overlay::snapshot': 'a copy of an overlay',
     'replay::Runner::session': 'the session as it is now',
 }
-"""The same, for methods whose names other types have too: a call of that name may be of another method. The calls of a program ask by
+"""The same, for names that methods of other types have too: a call of that name may be of another method. The calls of a program ask by
 `cpmfiles::asking` and change the journal under the table, a run is loaded over marks that are used again, a checkpoint shares the cells and
 copies the journal, and a program loads the session of its words."""
 

@@ -79,6 +79,7 @@ CALL = item('console_calls|bdos', 'console_call|calls?')
 STEPS = rf'\brun_from\b|{item("machine", "step")}'
 COMMAND = 'crates/cpmrun/src/command_line.rt'
 LOOP = 'crates/replay/src/run.rt'
+RUN = 'crates/machine/src/run.rt'
 DEPENDENCIES = 'crates/dependencies/src/dependencies.rt'
 
 
@@ -154,9 +155,7 @@ hostfiles::number
 loading::read_fault
 loading::tail_of
 one_run::report_stop
-one_run::run_and_report
 one_run::run_once
-first_looks::note
 replay::number
 requests::fixed_message
 requests::message
@@ -203,10 +202,10 @@ class SourcesTest(RuleTest):
         self.refuse(line for line in code_lines() if line.path.startswith('crates/machine/') and exports.match(line.text))
 
     def test_only_the_loop_of_a_run_and_the_tests_execute_steps(self) -> None:
-        self.refuse(in_code(STEPS, LOOP, DEPENDENCIES, 'crates/machine/'))
+        self.refuse(in_code(STEPS, LOOP, 'crates/machine/'))
 
     def test_the_loop_of_a_run_executes_steps_in_one_place(self) -> None:
-        for loop in (LOOP, DEPENDENCIES):
+        for loop in (LOOP, RUN):
             self.expect_count(2, STEPS, loop)
             self.expect_count(1, r'\brun_from\(', loop)
 

@@ -1,6 +1,5 @@
 -- What a whole run asked decides it.
 use Rattle.std.proofs.Common.{◌≡◌, ℕ, ◌+◌, ◌<◌, ◌⊎◌, Some, inl, inr, refl, ap, sym, subst, ◌∙◌, arith}
-use Rattle.std.proofs.lemmas.Bool.{lt-ltb, le-ltb}
 use Rattle.machine.specs.Tree.{AgreeOn}
 use Rattle.machine.proofs.DependenceLemmas as lemmas
 use Rattle.machine.specs.Inputs.{Session}
@@ -13,39 +12,28 @@ use Rattle.machine.specs.Session.{IsSession}
 use Rattle.machine.specs.Step.{next}
 use Rattle.machine.specs.Machine.{Answers, session_answers, session_tree, outcome_with, start, outcome, after, looks, looks_at, cold_run}
 use Rattle.machine.specs.PlainLaid.{plain_run_of}
-use Rattle.machine.specs.FirstLooks.{first_look, IsFirstLooks}
+use Rattle.machine.specs.FirstLooks.{first_look, asking_steps}
+use Rattle.machine.specs.Runs.{NotesWholeRun}
 use Rattle.machine.proofs.FirstLemmas.{same_after, same_first, looks_here}
 use Rattle.machine.proofs.AskedLemmas.{agree_each, noted_by}
 use Rattle.machine.proofs.ColdLemmas.{cold_ends, cold_stop, cold_limit}
 use Rattle.machine.proofs.WholeLemmas.{plain_machine_is_laid}
+use Rattle.machine.proofs.WholeRuns.{stop_asks, limit_asks}
 use Rattle.first_looks.specs.declared.question.Question.{Question}
 use Rattle.first_looks.specs.FirstLooks.{FirstLooksView}
-use Rattle.dependencies.specs.Dependencies.{asking_steps, first_asked, AreDependencies, AnswersAlike, HasSameRun, DependenciesDecide}
+use Rattle.dependencies.specs.Dependencies.{first_asked, AreDependencies, AnswersAlike, HasSameRun, DependenciesDecide}
 
 -- ---- the dependencies of a run that ended
 
-stop_asks : (n limit : ℕ) → n < limit → asking_steps n limit ≡ n + 1
-stop_asks n limit below = rw (lt-ltb n limit below) refl
-
-limit_asks : (n limit : ℕ) → n ≡ limit → asking_steps n limit ≡ n
-limit_asks n limit same = rw (le-ltb n limit (omega (arith, same))) refl
-
-module _ (s : Session) (t : FirstLooksView) (steps : ℕ) (cause : Cause) (st : PartialState) (known : IsFirstLooks (session_answers s) t) (at : after (session_answers s) steps ≡ Some st) where
-  ended : cold_run s ≡ record { state = st; steps = steps; cause = cause } → asking_steps steps s.limit ≡ t.seen → AreDependencies s t steps cause
-  ended is seen = record {
-    looks = λ q. known.entry q ∙ ap (first_look (session_answers s) q) (sym seen ∙ ap (λ (r : RunResult PartialState Cause). asking_steps r.steps s.limit) (sym is));
-    steps_are = ap (λ (r : RunResult PartialState Cause). r.steps) (sym is);
-    cause_is = ap (λ (r : RunResult PartialState Cause). r.cause) (sym is);
-  }
-
-  -- Those of a run that stopped.
-  pub stopped_with : t.seen ≡ steps + 1 → steps < s.limit → outcome (session_answers s) st ≡ Stop cause → AreDependencies s t steps cause
-  stopped_with seen below stop = ended (cold_stop s steps st cause at below stop) (stop_asks steps s.limit below ∙ sym seen)
-
-  -- Those of a run to its limit.
-  pub limited_with : t.seen ≡ steps → steps ≡ s.limit → cause ≡ Limit → AreDependencies s t steps cause
-  limited_with seen same limited =
-      ended (cold_limit s steps st at same ∙ ap (λ (c : Cause). record { state = st; steps = steps; cause = c }) (sym limited)) (limit_asks steps s.limit same ∙ sym seen)
+-- The dependencies of a whole run that noted its looks.
+pub are_dependencies : (s : Session) (t : FirstLooksView) (st : PartialState) (steps : ℕ) (cause : Cause) → cold_run s ≡ record { state = st; steps = steps; cause = cause } → NotesWholeRun s t steps → AreDependencies s t steps cause
+are_dependencies s t st steps cause is (known, seen) =
+    let same : steps ≡ (cold_run s).steps = ap (λ (r : RunResult PartialState Cause). r.steps) (sym is) in
+    record {
+      looks = λ q. known.entry q ∙ ap (first_look (session_answers s) q) (seen ∙ ap (λ (n : ℕ). asking_steps n s.limit) same);
+      steps_are = same;
+      cause_is = ap (λ (r : RunResult PartialState Cause). r.cause) (sym is);
+    }
 
 -- ---- the law
 

@@ -1,3 +1,2 @@
-pub mod StepNotes
 pub mod DecideLemmas
 pub mod RangeLemmas

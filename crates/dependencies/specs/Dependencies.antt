@@ -3,21 +3,16 @@
 -- A run depends on what it asks its session: the byte of a cell of the loaded memory, the byte at an offset of the script or that
 -- there is none, and facts about the host files. A session that gives the same answers to all that another one was asked has the
 -- same run, in whatever else the two differ: in program, tail, script and host files.
-use Rattle.std.specs.Prelude.{◌≡◌, ℕ, ◌+◌, Option, Some, nat_lt, if◌then◌else◌}
+use Rattle.std.specs.Prelude.{◌≡◌, ℕ, Option, Some}
 use Rattle.first_looks.specs.declared.question.Question.{Question}
 use Rattle.first_looks.specs.FirstLooks.{FirstLooksView, step_of}
 use Rattle.machine.specs.Cause.{Cause}
 use Rattle.machine.specs.Inputs.{Session}
-use Rattle.machine.specs.StateView.{AllLooks}
 use Rattle.machine.specs.Session.{IsSession}
 use Rattle.machine.specs.Machine.{session_answers, cold_run}
-use Rattle.machine.specs.FirstLooks.{first_look, IsFirstLooks, AllNoted}
+use Rattle.machine.specs.FirstLooks.{first_look, asking_steps}
 use Rattle.machine.specs.PlainState.{plain_run}
 use Rattle.machine.specs.PlainLaid.{plain_run_of}
-
--- How many steps ask: those of a run, and a stop below the limit, which asks as the step after the last one.
-abbrev pub asking_steps : ℕ → ℕ → ℕ
-asking_steps steps limit = if nat_lt steps limit then steps + 1 else steps
 
 -- The first step of a whole run that asks a question.
 abbrev pub first_asked : Session → Question → Option ℕ
@@ -29,12 +24,6 @@ pub record AreDependencies (s : Session) (t : FirstLooksView) (steps : ℕ) (cau
   pub looks : (q : Question) → step_of t q ≡ first_asked s q
   pub steps_are : steps ≡ (cold_run s).steps
   pub cause_is : cause ≡ (cold_run s).cause
-
--- The table has the first looks of all steps below step n, and the questions that were looked at have entries.
-pub record AreNotedBelow (s : Session) (t : FirstLooksView) (n : ℕ) (looked : AllLooks) : Type 0 where
-  pub first : IsFirstLooks (session_answers s) t
-  pub seen : t.seen ≡ n
-  pub all : AllNoted t looked
 
 -- The second session gives the same answer to each question that the run of the first asks.
 abbrev pub AnswersAlike : Session → Session → Type 0

@@ -8,13 +8,12 @@ use Rattle.first_looks.specs.FileSteps.{step_of_ask}
 pub use Rattle.first_looks.specs.Noting.{or_else, step_if, step_below}
 
 -- A table of first looks: a step for each cell and each script offset that was looked at, and for each question that the host
--- files were asked; the step below which all looks are noted; and whether the table is shut, so that no further look is noted.
+-- files were asked; and the step below which all looks are noted.
 pub record FirstLooksView : Type 0 where
   pub cells : List (Option ℕ)
   pub offsets : List (Option ℕ)
   pub files : FileSteps
   pub seen : ℕ
-  pub is_shut : Bool
 
 abbrev pub step_of : FirstLooksView → Question → Option ℕ
 step_of t (Cell a) = step_in t.cells a

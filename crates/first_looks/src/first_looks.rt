@@ -1,4 +1,4 @@
-ghost use Rattle.std.specs.Prelude.{◌≡◌, ◌+◌, ◌^◌, ◌<◌, ◌≤◌, ◌⊎◌, [], None, OnOk, OnErr, IsErr, length, true, false};
+ghost use Rattle.std.specs.Prelude.{◌≡◌, ◌+◌, ◌^◌, ◌<◌, ◌≤◌, [], None, OnOk, OnErr, length, true};
 ghost use Rattle.hostfiles.specs.declared.looks.Ask.{Ask as HostAsk};
 ghost use Rattle.first_looks.specs.FileSteps.{step_of_ask};
 ghost use Rattle.first_looks.specs.FirstLooks.{ErasesLooks, NotesLooks, SameLooks, step_of, with_seen};
@@ -19,7 +19,6 @@ pub struct FirstLooks {
     offsets: SequentialSteps,
     files: FileSteps,
     seen: u64,
-    is_shut: bool,
 }
 
 impl Model for FirstLooks {
@@ -37,7 +36,6 @@ impl Model for FirstLooks {
       offsets = t.offsets.entries;
       files = t.files;
       seen = t.seen;
-      is_shut = t.is_shut;
     } };
 
     ghost invariant = { λ t. (t.cells.latest ≤ t.seen) × (t.offsets.latest ≤ t.seen)
@@ -50,7 +48,6 @@ impl FirstLooks {
         ensures cells { result.cells ≡ [] }
         ensures offsets { result.offsets ≡ [] }
         ensures seen { result.seen ≡ 0 }
-        ensures is_shut { result.is_shut ≡ false }
         ensures files { (a : HostAsk) → step_of_ask result.files a ≡ None }
     {
         FirstLooks {
@@ -58,15 +55,7 @@ impl FirstLooks {
             offsets: SequentialSteps::new(alloc),
             files: FileSteps::new(alloc),
             seen: 0,
-            is_shut: false,
         }
-    }
-
-    /// Stops noting: from now on each note fails as if out of memory. Steps noted earlier are kept.
-    pub fn stop_noting(&mut self)
-        ensures { self.new ≡ record self.old { is_shut = true } }
-    {
-        self.is_shut = true;
     }
 
     /// Returns the step below which every look is noted.
@@ -129,20 +118,14 @@ impl FirstLooks {
     ///
     /// # Errors
     ///
-    /// `Err` means out of memory, or that noting was stopped; every question keeps its step. A question that has a step is an
-    /// `Err` only if noting was stopped.
+    /// `Err` means out of memory; every question keeps its step. A question that has a step is never an `Err`.
     pub fn note(&mut self, question: &Question) -> Result<(), AllocError>
         requires { self.old.seen < 4294967295 }
         ensures ok { OnOk result (NotesLooks self.old self.new (λ q. same_question q question.now)) }
         ensures err { OnErr result (SameLooks self.old self.new) }
-        ensures shut { self.old.is_shut ≡ true → IsErr result }
-        ensures refused { OnErr result ((self.old.is_shut ≡ true) ⊎ (step_of self.old question.now ≡ None)) }
+        ensures refused { OnErr result (step_of self.old question.now ≡ None) }
         ensures seen { self.new.seen ≡ self.old.seen }
-        ensures is_shut { self.new.is_shut ≡ self.old.is_shut }
     {
-        if self.is_shut {
-            return Err(AllocError);
-        }
         let step = self.seen;
         match question {
             Question::Cell(at) => self.cells.note(usize::from(*at), step),
@@ -173,7 +156,6 @@ impl FirstLooks {
         requires { from ≤ self.old.seen }
         ensures steps { ErasesLooks from self.old self.new }
         ensures seen { self.new.seen ≡ from }
-        ensures is_shut { self.new.is_shut ≡ self.old.is_shut }
     {
         self.cells.erase_from(from);
         self.offsets.erase_from(from);

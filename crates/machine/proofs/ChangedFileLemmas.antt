@@ -5,7 +5,7 @@ use Rattle.std.specs.List.{list_any}
 use Rattle.std.specs.Option.{option_map}
 use Rattle.std.specs.Ordering.{nat_cmp, eq_by_cmp}
 use Rattle.std.specs.Cmp.Lexicographic.{slice_cmp, nat_list_cmp_total}
-use Rattle.std.specs.FinMap.{FinMap, get, keys, entries, entries_sorted, get-entries, get-from_entries, get-retain_keys, contains_key-keys}
+use Rattle.std.specs.FinMap.{FinMap, get, contains_key, keys, entries, entries_sorted, get-entries, get-from_entries, get-retain_keys, contains_key-keys}
 use Rattle.std.specs.FinMap.Entries.{find, same_entries}
 use Rattle.hostfiles.proofs.Views.{same_key}
 use Rattle.hostfiles.specs.Names.{is_sayable}
@@ -23,6 +23,12 @@ use Rattle.machine.specs.ChangedFiles.{contents_in, is_changed_in, is_changed_na
 use Rattle.machine.proofs.WholeFiles.{sorted-mapped}
 
 -- ---- one file
+
+pub there_laid : (host : Host) (own : OwnFiles) (key : Key) → contains_key (files.files host own) key ≡ files.has host own key
+there_laid host own key = ap is_some (get-files host own key) ∙ by (files.has host own key) where
+  by : (b : Bool) → is_some (cond b (Some (files.file_of host key (files.entry_at own key))) None) ≡ b
+  by true = refl
+  by false = refl
 
 pub told_laid : (host : Host) (own : OwnFiles) (key : Key) → contents_in (files.files host own) key ≡ file_contents host own key
 told_laid host own key = ap (option_map contents_of) (get-files host own key)

@@ -13,10 +13,10 @@ use Rattle.machine.specs.Runs.{AreNoted, StopsBelow, asked_by, seen_by}
 use Rattle.machine.proofs.NoteLemmas.{Notes, looks_kept}
 use Rattle.machine.proofs.StretchNotes.{passed}
 
--- Whether or not looks are noted, all of them are.
-pub noted_all : (f : Answers) (t : FirstLooksView) (looked : AllLooks) (step : ℕ) (noting : Noting) → IsFirstLooks f t → AllNoted t looked → AreNoted noting f step t looked
-noted_all f t looked step Nothing known all = tt
-noted_all f t looked step Looks known all = (known, λ _. all)
+-- Only what a run notes has to be shown.
+pub noted_if : (f : Answers) (t : FirstLooksView) (looked : AllLooks) (step : ℕ) (noting : Noting) → (noting ≡ Looks → AreNoted Looks f step t looked) → AreNoted noting f step t looked
+noted_if f t looked step Nothing noted = tt
+noted_if f t looked step Looks noted = noted refl
 
 -- What is noted if the step of a run is the next to be noted.
 pub record NotedTo (f : Answers) (t : FirstLooksView) (looked : AllLooks) (step : ℕ) : Type 0 where

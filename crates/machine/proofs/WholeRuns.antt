@@ -1,5 +1,5 @@
 -- What a run that ended at its limit, or at a stop before it, has done.
-use Rattle.std.proofs.Common.{◌≡◌, Option, Some, None, refl, ap, sym, ◌∙◌, arith, unwrap_or}
+use Rattle.std.proofs.Common.{◌≡◌, ℕ, ◌+◌, ◌<◌, Option, Some, None, refl, ap, sym, ◌∙◌, arith, unwrap_or}
 use Rattle.std.proofs.lemmas.Bool.{lt-ltb, le-ltb}
 use Rattle.console_calls.specs.declared.cause.Cause.{Cause}
 use Rattle.console_calls.specs.declared.cause.Cause.TheVariants.{Limit}
@@ -9,8 +9,15 @@ use Rattle.machine.specs.declared.noting.Noting.TheVariants.{Looks, Nothing}
 use Rattle.machine.specs.Inputs.{Session}
 use Rattle.machine.specs.StateView.{PartialState, AllLooks}
 use Rattle.machine.specs.Machine.{session_answers, after, cold_run}
-use Rattle.machine.specs.Runs.{AreNoted, EndsBy, NotesWholeRun, RunView, asked_by, asking_steps, seen_by}
+use Rattle.machine.specs.FirstLooks.{asking_steps}
+use Rattle.machine.specs.Runs.{AreNoted, EndsBy, NotesWholeRun, RunView, asked_by, seen_by}
 use Rattle.machine.proofs.ColdLemmas.{cold_limit, cold_stop}
+
+pub stop_asks : (n limit : ℕ) → n < limit → asking_steps n limit ≡ n + 1
+stop_asks n limit below = rw (lt-ltb n limit below) refl
+
+pub limit_asks : (n limit : ℕ) → n ≡ limit → asking_steps n limit ≡ n
+limit_asks n limit same = rw (le-ltb n limit (omega (arith, same))) refl
 
 module _ (s : Session) (r : RunView) (same : r.session ≡ s) where
   -- It is the cold run.
@@ -24,8 +31,8 @@ module _ (s : Session) (r : RunView) (same : r.session ≡ s) where
       (rw (here, same) at stops))
 
   asks : (stop : Option Cause) → EndsBy r s.limit stop → asked_by r.step stop ≡ asking_steps r.step s.limit
-  asks None ends = rw (le-ltb r.step s.limit (omega (arith, ends))) refl
-  asks (Some cause) ends = rw (lt-ltb r.step s.limit ends.0) refl
+  asks None ends = sym (limit_asks r.step s.limit ends)
+  asks (Some cause) ends = sym (stop_asks r.step s.limit ends.0)
 
   -- All of its looks are noted.
   pub noted_whole : (t : FirstLooksView) (looked : AllLooks) (noting : Noting) (stop : Option Cause) → AreNoted noting (session_answers r.session) r.step t looked

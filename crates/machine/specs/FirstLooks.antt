@@ -1,5 +1,5 @@
 -- The first looks of a session. (This project's own.)
-use Rattle.std.specs.Prelude.{◌≡◌, ℕ, zero, suc, ◌+◌, ◌≤◌, Option, None, true}
+use Rattle.std.specs.Prelude.{◌≡◌, ℕ, zero, suc, ◌+◌, ◌≤◌, nat_lt, if◌then◌else◌, Option, None, true}
 use Rattle.first_looks.specs.declared.question.Question.{Question}
 use Rattle.first_looks.specs.Questions.{is_in}
 use Rattle.first_looks.specs.FirstLooks.{FirstLooksView, NotesLooks, ErasesLooks, step_of, or_else, step_if}
@@ -11,6 +11,10 @@ use Rattle.machine.specs.Machine.{Answers, looks, is_looked_at}
 unfoldable pub first_look : Answers → Question → ℕ → Option ℕ
 first_look f q zero = None
 first_look f q (suc n) = or_else (first_look f q n) (step_if (is_in q (looks f n)) n)
+
+-- How many steps ask: those of a run, and a stop below the limit, which asks as the step after the last one.
+abbrev pub asking_steps : ℕ → ℕ → ℕ
+asking_steps steps limit = if nat_lt steps limit then steps + 1 else steps
 
 -- The table has the first looks of all steps below `seen`, and nothing else.
 pub record IsFirstLooks (f : Answers) (t : FirstLooksView) : Type 0 where

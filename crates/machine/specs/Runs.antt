@@ -1,5 +1,5 @@
 -- A run in progress, and a whole run. (This project's own.)
-use Rattle.std.specs.Prelude.{◌≡◌, ℕ, ◌+◌, ◌<◌, ◌≤◌, nat_lt, if◌then◌else◌, Option, Some, None}
+use Rattle.std.specs.Prelude.{◌≡◌, ℕ, ◌+◌, ◌<◌, ◌≤◌, Option, Some, None}
 use Rattle.interaction_trees.specs.Outcome.{Stop}
 use Rattle.console_calls.specs.declared.cause.Cause.{Cause}
 use Rattle.first_looks.specs.FirstLooks.{FirstLooksView}
@@ -10,7 +10,7 @@ use Rattle.machine.specs.Bound.{IsBound}
 use Rattle.machine.specs.Inputs.{Session}
 use Rattle.machine.specs.StateView.{PartialState, AllLooks, StateView}
 use Rattle.machine.specs.Machine.{Answers, session_answers, after, outcome}
-use Rattle.machine.specs.FirstLooks.{AllNoted, IsFirstLooks}
+use Rattle.machine.specs.FirstLooks.{AllNoted, IsFirstLooks, asking_steps}
 
 -- A run of a session: its number of steps, and the step below which its looks are noted, or `None` if they are not.
 pub record RunView : Type 0 where
@@ -54,10 +54,6 @@ EndsBy r end (Some cause) = StopsBelow (session_answers r.session) end r.step ca
 abbrev pub asked_by : ℕ → Option Cause → ℕ
 asked_by step None = step
 asked_by step (Some cause) = step + 1
-
--- How many steps ask: those of a run, and a stop below the limit, which asks as the step after the last one.
-abbrev pub asking_steps : ℕ → ℕ → ℕ
-asking_steps steps limit = if nat_lt steps limit then steps + 1 else steps
 
 -- The table has the first looks of a whole run.
 abbrev pub NotesWholeRun : Session → FirstLooksView → ℕ → Type 0

@@ -1,9 +1,9 @@
-ghost use Rattle.std.specs.Prelude.{◌≡◌, ◌+◌, ◌-◌, ◌^◌, ◌<◌, ◌≤◌, true, false, Some, IfNone, IfOk, IfSome, IsNone, OnOk, length};
+ghost use Rattle.std.specs.Prelude.{◌≡◌, ◌+◌, ◌-◌, ◌^◌, ◌<◌, ◌≤◌, Some, IfNone, IfOk, IfSome, IsNone, OnOk, length};
 ghost use Rattle.first_looks.specs.FirstLooks.{with_seen};
 ghost use Rattle.machine.specs.FirstLooks.{NotesSeenStep};
 ghost use Rattle.machine.specs.Machine.{HasNoQuestions, looks_from, cold_run, session_answers};
 ghost use Rattle.machine.specs.Runs.{GoesOn, EndsBy, NotesWholeRun, StopsBelow, asked_by, seen_by};
-ghost use Rattle.machine.specs.declared.noting.Noting.TheVariants as noting;
+ghost use Rattle.machine.specs.declared.noting.Noting.TheVariants.{Looks};
 
 use crate::meter::Meter;
 use crate::noting::Noting;
@@ -106,20 +106,16 @@ impl<'s> Run<'s> {
             → IfOk result (λ stop. self.new.seen ≡ Some (asked_by self.new.step stop)) }
     {
         let from = self.step;
-        let notes = is_noting_at(self.noting, self.looks.seen(), from);
+        let noting = noting_at(self.noting, self.looks.seen(), from);
         let cells = self.state.look_count();
         let before = meter.count();
         self.noting = Noting::Nothing;
         let ran = run_from(&mut self.state, self.session, meter, from, end);
         self.step = from + (meter.count() - before);
         let (reached, stop) = ran?;
-        if !notes {
-            self.state.forget_questions();
-            return Ok(stop);
-        }
         let asking = last_asking(reached, stop);
-        note_looks_of(&mut self.looks, asking, &mut self.state, cells)?;
-        self.noting = Noting::Looks;
+        note_or_forget(noting, &mut self.looks, asking, &mut self.state, cells)?;
+        self.noting = noting;
         Ok(stop)
     }
 
@@ -159,14 +155,14 @@ impl<'s> Run<'s> {
     }
 }
 
-// Returns whether the looks of this step are to be noted next.
-fn is_noting_at(noting: Noting, seen: u64, step: u64) -> bool
-    ensures yes { result ≡ true → seen_by noting seen ≡ Some step }
-    ensures no { result ≡ false → seen_by noting seen ≡ Some step → ⊥ }
+// Returns what a run notes from this step on: its looks, if it notes looks and this step is the next one.
+fn noting_at(noting: Noting, seen: u64, step: u64) -> Noting
+    ensures next { result ≡ Looks → seen_by noting seen ≡ Some step }
+    ensures looks { seen_by noting seen ≡ Some step → result ≡ Looks }
 {
     match noting {
-        Noting::Nothing => false,
-        Noting::Looks => seen == step,
+        Noting::Looks if seen == step => Noting::Looks,
+        _ => Noting::Nothing,
     }
 }
 
@@ -181,25 +177,31 @@ fn last_asking(reached: u64, stop: Option<Cause>) -> u64
     }
 }
 
-// Notes the new looks of a state, with the cells from index `from` on, as looks of this step. The earlier steps that were not seen
-// looked at nothing new.
-fn note_looks_of(
+// Notes the new looks of a state, with the cells from index `from` on, as looks of this step, or forgets them. The earlier steps that
+// were not seen looked at nothing new.
+fn note_or_forget(
+    noting: Noting,
     looks: &mut FirstLooks,
     step: u64,
-    running: &mut State,
+    state: &mut State,
     from: usize,
 ) -> Result<(), AllocError>
-    requires order { (looks.old.seen ≤ step) × (step ≤ STEP_LIMIT) }
-    requires few { from ≤ length running.old.looked.cells }
-    ensures noted { OnOk result
-        (NotesSeenStep (with_seen looks.old step) looks.new (looks_from from running.old.looked)) }
-    ensures drained { OnOk result (HasNoQuestions running.new.looked) }
-    ensures state { running.new.state ≡ running.old.state }
-    ensures cells { running.new.looked.cells ≡ running.old.looked.cells }
-    ensures beneath { running.new.beneath ≡ running.old.beneath }
+    requires order { noting ≡ Looks → (looks.old.seen ≤ step) × (step ≤ STEP_LIMIT) }
+    requires few { from ≤ length state.old.looked.cells }
+    ensures noted { noting ≡ Looks → OnOk result
+        (NotesSeenStep (with_seen looks.old step) looks.new (looks_from from state.old.looked)) }
+    ensures drained { OnOk result (HasNoQuestions state.new.looked) }
+    ensures state { state.new.state ≡ state.old.state }
+    ensures cells { state.new.looked.cells ≡ state.old.looked.cells }
+    ensures beneath { state.new.beneath ≡ state.old.beneath }
 {
-    looks.advance_to(step);
-    running.note_looks(from, looks)?;
-    looks.next_step();
+    match noting {
+        Noting::Nothing => state.forget_questions(),
+        Noting::Looks => {
+            looks.advance_to(step);
+            state.note_looks(from, looks)?;
+            looks.next_step();
+        }
+    }
     Ok(())
 }

@@ -4,7 +4,7 @@ ghost use Rattle.std.specs.Prelude.{◌≡◌, ◌^◌, ◌<◌, ◌≤◌, ◌+
 ghost use Rattle.folders.specs.Failures.{ReportsPaths};
 ghost use Rattle.folders.specs.Faults.{failure_paths};
 ghost use Rattle.hostfiles.specs.Files.{files};
-ghost use Rattle.replay.specs.Report.{run_of, session_of};
+ghost use Rattle.machine.specs.PlainState.{plain_run};
 ghost use Rattle.report_lines.specs.ChangedLines.{gone_lines};
 ghost use Rattle.report_lines.specs.Streams.{WritesOrFails, WritesText};
 ghost use Rattle.one_run.specs.Faults.{run_paths};
@@ -14,8 +14,7 @@ ghost use Rattle.one_run.specs.World.{world};
 use crate::fault::RunFault;
 use folders::{Failure, FileSystem, write_to_drive};
 use hostfiles::{HostFiles, Journal, Name, next_changed};
-use machine::{Cause, Meter, Session};
-use replay::{Report, Runner};
+use machine::{Cause, Meter, Noting, Run, Session, WholeRun};
 use report_lines::{Failed, FileFilter, Writer, cause_text, write_all, write_changed_files};
 use std::alloc::{AllocError, Global};
 
@@ -95,19 +94,19 @@ fn write_stop_lines<E: Writer>(err: &mut E, line: &[u8], host: &HostFiles, journ
 
 /// Reports on standard error why the run stopped, and which of the changed files are gone. A failure of the writer is ignored. If
 /// an allocation fails, nothing is written.
-fn report_stop<E: Writer>(alloc: Global, report: &Report<'_>, err: &mut E) -> Result<(), RunFault>
+fn report_stop<E: Writer>(alloc: Global, run: &WholeRun<'_>, err: &mut E) -> Result<(), RunFault>
     requires { (E.output err.old).failures < 2 ^ 63 }
     ensures told { OnOk result
         (WritesOrFails (E.output err.old) (E.output err.new)
-        (stop_line (run_of report.now).cause
-        ++ gone_lines (session_of report.now).files (run_of report.now).state.files)) }
+        (stop_line (plain_run run.now.session.now).cause
+        ++ gone_lines run.now.session.now.files (plain_run run.now.session.now).state.files)) }
     ensures memory { IfErr result (λ f. f ≡ RunFault.OutOfMemory) }
     ensures untold { OnErr result (err.new ≡ err.old) }
 {
-    let Ok(stop) = stop_line(alloc, report.cause()) else {
+    let Ok(stop) = stop_line(alloc, run.cause()) else {
         return Err(RunFault::OutOfMemory);
     };
-    write_stop_lines(err, stop.as_bytes(), report.files(), report.journal());
+    write_stop_lines(err, stop.as_bytes(), run.session.files(), run.journal());
     Ok(())
 }
 
@@ -115,54 +114,40 @@ fn report_stop<E: Writer>(alloc: Global, report: &Report<'_>, err: &mut E) -> Re
 fn report_run<S: FileSystem, O: Writer, E: Writer>(
     system: &mut S,
     folders: &[Option<&str>; 4],
-    report: &Report<'_>,
+    run: &WholeRun<'_>,
     out: &mut O,
     err: &mut E,
 ) -> Result<u8, RunFault>
     requires out { (O.output out.old).failures < 2 ^ 63 }
     requires err { (E.output err.old).failures < 2 ^ 63 }
-    ensures done { IfOk result (λ status. RunsOnce folders.now (session_of report.now) status
+    ensures done { IfOk result (λ status. RunsOnce folders.now run.now.session.now status
         (world (S.files system.old) (O.output out.old) (E.output err.old))
         (world (S.files system.new) (O.output out.new) (E.output err.new))) }
-    ensures fault { IfErr result (BreaksRun folders.now (session_of report.now)
+    ensures fault { IfErr result (BreaksRun folders.now run.now.session.now
         (world (S.files system.old) (O.output out.old) (E.output err.old))
         (world (S.files system.new) (O.output out.new) (E.output err.new))) }
     ensures untold { OnErr result (err.new ≡ err.old) }
     ensures failed { ReportsPaths run_paths result (S.files system.old) (S.files system.new) }
 {
-    let Ok(()) = write_all(out, report.text()) else {
+    let Ok(()) = write_all(out, run.text()) else {
         return Err(RunFault::CannotWrite);
     };
-    write_changed(system, folders, report.files(), report.journal())?;
-    report_stop(system.alloc(), report, err)?;
-    Ok(stop_status(report.cause()))
+    write_changed(system, folders, run.session.files(), run.journal())?;
+    report_stop(system.alloc(), run, err)?;
+    Ok(stop_status(run.cause()))
 }
 
-/// Runs the session of a runner and reports the run.
-fn run_and_report<S: FileSystem, O: Writer, E: Writer>(
-    system: &mut S,
-    folders: &[Option<&str>; 4],
-    runner: &mut Runner,
+/// Runs a session to its end, without its looks.
+fn run_to_end<'s>(
+    alloc: Global,
+    session: &'s Session,
     meter: &mut Meter,
-    out: &mut O,
-    err: &mut E,
-) -> Result<u8, RunFault>
-    requires meter { meter.old ≤ 2 ^ 63 }
-    requires out { (O.output out.old).failures < 2 ^ 63 }
-    requires err { (E.output err.old).failures < 2 ^ 63 }
-    ensures done { IfOk result (λ status. RunsOnce folders.now runner.old.session status
-        (world (S.files system.old) (O.output out.old) (E.output err.old))
-        (world (S.files system.new) (O.output out.new) (E.output err.new))) }
-    ensures fault { IfErr result (BreaksRun folders.now runner.old.session
-        (world (S.files system.old) (O.output out.old) (E.output err.old))
-        (world (S.files system.new) (O.output out.new) (E.output err.new))) }
-    ensures untold { OnErr result (err.new ≡ err.old) }
-    ensures failed { ReportsPaths run_paths result (S.files system.old) (S.files system.new) }
+) -> Result<WholeRun<'s>, AllocError>
+    requires { meter.old ≤ 2 ^ 63 }
+    ensures { IfOk result (λ run. run.session.now ≡ session.now) }
 {
-    let Ok(report) = runner.rerun(meter) else {
-        return Err(RunFault::OutOfMemory);
-    };
-    report_run(system, folders, &report, out, err)
+    let run = Run::start(alloc, session, Noting::Nothing)?;
+    run.finish(meter)
 }
 
 /// Runs a session once. First its console text is written to `out`. Then each changed file that is there when the run stops is
@@ -192,8 +177,8 @@ pub fn run_once<S: FileSystem, O: Writer, E: Writer>(
     ensures untold { OnErr result (err.new ≡ err.old) }
     ensures failed { ReportsPaths run_paths result (S.files system.old) (S.files system.new) }
 {
-    let Ok(mut runner) = Runner::for_one_run(system.alloc(), session) else {
+    let Ok(run) = run_to_end(system.alloc(), &session, meter) else {
         return Err(RunFault::OutOfMemory);
     };
-    run_and_report(system, folders, &mut runner, meter, out, err)
+    report_run(system, folders, &run, out, err)
 }

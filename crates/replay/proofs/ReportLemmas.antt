@@ -1,21 +1,17 @@
 -- What a report returns, by the run that it reports.
-use Rattle.std.proofs.Common.{◌≡◌, Bool, true, false, cond, is_some, Option, Some, None, refl, sym, ap, ◌∙◌}
+use Rattle.std.proofs.Common.{◌≡◌, Option, Some, None, sym, ap, ◌∙◌}
 use Rattle.std.specs.FinMap.{contains_key}
 use Rattle.hostfiles.specs.Order.{IsLeastAbove}
 use Rattle.hostfiles.specs.Hosts.{Key, Host}
-use Rattle.hostfiles.specs.Files.{OwnFiles, entry_at, file_of, files, has, file_contents}
+use Rattle.hostfiles.specs.Files.{OwnFiles, files, has, file_contents}
 use Rattle.hostfiles.specs.Changed.{is_changed_name}
-use Rattle.hostfiles.proofs.FileLemmas.{get-files}
 use Rattle.machine.specs.ChangedFiles.{contents_in, is_changed_name_in}
 use Rattle.machine.specs.PlainFiles.{Files}
-use Rattle.machine.proofs.ChangedFileLemmas.{told_laid, changed_name_laid}
+use Rattle.machine.proofs.ChangedFileLemmas.{there_laid, told_laid, changed_name_laid}
 
 module _ (host : Host) (own : OwnFiles) (all : Files) (is : files host own ≡ all) where
   pub there_is : (key : Key) → has host own key ≡ contains_key all key
-  there_is key = sym (ap (λ (m : Files). contains_key m key) (sym is) ∙ ap is_some (get-files host own key) ∙ by (has host own key)) where
-    by : (b : Bool) → is_some (cond b (Some (file_of host key (entry_at own key))) None) ≡ b
-    by true = refl
-    by false = refl
+  there_is key = sym (ap (λ (m : Files). contains_key m key) (sym is) ∙ there_laid host own key)
 
   pub told_is : (key : Key) → file_contents host own key ≡ contents_in all key
   told_is key = sym (told_laid host own key) ∙ ap (λ (m : Files). contents_in m key) is

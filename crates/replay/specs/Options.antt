@@ -21,7 +21,3 @@ abbrev pub RefusedBy : Options → OptionsError → Type 0
 RefusedBy o Spacing = refusal_of o ≡ Some 1
 RefusedBy o Slots = refusal_of o ≡ Some 2
 RefusedBy o OutOfMemory = refusal_of o ≡ None
-
--- The options of a runner for one run: no slots, so no checkpoint is ever kept, and the greatest spacing.
-abbrev pub once : Options
-once = record { spacing = 1000000000; slots = 0 }

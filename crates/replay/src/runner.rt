@@ -66,7 +66,7 @@ impl Model for Runner {
 
 impl Runner {
     ghost use Rattle.replay.specs.Lending.{EndsAs};
-    ghost use Rattle.replay.specs.Options.{RefusedBy, once, refusal_of};
+    ghost use Rattle.replay.specs.Options.{RefusedBy, refusal_of};
     ghost use Rattle.replay.specs.Report.{run_of, session_of};
 
     /// Returns a runner for the session, with no checkpoint.
@@ -97,18 +97,6 @@ impl Runner {
         requires { refusal_of options ≡ None }
         ensures { IfOk result (λ r. r ≡ with_no_checkpoint session options) }
     {
-        Runner::with_spacing_in_range(alloc, session, options)
-    }
-
-    // Returns a runner for options with any number of slots, including 0. `Err` means out of memory.
-    fn with_spacing_in_range(
-        alloc: Global,
-        session: Session,
-        options: Options,
-    ) -> Result<Runner, AllocError>
-        requires { (0 < options.spacing) × (options.spacing ≤ 1000000000) }
-        ensures { IfOk result (λ r. r ≡ with_no_checkpoint session options) }
-    {
         let ring = HeapCircularBuffer::with_capacity(alloc, options.slots)?;
         Ok(Runner {
             last_run: LastRun {
@@ -126,21 +114,6 @@ impl Runner {
                 },
             },
         })
-    }
-
-    /// Returns a runner for a session that is run once. It has no slots, so it never has a checkpoint. Its runs note no looks, which
-    /// takes less time and memory; `alloc_failures` counts one failed allocation for a run that executes a step. `Err` means out of
-    /// memory.
-    pub fn for_one_run(alloc: Global, session: Session) -> Result<Runner, AllocError>
-        ensures { IfOk result (λ r. r ≡ with_no_checkpoint session once) }
-    {
-        let options = Options {
-            spacing: 1_000_000_000,
-            slots: 0,
-        };
-        let mut runner = Runner::with_spacing_in_range(alloc, session, options)?;
-        runner.checkpoints.notes.looks.stop_noting();
-        Ok(runner)
     }
 
     /// Returns the current session.

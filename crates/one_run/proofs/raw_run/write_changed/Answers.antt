@@ -8,9 +8,8 @@ use Rattle.hostfiles.specs.Files.{OwnFiles, files, has}
 use Rattle.hostfiles.specs.Hosts.{Key, Host}
 use Rattle.hostfiles.proofs.ChangedWalk.{changed_next, changed_none}
 use Rattle.hostfiles.specs.FileView.{view_own}
-use Rattle.machine.proofs.ChangedFileLemmas.{told_laid}
+use Rattle.machine.proofs.ChangedFileLemmas.{there_laid, told_laid}
 use Rattle.report_lines.proofs.WrittenPieces.{fewer_keys, same_contents}
-use Rattle.replay.proofs.ReportLemmas.{there_is}
 use Rattle.one_run.specs.RawRun.{drive_folder}
 use Rattle.one_run.proofs.Walking.{WritesOn, begins, one_written, one_gone, ends, stops}
 use Rattle.one_run.proofs.raw_run.write_changed.Goals as goal
@@ -18,7 +17,7 @@ use Rattle.one_run.proofs.raw_run.write_changed.Goals.{then-is_there+in_ok-write
 
 -- The changed file that the walk found is the file with its name.
 there_at : {host host' : Host} {own own' : OwnFiles} {key key' : Key} {b : Bool} → host ≡ host' → own ≡ own' → key ≡ key' → b ≡ has host own key → contains_key (files host' own') key' ≡ b
-there_at {host' = host'} {own' = own'} {key' = key'} h o k e = sym (there_is host' own' (files host' own') refl key') ∙ (let same : has host' own' key' ≡ _ = cc in same)
+there_at {host' = host'} {own' = own'} {key' = key'} h o k e = there_laid host' own' key' ∙ (let same : has host' own' key' ≡ _ = cc in same)
 
 pub loop-changed-init : goal.loop-changed-init
 loop-changed-init g c = (refl, begins c.args.folders.now c.args.host.now c.args.journal.now.entries (g.S.FileSystem.files c.args.system.now).bytes)

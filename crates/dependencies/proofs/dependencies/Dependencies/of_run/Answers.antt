@@ -1,13 +1,9 @@
-use Rattle.machine.specs.Machine.{session_answers}
-use Rattle.machine.proofs.FirstLemmas.{nothing_noted}
-use Rattle.machine.proofs.NoteLemmas.{none_looked}
+use Rattle.std.proofs.Common.{refl}
+use Rattle.dependencies.proofs.DecideLemmas.{are_dependencies}
 use Rattle.dependencies.proofs.dependencies.Dependencies.of_run.Goals as goal
 
-pub note_run-requires-clause-noted : goal.note_run-requires-clause-noted
-note_run-requires-clause-noted c =
-    let e = c.new-looks.ensures in
-    record {
-      first = nothing_noted (session_answers c.args.session.now) c.new-looks.result (record { cells = e.cells; offsets = e.offsets; files = e.files; seen = e.seen });
-      seen = e.seen;
-      all = none_looked c.new-looks.result c.in_ok-running.running.looked c.in_ok-running.ensures.looked;
-    }
+pub returns : goal.returns
+returns c =
+    let e = c.in_ok-whole.ensures in
+    let w = c.in_ok-whole.whole in
+    rw c.in_ok-run.ensures at (are_dependencies c.in_ok-run.run'.session w.looks w.state.state w.steps w.cause e.cold (e.looks (rw c.in_ok-run.ensures refl)))
