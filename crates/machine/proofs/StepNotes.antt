@@ -56,6 +56,6 @@ module _ (s : Session) (from end n : ℕ) (old new : StateView) where
       (subst (λ (k : ℕ). LooksAtNothingNew (session_answers s) old.looked from k) is w.before_stop)
       (subst (λ (k : ℕ). AddsLooks old.looked (looks (session_answers s) k) new.looked) is w.at_stop) w.extends notes drained same n
 
-  pub stops : (stop : Option Cause) → RunsStretch s from end old.looked n (Ok stop) new → (m : ℕ) → n ≡ m → IfSome stop (StopsBelow (session_answers s) end m)
-  stops None w m here = tt
-  stops (Some cause) w m here = rw (← here) (w.stopped.0, new.state, w.at, w.stopped.1)
+  pub stops : (stop : Option Cause) → RunsStretch s from end old.looked n (Ok stop) new → IfSome stop (StopsBelow (session_answers s) end n)
+  stops None w = tt
+  stops (Some cause) w = (w.stopped.0, new.state, w.at, w.stopped.1)

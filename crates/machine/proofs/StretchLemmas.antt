@@ -3,7 +3,6 @@ use Rattle.std.proofs.Common.{inl, inr, ◌≡◌, ℕ, ◌<◌, ◌≤◌, ◌+
 use Rattle.std.proofs.lemmas.Bool.Decides.{eqb_tells}
 use Rattle.std.proofs.lemmas.List.{take_all}
 use Rattle.std.specs.declared.alloc.AllocError.{AllocError}
-use Rattle.std.specs.Result.{IsErr}
 use Rattle.interaction_trees.specs.Dependence as dependence
 use Rattle.i8080.specs.declared.registers.Regs.{Regs}
 use Rattle.console_calls.specs.declared.cause.Cause.{Cause}
@@ -25,7 +24,7 @@ use Rattle.first_looks.specs.Questions.{is_in}
 use Rattle.machine.specs.Machine.{Answers, session_answers, session_tree, outcome_with, start, after, outcome, looks, looks_at, is_looked_at, AddsLooks, KeepsLooks}
 use Rattle.machine.specs.WrittenCells.{DeskAndFiles, state_with}
 use Rattle.machine.specs.TakesStep.{memory_over_image, looks_in, TakesStep}
-use Rattle.machine.specs.Stretch.{LooksAtNothingNew, RunsStretch, ended_of}
+use Rattle.machine.specs.Stretch.{LooksAtNothingNew, RunsStretch}
 use Rattle.interaction_trees.proofs.RunLemmas.{after_step}
 
 -- The looks at the state that was reached.
@@ -111,10 +110,6 @@ module _ (s : Session) (from end n : ℕ) (old new : StateView) (looked : AllLoo
   }
 
 -- ---- a run from a step
-
-pub fails_too : (answer : Result (ℕ × Option Cause) AllocError) (e : AllocError) → IsErr answer → Err e ≡ ended_of answer
-fails_too (Ok x) e h = absurd (cc)
-fails_too (Err e') e h = refl
 
 -- If no cell was added, the looks are the same.
 pub same_cells : (old new : List ℕ) → memory.Extends old new → length new ≡ length old → new ≡ old

@@ -1,5 +1,5 @@
 -- Steps one after another, of which only the last looks at anything new. (This project's own.)
-use Rattle.std.specs.Prelude.{◌≡◌, ℕ, ◌+◌, ◌<◌, ◌≤◌, ◌-◌, true, [], Option, Some, Ok, Err, IfOk, IfNone, IfSome, OnErr}
+use Rattle.std.specs.Prelude.{◌≡◌, ℕ, ◌+◌, ◌<◌, ◌≤◌, ◌-◌, true, [], Option, Some, IfOk, IfNone, IfSome, OnErr}
 use Rattle.std.specs.declared.result.Result.{Result}
 use Rattle.std.specs.declared.alloc.AllocError.{AllocError}
 use Rattle.interaction_trees.specs.Outcome.{Stop}
@@ -39,13 +39,3 @@ pub record RunsQuietly (n : ℕ) (old new : StateView) : Type 0 where
   pub quiet : (s : Session) → IsBound s old → (from : ℕ) → after (session_answers s) from ≡ Some old.state → LooksAtNothingNew (session_answers s) old.looked from (from + n)
   pub looked : new.looked ≡ old.looked
   pub beneath : image_beneath new ≡ image_beneath old
-
--- How a run ended, without the step that it reached.
-abbrev pub ended_of : Result (ℕ × Option Cause) AllocError → Result (Option Cause) AllocError
-ended_of (Ok r) = Ok r.1
-ended_of (Err e) = Err e
-
--- A run from step `from` reached a state, and the meter counted each step.
-abbrev pub RunsTo : Session → ℕ → ℕ → StateView × ℕ → Result (ℕ × Option Cause) AllocError → StateView × ℕ → Type 0
-RunsTo s from end old result new =
-    (n : ℕ) × RunsStretch s from end old.0.looked n (ended_of result) new.0 × (new.1 + from ≡ old.1 + n) × IfOk result (λ r. r.0 ≡ n)

@@ -108,11 +108,10 @@ impl<'s> Run<'s> {
         let from = self.step;
         let noting = noting_at(self.noting, self.looks.seen(), from);
         let cells = self.state.look_count();
-        let before = meter.count();
         self.noting = Noting::Nothing;
-        let ran = run_from(&mut self.state, self.session, meter, from, end);
-        self.step = from + (meter.count() - before);
-        let (reached, stop) = ran?;
+        let (reached, ended) = run_from(&mut self.state, self.session, meter, from, end);
+        self.step = reached;
+        let stop = ended?;
         let asking = last_asking(reached, stop);
         note_or_forget(noting, &mut self.looks, asking, &mut self.state, cells)?;
         self.noting = noting;

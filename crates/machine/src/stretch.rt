@@ -9,7 +9,7 @@ ghost use Rattle.machine.specs.Machine.{session_answers, after, IsReached};
 ghost use Rattle.machine.specs.Session.{image_of};
 ghost use Rattle.machine.specs.Stops.{stop_of_instruction};
 ghost use Rattle.machine.specs.TakesStep.{memory_over_image, TakesStep};
-ghost use Rattle.machine.specs.Stretch.{RunsQuietly, RunsTo};
+ghost use Rattle.machine.specs.Stretch.{RunsQuietly, RunsStretch};
 
 use crate::meter::Meter;
 use crate::session::Session;
@@ -101,7 +101,7 @@ fn take_step(
 }
 
 /// Executes steps from step `from` on: up to step `end`, to a step that looks at something new, or to a stop. Returns the
-/// step that was reached, and the cause of a stop. Without a stop, at least one step is executed.
+/// step that was reached, also at `Err`, and the cause of a stop. Without a stop, at least one step is executed.
 ///
 /// A stop leaves the state that was reached, with the earlier looks and the looks of the step that stops.
 ///
@@ -116,13 +116,14 @@ pub fn run_from(
     meter: &mut Meter,
     from: u64,
     end: u64,
-) -> Result<(u64, Option<Cause>), AllocError>
+) -> (u64, Result<Option<Cause>, AllocError>)
     requires order { from < end }
     requires at { after (session_answers session.now) from ≡ Some running.old.state }
     requires room { meter.old + (end - from) < 2 ^ 64 }
     requires bound { IsBound session.now running.old }
-    ensures runs { RunsTo session.now from end (running.old, meter.old) result (running.new, meter.new) }
-    ensures progress { IfOk result (λ r. IfNone r.1 (from < r.0)) }
+    ensures runs { RunsStretch session.now from end running.old.looked result.0 result.1 running.new }
+    ensures ticks { meter.new + from ≡ meter.old + result.0 }
+    ensures progress { IfOk result.1 (λ stop. IfNone stop (from < result.0)) }
     ensures bound { IsBound session.now running.new }
 {
     let cells = running.look_count();
@@ -133,18 +134,20 @@ pub fn run_from(
         meter.tick_by(count);
         n += count;
         if n == end {
-            return Ok((n, None));
+            return (n, Ok(None));
         }
-        if let Some(cause) = take_step(running, session, true)? {
-            return Ok((n, Some(cause)));
+        match take_step(running, session, true) {
+            Ok(None) => {}
+            Ok(Some(cause)) => return (n, Ok(Some(cause))),
+            Err(error) => return (n, Err(error)),
         }
         meter.tick();
         n += 1;
         if !running.looks_at_no_more(cells, offsets) {
-            return Ok((n, None));
+            return (n, Ok(None));
         }
     }
-    Ok((n, None))
+    (n, Ok(None))
 }
 
 /// Executes one step, or returns the cause of a stop. A stop leaves the state unchanged, and adds the looks of

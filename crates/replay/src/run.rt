@@ -91,7 +91,8 @@ fn advance(
     while n < end {
         let noted = running.look_count();
         let bound = bound_of(n, notes.looks.seen(), end);
-        let (reached, stop) = run_from(running, session, meter, n, bound)?;
+        let (reached, ended) = run_from(running, session, meter, n, bound);
+        let stop = ended?;
         if let Some(cause) = stop {
             pass_seen(&mut notes.looks, n, reached);
             return Ok((reached, Some(cause)));

@@ -1,10 +1,10 @@
-use Rattle.std.proofs.Common.{arith, refl, inl, inr, ap, sym, ◌∙◌, ◌≡◌, Some, None, Ok, subst, ◌<◌, ◌≤◌, ℕ, Option}
+use Rattle.std.proofs.Common.{arith, refl, inl, inr, ap, sym, ◌∙◌, ◌≡◌, Some, subst, ◌<◌, ◌≤◌, ℕ}
 use Rattle.std.proofs.Math.Nat.{eq-or-lt_of_le}
 use Rattle.std.proofs.lemmas.Bool.Decides.{eqb_tells}
-use Rattle.machine.specs.Cause.{Cause}
+use Rattle.std.proofs.lemmas.Result.{IfOk-from_err}
 use Rattle.machine.specs.StateView.{PartialState}
 use Rattle.machine.specs.Machine.{session_answers}
-use Rattle.machine.specs.Stretch.{LooksAtNothingNew, RunsStretch}
+use Rattle.machine.specs.Stretch.{LooksAtNothingNew}
 use Rattle.replay.specs.declared.run_notes.RunNotes.{RunNotes}
 use Rattle.first_looks.specs.FirstLooks.{FirstLooksView}
 use Rattle.machine.specs.FirstLooks.{IsFirstLooks}
@@ -20,16 +20,13 @@ lt_apart n m le ne = elim (eq-or-lt_of_le {n = n} {m = m} le) [ inl e ↦ absurd
 pub loop-n-preserved : goal.loop-n-preserved
 loop-n-preserved c =
     let i = c.loop-n.invariant in
-    let reached = c.in_ok-reached.reached in
-    let (x, stretched, metered, same) = c.in_ok-reached.ensures.runs in
-    let stretch : RunsStretch c.args.session.now c.loop-n.n c.bound_of-bound.result c.loop-n.running.looked reached (Ok None) c.run_from.new.running =
-    subst (λ (k : ℕ). RunsStretch c.args.session.now c.loop-n.n c.bound_of-bound.result c.loop-n.running.looked k (Ok None) c.run_from.new.running) (sym same)
-    (subst (λ (o : Option Cause). RunsStretch c.args.session.now c.loop-n.n c.bound_of-bound.result c.loop-n.running.looked x (Ok o) c.run_from.new.running) c.in_default.is stretched) in
-    let more : c.loop-n.n < reached = rw c.in_default.is at c.in_ok-reached.ensures.progress in
+    let reached = c.run_from-reached.result.0 in
+    let stretch = rw (c.in_ok-stop.was, c.in_default.is) at c.run_from-reached.ensures.runs in
+    let more : c.loop-n.n < reached = rw (c.in_ok-stop.was, c.in_default.is) at c.run_from-reached.ensures.progress in
     let seen : c.loop-n.n < c.loop-n.notes.looks.seen → reached ≤ c.loop-n.notes.looks.seen = λ low. omega (arith, stretch.within, c.seen.ensures, c.bound_of-bound.ensures.seen (omega (arith, low, c.seen.ensures))) in
     let other = c.note_last_step.ensures.other in
     let notes = stretch_kept c.args.session.now c.bound_of-bound.result c.loop-n.n reached c.loop-n.notes.looks c.note_last_step.new.notes.looks c.loop-n.notes.alloc_failures c.note_last_step.new.notes.alloc_failures _ c.loop-n.running.looked
-    c.run_from.new.running.looked c.note_last_step.new.running.looked stretch more i.noted i.looks seen c.note_last_step.ensures.cells (λ ne. (ap (λ (t : RunNotes). t.looks) (other ne).0, ap (λ (t : RunNotes). t.alloc_failures) (other ne).0, (other ne).1))
+    c.run_from-reached.new.running.looked c.note_last_step.new.running.looked stretch more i.noted i.looks seen c.note_last_step.ensures.cells (λ ne. (ap (λ (t : RunNotes). t.looks) (other ne).0, ap (λ (t : RunNotes). t.alloc_failures) (other ne).0, (other ne).1))
     (rw c.look_count-noted.ensures at c.note_last_step.ensures.here) in
     record {
       at = stretch.at ∙ ap (λ (st : PartialState). Some st) (sym c.note_last_step.ensures.state);
@@ -42,31 +39,28 @@ loop-n-preserved c =
       grows = omega (arith, notes.grows, i.grows);
       low = omega (arith, more, i.low);
       high = omega (arith, stretch.within, c.bound_of-bound.ensures.within);
-      meter = omega (arith, metered, same, i.meter);
-      bound = still_bound c.args.session.now c.run_from.new.running c.note_last_step.new.running c.note_last_step.ensures.beneath c.run_from.ensures.bound;
+      meter = omega (arith, c.run_from-reached.ensures.ticks, i.meter);
+      bound = still_bound c.args.session.now c.run_from-reached.new.running c.note_last_step.new.running c.note_last_step.ensures.beneath c.run_from-reached.ensures.bound;
     }
 
 pub returns-in-Some-clause-noted : goal.returns-in-Some-clause-noted
 returns-in-Some-clause-noted c =
     let i = c.loop-n.invariant in
-    let (x, stretched, metered, same) = c.in_ok-reached.ensures.runs in
-    let stretch = subst (λ (o : Option Cause). RunsStretch c.args.session.now c.loop-n.n c.bound_of-bound.result c.loop-n.running.looked x (Ok o) c.run_from.new.running) c.in-Some.is stretched in
+    let stretch = rw (c.in_ok-stop.was, c.in-Some.is) at c.run_from-reached.ensures.runs in
     elim (eqb_tells c.loop-n.n c.loop-n.notes.looks.seen) [
       | inl e ↦
-          let quiet : LooksAtNothingNew (session_answers c.args.session.now) c.loop-n.running.looked c.loop-n.notes.looks.seen c.in_ok-reached.reached =
-          subst (λ (k : ℕ). LooksAtNothingNew (session_answers c.args.session.now) c.loop-n.running.looked k c.in_ok-reached.reached) e.1
-          (subst (λ (k : ℕ). LooksAtNothingNew (session_answers c.args.session.now) c.loop-n.running.looked c.loop-n.n k) (sym same) stretch.before_stop) in
+          let quiet : LooksAtNothingNew (session_answers c.args.session.now) c.loop-n.running.looked c.loop-n.notes.looks.seen c.run_from-reached.result.0 =
+          subst (λ (k : ℕ). LooksAtNothingNew (session_answers c.args.session.now) c.loop-n.running.looked k c.run_from-reached.result.0) e.1 stretch.before_stop in
           subst (λ (t : FirstLooksView). IsFirstLooks (session_answers c.args.session.now) t) (sym (c.pass_seen.ensures.here e.1))
-          (passed (session_answers c.args.session.now) c.loop-n.notes.looks c.loop-n.running.looked i.noted (i.looks (omega (arith, e.1))) c.in_ok-reached.reached (omega (arith, e.1, stretch.within, same)) quiet)
+          (passed (session_answers c.args.session.now) c.loop-n.notes.looks c.loop-n.running.looked i.noted (i.looks (omega (arith, e.1))) c.run_from-reached.result.0 (omega (arith, e.1, stretch.within)) quiet)
       | inr ne ↦ subst (λ (t : FirstLooksView). IsFirstLooks (session_answers c.args.session.now) t) (sym (c.pass_seen.ensures.other ne.1)) i.noted
     ]
 
 pub returns-in-Some-clause-counts : goal.returns-in-Some-clause-counts
 returns-in-Some-clause-counts c =
     let i = c.loop-n.invariant in
-    let (x, stretched, metered, same) = c.in_ok-reached.ensures.runs in
-    let stretch = subst (λ (o : Option Cause). RunsStretch c.args.session.now c.loop-n.n c.bound_of-bound.result c.loop-n.running.looked x (Ok o) c.run_from.new.running) c.in-Some.is stretched in
-    let low : c.loop-n.n ≤ c.in_ok-reached.reached = omega (arith, stretch.within, same) in
+    let stretch = rw (c.in_ok-stop.was, c.in-Some.is) at c.run_from-reached.ensures.runs in
+    let low : c.loop-n.n ≤ c.run_from-reached.result.0 = omega (arith, stretch.within) in
     let here = c.pass_seen.ensures.here in
     let other = c.pass_seen.ensures.other in (
       once_at_stop _ _ _ _ _ c.loop-n.notes.looks _ i.once i.low c.pass_seen.new.looks low here other,
@@ -76,13 +70,26 @@ returns-in-Some-clause-counts c =
         all = λ from none. elim (eqb_tells c.loop-n.n c.loop-n.notes.looks.seen) [
           | inl e ↦ rw (here e.1) (omega arith)
           | inr ne ↦ rw (other ne.1) (let up = i.all from (omega (arith, none)) in
-              omega (arith, stretch.within, same, ne.1, up, c.seen.ensures, c.bound_of-bound.ensures.seen (let apart = lt_apart _ _ up ne.1 in omega (arith, apart, c.seen.ensures))))
+              omega (arith, stretch.within, ne.1, up, c.seen.ensures, c.bound_of-bound.ensures.seen (let apart = lt_apart _ _ up ne.1 in omega (arith, apart, c.seen.ensures))))
         ];
       },
     )
 
-pub returns-in_err-reached-clause-counts : goal.returns-in_err-reached-clause-counts
-returns-in_err-reached-clause-counts c =
+pub returns-in_err-stop-clause-at : goal.returns-in_err-stop-clause-at
+returns-in_err-stop-clause-at c =
+    let i = c.loop-n.invariant in
+    let stretch = c.run_from-reached.ensures.runs in
+    let top = c.bound_of-bound.ensures.within in (
+      c.run_from-reached.result.0,
+      stretch.at,
+      omega (arith, stretch.within, i.low),
+      omega (arith, stretch.within, top),
+      IfOk-from_err _ _ c.from_residual.ensures.0,
+      omega (arith, c.run_from-reached.ensures.ticks, i.meter),
+    )
+
+pub returns-in_err-stop-clause-counts : goal.returns-in_err-stop-clause-counts
+returns-in_err-stop-clause-counts c =
     let i = c.loop-n.invariant in
     match_err c.from_residual.result _ _ c.from_residual.ensures.0 (omega (arith, i.counted), i.once.once)
 
