@@ -28,7 +28,7 @@ abbrev pub AreNoted : Noting → Answers → ℕ → FirstLooksView → AllLooks
 AreNoted Nothing f step t looked = Unit {0}
 AreNoted Looks f step t looked = IsFirstLooks f t × (t.seen ≡ step → AllNoted t looked)
 
--- The parts of a run belong together. The state is that after so many steps.
+-- The parts of a run belong together: the state is that after `step` steps, and what is noted are its looks.
 pub record IsRun (s : Session) (st : StateView) (t : FirstLooksView) (step : ℕ) (noting : Noting) : Type 0 where
   pub at : after (session_answers s) step ≡ Some st.state
   pub within : step ≤ STEP_LIMIT

@@ -71,7 +71,8 @@ impl<'s> Run<'s> {
         self.step
     }
 
-    /// Runs up to step `end`, or to a stop, whose cause it returns. If looks are noted, they are those of all steps, and of the stop.
+    /// Runs up to step `end`, or to a stop, whose cause it returns. A run that notes looks notes those of each step, and of the stop;
+    /// if it goes on after a stop, it notes nothing any more.
     ///
     /// # Errors
     ///
