@@ -1,6 +1,6 @@
 // The whole program except its `main`.
 
-ghost use Rattle.std.specs.Prelude.{◌≡◌, ◌⊎◌, ◌^◌, ◌<◌, ℕ, None, IfOk, IfErr, OnOk, OnErr, map, string_bytes};
+ghost use Rattle.std.specs.Prelude.{◌≡◌, ◌⊎◌, ◌<◌, None, IfOk, IfErr, OnOk, OnErr, map, string_bytes};
 ghost use Rattle.machine.specs.Inputs.{Session};
 ghost use Rattle.replay.specs.Options.{refusal_of};
 ghost use Rattle.replay.specs.RunnerView.{with_no_checkpoint};
@@ -46,8 +46,6 @@ fn replay_session<R: Reader, W: Writer>(
 ) -> Result<Ending, ReplayFault>
     requires options { refusal_of options ≡ None }
     requires meter { meter.old ≡ 0 }
-    requires reader { (R.input reader.old).failures < 2 ^ 63 }
-    requires writer { (W.output writer.old).failures < 2 ^ 63 }
     ensures ok { OnOk result (WritesReplayBy (R.input reader.old).left (with_no_checkpoint session options)
         (W.output writer.old) (W.output writer.new) meter.new) }
     ensures fault { IfErr result
@@ -70,7 +68,6 @@ fn replay_file<'a, S: FileSystem, O: Writer>(
 ) -> Result<(), Fault<'a>>
     requires options { refusal_of options ≡ None }
     requires meter { meter.old ≡ 0 }
-    requires out { (O.output out.old).failures < 2 ^ 63 }
     ensures done { OnOk result
         (WritesReplayBy (text_at (S.files system.old).bytes path.now) (with_no_checkpoint session options)
         (O.output out.old) (O.output out.new) meter.new) }
@@ -102,9 +99,7 @@ fn run<'a, S: FileSystem, O: Writer, E: Writer>(
     out: &mut O,
     err: &mut E,
 ) -> Result<u8, Fault<'a>>
-    requires meter { meter.old ≡ 0 }
-    requires out { (O.output out.old).failures < 2 ^ 63 }
-    requires err { (E.output err.old).failures < 2 ^ 63 }
+    requires { meter.old ≡ 0 }
     ensures done { IfOk result (λ status. MeteredEnds (map string_bytes words.entry.now) status
         (world (S.files system.old) (O.output out.old) (E.output err.old))
         (world (S.files system.new) (O.output out.new) (E.output err.new)) meter.new) }
@@ -137,9 +132,7 @@ pub fn metered_command<S: FileSystem, O: Writer, E: Writer>(
     out: &mut O,
     err: &mut E,
 ) -> u8
-    requires meter { meter.old ≡ 0 }
-    requires out { (O.output out.old).failures < 2 ^ 63 }
-    requires err { (E.output err.old).failures < 2 ^ 63 }
+    requires { meter.old ≡ 0 }
     ensures ends { let before = world (S.files system.old) (O.output out.old) (E.output err.old) in
         let after = world (S.files system.new) (O.output out.new) (E.output err.new) in
         MeteredEnds (map string_bytes words.now) result before after meter.new
@@ -163,8 +156,6 @@ pub fn command<S: FileSystem, O: Writer, E: Writer>(
     out: &mut O,
     err: &mut E,
 ) -> u8
-    requires out { (O.output out.old).failures < 2 ^ 63 }
-    requires err { (E.output err.old).failures < 2 ^ 63 }
     ensures ends { let before = world (S.files system.old) (O.output out.old) (E.output err.old) in
         let after = world (S.files system.new) (O.output out.new) (E.output err.new) in
         EndsWithoutFault (map string_bytes words.now) result before after

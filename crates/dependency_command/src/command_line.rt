@@ -1,6 +1,6 @@
 // The whole program except its `main`.
 
-ghost use Rattle.std.specs.Prelude.{◌≡◌, ◌⊎◌, ◌^◌, ◌<◌, ℕ, IfErr, IfOk, IfSome, OnErr, OnOk, map, string_bytes};
+ghost use Rattle.std.specs.Prelude.{◌≡◌, ◌⊎◌, IfErr, IfOk, IfSome, OnErr, OnOk, map, string_bytes};
 ghost use Rattle.folders.specs.Failures.{KeepsFiles};
 ghost use Rattle.one_run.specs.World.{world};
 ghost use Rattle.dependency_lines.specs.Listing.{stop_line};
@@ -43,7 +43,6 @@ fn write_listing<'a, O: Writer>(
     rows: Rows,
     out: &mut O,
 ) -> Result<(), Fault<'a>>
-    requires { (O.output out.old).failures < 2 ^ 63 }
     ensures done { OnOk result
         (WritesAnswer (IsListing rows session.now) (O.output out.old) (O.output out.new)) }
     ensures fault { IfErr result
@@ -113,8 +112,6 @@ fn write_rule<'a, S: FileSystem, O: Writer, E: Writer>(
     out: &mut O,
     err: &mut E,
 ) -> Result<(), Fault<'a>>
-    requires out { (O.output out.old).failures < 2 ^ 63 }
-    requires err { (E.output err.old).failures < 2 ^ 63 }
     ensures done { let files = S.files system.old in OnOk result
         (WritesAnswer (IsRule words.now target.entry files.bytes files.names session.now)
         (O.output out.old) (O.output out.new)) }
@@ -141,7 +138,6 @@ fn write_rule<'a, S: FileSystem, O: Writer, E: Writer>(
 
 /// Writes the line of a stop. A failure of the writer is ignored.
 fn report_stop<E: Writer>(err: &mut E, cause: Cause)
-    requires { (E.output err.old).failures < 2 ^ 63 }
     ensures { WritesOrFails (E.output err.old) (E.output err.new) (stop_line cause) }
 {
     let _ = write_stop(err, cause);
@@ -155,8 +151,6 @@ fn write_answer<'a, S: FileSystem, O: Writer, E: Writer>(
     out: &mut O,
     err: &mut E,
 ) -> Result<(), Fault<'a>>
-    requires out { (O.output out.old).failures < 2 ^ 63 }
-    requires err { (E.output err.old).failures < 2 ^ 63 }
     ensures done { OnOk result
         (WritesAnswer (IsAnswerFor (S.files system.old) words.now session.now)
         (O.output out.old) (O.output out.new)) }
@@ -182,8 +176,6 @@ fn run<'a, S: FileSystem, O: Writer, E: Writer>(
     out: &mut O,
     err: &mut E,
 ) -> Result<(), Fault<'a>>
-    requires out { (O.output out.old).failures < 2 ^ 63 }
-    requires err { (E.output err.old).failures < 2 ^ 63 }
     ensures done { OnOk result (EndsWithAnswer (map string_bytes words.entry.now) 0
         (world (S.files system.old) (O.output out.old) (E.output err.old))
         (world (S.files system.new) (O.output out.new) (E.output err.new))) }
@@ -211,8 +203,6 @@ pub fn dependency_command<S: FileSystem, O: Writer, E: Writer>(
     out: &mut O,
     err: &mut E,
 ) -> u8
-    requires out { (O.output out.old).failures < 2 ^ 63 }
-    requires err { (E.output err.old).failures < 2 ^ 63 }
     ensures ends { let before = world (S.files system.old) (O.output out.old) (E.output err.old) in
         let after = world (S.files system.new) (O.output out.new) (E.output err.new) in
         EndsWithAnswer (map string_bytes words.now) result before after

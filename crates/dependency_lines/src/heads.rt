@@ -1,6 +1,6 @@
 // The beginning of a line, and lines with one step.
 
-ghost use Rattle.std.specs.Prelude.{◌≡◌, ◌^◌, ◌<◌, ◌++◌, false};
+ghost use Rattle.std.specs.Prelude.{◌≡◌, ◌++◌, false};
 ghost use Rattle.filenames.specs.Names.{is_sayable};
 ghost use Rattle.report_lines.specs.Streams.{WritesText};
 ghost use Rattle.dependency_lines.specs.Heads.{head_text, name_text, step_line};
@@ -39,7 +39,6 @@ impl<'a> Head<'a> {
 
 /// Writes a head. If the writer fails, a prefix of it is written.
 pub fn write_head<W: Writer>(writer: &mut W, head: &Head<'_>) -> Result<(), Failed>
-    requires { (W.output writer.old).failures < 2 ^ 63 }
     ensures { WritesText (W.output writer.old) (W.output writer.new) (head_text head.now) result }
 {
     let Some(key) = head.key else {
@@ -53,8 +52,7 @@ pub fn write_head<W: Writer>(writer: &mut W, head: &Head<'_>) -> Result<(), Fail
 
 // Writes a word, and then the bytes of a key that is not the key of a name.
 fn write_key<W: Writer>(writer: &mut W, word: &[u8], key: &Key) -> Result<(), Failed>
-    requires room { (W.output writer.old).failures < 2 ^ 63 }
-    requires no_name { is_sayable key.now ≡ false }
+    requires { is_sayable key.now ≡ false }
     ensures { WritesText (W.output writer.old) (W.output writer.new) (word.now ++ name_text key.now) result }
 {
     write_all(writer, word)?;
@@ -68,7 +66,6 @@ pub fn write_step_line<W: Writer>(
     head: &Head<'_>,
     step: Option<u64>,
 ) -> Result<(), Failed>
-    requires { (W.output writer.old).failures < 2 ^ 63 }
     ensures { WritesText (W.output writer.old) (W.output writer.new)
         (step_line (head_text head.now) step) result }
 {

@@ -1,6 +1,6 @@
 // All the lines, in the order of their kinds.
 
-ghost use Rattle.std.specs.Prelude.{◌≡◌, ◌+◌, ◌^◌, ◌<◌, ◌++◌, ◌∷◌, [], codes, length, take, Option, ℕ, List};
+ghost use Rattle.std.specs.Prelude.{◌≡◌, ◌+◌, ◌++◌, ◌∷◌, [], codes, length, take, Option, ℕ, List};
 ghost use Rattle.report_lines.specs.FirstLines as first_lines;
 ghost use Rattle.report_lines.specs.Streams.{WritesText};
 ghost use Rattle.filenames.specs.Drives.{drive_number};
@@ -52,7 +52,6 @@ pub fn write_dependencies<W: Writer>(
     session: &Session,
     dependencies: &Dependencies,
 ) -> Result<(), Failed>
-    requires { (W.output writer.old).failures < 2 ^ 63 }
     ensures { WritesText (W.output writer.old) (W.output writer.new)
         (texts.listing rows session.now dependencies.now.looks dependencies.now.cause) result }
 {
@@ -67,7 +66,6 @@ fn write_asked<W: Writer>(
     session: &Session,
     looks: &FirstLooks,
 ) -> Result<(), Failed>
-    requires { (W.output writer.old).failures < 2 ^ 63 }
     ensures { WritesText (W.output writer.old) (W.output writer.new)
         (texts.asked_lines rows session.now looks.now) result }
 {
@@ -79,7 +77,6 @@ fn write_asked<W: Writer>(
 
 // Writes the lines of page zero and of the program.
 fn write_memory<W: Writer>(writer: &mut W, rows: Rows, looks: &FirstLooks) -> Result<(), Failed>
-    requires { (W.output writer.old).failures < 2 ^ 63 }
     ensures { WritesText (W.output writer.old) (W.output writer.new)
         (texts.memory_lines rows looks.now) result }
 {
@@ -106,7 +103,6 @@ fn write_script<W: Writer>(
     session: &Session,
     looks: &FirstLooks,
 ) -> Result<(), Failed>
-    requires { (W.output writer.old).failures < 2 ^ 63 }
     ensures { WritesText (W.output writer.old) (W.output writer.new)
         (texts.script_lines rows session.now looks.now) result }
 {
@@ -147,7 +143,6 @@ fn write_files<W: Writer>(
     session: &Session,
     looks: &FirstLooks,
 ) -> Result<(), Failed>
-    requires { (W.output writer.old).failures < 2 ^ 63 }
     ensures { WritesText (W.output writer.old) (W.output writer.new)
         (texts.file_lines rows session.now looks.now) result }
 {
@@ -160,7 +155,6 @@ fn write_files<W: Writer>(
 
 // Writes the lines of the directories of the drives A to D.
 fn write_directories<W: Writer>(writer: &mut W, asked: &FileSteps) -> Result<(), Failed>
-    requires { (W.output writer.old).failures < 2 ^ 63 }
     ensures { WritesText (W.output writer.old) (W.output writer.new)
         (texts.directory_lines asked.now) result }
 {
@@ -172,7 +166,6 @@ fn write_directories<W: Writer>(writer: &mut W, asked: &FileSteps) -> Result<(),
 
 /// Writes the line of the stop.
 pub fn write_stop<W: Writer>(writer: &mut W, cause: Cause) -> Result<(), Failed>
-    requires { (W.output writer.old).failures < 2 ^ 63 }
     ensures { WritesText (W.output writer.old) (W.output writer.new) (texts.stop_line cause) result }
 {
     let mut text = ArrayString::<128>::new();

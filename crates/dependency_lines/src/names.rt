@@ -1,6 +1,6 @@
 // The lines of files that were asked for, by their names.
 
-ghost use Rattle.std.specs.Prelude.{◌≡◌, ◌^◌, ◌<◌, length, option_copied, option_map};
+ghost use Rattle.std.specs.Prelude.{◌≡◌, length, option_copied, option_map};
 ghost use Rattle.keymaps.specs.Order.{IsLeastAbove};
 ghost use Rattle.report_lines.specs.Streams.{WritesText};
 ghost use Rattle.dependency_lines.specs.Names as texts;
@@ -37,7 +37,6 @@ pub fn write_kind<W: Writer>(
     asked: &FileSteps,
     kind: Kind,
 ) -> Result<(), Failed>
-    requires { (W.output writer.old).failures < 2 ^ 63 }
     ensures { WritesText (W.output writer.old) (W.output writer.new)
         (lines_of_kind rows host.now asked.now kind) result }
 {
@@ -72,7 +71,6 @@ fn write_name<W: Writer>(
     kind: Kind,
     key: &Key,
 ) -> Result<(), Failed>
-    requires { (W.output writer.old).failures < 2 ^ 63 }
     ensures { WritesText (W.output writer.old) (W.output writer.new)
         (lines_of_name rows host.now asked.now kind key.now) result }
 {
@@ -104,7 +102,6 @@ fn write_length<W: Writer>(
     step: Option<u64>,
     key: &Key,
 ) -> Result<(), Failed>
-    requires { (W.output writer.old).failures < 2 ^ 63 }
     ensures { WritesText (W.output writer.old) (W.output writer.new)
         (texts.length_line (option_map length (option_copied file.entry)) step key.now) result }
 {
@@ -133,7 +130,6 @@ fn count_text(file: Option<&HostFile>) -> ArrayString<64>
 
 // Writes the number of records of a file, after a blank.
 fn write_count<W: Writer>(writer: &mut W, file: Option<&HostFile>) -> Result<(), Failed>
-    requires { (W.output writer.old).failures < 2 ^ 63 }
     ensures { WritesText (W.output writer.old) (W.output writer.new)
         (texts.count_text (option_map length (option_copied file.entry))) result }
 {
@@ -147,7 +143,6 @@ fn write_records<W: Writer>(
     asked: &FileSteps,
     key: &Key,
 ) -> Result<(), Failed>
-    requires { (W.output writer.old).failures < 2 ^ 63 }
     ensures { WritesText (W.output writer.old) (W.output writer.new)
         (texts.record_lines rows asked.now key.now) result }
 {

@@ -1,6 +1,6 @@
 // The lines of the places of one kind that were asked for.
 
-ghost use Rattle.std.specs.Prelude.{◌≡◌, ◌^◌, ◌<◌, IfOk, map};
+ghost use Rattle.std.specs.Prelude.{◌≡◌, IfOk, map};
 ghost use Rattle.std.specs.List.{concat};
 ghost use Rattle.report_lines.specs.Streams.{WritesText};
 ghost use Rattle.dependencies.specs.Ranges.{rows_from};
@@ -23,7 +23,6 @@ pub fn write_places<W: Writer, T: StepTable>(
     table: &T,
     from: usize,
 ) -> Result<(), Failed>
-    requires { (W.output writer.old).failures < 2 ^ 63 }
     ensures { WritesText (W.output writer.old) (W.output writer.new)
         (rows_text rows place (head_text head.now) (rows_from rows (T.steps table.now) from)) result }
 {
@@ -41,7 +40,6 @@ fn write_joined<W: Writer, T: StepTable>(
     table: &T,
     from: usize,
 ) -> Result<(), Failed>
-    requires { (W.output writer.old).failures < 2 ^ 63 }
     ensures { WritesText (W.output writer.old) (W.output writer.new)
         (joined_line place (head_text head.now) (rows_from Rows.Joined (T.steps table.now) from)) result }
 {
@@ -61,7 +59,6 @@ fn write_more<W: Writer, T: StepTable>(
     table: &T,
     first: LookRange,
 ) -> Result<u64, Failed>
-    requires { (W.output writer.old).failures < 2 ^ 63 }
     ensures rows { WritesText (W.output writer.old) (W.output writer.new)
         (concat (map (texts.row_text place) (rows_from Rows.Joined (T.steps table.now) (first.end))))
         result }
@@ -86,7 +83,6 @@ fn write_each<W: Writer, T: StepTable>(
     table: &T,
     from: usize,
 ) -> Result<(), Failed>
-    requires { (W.output writer.old).failures < 2 ^ 63 }
     ensures { WritesText (W.output writer.old) (W.output writer.new)
         (concat (map (row_line place (head_text head.now)) (rows_from Rows.ByStep (T.steps table.now) from)))
         result }
@@ -106,7 +102,6 @@ fn write_row_line<W: Writer>(
     head: &Head<'_>,
     range: LookRange,
 ) -> Result<(), Failed>
-    requires { (W.output writer.old).failures < 2 ^ 63 }
     ensures { WritesText (W.output writer.old) (W.output writer.new)
         (row_line place (head_text head.now) range) result }
 {

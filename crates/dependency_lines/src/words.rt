@@ -1,6 +1,6 @@
 // Places, rows and steps as short texts.
 
-ghost use Rattle.std.specs.Prelude.{◌≡◌, ◌+◌, ◌^◌, ◌<◌, ◌≤◌, ◌++◌};
+ghost use Rattle.std.specs.Prelude.{◌≡◌, ◌+◌, ◌≤◌, ◌++◌};
 ghost use Rattle.arrayvec.specs.ArrayString.{array_string_len};
 ghost use Rattle.report_lines.specs.Streams.{WritesText};
 ghost use Rattle.dependency_lines.specs.Words as texts;
@@ -59,7 +59,6 @@ fn step_end(step: u64) -> ArrayString<64>
 
 /// Writes a row, after a blank: its first place, and its last one if it has more. If the writer fails, a prefix of this is written.
 pub fn write_row<W: Writer>(writer: &mut W, place: Place, range: LookRange) -> Result<(), Failed>
-    requires { (W.output writer.old).failures < 2 ^ 63 }
     ensures { WritesText (W.output writer.old) (W.output writer.new) (texts.row_text place range) result }
 {
     write_all(writer, row_text(place, range).as_bytes())
@@ -67,7 +66,6 @@ pub fn write_row<W: Writer>(writer: &mut W, place: Place, range: LookRange) -> R
 
 /// Writes the end of a line: the first step, with the line's end. If the writer fails, a prefix of this is written.
 pub fn write_step<W: Writer>(writer: &mut W, step: u64) -> Result<(), Failed>
-    requires { (W.output writer.old).failures < 2 ^ 63 }
     ensures { WritesText (W.output writer.old) (W.output writer.new) (texts.step_end step) result }
 {
     write_all(writer, step_end(step).as_bytes())

@@ -1,4 +1,4 @@
-ghost use Rattle.std.specs.Prelude.{◌≡◌, ℕ, ◌+◌, ◌^◌, ◌<◌, ◌≤◌};
+ghost use Rattle.std.specs.Prelude.{◌≡◌, ℕ, ◌+◌, ◌^◌, ◌≤◌};
 ghost use Rattle.replay.specs.Report.{run_of, session_of};
 ghost use Rattle.edit_lines.specs.Progress.{ExecutesLine, ExecutesCommand};
 ghost use Rattle.edit_lines.specs.Reports.{report_text};
@@ -19,7 +19,6 @@ use std::alloc::Global;
 
 /// Writes a reply. If the writer fails, a prefix of the reply is written.
 fn write_reply<W: Writer>(writer: &mut W, text: &[u8]) -> Result<(), ReplayFault>
-    requires { (W.output writer.old).failures < 2 ^ 63 }
     ensures { Replies (W.output writer.old) (W.output writer.new) text.now result }
 {
     match write_all(writer, text) {
@@ -35,7 +34,6 @@ fn execute_edit<W: Writer>(
     edit: Edit,
     writer: &mut W,
 ) -> Result<(), ReplayFault>
-    requires { (W.output writer.old).failures < 2 ^ 63 }
     ensures { (meter : ℕ) → ExecutesCommand (Command.Edit edit)
         runner.old meter (W.output writer.old) runner.new meter (W.output writer.new) result }
 {
@@ -52,7 +50,6 @@ fn drop_oldest<W: Writer>(
     count: u64,
     writer: &mut W,
 ) -> Result<(), ReplayFault>
-    requires { (W.output writer.old).failures < 2 ^ 63 }
     ensures { (meter : ℕ) → ExecutesCommand (Command.DropOldest count)
         runner.old meter (W.output writer.old) runner.new meter (W.output writer.new) result }
 {
@@ -63,7 +60,6 @@ fn drop_oldest<W: Writer>(
 /// Writes a report: its first lines, the line of its text, the lines of the changed files, and `end`. It is written in pieces; no
 /// memory is allocated.
 fn write_report<W: Writer>(report: &Report<'_>, writer: &mut W) -> Result<(), Failed>
-    requires { (W.output writer.old).failures < 2 ^ 63 }
     ensures { WritesText (W.output writer.old) (W.output writer.new)
         (report_text (session_of report.now) (run_of report.now)) result }
 {
@@ -76,7 +72,6 @@ fn write_report<W: Writer>(report: &Report<'_>, writer: &mut W) -> Result<(), Fa
 
 /// Writes a report as `write_report` does, but in a single piece if it has at most 1024 bytes.
 fn write_short_at_once<W: Writer>(report: &Report<'_>, writer: &mut W) -> Result<(), Failed>
-    requires { (W.output writer.old).failures < 2 ^ 63 }
     ensures { WritesText (W.output writer.old) (W.output writer.new)
         (report_text (session_of report.now) (run_of report.now)) result }
 {
@@ -90,8 +85,7 @@ fn write_short_at_once<W: Writer>(report: &Report<'_>, writer: &mut W) -> Result
 /// Runs the session from the step where the runner begins a rerun, and writes its report. Only the steps from there on are added
 /// to the meter.
 fn run<W: Writer>(runner: &mut Runner, meter: &mut Meter, writer: &mut W) -> Result<(), ReplayFault>
-    requires writer { (W.output writer.old).failures < 2 ^ 63 }
-    requires meter { meter.old ≤ 2 ^ 63 }
+    requires { meter.old ≤ 2 ^ 63 }
     ensures does { ExecutesCommand Command.Run
         runner.old meter.old (W.output writer.old) runner.new meter.new (W.output writer.new) result }
     ensures meter { meter.new ≤ meter.old + STEP_LIMIT }
@@ -113,8 +107,7 @@ pub fn execute_line<W: Writer>(
     meter: &mut Meter,
     writer: &mut W,
 ) -> Result<(), ReplayFault>
-    requires writer { (W.output writer.old).failures < 2 ^ 63 }
-    requires meter { meter.old ≤ 2 ^ 63 }
+    requires { meter.old ≤ 2 ^ 63 }
     ensures does { ExecutesLine number line.now
         runner.old meter.old (W.output writer.old) runner.new meter.new (W.output writer.new) result }
     ensures meter { meter.new ≤ meter.old + STEP_LIMIT }

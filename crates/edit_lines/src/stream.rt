@@ -1,4 +1,4 @@
-ghost use Rattle.std.specs.Prelude.{◌≡◌, ℕ, ◌+◌, ◌*◌, ◌^◌, ◌<◌, ◌≤◌, List, ◌∷◌, ◌++◌, [], length, IfOk, OnOk, IfErr, OnErr, vec_capacity, vec_len};
+ghost use Rattle.std.specs.Prelude.{◌≡◌, ℕ, ◌+◌, ◌*◌, ◌<◌, ◌≤◌, List, ◌∷◌, ◌++◌, [], length, IfOk, OnOk, IfErr, OnErr, vec_capacity, vec_len};
 ghost use Rattle.std.specs.Io.KnownBytes.{Consumes, IsAtEnd};
 ghost use Rattle.machine.specs.Inputs.{Session};
 ghost use Rattle.report_lines.specs.Streams.{WritesWhole};
@@ -58,8 +58,7 @@ fn end_line<W: Writer>(
     meter: &mut Meter,
     writer: &mut W,
 ) -> Result<(), ReplayFault>
-    requires writer { (W.output writer.old).failures < 2 ^ 63 }
-    requires meter { meter.old ≤ STEP_LIMIT * place.old.lines }
+    requires { meter.old ≤ STEP_LIMIT * place.old.lines }
     ensures goes { (first : ReplayState) (bytes rest : List ℕ)
         → IsReplayedTo first bytes
         (replay_state runner.old meter.old (W.output writer.old) place.old.line place.old.lines)
@@ -95,7 +94,6 @@ fn take_piece<W: Writer>(
     writer: &mut W,
     piece: &[u8],
 ) -> Result<(), ReplayFault>
-    requires writer { (W.output writer.old).failures < 2 ^ 63 }
     requires meter { meter.old ≤ STEP_LIMIT * place.old.lines }
     requires small { length piece.now ≤ 65535 }
     ensures goes { (first : ReplayState) (bytes : List ℕ)
@@ -130,8 +128,7 @@ fn finish<W: Writer>(
     meter: &mut Meter,
     writer: &mut W,
 ) -> Result<Ending, ReplayFault>
-    requires writer { (W.output writer.old).failures < 2 ^ 63 }
-    requires meter { meter.old ≤ STEP_LIMIT * place.lines }
+    requires { meter.old ≤ STEP_LIMIT * place.lines }
     ensures ends { (first : ReplayState) (bytes : List ℕ)
         → IsReplayedTo first bytes
         (replay_state runner.old meter.old (W.output writer.old) place.line place.lines)
@@ -185,9 +182,7 @@ pub fn replay<R: Reader, W: Writer>(
     reader: &mut R,
     writer: &mut W,
 ) -> Result<Ending, ReplayFault>
-    requires meter { meter.old ≡ 0 }
-    requires reader { (R.input reader.old).failures < 2 ^ 63 }
-    requires writer { (W.output writer.old).failures < 2 ^ 63 }
+    requires { meter.old ≡ 0 }
     ensures ok { IfOk result (λ e. (bytes : List ℕ) × (text : List ℕ)
         × Consumes (R.input reader.old).left (R.input reader.new).left bytes
         × IsAtEnd (R.input reader.new).left

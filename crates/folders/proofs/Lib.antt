@@ -3,5 +3,4 @@ pub mod FaultLemmas
 pub mod FilesLemmas
 pub mod ListingLemmas
 pub mod ReadLemmas
-pub mod Walks
 pub mod WriteLemmas

@@ -1,6 +1,6 @@
 // The files of a machine, by their paths.
 
-ghost use Rattle.std.specs.Prelude.{◌≡◌, ◌≤◌, ◌<◌, ◌+◌, ◌^◌, ◌∷◌, ◌++◌, ℕ, List, [], Option, Some, None, IfOk, OnOk, OnErr, IfSome, length, map, string_bytes, take};
+ghost use Rattle.std.specs.Prelude.{◌≡◌, ◌↔◌, IsTrue, ◌≤◌, ◌<◌, ◌+◌, ◌∷◌, ◌++◌, ℕ, List, [], Option, Some, None, IfOk, OnOk, OnErr, IfSome, length, map, string_bytes, take};
 ghost use Rattle.std.specs.FinMap.{contains_key, insert};
 ghost use Rattle.std.specs.Io.KnownBytes.{Appends, ReadConsumes};
 ghost use Rattle.folders.specs.Failures.{AddsPaths, KeepsFiles, ReportsPaths, io_paths};
@@ -13,6 +13,7 @@ use std::io::{BufWriter, ErrorKind, Read, Write};
 use std::os::unix::fs::OpenOptionsExt;
 use std::rt::Files;
 use std::{fs, io};
+use tallies::Tally;
 
 /// Bytes that can be written, such as the bytes of a file that is kept in parts.
 pub trait Contents {
@@ -35,7 +36,6 @@ pub trait InputFile {
     /// Reads the next bytes to the front of the piece and returns their count. A count of 0 for a piece that is not empty is the
     /// end. An error reads no byte and adds one failure.
     fn read(&mut self, piece: &mut [u8]) -> io::Result<usize>
-        requires { failures self.old < 2 ^ 63 }
         ensures count { IfOk result (λ n. n ≤ length piece.new) }
         ensures bytes { ReadConsumes (left self.old) (left self.new) result piece.new }
         ensures ok { OnOk result (failures self.new ≡ failures self.old) }
@@ -135,19 +135,22 @@ fn read_first<T: Read + Drop>(alloc: Global, source: T, most: u64) -> io::Result
 #[derive(Drop)]
 pub struct SystemFile<T> {
     inner: T,
-    failures: u64,
+    failed: bool,
+    failures: Tally,
+    ghost counted: { IsTrue failed ↔ (0 < failures.count) },
 }
 
 impl<T: Read> InputFile for SystemFile<T> {
     ghost left = { λ file. T.remaining file.inner };
 
-    ghost failures = { λ file. file.failures };
+    ghost failures = { λ file. file.failures.count };
 
     fn read(&mut self, piece: &mut [u8]) -> io::Result<usize> {
         match self.inner.read(piece) {
             Ok(count) => Ok(count),
             Err(error) => {
-                self.failures += 1;
+                self.failed = true;
+                self.failures = self.failures.plus_one();
                 Err(error)
             }
         }
@@ -242,13 +245,17 @@ impl<R: Files + AllocGlobal + Clone + Drop> FileSystem for SystemFiles<'_, R> {
     fn open(&mut self, path: &str) -> io::Result<SystemFile<R::File>> {
         let opened = fs::open(self.rt, path);
         match self.note(path, opened) {
-            Ok(inner) => Ok(SystemFile { inner, failures: 0 }),
+            Ok(inner) => Ok(SystemFile {
+                inner,
+                failed: false,
+                failures: Tally::new(),
+            }),
             Err(error) => Err(error),
         }
     }
 
     fn note_failed_reads(&mut self, path: &str, input: &SystemFile<R::File>) {
-        if input.failures > 0 {
+        if input.failed {
             self.failed = self.failed.and(path);
         }
     }

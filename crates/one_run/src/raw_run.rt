@@ -1,6 +1,6 @@
 // One run of a session, without edits.
 
-ghost use Rattle.std.specs.Prelude.{◌≡◌, ◌^◌, ◌<◌, ◌≤◌, ◌++◌, IfOk, IfErr, OnOk, OnErr, string_bytes};
+ghost use Rattle.std.specs.Prelude.{◌≡◌, ◌^◌, ◌≤◌, ◌++◌, IfOk, IfErr, OnOk, OnErr, string_bytes};
 ghost use Rattle.folders.specs.Failures.{ReportsPaths};
 ghost use Rattle.folders.specs.Faults.{failure_paths};
 ghost use Rattle.hostfiles.specs.Files.{files};
@@ -75,7 +75,6 @@ fn write_lines<E: Writer>(
     host: &HostFiles,
     journal: &Journal,
 ) -> Result<(), Failed>
-    requires { (E.output err.old).failures < 2 ^ 63 }
     ensures { WritesText (E.output err.old) (E.output err.new)
         (line.now ++ gone_lines host.now (files host.now journal.now.entries)) result }
 {
@@ -85,7 +84,6 @@ fn write_lines<E: Writer>(
 
 /// Writes a line, and then the lines of the changed files that are gone. A failure of the writer ends this, and is ignored.
 fn write_stop_lines<E: Writer>(err: &mut E, line: &[u8], host: &HostFiles, journal: &Journal)
-    requires { (E.output err.old).failures < 2 ^ 63 }
     ensures { WritesOrFails (E.output err.old) (E.output err.new)
         (line.now ++ gone_lines host.now (files host.now journal.now.entries)) }
 {
@@ -95,7 +93,6 @@ fn write_stop_lines<E: Writer>(err: &mut E, line: &[u8], host: &HostFiles, journ
 /// Reports on standard error why the run stopped, and which of the changed files are gone. A failure of the writer is ignored. If
 /// an allocation fails, nothing is written.
 fn report_stop<E: Writer>(alloc: Global, run: &WholeRun<'_>, err: &mut E) -> Result<(), RunFault>
-    requires { (E.output err.old).failures < 2 ^ 63 }
     ensures told { OnOk result
         (WritesOrFails (E.output err.old) (E.output err.new)
         (stop_line (plain_run run.now.session.now).cause
@@ -118,8 +115,6 @@ fn report_run<S: FileSystem, O: Writer, E: Writer>(
     out: &mut O,
     err: &mut E,
 ) -> Result<u8, RunFault>
-    requires out { (O.output out.old).failures < 2 ^ 63 }
-    requires err { (E.output err.old).failures < 2 ^ 63 }
     ensures done { IfOk result (λ status. RunsOnce folders.now run.now.session.now status
         (world (S.files system.old) (O.output out.old) (E.output err.old))
         (world (S.files system.new) (O.output out.new) (E.output err.new))) }
@@ -165,9 +160,7 @@ pub fn run_once<S: FileSystem, O: Writer, E: Writer>(
     out: &mut O,
     err: &mut E,
 ) -> Result<u8, RunFault>
-    requires meter { meter.old ≤ 2 ^ 63 }
-    requires out { (O.output out.old).failures < 2 ^ 63 }
-    requires err { (E.output err.old).failures < 2 ^ 63 }
+    requires { meter.old ≤ 2 ^ 63 }
     ensures done { IfOk result (λ status. RunsOnce folders.now session status
         (world (S.files system.old) (O.output out.old) (E.output err.old))
         (world (S.files system.new) (O.output out.new) (E.output err.new))) }

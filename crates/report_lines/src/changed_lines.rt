@@ -1,6 +1,6 @@
 // The lines of the changed files, written in pieces.
 
-ghost use Rattle.std.specs.Prelude.{◌≡◌, ◌^◌, ◌<◌, ◌++◌, [], length, unwrap_or};
+ghost use Rattle.std.specs.Prelude.{◌≡◌, ◌++◌, [], length, unwrap_or};
 ghost use Rattle.filenames.specs.Names.{display_text};
 ghost use Rattle.hostfiles.specs.Files.{files};
 ghost use Rattle.hostfiles.specs.FileView.{view_contents};
@@ -30,7 +30,6 @@ pub fn write_changed_files<W: Writer>(
     host: &HostFiles,
     journal: &Journal,
 ) -> Result<(), Failed>
-    requires { (W.output writer.old).failures < 2 ^ 63 }
     ensures { WritesText (W.output writer.old) (W.output writer.new)
         (lines_of_files filter host.now (files host.now journal.now.entries)) result }
 {
@@ -48,7 +47,6 @@ fn write_filtered<W: Writer>(
     filter: FileFilter,
     changed: &ChangedFile<'_>,
 ) -> Result<(), Failed>
-    requires { (W.output writer.old).failures < 2 ^ 63 }
     ensures { WritesText (W.output writer.old) (W.output writer.new)
         (line_of_file filter changed.now.name (view_contents changed.now.file)) result }
 {
@@ -60,7 +58,6 @@ fn write_filtered<W: Writer>(
 
 // Writes the line of a file that is gone, and nothing for a file that is there.
 fn write_gone<W: Writer>(writer: &mut W, changed: &ChangedFile<'_>) -> Result<(), Failed>
-    requires { (W.output writer.old).failures < 2 ^ 63 }
     ensures { WritesText (W.output writer.old) (W.output writer.new)
         (gone_line changed.now.name (view_contents changed.now.file)) result }
 {
@@ -72,7 +69,6 @@ fn write_gone<W: Writer>(writer: &mut W, changed: &ChangedFile<'_>) -> Result<()
 
 // Writes the line of a changed file.
 fn write_changed<W: Writer>(writer: &mut W, changed: &ChangedFile<'_>) -> Result<(), Failed>
-    requires { (W.output writer.old).failures < 2 ^ 63 }
     ensures { WritesText (W.output writer.old) (W.output writer.new)
         (changed_line changed.now.name (view_contents changed.now.file)) result }
 {
@@ -88,7 +84,6 @@ fn write_changed<W: Writer>(writer: &mut W, changed: &ChangedFile<'_>) -> Result
 
 /// Writes a word with its blank, and then a name. If the writer fails, a prefix of this is written.
 pub fn write_head<W: Writer>(writer: &mut W, word: &[u8], name: &Name) -> Result<(), Failed>
-    requires { (W.output writer.old).failures < 2 ^ 63 }
     ensures { WritesText (W.output writer.old) (W.output writer.new)
         (word.now ++ display_text name.now) result }
 {
@@ -98,7 +93,6 @@ pub fn write_head<W: Writer>(writer: &mut W, word: &[u8], name: &Name) -> Result
 
 // Writes a name in its printed form.
 fn write_name<W: Writer>(writer: &mut W, name: &Name) -> Result<(), Failed>
-    requires { (W.output writer.old).failures < 2 ^ 63 }
     ensures { WritesText (W.output writer.old) (W.output writer.new) (display_text name.now) result }
 {
     let Pieces {
@@ -115,8 +109,7 @@ fn write_name<W: Writer>(writer: &mut W, name: &Name) -> Result<(), Failed>
 
 // Writes all records of a file, with zeros in its holes, or `-` if it has none.
 fn write_records<W: Writer>(writer: &mut W, file: &FileView<'_>, count: u32) -> Result<(), Failed>
-    requires room { (W.output writer.old).failures < 2 ^ 63 }
-    requires count { count ≡ length (unwrap_or (view_contents file.now) []) }
+    requires { count ≡ length (unwrap_or (view_contents file.now) []) }
     ensures { WritesText (W.output writer.old) (W.output writer.new)
         (records_text (unwrap_or (view_contents file.now) [])) result }
 {

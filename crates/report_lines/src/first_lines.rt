@@ -1,6 +1,6 @@
 // The first lines of a report, and the line of its console text.
 
-ghost use Rattle.std.specs.Prelude.{◌≡◌, ◌+◌, ◌^◌, ◌<◌, ◌≤◌, ◌++◌, IfOk, length, slice_index, string_bytes};
+ghost use Rattle.std.specs.Prelude.{◌≡◌, ◌+◌, ◌<◌, ◌≤◌, ◌++◌, IfOk, length, slice_index, string_bytes};
 ghost use Rattle.arrayvec.specs.ArrayString.{array_string_len};
 ghost use Rattle.hex.specs.Hex.{upper_digits};
 ghost use Rattle.report_lines.specs.FirstLines as texts;
@@ -142,7 +142,6 @@ pub fn report_head(cause: Cause, steps: u64, regs: Regs) -> ArrayString<256>
 /// Writes the line of a report with the console text: two lower-case digits for each byte, or `-` for none. If the writer fails, a prefix
 /// of the line is written.
 pub fn write_text<W: Writer>(writer: &mut W, text: &[u8]) -> Result<(), Failed>
-    requires { (W.output writer.old).failures < 2 ^ 63 }
     ensures { WritesText (W.output writer.old) (W.output writer.new) (text_line text.now) result }
 {
     write_all(writer, b"text ")?;

@@ -1,6 +1,6 @@
 // Bytes written as hexadecimal digits, a chunk at a time.
 
-ghost use Rattle.std.specs.Prelude.{◌^◌, ◌<◌, ◌≤◌, length};
+ghost use Rattle.std.specs.Prelude.{◌≤◌, length};
 ghost use Rattle.hex.specs.Hex.{encode_lower};
 ghost use Rattle.report_lines.specs.Streams.{WritesText};
 
@@ -14,7 +14,6 @@ const CHUNK_DIGITS: usize = 4096;
 
 /// Writes two lower-case digits for each byte, 4096 digits at a time. If the writer fails, a prefix of them is written.
 pub fn write_hex<W: Writer>(writer: &mut W, bytes: &[u8]) -> Result<(), Failed>
-    requires { (W.output writer.old).failures < 2 ^ 63 }
     ensures { WritesText (W.output writer.old) (W.output writer.new) (encode_lower bytes.now) result }
 {
     let mut rest = bytes;
@@ -28,8 +27,7 @@ pub fn write_hex<W: Writer>(writer: &mut W, bytes: &[u8]) -> Result<(), Failed>
 
 // Writes the digits of a chunk.
 fn write_chunk<W: Writer>(writer: &mut W, chunk: &[u8]) -> Result<(), Failed>
-    requires room { (W.output writer.old).failures < 2 ^ 63 }
-    requires small { length chunk.now ≤ 2048 }
+    requires { length chunk.now ≤ 2048 }
     ensures { WritesText (W.output writer.old) (W.output writer.new) (encode_lower chunk.now) result }
 {
     let mut buffer = [0; CHUNK_DIGITS];

@@ -1,8 +1,9 @@
-ghost use Rattle.std.specs.Prelude.{◌≡◌, ◌+◌, ◌^◌, ◌<◌, ◌≤◌, length, IfOk, OnOk, OnErr};
+ghost use Rattle.std.specs.Prelude.{◌≡◌, ◌+◌, ◌<◌, ◌≤◌, length, IfOk, OnOk, OnErr};
 ghost use Rattle.std.specs.Io.KnownBytes.{ReadConsumes, WriteAppends};
 ghost use Rattle.report_lines.specs.Streams.{Input, Output, WritesText};
 
 use std::io;
+use tallies::Tally;
 
 /// The failure of a reader or a writer. The cause is not recorded.
 #[derive(Clone, Copy, Debug, PartialEq, Eq)]
@@ -19,7 +20,6 @@ pub trait Reader {
     ///
     /// The reader failed: no byte was read, and the count of failures is one higher.
     fn read(&mut self, piece: &mut [u8]) -> Result<usize, Failed>
-        requires { (input self.old).failures < 2 ^ 63 }
         ensures count { IfOk result (λ n. n ≤ length piece.new) }
         ensures bytes { ReadConsumes (input self.old).left (input self.new).left result piece.new }
         ensures ok { OnOk result ((input self.new).failures ≡ (input self.old).failures) }
@@ -37,7 +37,6 @@ pub trait Writer {
     ///
     /// The writer failed: no byte was written, and the count of failures is one higher.
     fn write(&mut self, piece: &[u8]) -> Result<usize, Failed>
-        requires { (output self.old).failures < 2 ^ 63 }
         ensures count { IfOk result (λ n. n ≤ length piece.now) }
         ensures some { IfOk result (λ n. 0 < length piece.now → 0 < n) }
         ensures bytes { WriteAppends (output self.old).holds (output self.new).holds result piece.now }
@@ -50,16 +49,19 @@ pub trait Writer {
 #[derive(Drop)]
 pub struct Over<T> {
     inner: T,
-    failures: u64,
+    failures: Tally,
 }
 
 impl<T> Over<T> {
     /// Wraps a reader or writer that has not failed yet.
     pub fn new(inner: T) -> Over<T>
-        ensures none { result.failures ≡ 0 }
+        ensures none { result.failures.count ≡ 0 }
         ensures same { result.inner ≡ inner }
     {
-        Over { inner, failures: 0 }
+        Over {
+            inner,
+            failures: Tally::new(),
+        }
     }
 
     /// Returns the reader or writer.
@@ -72,13 +74,13 @@ impl<T> Over<T> {
 }
 
 impl<T: io::Read> Reader for Over<T> {
-    ghost input = { λ o. record { left = T.remaining o.inner; failures = o.failures } };
+    ghost input = { λ o. record { left = T.remaining o.inner; failures = o.failures.count } };
 
     fn read(&mut self, piece: &mut [u8]) -> Result<usize, Failed> {
         match self.inner.read(piece) {
             Ok(n) => Ok(n),
             Err(_) => {
-                self.failures += 1;
+                self.failures = self.failures.plus_one();
                 Err(Failed)
             }
         }
@@ -86,13 +88,13 @@ impl<T: io::Read> Reader for Over<T> {
 }
 
 impl<T: io::Write> Writer for Over<T> {
-    ghost output = { λ o. record { holds = T.contents o.inner; failures = o.failures } };
+    ghost output = { λ o. record { holds = T.contents o.inner; failures = o.failures.count } };
 
     fn write(&mut self, piece: &[u8]) -> Result<usize, Failed> {
         match self.inner.write(piece) {
             Ok(n) if n > 0 || piece.is_empty() => Ok(n),
             _ => {
-                self.failures += 1;
+                self.failures = self.failures.plus_one();
                 Err(Failed)
             }
         }
@@ -105,7 +107,6 @@ impl<T: io::Write> Writer for Over<T> {
 ///
 /// The writer failed: a prefix of the text was written. A failed write is not tried again.
 pub fn write_all<W: Writer>(writer: &mut W, text: &[u8]) -> Result<(), Failed>
-    requires { (W.output writer.old).failures < 2 ^ 63 }
     ensures { WritesText (W.output writer.old) (W.output writer.new) text.now result }
 {
     let mut rest = text;

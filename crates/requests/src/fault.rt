@@ -1,4 +1,4 @@
-ghost use Rattle.std.specs.Prelude.{◌≡◌, ◌^◌, ◌<◌, IfOk, IfSome, IfNone, string_bytes};
+ghost use Rattle.std.specs.Prelude.{◌≡◌, IfOk, IfSome, IfNone, string_bytes};
 ghost use Rattle.requests.specs.FaultReports.{ReportsFaultOrMemory};
 ghost use Rattle.report_lines.specs.Streams.{WritesOrFails};
 
@@ -117,7 +117,6 @@ impl Fault<'_> {
 
 /// Writes a text. A failure of the writer is ignored.
 fn write_message<E: Writer>(err: &mut E, text: &[u8])
-    requires { (E.output err.old).failures < 2 ^ 63 }
     ensures { WritesOrFails (E.output err.old) (E.output err.new) text.now }
 {
     let _ = write_all(err, text);
@@ -126,7 +125,6 @@ fn write_message<E: Writer>(err: &mut E, text: &[u8])
 /// Writes the message of an error of a program and returns the status. If there is no memory to put a path, name or number into
 /// the message, it reports out of memory instead. A failure of the writer is ignored.
 pub fn report_fault<E: Writer>(alloc: Global, tool: Tool, fault: Fault<'_>, err: &mut E) -> u8
-    requires { (E.output err.old).failures < 2 ^ 63 }
     ensures { ReportsFaultOrMemory tool fault.entry result (E.output err.old) (E.output err.new) }
 {
     if let Some(text) = fault.fixed_message(tool) {

@@ -1,6 +1,6 @@
 // The request in the words of a command line.
 
-ghost use Rattle.std.specs.Prelude.{◌≡◌, ◌<◌, ◌^◌, IfOk, IfErr};
+ghost use Rattle.std.specs.Prelude.{◌≡◌, IfOk, IfErr};
 ghost use Rattle.requests.specs.Requests.{FailsToParse, IsRequestOf, WritesSomeText};
 
 use crate::fault::Fault;
@@ -43,7 +43,6 @@ pub fn request_of_error<'a, W>(
 ///
 /// Returns `Err` if writing fails.
 pub fn print_information<'a, O: Writer>(text: &str, out: &mut O) -> Result<(), Fault<'a>>
-    requires { (O.output out.old).failures < 2 ^ 63 }
     ensures writes { WritesSomeText (O.output out.old) (O.output out.new) result }
     ensures fault { IfErr result (λ f. f ≡ Fault.CannotWrite) }
 {

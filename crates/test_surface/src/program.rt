@@ -1,7 +1,5 @@
 // `cpmrun`: edit lines over any reader and writer, and the command over any files.
 
-ghost use Rattle.std.specs.Prelude.{◌<◌, ◌^◌};
-
 use cpmrun::{
     Ending, Failed, FileSystem, Over, Reader, ReplayFault, Words, Writer, command, read_words,
     replay,
@@ -17,8 +15,6 @@ pub fn lines<R: Reader, W: Writer>(
     reader: &mut R,
     writer: &mut W,
 ) -> Result<u64, ReplayFault>
-    requires reader { (R.input reader.old).failures < 2 ^ 62 }
-    requires writer { (W.output writer.old).failures < 2 ^ 62 }
 {
     let mut piece = [0; 16];
     let _read: Result<usize, Failed> = reader.read(&mut piece);
@@ -48,8 +44,6 @@ pub fn whole<S: FileSystem, O: Writer, E: Writer>(
     out: &mut O,
     err: &mut E,
 ) -> u8
-    requires out { (O.output out.old).failures < 2 ^ 63 }
-    requires err { (E.output err.old).failures < 2 ^ 63 }
 {
     command(system, words, out, err)
 }

@@ -14,7 +14,7 @@ pub loop-count-init : goal.loop-count-init
 loop-count-init g c = (
   ([], Consumes-nil _, at_start _ _ _ _ _ c.new.ensures.items),
   refl,
-  omega (arith, c.requires.meter),
+  omega (arith, c.requires),
 )
 
 pub returns-then-count-eq0-clause-ok : goal.returns-then-count-eq0-clause-ok

@@ -13,7 +13,7 @@ loop-number-init g c = record { first = []; split = c.new-block.ensures; written
 
 pub unreachable-requires : goal.unreachable-requires
 unreachable-requires g c =
-    no_record (view_contents c.args.file.now) c.loop-number.number (let n = c.requires.count in let h = c.loop-number-test.true in omega arith) (c.in_default.ensures ∙ c.contents_record.ensures)
+    no_record (view_contents c.args.file.now) c.loop-number.number (let n = c.requires in let h = c.loop-number-test.true in omega arith) (c.in_default.ensures ∙ c.contents_record.ensures)
 
 pub returns-in_err-write_hex : goal.returns-in_err-write_hex
 returns-in_err-write_hex g c =
@@ -22,7 +22,7 @@ returns-in_err-write_hex g c =
     let first = c.loop-number.invariant.first in
     let block = c.as_slice.result.now in
     let others = encode_lower (concat (drop number records)) in
-    let some : length records ≡ 0 → ⊥ = λ none. c.if-count-eq0.false (c.requires.count ∙ none) in
+    let some : length records ≡ 0 → ⊥ = λ none. c.if-count-eq0.false (c.requires ∙ none) in
     writes_same _ _ ((encode_lower first ++ encode_lower block) ++ others) (records_text records) c.from_residual.result
     (first_digits records number first block (ap (λ b. first ++ b) c.as_slice.ensures.value ∙ c.loop-number.invariant.split) some)
     (writes_part _ c.from_residual.result c.from_residual.ensures.0
@@ -60,8 +60,8 @@ returns g c =
     let records = unwrap_or (view_contents c.args.file.now) [] in
     let first = c.loop-number.invariant.first in
     let block = c.as_slice-2.result.now in
-    let some : length records ≡ 0 → ⊥ = λ none. c.if-count-eq0.false (c.requires.count ∙ none) in
-    let past : length records ≤ c.loop-number.number = let n = c.requires.count in let h = c.loop-number-test.false in omega arith in
+    let some : length records ≡ 0 → ⊥ = λ none. c.if-count-eq0.false (c.requires ∙ none) in
+    let past : length records ≤ c.loop-number.number = let n = c.requires in let h = c.loop-number-test.false in omega arith in
     writes_same _ _ (encode_lower first ++ encode_lower block) (records_text records) c.write_hex-2.result
     (last_digits records c.loop-number.number first block (ap (λ b. first ++ b) c.as_slice-2.ensures.value ∙ c.loop-number.invariant.split) past some)
     (writes_then _ (encode_lower first) (encode_lower block) c.write_hex-2.result c.loop-number.invariant.written c.write_hex-2.ensures)

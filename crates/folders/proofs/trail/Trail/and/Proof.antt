@@ -27,7 +27,7 @@ use denote.Triple.Entry.{alive}
 use denote.Triple.Spec.{Meets, triple_of}
 use denote.Triple.Table.{entered}
 use denote.Triple.Walked.{says, Stays, stay_dropped, walk_of, ends_at, walk_Meets, Goes-dropped}
-use Rattle.folders.proofs.Walks.{none, none_made}
+use Rattle.tallies.proofs.Walks.{none, none_made}
 use Rattle.folders.specs.contracts.trail.Trail as Trail
 use Rattle.folders.specs.contracts.trail.Trail.and as F
 use Rattle.folders.specs.contracts.trail.Trail.and.Key.{name as #self}

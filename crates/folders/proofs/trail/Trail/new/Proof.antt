@@ -23,7 +23,7 @@ use denote.Triple.Entry.{alive}
 use denote.Triple.Spec.{Meets, triple_of}
 use denote.Triple.Table.{entered}
 use denote.Triple.Walked.{says, Stays, walk_of, ends_at, walk_Meets}
-use Rattle.folders.proofs.Walks.{none, none_made}
+use Rattle.tallies.proofs.Walks.{none, none_made}
 use Rattle.folders.specs.contracts.trail.Trail as Trail
 use Rattle.folders.specs.contracts.trail.Trail.new as F
 use Rattle.folders.specs.contracts.trail.Trail.new.Key.{name as #self}
