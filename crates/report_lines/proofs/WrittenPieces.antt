@@ -1,13 +1,13 @@
 -- A text written in pieces.
-use Rattle.std.proofs.Common.{arith, map, zero-le, drop, take-append-drop, unwrap_or, ◌<◌, ◌/◌, ◌%◌, slice_index, Some, None, IsErr, [], ◌∷◌, take-suc, add-one, append-nil, append_assoc, codes, ◌≡◌, ℕ, ◌+◌, ◌≤◌, List, ◌++◌, length, take, Option, Result, Ok, Err, refl, sym, ap, ◌∙◌, subst, inl, inr, le_of_lt}
+use Rattle.std.proofs.Common.{arith, map, drop, take-append-drop, unwrap_or, ◌<◌, ◌/◌, ◌%◌, slice_index, Some, None, IsErr, [], ◌∷◌, take-suc, add-one, append-nil, append_assoc, codes, ◌≡◌, ℕ, ◌+◌, ◌≤◌, List, ◌++◌, length, take, Option, Result, Ok, Err, refl, sym, ap, ◌∙◌, subst, inl, inr, le_of_lt}
 use Rattle.std.proofs.lemmas.Bool.{cases_lt}
 use Rattle.std.proofs.lemmas.List.{take-append-le, take_all}
 use Rattle.std.proofs.Math.Seq.{take-append_seam, take-append-add}
 use Rattle.std.specs.Io.KnownBytes.{Appends}
 use Rattle.std.proofs.KnownBytes.{Appends-nil, Appends-trans}
 use Rattle.std.specs.List.{concat, slice_get}
-use Rattle.std.specs.Option.{option_map, option_and_then}
-use Rattle.std.proofs.lemmas.Option.{get_or_from_slice_get, slice_get_past, slice_get-get_or}
+use Rattle.std.specs.Option.{option_map}
+use Rattle.std.proofs.lemmas.Option.{get_or_from_slice_get, slice_get_past}
 use Rattle.hostfiles.specs.Files.{OwnFiles, file_contents}
 use Rattle.hostfiles.specs.Changed.{changed_names, changed_keys}
 use Rattle.hostfiles.proofs.ChangedWalk.{keys_above, keys_above_none}

@@ -1,4 +1,4 @@
-use Rattle.std.proofs.Common.{◌≡◌, ◌∙◌, ◌++◌, ◌∷◌, [], ap, codes, unwrap_or}
+use Rattle.std.proofs.Common.{◌++◌, ◌∷◌, [], codes, unwrap_or}
 use Rattle.filenames.specs.Names.{display_text}
 use Rattle.hostfiles.specs.FileView.{view_contents}
 use Rattle.report_lines.specs.ChangedLines.{records_text, changed_line}
