@@ -14,8 +14,7 @@ pub fn lines<R: Reader, W: Writer>(
     runner: &mut Runner,
     reader: &mut R,
     writer: &mut W,
-) -> Result<u64, ReplayFault>
-{
+) -> Result<u64, ReplayFault> {
     let mut piece = [0; 16];
     let _read: Result<usize, Failed> = reader.read(&mut piece);
     let _written: Result<usize, Failed> = writer.write(&piece);
@@ -43,7 +42,6 @@ pub fn whole<S: FileSystem, O: Writer, E: Writer>(
     words: &[String],
     out: &mut O,
     err: &mut E,
-) -> u8
-{
+) -> u8 {
     command(system, words, out, err)
 }
