@@ -6,14 +6,13 @@ ghost use Rattle.std.specs.Io.KnownBytes.{Appends, ReadConsumes};
 ghost use Rattle.folders.specs.Failures.{AddsPaths, KeepsFiles, ReportsPaths, io_paths};
 ghost use Rattle.folders.specs.FileSystem.{Becomes, ChangesAt, Opens, ReadsFile, StoredFiles, files_after_rename};
 
-use crate::trail::Trail;
 use std::alloc::Global;
 use std::fs::{OpenFile, OpenOptions, Permissions, read_dir};
 use std::io::{BufWriter, ErrorKind, Read, Write};
 use std::os::unix::fs::OpenOptionsExt;
 use std::rt::Files;
 use std::{fs, io};
-use tallies::Tally;
+use trails::Trail;
 
 /// Bytes that can be written, such as the bytes of a file that is kept in parts.
 pub trait Contents {
@@ -136,21 +135,21 @@ fn read_first<T: Read + Drop>(alloc: Global, source: T, most: u64) -> io::Result
 pub struct SystemFile<T> {
     inner: T,
     failed: bool,
-    failures: Tally,
-    ghost counted: { IsTrue failed ↔ (0 < failures.count) },
+    failures: Trail,
+    ghost counted: { IsTrue failed ↔ (0 < length failures.paths) },
 }
 
 impl<T: Read> InputFile for SystemFile<T> {
     ghost left = { λ file. T.remaining file.inner };
 
-    ghost failures = { λ file. file.failures.count };
+    ghost failures = { λ file. length file.failures.paths };
 
     fn read(&mut self, piece: &mut [u8]) -> io::Result<usize> {
         match self.inner.read(piece) {
             Ok(count) => Ok(count),
             Err(error) => {
                 self.failed = true;
-                self.failures = self.failures.plus_one();
+                self.failures = self.failures.and("");
                 Err(error)
             }
         }
@@ -248,7 +247,7 @@ impl<R: Files + AllocGlobal + Clone + Drop> FileSystem for SystemFiles<'_, R> {
             Ok(inner) => Ok(SystemFile {
                 inner,
                 failed: false,
-                failures: Tally::new(),
+                failures: Trail::new(),
             }),
             Err(error) => Err(error),
         }

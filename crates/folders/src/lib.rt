@@ -1,8 +1,7 @@
 //! The folders of the host for the drives A to D: their files are read as host files, and changed files are written into them.
 //!
 //! - `folder_names`, `listing`: the names of files in a folder, and their paths; the files of a folder by their keys
-//! - `file_system`: `FileSystem`, files by their paths as contracts see them, and `SystemFiles`, the files of the operating
-//!   system; `trail`: the paths at which they failed, which only contracts see
+//! - `file_system`: `FileSystem`, files by their paths as contracts see them, and `SystemFiles`, the files of the operating system
 //! - `reading`, `writing`, `fault`: reading folders into host files; writing a changed file; why either fails, and the message
 #![tactic(auto)]
 
@@ -11,7 +10,6 @@ mod file_system;
 mod folder_names;
 mod listing;
 mod reading;
-mod trail;
 mod writing;
 
 pub use fault::{Failure, Fault, read_failure};

@@ -3,7 +3,7 @@ ghost use Rattle.std.specs.Io.KnownBytes.{ReadConsumes, WriteAppends};
 ghost use Rattle.report_lines.specs.Streams.{Input, Output, WritesText};
 
 use std::io;
-use tallies::Tally;
+use trails::Trail;
 
 /// The failure of a reader or a writer. The cause is not recorded.
 #[derive(Clone, Copy, Debug, PartialEq, Eq)]
@@ -49,18 +49,18 @@ pub trait Writer {
 #[derive(Drop)]
 pub struct Over<T> {
     inner: T,
-    failures: Tally,
+    failures: Trail,
 }
 
 impl<T> Over<T> {
     /// Wraps a reader or writer that has not failed yet.
     pub fn new(inner: T) -> Over<T>
-        ensures none { result.failures.count ≡ 0 }
+        ensures none { length result.failures.paths ≡ 0 }
         ensures same { result.inner ≡ inner }
     {
         Over {
             inner,
-            failures: Tally::new(),
+            failures: Trail::new(),
         }
     }
 
@@ -74,13 +74,13 @@ impl<T> Over<T> {
 }
 
 impl<T: io::Read> Reader for Over<T> {
-    ghost input = { λ o. record { left = T.remaining o.inner; failures = o.failures.count } };
+    ghost input = { λ o. record { left = T.remaining o.inner; failures = length o.failures.paths } };
 
     fn read(&mut self, piece: &mut [u8]) -> Result<usize, Failed> {
         match self.inner.read(piece) {
             Ok(n) => Ok(n),
             Err(_) => {
-                self.failures = self.failures.plus_one();
+                self.failures = self.failures.and("");
                 Err(Failed)
             }
         }
@@ -88,13 +88,13 @@ impl<T: io::Read> Reader for Over<T> {
 }
 
 impl<T: io::Write> Writer for Over<T> {
-    ghost output = { λ o. record { holds = T.contents o.inner; failures = o.failures.count } };
+    ghost output = { λ o. record { holds = T.contents o.inner; failures = length o.failures.paths } };
 
     fn write(&mut self, piece: &[u8]) -> Result<usize, Failed> {
         match self.inner.write(piece) {
             Ok(n) if n > 0 || piece.is_empty() => Ok(n),
             _ => {
-                self.failures = self.failures.plus_one();
+                self.failures = self.failures.and("");
                 Err(Failed)
             }
         }

@@ -8,7 +8,7 @@ use std::alloc::{AllocError, Global};
 use std::fs::OpenFile;
 use std::test::Fail;
 use std::{fs, process};
-use tallies::Tally;
+use trails::Trail;
 use test_sessions::program;
 
 /// A program that prints `Hi` by call 9 and returns.
@@ -52,17 +52,17 @@ pub enum Act<'a> {
 struct Screen {
     text: Vec<u8>,
     room: usize,
-    failures: Tally,
+    failures: Trail,
 }
 
 impl Writer for Screen {
-    ghost output = { λ s. record { holds = None; failures = s.failures.count } };
+    ghost output = { λ s. record { holds = None; failures = length s.failures.paths } };
 
     fn write(&mut self, piece: &[u8]) -> Result<usize, Failed> {
         let count = piece.len().min(self.room);
         let taken = self.text.extend_from_slice(&piece[..count]);
         if taken.is_err() || count == 0 && !piece.is_empty() {
-            self.failures = self.failures.plus_one();
+            self.failures = self.failures.and("");
             return Err(Failed);
         }
         self.room -= count;
@@ -143,12 +143,12 @@ fn ask(rt: &HostRuntime, folder: &str, words: &[String], wanted: Wanted<'_>) -> 
     let mut out = Screen {
         text: Vec::new(rt.alloc()),
         room: out_room,
-        failures: Tally::new(),
+        failures: Trail::new(),
     };
     let mut err = Screen {
         text: Vec::new(rt.alloc()),
         room: err_room,
-        failures: Tally::new(),
+        failures: Trail::new(),
     };
     let status = command(&mut SystemFiles::new(rt), words, &mut out, &mut err);
     let told = (status, out.text.as_slice(), err.text.as_slice());

@@ -6,7 +6,7 @@ use edit_lines::{Failed, Over, Reader, ReplayFault, Writer, replay};
 use machine::Meter;
 use replay::Runner;
 use std::alloc::Global;
-use tallies::Tally;
+use trails::Trail;
 use test_sessions::worked::PRINTS;
 use test_sessions::{Given, Trouble, make};
 
@@ -32,15 +32,15 @@ struct Pieces<'a> {
     rest: &'a [u8],
     longest: usize,
     fails: bool,
-    failures: Tally,
+    failures: Trail,
 }
 
 impl Reader for Pieces<'_> {
-    ghost input = { λ p. record { left = None; failures = p.failures.count } };
+    ghost input = { λ p. record { left = None; failures = length p.failures.paths } };
 
     fn read(&mut self, piece: &mut [u8]) -> Result<usize, Failed> {
         if self.rest.is_empty() && self.fails {
-            self.failures = self.failures.plus_one();
+            self.failures = self.failures.and("");
             return Err(Failed);
         }
         let count = self.longest.min(piece.len()).min(self.rest.len());
@@ -56,17 +56,17 @@ impl Reader for Pieces<'_> {
 struct Screen {
     text: Vec<u8>,
     room: usize,
-    failures: Tally,
+    failures: Trail,
 }
 
 impl Writer for Screen {
-    ghost output = { λ s. record { holds = None; failures = s.failures.count } };
+    ghost output = { λ s. record { holds = None; failures = length s.failures.paths } };
 
     fn write(&mut self, piece: &[u8]) -> Result<usize, Failed> {
         let count = piece.len().min(self.room);
         let taken = self.text.extend_from_slice(&piece[..count]);
         if taken.is_err() || count == 0 && !piece.is_empty() {
-            self.failures = self.failures.plus_one();
+            self.failures = self.failures.and("");
             return Err(Failed);
         }
         self.room -= count;
@@ -79,12 +79,12 @@ fn replays_over(alloc: Global, runner: &mut Runner, wanted: &Replay<'_>) -> bool
         rest: wanted.text,
         longest: wanted.longest,
         fails: wanted.fails,
-        failures: Tally::new(),
+        failures: Trail::new(),
     };
     let mut screen = Screen {
         text: Vec::new(alloc),
         room: wanted.room,
-        failures: Tally::new(),
+        failures: Trail::new(),
     };
     let mut meter = Meter::new();
     let answer = replay(alloc, runner, &mut meter, &mut reader, &mut screen);

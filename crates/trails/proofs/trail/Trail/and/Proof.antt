@@ -27,12 +27,12 @@ use denote.Triple.Entry.{alive}
 use denote.Triple.Spec.{Meets, triple_of}
 use denote.Triple.Table.{entered}
 use denote.Triple.Walked.{says, Stays, stay_dropped, walk_of, ends_at, walk_Meets, Goes-dropped}
-use Rattle.tallies.proofs.Walks.{none, none_made}
-use Rattle.folders.specs.contracts.trail.Trail as Trail
-use Rattle.folders.specs.contracts.trail.Trail.and as F
-use Rattle.folders.specs.contracts.trail.Trail.and.Key.{name as #self}
-use Rattle.folders.proofs.trail.Trail.and.Statement as stated
-use Rattle.folders.proofs.trail.Trail.and.Code as code
+use Rattle.trails.proofs.Walks.{none, none_made}
+use Rattle.trails.specs.contracts.trail.Trail as Trail
+use Rattle.trails.specs.contracts.trail.Trail.and as F
+use Rattle.trails.specs.contracts.trail.Trail.and.Key.{name as #self}
+use Rattle.trails.proofs.trail.Trail.and.Statement as stated
+use Rattle.trails.proofs.trail.Trail.and.Code as code
 
 abbrev function : Fn
 function = code.function
