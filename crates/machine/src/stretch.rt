@@ -9,7 +9,7 @@ ghost use Rattle.machine.specs.Machine.{session_answers, after, IsReached};
 ghost use Rattle.machine.specs.Session.{image_of};
 ghost use Rattle.machine.specs.Stops.{stop_of_instruction};
 ghost use Rattle.machine.specs.TakesStep.{memory_over_image, TakesStep};
-ghost use Rattle.machine.specs.Stretch.{RunsQuietly, RunsStretch};
+ghost use Rattle.machine.specs.Stretch.{RunsForgetting, RunsQuietly, RunsStretch};
 
 use crate::meter::Meter;
 use crate::session::Session;
@@ -146,6 +146,42 @@ pub fn run_from(
         if !running.looks_at_no_more(cells, offsets) {
             return (n, Ok(None));
         }
+    }
+    (n, Ok(None))
+}
+
+/// Executes steps from step `from` on up to step `end`, or to a stop, whose cause it returns. It forgets the script offsets and the
+/// questions to the host files that each step looked at, so it need not end there. Returns the step that was reached, also at `Err`.
+///
+/// # Errors
+///
+/// `Err` means out of memory. It leaves the state that was reached.
+#[inline(never)]
+pub(crate) fn run_forgetting(
+    running: &mut State,
+    session: &Session,
+    from: u64,
+    end: u64,
+) -> (u64, Result<Option<Cause>, AllocError>)
+    requires order { from ≤ end }
+    requires at { after (session_answers session.now) from ≡ Some running.old.state }
+    requires bound { IsBound session.now running.old }
+    ensures runs { RunsForgetting session.now from end result.0 result.1 running.new.state }
+    ensures bound { IsBound session.now running.new }
+{
+    let mut n = from;
+    while n < end {
+        n += run_quietly(running, end - n);
+        if n == end {
+            return (n, Ok(None));
+        }
+        match take_step(running, session, true) {
+            Ok(None) => {}
+            Ok(Some(cause)) => return (n, Ok(Some(cause))),
+            Err(error) => return (n, Err(error)),
+        }
+        n += 1;
+        running.forget_questions();
     }
     (n, Ok(None))
 }
