@@ -5,7 +5,7 @@ ghost use Rattle.i8080.specs.Instruction.{instruction};
 ghost use Rattle.i8080.specs.Performs.{Performs};
 ghost use Rattle.pagemem.specs.Overlay.{beneath_of, is_ready_at};
 ghost use Rattle.machine.specs.Bound.{IsBound};
-ghost use Rattle.machine.specs.Machine.{session_answers, after, IsReached};
+ghost use Rattle.machine.specs.Machine.{session_answers, after, HasNoQuestions, IsReached};
 ghost use Rattle.machine.specs.Session.{image_of};
 ghost use Rattle.machine.specs.Stops.{stop_of_instruction};
 ghost use Rattle.machine.specs.TakesStep.{memory_over_image, TakesStep};
@@ -167,6 +167,8 @@ pub(crate) fn run_forgetting(
     requires at { after (session_answers session.now) from ≡ Some running.old.state }
     requires bound { IsBound session.now running.old }
     ensures runs { RunsForgetting session.now from end result.0 result.1 running.new.state }
+    ensures forgets { HasNoQuestions running.old.looked
+        → IfOk result.1 (λ stop. IfNone stop (HasNoQuestions running.new.looked)) }
     ensures bound { IsBound session.now running.new }
 {
     let mut n = from;

@@ -29,5 +29,6 @@ loop-n-preserved c =
       at = next ∙ ap (λ (st : PartialState). Some st) (sym c.forget_questions.ensures.state);
       low = omega (arith, low);
       high = (let within = c.run_quietly-n.ensures.within in let apart = c.if-n-end.false in omega (arith, within, apart, c.loop-n.invariant.high));
+      forgot = λ _. c.forget_questions.ensures.none;
       bound = still_bound c.args.session.now c.take_step.new.running c.forget_questions.new.self c.forget_questions.ensures.beneath (c.take_step.ensures.bound refl);
     }
