@@ -5,11 +5,11 @@ use Rattle.machine.proofs.stretch.run_forgetting.Given as goal
 
 abbrev pub invariant-loop-n : goal.invariant-loop-n
 invariant-loop-n l = record {
-  at : after (session_answers l.session) l.n ≡ Some l.running.state;
+  at : after (session_answers l.session) l.n ≡ Some l.state.state;
   low : l.from ≤ l.n;
   high : l.n ≤ l.end;
-  forgot : HasNoQuestions l.initial.running.looked → HasNoQuestions l.running.looked;
-  bound : IsBound l.session l.running;
+  forgot : HasNoQuestions l.initial.state.looked → HasNoQuestions l.state.looked;
+  bound : IsBound l.session l.state;
 }
 
 abbrev pub decreases-loop-n : goal.decreases-loop-n
