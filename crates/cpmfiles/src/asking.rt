@@ -5,7 +5,7 @@
 ghost use Rattle.std.specs.Prelude.{◌≡◌, true, Ok, OnErr, slice_index};
 ghost use Rattle.std.specs.Option.{option_map};
 ghost use Rattle.directory.specs.Entries.{position_of};
-ghost use Rattle.hostfiles.specs.Files.{has, records, record_at, shapes};
+ghost use Rattle.hostfiles.specs.Files.{has, records, record_if_there, shapes};
 ghost use Rattle.hostfiles.specs.FileLooks.{look_has, look_records, look_read, look_directory, HasNewAsk};
 ghost use Rattle.hostfiles.specs.Asking.{AsksFor, Inquires};
 ghost use Rattle.hostfiles.specs.FileView.{view_own};
@@ -89,7 +89,7 @@ pub fn read(
     key: &Key,
     k: u32,
 ) -> Result<Option<Record>, AllocError>
-    ensures { Inquires result (λ own. record_at host.now own key.now k)
+    ensures { Inquires result (λ own. record_if_there host.now own key.now k)
         (λ own. look_read host.now own key.now k) changes.old changes.new }
 {
     let file = FileView::find(host, &changes.journal, key);

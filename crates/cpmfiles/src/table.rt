@@ -1,7 +1,7 @@
 // Host files together with what a run did to them.
 
 ghost use Rattle.std.specs.Prelude.{◌≡◌, ◌<◌, true, false, OnOk, OnErr, IfOk, Some, Ok, slice_index};
-ghost use Rattle.hostfiles.specs.Files.{has, records, length_at, record_at, shapes, after_make, after_rename, after_write};
+ghost use Rattle.hostfiles.specs.Files.{has, records, length_at, record_if_there, shapes, after_make, after_rename, after_write};
 ghost use Rattle.hostfiles.specs.declared.journal.Gap.TheVariants.{Holes, Zeros};
 ghost use Rattle.hostfiles.specs.FileLooks.{look_has, look_records, look_read, look_directory, HasNewAsk, KeepsAsks};
 ghost use Rattle.hostfiles.specs.Asking.{AsksFor, Inquires};
@@ -69,9 +69,9 @@ impl Table<'_> {
     #[tactic(auto, using(crate::proofs::LookLaws::asked_in_turn))]
     pub fn read(&mut self, key: &Key, k: u32, bytes: &mut Record) -> Result<bool, AllocError>
         ensures found { IfOk result (λ b. b ≡ true →
-            record_at self.old.host.now (own_of_table self.old) key.now k ≡ Some bytes.new) }
+            record_if_there self.old.host.now (own_of_table self.old) key.now k ≡ Some bytes.new) }
         ensures none { IfOk result (λ b. b ≡ false →
-            record_at self.old.host.now (own_of_table self.old) key.now k ≡ None) }
+            record_if_there self.old.host.now (own_of_table self.old) key.now k ≡ None) }
         ensures not_read { IfOk result (λ b. b ≡ false → bytes.new ≡ bytes.old) }
         ensures err { OnErr result (bytes.new ≡ bytes.old) }
         ensures looks { OnOk result (looks_of_table self.new ≡

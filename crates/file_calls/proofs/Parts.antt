@@ -8,7 +8,7 @@ use Rattle.std.specs.Option.{option_map}
 use Rattle.std.specs.FinMap.{get}
 use Rattle.interaction_trees.specs.Tree.{result_of}
 use Rattle.hostfiles.specs.Hosts.{Key, Record, Host}
-use Rattle.hostfiles.specs.Files.{base_records, host_records, base_key, is_there, is_host_part, length_by, length_of, record_by, record_of, file_of}
+use Rattle.hostfiles.specs.Files.{base_records, host_records, base_key, is_there, is_host_part, length_by, length_of, written_or_host_record, record_or_hole, file_of}
 use Rattle.hostfiles.specs.File.{shape_of}
 use Rattle.hostfiles.specs.declared.journal.Base.{Base}
 use Rattle.hostfiles.specs.declared.journal.Base.TheVariants.{Same, Gone, New, Moved}
@@ -29,14 +29,14 @@ in_host u k = elim (cases_lt k (length u)) [
   | inr l ↦ let past : nat_lt k (length u) ≡ false = search rules in ap is_some (slice_get_past u k l) ∙ sym past
 ]
 
-stands : (u : List Record) (k : ℕ) (r : Option Record) (below : Bool) → is_some (record_by u k r below) ≡ (is_some r || (below && nat_lt k (length u)))
+stands : (u : List Record) (k : ℕ) (r : Option Record) (below : Bool) → is_some (written_or_host_record u k r below) ≡ (is_some r || (below && nat_lt k (length u)))
 stands u k (Some r) below = refl
 stands u k None true = in_host u k
 stands u k None false = refl
 
 pub shape_is : (host : Host) (key : Key) (e : Entry) → shape_with (length (base_records host key e)) e ≡ shape_of (file_of host key e)
 unfolding shape_with
-shape_is host key e = sym (map-map is_some (record_of host key e) (range_with_len 0 (length_of host key e))
+shape_is host key e = sym (map-map is_some (record_or_hole host key e) (range_with_len 0 (length_of host key e))
     ∙ ap (λ (f : ℕ → Bool). map f (range_with_len 0 (length_of host key e))) (λ i k. stands (base_records host key e) k (get e.records k) (is_host_part k e.grown) i))
 
 -- The lengths are those of the host files.
@@ -76,7 +76,7 @@ shape_here_is host key e sound = by_grown e.grown refl ∙ shape_is host key e w
   by_grown (Some g) is = grown_is host key e g is (subst (λ (o : Option Growth). host_end_of o ≤ length (base_records host key e)) is sound)
 
 -- The record at a record number.
-pub content_is : (host : Host) (key : Key) (k : ℕ) (e : Entry) → result_of (host_answers host) (record_tree key k e.base (get e.records k) (is_host_part k e.grown)) ≡ record_of host key e k
+pub content_is : (host : Host) (key : Key) (k : ℕ) (e : Entry) → result_of (host_answers host) (record_tree key k e.base (get e.records k) (is_host_part k e.grown)) ≡ record_or_hole host key e k
 content_is host key k e = by (get e.records k) (is_host_part k e.grown) where
   by_base : (b : Base) → result_of (host_answers host) (host_record_tree key k b) ≡ slice_get (host_records host (base_key key b)) k
   by_base Same = refl
@@ -84,7 +84,7 @@ content_is host key k e = by (get e.records k) (is_host_part k e.grown) where
   by_base New = refl
   by_base (Moved old) = refl
 
-  by : (r : Option Record) (below : Bool) → result_of (host_answers host) (record_tree key k e.base r below) ≡ record_by (base_records host key e) k r below
+  by : (r : Option Record) (below : Bool) → result_of (host_answers host) (record_tree key k e.base r below) ≡ written_or_host_record (base_records host key e) k r below
   by (Some r) below = refl
   by None true = by_base e.base
   by None false = refl

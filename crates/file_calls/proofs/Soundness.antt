@@ -5,7 +5,7 @@ use Rattle.std.specs.Cmp.Lexicographic.{slice_cmp, nat_list_cmp_total}
 use Rattle.std.specs.FinMap.{get, insert, empty, get-empty, get-insert}
 use Rattle.hostfiles.proofs.Views.{same_key, key_of}
 use Rattle.hostfiles.specs.Hosts.{Key, Record, Host}
-use Rattle.hostfiles.specs.Files.{OwnFiles, entry_at, untouched_entry, new_entry, gone_entry, renamed_from, base_records, host_records, length_by, length_of, limit_by, growth_after, entry_after_write, after_delete}
+use Rattle.hostfiles.specs.Files.{OwnFiles, entry_at, untouched_entry, new_entry, gone_entry, renamed_from, base_records, host_records, length_by, length_of, host_end_after_growth, growth_after, entry_after_write, after_delete}
 use Rattle.hostfiles.specs.declared.journal.Gap.{Gap}
 use Rattle.hostfiles.specs.declared.journal.Growth.{Growth}
 use Rattle.hostfiles.specs.declared.journal.Entry.{Entry}
@@ -36,8 +36,8 @@ moved_sound host old new e same s = record {
 
 -- The number from which on no record is the host file's, after a write.
 grown_from : (u n k : ℕ) (g : Option Growth) → n ≡ length_by u g → host_end_of g ≤ u → host_end_of (growth_after n k g) ≤ u
-grown_from u n k g e h = elim (nat_lt k n) as (λ b. host_end_of (cond b g (Some (record { host_end = limit_by n g; length = k + 1 }))) ≤ u) [ true ↦ h | false ↦ limit g e h ] where
-  limit : (g : Option Growth) → n ≡ length_by u g → host_end_of g ≤ u → limit_by n g ≤ u
+grown_from u n k g e h = elim (nat_lt k n) as (λ b. host_end_of (cond b g (Some (record { host_end = host_end_after_growth n g; length = k + 1 }))) ≤ u) [ true ↦ h | false ↦ limit g e h ] where
+  limit : (g : Option Growth) → n ≡ length_by u g → host_end_of g ≤ u → host_end_after_growth n g ≤ u
   limit None e h = omega arith
   limit (Some g) e h = h
 

@@ -3,7 +3,7 @@ use Rattle.std.specs.Prelude.{List, [], ◌∷◌}
 use Rattle.std.specs.Borrow.{GName}
 use Rattle.directory.specs.Entries.{Shape}
 use Rattle.hostfiles.specs.Hosts.{Key, Host}
-use Rattle.hostfiles.specs.Files.{OwnFiles, has, file_of, record_of, entry_at, shapes}
+use Rattle.hostfiles.specs.Files.{OwnFiles, has, file_of, record_or_hole, entry_at, shapes}
 use Rattle.hostfiles.specs.File.{shape_of}
 use Rattle.hostfiles.specs.FileLooks.{look_has, look_length, look_content, look_directory}
 use Rattle.hostfiles.specs.FileView.{view_own}
@@ -34,7 +34,7 @@ shape_of_view f = shape_of_key f.host.now (view_own f) f.key
 abbrev pub file_answers : Host → OwnFiles → FileAnswers
 file_answers host own (IsThere key) = has host own key
 file_answers host own (ShapeOf key) = shape_of_key host own key
-file_answers host own (Content key k) = record_of host key (entry_at own key) k
+file_answers host own (Content key k) = record_or_hole host key (entry_at own key) k
 file_answers host own (FilesOn drive) = files_on drive (shapes host own)
 
 -- The looks after a question: what is own answers without a look.

@@ -5,7 +5,7 @@ use Rattle.std.specs.List.{slice_get}
 use Rattle.std.proofs.lemmas.Option.{slice_get-get_or, slice_get_past}
 use Rattle.records.specs.Records.{zeros}
 use Rattle.hostfiles.specs.Hosts.{Key, Record, Host}
-use Rattle.hostfiles.specs.Files.{OwnFiles, has, entry_at, record_of, length_at, file_of, records, file_contents}
+use Rattle.hostfiles.specs.Files.{OwnFiles, has, entry_at, record_or_hole, length_at, file_of, records, file_contents}
 use Rattle.hostfiles.specs.File.{contents_of}
 use Rattle.hostfiles.proofs.Differences.{length_of_contents, record_of_contents}
 
@@ -31,7 +31,7 @@ content_past host own key k h past =
     sym (by_presence host own key k true h ∙ slice_get_past (contents_of (file_of host key (entry_at own key))) k (omega arith))
 
 pub content_within : (host : Host) (own : OwnFiles) (key : Key) (k : ℕ) (r : Record) → has host own key ≡ true → k < length_at host own key
-    → unwrap_or (record_of host key (entry_at own key) k) zeros ≡ r → Some r ≡ content_at host own key k
+    → unwrap_or (record_or_hole host key (entry_at own key) k) zeros ≡ r → Some r ≡ content_at host own key k
 content_within host own key k r h below at =
     let long = length_of_contents host key (entry_at own key) in
     sym (by_presence host own key k true h ∙ slice_get-get_or (contents_of (file_of host key (entry_at own key))) k zeros (omega arith)
@@ -39,12 +39,12 @@ content_within host own key k r h below at =
 
 -- ---- a record of the contents, if there is a file
 
-record_in : (t : Option (List Record)) (k : ℕ) → option_and_then (λ f. slice_get f k) t ≡ slice_get (unwrap_or t []) k
-record_in None k = sym (slice_get_past [] k zero-le)
-record_in (Some f) k = refl
+padded_record_at : (t : Option (List Record)) (k : ℕ) → option_and_then (λ f. slice_get f k) t ≡ slice_get (unwrap_or t []) k
+padded_record_at None k = sym (slice_get_past [] k zero-le)
+padded_record_at (Some f) k = refl
 
 pub record_here : (t : Option (List Record)) (k : ℕ) (r : Record) → Some r ≡ option_and_then (λ f. slice_get f k) t → slice_get (unwrap_or t []) k ≡ Some r
-record_here t k r h = sym (h ∙ record_in t k)
+record_here t k r h = sym (h ∙ padded_record_at t k)
 
 pub no_record : (t : Option (List Record)) (k : ℕ) → k < length (unwrap_or t []) → None ≡ option_and_then (λ f. slice_get f k) t → ⊥
-no_record t k h none = let some = slice_get-get_or (unwrap_or t []) k [] h in let same = record_in t k in cc
+no_record t k h none = let some = slice_get-get_or (unwrap_or t []) k [] h in let same = padded_record_at t k in cc

@@ -7,7 +7,7 @@ use Rattle.std.specs.Prelude.{◌==◌}
 use Rattle.std.specs.List.{range_with_len}
 use Rattle.directory.specs.Entries.{Shape, count_of, count_at, count_in, count_if_any}
 use Rattle.hostfiles.specs.Hosts.{Key, Host}
-use Rattle.hostfiles.specs.Files.{OwnFiles, has, length_at, record_of, entry_at, file_of, shape_at}
+use Rattle.hostfiles.specs.Files.{OwnFiles, has, length_at, record_or_hole, entry_at, file_of, shape_at}
 use Rattle.hostfiles.specs.File.{shape_of}
 
 -- Without a record the count is 0.
@@ -82,7 +82,7 @@ no_entry (b ∷ bs) e one h = ap (λ n. cond (nat_lt 0 n) (Some n) None) h
 pub past_entries : (host : Host) (own : OwnFiles) (key : Key) (e : ℕ) → 1 ≤ e → length_at host own key ≤ 128 * e → count_if_any (shape_at host own key) e ≡ None
 past_entries host own key e one past =
     let s : Shape = shape_of (file_of host key (entry_at own key)) in
-    let none = none_past (record_of host key (entry_at own key)) (length_at host own key) e 0 (λ k l u. omega arith) in
+    let none = none_past (record_or_hole host key (entry_at own key)) (length_at host own key) e 0 (λ k l u. omega arith) in
     elim (has host own key) as (λ b. count_if_any (option_map shape_of (cond b (Some (file_of host key (entry_at own key))) None)) e ≡ None) [
       | true ↦ no_entry s e one (count_empty s e none)
       | false ↦ refl

@@ -11,7 +11,7 @@ use Rattle.std.proofs.lemmas.Option.{unwrap_or-slice_get}
 use Rattle.std.specs.Ordering.{nat_cmp}
 use Rattle.records.specs.Records.{zeros}
 use Rattle.hostfiles.specs.Hosts.{Key, Record, Host}
-use Rattle.hostfiles.specs.Files.{OwnFiles, has, untouched_entry, entry_at, is_there, record_of, record_by, is_host_part, length_of, length_at, file_of, host_records, base_key, file_contents}
+use Rattle.hostfiles.specs.Files.{OwnFiles, has, untouched_entry, entry_at, is_there, record_or_hole, written_or_host_record, is_host_part, length_of, length_at, file_of, host_records, base_key, file_contents}
 use Rattle.hostfiles.specs.File.{contents_of}
 use Rattle.hostfiles.specs.declared.journal.Entry.{Entry}
 use Rattle.hostfiles.specs.declared.journal.Base.TheVariants.{Same}
@@ -24,15 +24,15 @@ records_decide = pointwise_decides bytes_decides
 -- ---- the contents of a file
 
 pub length_of_contents : (host : Host) (key : Key) (e : Entry) → length (contents_of (file_of host key e)) ≡ length_of host key e
-length_of_contents host key e = length-map (file_of host key e) (λ r. unwrap_or r zeros) ∙ length-map-range_with_len (record_of host key e) 0 (length_of host key e)
+length_of_contents host key e = length-map (file_of host key e) (λ r. unwrap_or r zeros) ∙ length-map-range_with_len (record_or_hole host key e) 0 (length_of host key e)
 
 pub record_of_contents : (host : Host) (key : Key) (e : Entry) (k : ℕ) (d : Record) → k < length_of host key e
-    → get_or (contents_of (file_of host key e)) k d ≡ unwrap_or (record_of host key e k) zeros
+    → get_or (contents_of (file_of host key e)) k d ≡ unwrap_or (record_or_hole host key e k) zeros
 record_of_contents host key e k d h =
-    let count = length-map-range_with_len (record_of host key e) 0 (length_of host key e) in
+    let count = length-map-range_with_len (record_or_hole host key e) 0 (length_of host key e) in
     let at : 0 + k ≡ k = omega arith in
     get_or-map (λ r. unwrap_or r zeros) (file_of host key e) k None d (omega arith)
-    ∙ ap (λ r. unwrap_or r zeros) (get_or-map-range_with_len (record_of host key e) 0 (length_of host key e) k k None h at)
+    ∙ ap (λ r. unwrap_or r zeros) (get_or-map-range_with_len (record_or_hole host key e) 0 (length_of host key e) k k None h at)
 
 -- ---- whether it is changed
 
@@ -66,7 +66,7 @@ other_file f g h = not_false (pointwise bytes_eq f g) (λ e. h ((records_decide 
 
 -- If each record is the host file's, so are the contents.
 pub same_contents : (host : Host) (key : Key) (e : Entry) (f : List Record) → length_of host key e ≡ length f
-    → ((k : ℕ) → k < length f → unwrap_or (record_of host key e k) zeros ≡ get_or f k zeros) → contents_of (file_of host key e) ≡ f
+    → ((k : ℕ) → k < length f → unwrap_or (record_or_hole host key e k) zeros ≡ get_or f k zeros) → contents_of (file_of host key e) ≡ f
 same_contents host key e f long each =
     let size = length_of_contents host key e in
     same_lists (contents_of (file_of host key e)) f (size ∙ long)
@@ -74,16 +74,16 @@ same_contents host key e f long each =
     record_of_contents host key e k d within ∙ each k below ∙ get_or_default f k zeros d below)
 
 pub same_records : (host : Host) (key : Key) (e : Entry) (f : List Record) → length_of host key e ≡ length f
-    → ((k : ℕ) → k < length f → unwrap_or (record_of host key e k) zeros ≡ get_or f k zeros) → false ≡ not (pointwise bytes_eq (contents_of (file_of host key e)) f)
+    → ((k : ℕ) → k < length f → unwrap_or (record_or_hole host key e k) zeros ≡ get_or f k zeros) → false ≡ not (pointwise bytes_eq (contents_of (file_of host key e)) f)
 same_records host key e f long each = sym (same_file (contents_of (file_of host key e)) f (same_contents host key e f long each))
 
 -- If one record is not the host file's, the contents are not.
 pub other_record : (host : Host) (key : Key) (e : Entry) (f : List Record) (k : ℕ) → length_of host key e ≡ length f → k < length f
-    → not (bytes_eq (unwrap_or (record_of host key e k) zeros) (get_or f k zeros)) ≡ true → true ≡ not (pointwise bytes_eq (contents_of (file_of host key e)) f)
+    → not (bytes_eq (unwrap_or (record_or_hole host key e k) zeros) (get_or f k zeros)) ≡ true → true ≡ not (pointwise bytes_eq (contents_of (file_of host key e)) f)
 other_record host key e f k long h differs = sym (other_file (contents_of (file_of host key e)) f (λ same.
     let within : k < length_of host key e = omega arith in
-    let one : unwrap_or (record_of host key e k) zeros ≡ get_or f k zeros = sym (record_of_contents host key e k zeros within) ∙ ap (λ g. get_or g k zeros) same in
-    let equal : bytes_eq (unwrap_or (record_of host key e k) zeros) (get_or f k zeros) ≡ true = (bytes_decides (unwrap_or (record_of host key e k) zeros) (get_or f k zeros)).1 one in
+    let one : unwrap_or (record_or_hole host key e k) zeros ≡ get_or f k zeros = sym (record_of_contents host key e k zeros within) ∙ ap (λ g. get_or g k zeros) same in
+    let equal : bytes_eq (unwrap_or (record_or_hole host key e k) zeros) (get_or f k zeros) ≡ true = (bytes_decides (unwrap_or (record_or_hole host key e k) zeros) (get_or f k zeros)).1 one in
     true≢false (sym equal ∙ false_of _ differs)))
 
 -- The record with this number is the host file's.
@@ -94,11 +94,11 @@ equal_record a b h = (bytes_decides a b).0 (true_of (bytes_eq a b) h)
 
 -- An unwritten record of a file that comes from its own host file and has not grown.
 pub own_record : (host : Host) (key : Key) (e : Entry) (f : List Record) (k : ℕ) → e.base ≡ Same → e.grown ≡ None → get e.records k ≡ None → get host key ≡ Some f → k < length f
-    → unwrap_or (record_of host key e k) zeros ≡ get_or f k zeros
+    → unwrap_or (record_or_hole host key e k) zeros ≡ get_or f k zeros
 own_record host key e f k base grown none here h =
-    ap (λ b. unwrap_or (record_by (host_records host (base_key key b)) k (get e.records k) (is_host_part k e.grown)) zeros) base
-    ∙ ap (λ g. unwrap_or (record_by (host_records host (Some key)) k (get e.records k) (is_host_part k g)) zeros) grown
-    ∙ ap (λ r. unwrap_or (record_by (host_records host (Some key)) k r true) zeros) none
+    ap (λ b. unwrap_or (written_or_host_record (host_records host (base_key key b)) k (get e.records k) (is_host_part k e.grown)) zeros) base
+    ∙ ap (λ g. unwrap_or (written_or_host_record (host_records host (Some key)) k (get e.records k) (is_host_part k g)) zeros) grown
+    ∙ ap (λ r. unwrap_or (written_or_host_record (host_records host (Some key)) k r true) zeros) none
     ∙ ap (λ g. unwrap_or (slice_get (unwrap_or g []) k) zeros) here
     ∙ unwrap_or-slice_get f k zeros
 
@@ -138,9 +138,9 @@ changed_other host own key =
 -- ---- the same for the steps of the code
 
 pub unwritten_same : (host : Host) (key : Key) (e : Entry) (f : List Record) (k : ℕ) → e.base ≡ Same → e.grown ≡ None → get e.records k ≡ None
-    → get host key ≡ Some f → k < length f → false ≡ not (bytes_eq (unwrap_or (record_of host key e k) zeros) (get_or f k zeros))
+    → get host key ≡ Some f → k < length f → false ≡ not (bytes_eq (unwrap_or (record_or_hole host key e k) zeros) (get_or f k zeros))
 unwritten_same host key e f k base grown none here h =
-    sym (not_true _ ((bytes_decides (unwrap_or (record_of host key e k) zeros) (get_or f k zeros)).1 (own_record host key e f k base grown none here h)))
+    sym (not_true _ ((bytes_decides (unwrap_or (record_or_hole host key e k) zeros) (get_or f k zeros)).1 (own_record host key e f k base grown none here h)))
 
 pub not_there : {X : Type 0} {x : X} (f : Option X) → f ≡ None → f ≡ Some x → ⊥
 not_there f none some = cc

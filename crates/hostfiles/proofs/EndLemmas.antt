@@ -8,7 +8,7 @@ use Rattle.std.specs.FinMap.{get, insert, empty, get-empty}
 use Rattle.records.specs.Records.{RecordMap, zeros, zeros_at}
 use Rattle.records.proofs.KeptLemmas.{get_insert}
 use Rattle.hostfiles.specs.Hosts.{Key, Record, Host}
-use Rattle.hostfiles.specs.Files.{OwnFiles, record_by, is_host_part, length_by, base_records, host_records, record_of, length_of, length_at, untouched_entry, new_entry, gone_entry, entry_at, after_make, after_delete, renamed_from, after_rename, growth_after, records_with_gap, entry_after_write, after_write}
+use Rattle.hostfiles.specs.Files.{OwnFiles, written_or_host_record, is_host_part, length_by, base_records, host_records, record_or_hole, length_of, length_at, untouched_entry, new_entry, gone_entry, entry_at, after_make, after_delete, renamed_from, after_rename, growth_after, records_with_gap, entry_after_write, after_write}
 use Rattle.hostfiles.specs.Laid.{HasNoRecordPastEnd}
 use Rattle.hostfiles.specs.declared.journal.Entry.{Entry}
 use Rattle.hostfiles.specs.declared.journal.Gap.{Gap}
@@ -18,14 +18,14 @@ use Rattle.hostfiles.proofs.JournalLemmas.{each_untouched, each_with}
 use Rattle.hostfiles.proofs.WriteLemmas.{grown_kept, length_wrote, longer}
 
 abbrev EntryEnds : Host → Key → Entry → Type 0
-EntryEnds host q e = (p : ℕ) → length_of host q e ≤ p → record_of host q e p ≡ None
+EntryEnds host q e = (p : ℕ) → length_of host q e ≤ p → record_or_hole host q e p ≡ None
 
-unwritten : (u : List Record) (p : ℕ) (b : Bool) → length u ≤ p → record_by u p None b ≡ None
+unwritten : (u : List Record) (p : ℕ) (b : Bool) → length u ≤ p → written_or_host_record u p None b ≡ None
 unwritten u p true h = slice_get_past u p h
 unwritten u p false h = refl
 
-nowhere : (u : List Record) (p : ℕ) (b : Bool) → length u ≤ p → record_by u p (get {R = nat_cmp} empty p) b ≡ None
-nowhere u p b h = ap (λ o. record_by u p o b) (get-empty nat_cmp p) ∙ unwritten u p b h
+nowhere : (u : List Record) (p : ℕ) (b : Bool) → length u ≤ p → written_or_host_record u p (get {R = nat_cmp} empty p) b ≡ None
+nowhere u p b h = ap (λ o. written_or_host_record u p o b) (get-empty nat_cmp p) ∙ unwritten u p b h
 
 untouched_ends : (host : Host) (q : Key) → EntryEnds host q untouched_entry
 untouched_ends host q p h = nowhere (host_records host (Some q)) p true h
@@ -58,12 +58,12 @@ wrote_ends host key e gap k r h p l =
     let m = records_with_gap gap n k e.records in
     let size : length_of host key (entry_after_write gap n k r e) ≡ n + (k + 1 - n) = length_wrote host key e gap k r ∙ longer n k in
     let none = h p (omega arith) in
-    ap (λ o. record_by (base_records host key e) p o (is_host_part p (growth_after n k e.grown)))
+    ap (λ o. written_or_host_record (base_records host key e) p o (is_host_part p (growth_after n k e.grown)))
     (get_insert m k r p ∙ ap (λ b. cond b (Some r) (get m p)) (apart_at p k (omega arith)) ∙ gap_past gap n k e.records p (omega arith))
     ∙ grown_kept (base_records host key e) n k p (get e.records p) e.grown (λ _. none) ∙ none
 
 moved_ends : (host : Host) (old new : Key) (e : Entry) → EntryEnds host old e → EntryEnds host new (renamed_from old e)
-moved_ends host old new e h = subst (λ s. (p : ℕ) → length_by (length (host_records host s)) e.grown ≤ p → record_by (host_records host s) p (get e.records p) (is_host_part p e.grown) ≡ None) (sym (stands_moved old new e.base)) h
+moved_ends host old new e h = subst (λ s. (p : ℕ) → length_by (length (host_records host s)) e.grown ≤ p → written_or_host_record (host_records host s) p (get e.records p) (is_host_part p e.grown) ≡ None) (sym (stands_moved old new e.base)) h
 
 ends_insert : (host : Host) (own : OwnFiles) (key : Key) (e : Entry) → ((q : Key) → HasNoRecordPastEnd host own q) → EntryEnds host key e → (q : Key) → HasNoRecordPastEnd host (insert own key e) q
 ends_insert host = each_with (EntryEnds host)

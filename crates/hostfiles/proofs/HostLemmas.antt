@@ -6,7 +6,7 @@ use Rattle.std.specs.Cmp.Lexicographic.{slice_cmp, nat_list_cmp_total}
 use Rattle.std.specs.FinMap.{get, insert, remove, empty, contains_key, len, len-empty, len-insert, len-remove, get-empty, get-insert, get-remove}
 use Rattle.keymaps.proofs.Views.{same_key, key_of}
 use Rattle.filenames.specs.Names.{is_sayable}
-use Rattle.hostfiles.specs.Hosts.{Key, Record, Host, IsHost, has_room, record_in, records_in}
+use Rattle.hostfiles.specs.Hosts.{Key, Record, Host, IsHost, has_room, padded_record_at, records_in}
 use Rattle.std.proofs.lemmas.List.FromFn.{length-map-range_with_len}
 
 none_there : (q : Key) → contains_key {X = List Record} {R = slice_cmp nat_cmp} empty q ≡ true → ⊥
@@ -56,7 +56,7 @@ host_set m k v few h s room = record {
 -- At most 8,388,608 bytes make at most 65,536 records.
 pub records_few : (bytes : List ℕ) (f : List Record) → f ≡ records_in bytes → length bytes ≤ 8388608 → length f ≤ 65536
 records_few bytes f e few =
-    let count = ap length e ∙ length-map-range_with_len (record_in bytes) 0 ((length bytes + 127) / 128) in
+    let count = ap length e ∙ length-map-range_with_len (padded_record_at bytes) 0 ((length bytes + 127) / 128) in
     omega arith
 
 -- Host files stay within their limits, whether the file was set or not.

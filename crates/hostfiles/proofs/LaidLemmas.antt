@@ -10,7 +10,7 @@ use Rattle.std.specs.Cmp.Lexicographic.{slice_cmp, nat_list_cmp_total}
 use Rattle.std.specs.FinMap.{get, insert, remove, get-insert, same_map}
 use Rattle.keymaps.proofs.Views.{same_key, key_of}
 use Rattle.hostfiles.specs.Hosts.{Key, Record, Host}
-use Rattle.hostfiles.specs.Files.{OwnFiles, record_by, is_host_part, length_by, host_records, base_key, is_there, record_of, length_at, file_of, has, records, record_at, files, untouched_entry, entry_at, after_delete, renamed_from, base_renamed_from, after_rename}
+use Rattle.hostfiles.specs.Files.{OwnFiles, written_or_host_record, is_host_part, length_by, host_records, base_key, is_there, record_or_hole, length_at, file_of, has, records, record_if_there, files, untouched_entry, entry_at, after_delete, renamed_from, base_renamed_from, after_rename}
 use Rattle.hostfiles.specs.File.{File}
 use Rattle.hostfiles.specs.declared.journal.Base.{Base}
 use Rattle.hostfiles.specs.declared.journal.Base.TheVariants.{Same, Gone, New, Moved}
@@ -58,7 +58,7 @@ there_moved host old new New h = refl
 there_moved host old new (Moved x) h = refl
 
 unfoldable file_over : List Record → Entry → File
-file_over u e = map (λ k. record_by u k (get e.records k) (is_host_part k e.grown)) (range_with_len 0 (length_by (length u) e.grown))
+file_over u e = map (λ k. written_or_host_record u k (get e.records k) (is_host_part k e.grown)) (range_with_len 0 (length_by (length u) e.grown))
 
 -- A renamed file still comes from its host file.
 file_moved : (host : Host) (old new : Key) (e : Entry) → file_of host new (renamed_from old e) ≡ file_of host old e
@@ -80,7 +80,7 @@ counted_by true P N = ap (λ n. Some n) (sym (length-map-range_with_len P 0 N))
 counted_by false P N = refl
 
 pub files-counted : (host : Host) (own : OwnFiles) (key : Key) → records host own key ≡ option_map length (get (files host own) key)
-files-counted host own key = counted_by (has host own key) (record_of host key (entry_at own key)) (length_at host own key) ∙ ap (option_map length) (sym (get-files host own key))
+files-counted host own key = counted_by (has host own key) (record_or_hole host key (entry_at own key)) (length_at host own key) ∙ ap (option_map length) (sym (get-files host own key))
 
 read_by : (b : Bool) (P : ℕ → Option Record) (N k : ℕ) → cond b (cond (nat_lt k N) (P k) None) None ≡ option_and_then (λ f. get_or f k None) (cond b (Some (map P (range_with_len 0 N))) None)
 read_by false P N k = refl
@@ -89,5 +89,5 @@ read_by true P N k = elim (cases_lt k N) [
   | inr l ↦ let short = length-map-range_with_len P 0 N in ap (λ b. cond b (P k) None) (not_below k N l) ∙ sym (get_or_past (map P (range_with_len 0 N)) k None (omega arith))
 ]
 
-pub files-read : (host : Host) (own : OwnFiles) (key : Key) (k : ℕ) → record_at host own key k ≡ option_and_then (λ f. get_or f k None) (get (files host own) key)
-files-read host own key k = read_by (has host own key) (record_of host key (entry_at own key)) (length_at host own key) k ∙ ap (option_and_then (λ f. get_or f k None)) (sym (get-files host own key))
+pub files-read : (host : Host) (own : OwnFiles) (key : Key) (k : ℕ) → record_if_there host own key k ≡ option_and_then (λ f. get_or f k None) (get (files host own) key)
+files-read host own key k = read_by (has host own key) (record_or_hole host key (entry_at own key)) (length_at host own key) k ∙ ap (option_and_then (λ f. get_or f k None)) (sym (get-files host own key))

@@ -12,7 +12,7 @@ use Rattle.records.specs.Records.{RecordMap, zeros, zeros_at}
 use Rattle.records.proofs.KeptLemmas.{get_insert}
 use Rattle.records.proofs.Laws.{set_read}
 use Rattle.hostfiles.specs.Hosts.{Key, Record, Host}
-use Rattle.hostfiles.specs.Files.{OwnFiles, record_by, is_host_part, is_there, base_records, record_of, length_by, length_of, length_at, limit_by, file_of, files, entry_at, growth_after, records_with_gap, entry_after_write, after_write}
+use Rattle.hostfiles.specs.Files.{OwnFiles, written_or_host_record, is_host_part, is_there, base_records, record_or_hole, length_by, length_of, length_at, host_end_after_growth, file_of, files, entry_at, growth_after, records_with_gap, entry_after_write, after_write}
 use Rattle.hostfiles.specs.File.{File, gap_record, with_record}
 use Rattle.hostfiles.specs.Laid.{HasNoRecordPastEnd}
 use Rattle.hostfiles.specs.declared.journal.Gap.{Gap}
@@ -23,32 +23,32 @@ use Rattle.hostfiles.proofs.FileLemmas.{get-files}
 use Rattle.hostfiles.proofs.LaidLemmas.{below, not_below, files-insert, some_cond}
 
 -- If there is no record when the host file's records count, it does not matter whether they count.
-past_end : (u : List Record) (p : ℕ) (o : Option Record) → record_by u p o true ≡ None → record_by u p o false ≡ record_by u p o true
+past_end : (u : List Record) (p : ℕ) (o : Option Record) → written_or_host_record u p o true ≡ None → written_or_host_record u p o false ≡ written_or_host_record u p o true
 past_end u p None h = sym h
 past_end u p (Some r) h = refl
 
-limit_kept : (u : List Record) (n k p : ℕ) (o : Option Record) (g : Option Growth) → (n ≤ p → record_by u p o (is_host_part p g) ≡ None)
-    → record_by u p o (nat_lt p (limit_by n g)) ≡ record_by u p o (is_host_part p g)
+limit_kept : (u : List Record) (n k p : ℕ) (o : Option Record) (g : Option Growth) → (n ≤ p → written_or_host_record u p o (is_host_part p g) ≡ None)
+    → written_or_host_record u p o (nat_lt p (host_end_after_growth n g)) ≡ written_or_host_record u p o (is_host_part p g)
 limit_kept u n k p o (Some g) h = refl
 limit_kept u n k p o None h = elim (cases_lt p n) [
-  | inl in_file ↦ ap (record_by u p o) (below p n in_file)
-  | inr past ↦ ap (record_by u p o) (not_below p n past) ∙ past_end u p o (h past)
+  | inl in_file ↦ ap (written_or_host_record u p o) (below p n in_file)
+  | inr past ↦ ap (written_or_host_record u p o) (not_below p n past) ∙ past_end u p o (h past)
 ]
 
-pub grown_kept : (u : List Record) (n k p : ℕ) (o : Option Record) (g : Option Growth) → (n ≤ p → record_by u p o (is_host_part p g) ≡ None)
-    → record_by u p o (is_host_part p (growth_after n k g)) ≡ record_by u p o (is_host_part p g)
-grown_kept u n k p o g h = elim (nat_lt k n) as (λ b. record_by u p o (is_host_part p (cond b g (Some (record { host_end = limit_by n g; length = k + 1 })))) ≡ record_by u p o (is_host_part p g)) [
+pub grown_kept : (u : List Record) (n k p : ℕ) (o : Option Record) (g : Option Growth) → (n ≤ p → written_or_host_record u p o (is_host_part p g) ≡ None)
+    → written_or_host_record u p o (is_host_part p (growth_after n k g)) ≡ written_or_host_record u p o (is_host_part p g)
+grown_kept u n k p o g h = elim (nat_lt k n) as (λ b. written_or_host_record u p o (is_host_part p (cond b g (Some (record { host_end = host_end_after_growth n g; length = k + 1 })))) ≡ written_or_host_record u p o (is_host_part p g)) [
   | true ↦ refl
   | false ↦ limit_kept u n k p o g h
 ]
 
-pub taken : (b : Bool) (u : List Record) (p : ℕ) (r : Record) (o : Option Record) (c : Bool) → record_by u p (cond b (Some r) o) c ≡ cond b (Some r) (record_by u p o c)
+pub taken : (b : Bool) (u : List Record) (p : ℕ) (r : Record) (o : Option Record) (c : Bool) → written_or_host_record u p (cond b (Some r) o) c ≡ cond b (Some r) (written_or_host_record u p o c)
 taken true u p r o c = refl
 taken false u p r o c = refl
 
 -- The length after a write.
 pub length_wrote : (host : Host) (key : Key) (e : Entry) (gap : Gap) (k : ℕ) (r : Record) → length_of host key (entry_after_write gap (length_of host key e) k r e) ≡ cond (nat_lt k (length_of host key e)) (length_of host key e) (k + 1)
-length_wrote host key e gap k r = elim (nat_lt k (length_of host key e)) as (λ b. length_by (length (base_records host key e)) (cond b e.grown (Some (record { host_end = limit_by (length_of host key e) e.grown; length = k + 1 }))) ≡ cond b (length_of host key e) (k + 1)) [
+length_wrote host key e gap k r = elim (nat_lt k (length_of host key e)) as (λ b. length_by (length (base_records host key e)) (cond b e.grown (Some (record { host_end = host_end_after_growth (length_of host key e) e.grown; length = k + 1 }))) ≡ cond b (length_of host key e) (k + 1)) [
   | true ↦ refl
   | false ↦ refl
 ]
@@ -128,33 +128,33 @@ gap_before : (gap : Gap) (n k : ℕ) (m : RecordMap) (p : ℕ) → p < n → get
 gap_before Holes n k m p h = refl
 gap_before Zeros n k m p h = elim (nat_lt n k) as (λ b. get (cond b (zeros_at m n (k - n)) m) p ≡ get m p) [ true ↦ zeros_before m n (k - n) p h | false ↦ refl ]
 
-gap_in : (gap : Gap) (u : List Record) (n k p : ℕ) (e : Entry) → n ≤ p → p < k → (gap ≡ Holes → record_by u p (get e.records p) (is_host_part p e.grown) ≡ None)
-    → record_by u p (get (records_with_gap gap n k e.records) p) (is_host_part p (growth_after n k e.grown)) ≡ gap_record gap
+gap_in : (gap : Gap) (u : List Record) (n k p : ℕ) (e : Entry) → n ≤ p → p < k → (gap ≡ Holes → written_or_host_record u p (get e.records p) (is_host_part p e.grown) ≡ None)
+    → written_or_host_record u p (get (records_with_gap gap n k e.records) p) (is_host_part p (growth_after n k e.grown)) ≡ gap_record gap
 gap_in Holes u n k p e low high none = grown_kept u n k p (get e.records p) e.grown (λ _. none refl) ∙ none refl
 gap_in Zeros u n k p e low high none =
-    ap (λ o. record_by u p o (is_host_part p (growth_after n k e.grown)))
+    ap (λ o. written_or_host_record u p o (is_host_part p (growth_after n k e.grown)))
     (ap (λ b. get (cond b (zeros_at e.records n (k - n)) e.records) p) (below n k (omega arith)) ∙ zeros_in e.records n (k - n) p low (omega arith))
 
 -- Each record number other than k.
 record_kept : (gap : Gap) (u : List Record) (n k p : ℕ) (e : Entry) → p < n + (k + 1 - n) → eqb p k ≡ false
-    → (gap ≡ Holes → n ≤ p → record_by u p (get e.records p) (is_host_part p e.grown) ≡ None)
-    → record_by u p (get (records_with_gap gap n k e.records) p) (is_host_part p (growth_after n k e.grown)) ≡ with_gap gap (λ q. record_by u q (get e.records q) (is_host_part q e.grown)) n p
+    → (gap ≡ Holes → n ≤ p → written_or_host_record u p (get e.records p) (is_host_part p e.grown) ≡ None)
+    → written_or_host_record u p (get (records_with_gap gap n k e.records) p) (is_host_part p (growth_after n k e.grown)) ≡ with_gap gap (λ q. written_or_host_record u q (get e.records q) (is_host_part q e.grown)) n p
 record_kept gap u n k p e h apart none = elim (cases_lt p n) [
   | inl l ↦
-      ap (λ o. record_by u p o (is_host_part p (growth_after n k e.grown))) (gap_before gap n k e.records p l)
+      ap (λ o. written_or_host_record u p o (is_host_part p (growth_after n k e.grown))) (gap_before gap n k e.records p l)
       ∙ grown_kept u n k p (get e.records p) e.grown (λ (over : n ≤ p). absurd (omega arith))
-      ∙ sym (ap (λ b. cond b (record_by u p (get e.records p) (is_host_part p e.grown)) (gap_record gap)) (below p n l))
+      ∙ sym (ap (λ b. cond b (written_or_host_record u p (get e.records p) (is_host_part p e.grown)) (gap_record gap)) (below p n l))
   | inr l ↦
       gap_in gap u n k p e l (elim (eqb_tells p k) [ inl same ↦ (let t : true ≡ false = sym same.0 ∙ apart in cc) | inr other ↦ (let far = other.1 in omega arith) ]) (λ holes. none holes l)
-      ∙ sym (ap (λ b. cond b (record_by u p (get e.records p) (is_host_part p e.grown)) (gap_record gap)) (not_below p n l))
+      ∙ sym (ap (λ b. cond b (written_or_host_record u p (get e.records p) (is_host_part p e.grown)) (gap_record gap)) (not_below p n l))
 ]
 
-record_wrote : (host : Host) (key : Key) (e : Entry) (gap : Gap) (n k : ℕ) (r : Record) (p : ℕ) → p < n + (k + 1 - n) → (gap ≡ Holes → n ≤ p → record_of host key e p ≡ None)
-    → record_of host key (entry_after_write gap n k r e) p ≡ cond (eqb p k) (Some r) (with_gap gap (record_of host key e) n p)
+record_wrote : (host : Host) (key : Key) (e : Entry) (gap : Gap) (n k : ℕ) (r : Record) (p : ℕ) → p < n + (k + 1 - n) → (gap ≡ Holes → n ≤ p → record_or_hole host key e p ≡ None)
+    → record_or_hole host key (entry_after_write gap n k r e) p ≡ cond (eqb p k) (Some r) (with_gap gap (record_or_hole host key e) n p)
 record_wrote host key e gap n k r p h none =
-    ap (λ o. record_by (base_records host key e) p o (is_host_part p (growth_after n k e.grown))) (get_insert (records_with_gap gap n k e.records) k r p)
+    ap (λ o. written_or_host_record (base_records host key e) p o (is_host_part p (growth_after n k e.grown))) (get_insert (records_with_gap gap n k e.records) k r p)
     ∙ taken (eqb p k) (base_records host key e) p r (get (records_with_gap gap n k e.records) p) (is_host_part p (growth_after n k e.grown))
-    ∙ elim (eqb p k) as (λ b. eqb p k ≡ b → cond b (Some r) (record_by (base_records host key e) p (get (records_with_gap gap n k e.records) p) (is_host_part p (growth_after n k e.grown))) ≡ cond b (Some r) (with_gap gap (record_of host key e) n p)) [
+    ∙ elim (eqb p k) as (λ b. eqb p k ≡ b → cond b (Some r) (written_or_host_record (base_records host key e) p (get (records_with_gap gap n k e.records) p) (is_host_part p (growth_after n k e.grown))) ≡ cond b (Some r) (with_gap gap (record_or_hole host key e) n p)) [
       | true ↦ λ b. refl
       | false ↦ λ b. record_kept gap (base_records host key e) n k p e h b none
     ] refl
@@ -163,15 +163,15 @@ same_places : (f g : ℕ → Option Record) (a n : ℕ) → ((i : ℕ) → i < a
 same_places f g a zero h = refl
 same_places f g a (suc n) h = ap (λ x. x ∷ map f (range_with_len (a + 1) n)) (h a (omega arith)) ∙ ap (λ xs. g a ∷ xs) (same_places f g (a + 1) n (λ i l. h i (omega arith)))
 
-file_wrote : (host : Host) (key : Key) (e : Entry) (gap : Gap) (k : ℕ) (r : Record) → (gap ≡ Holes → (p : ℕ) → length_of host key e ≤ p → record_of host key e p ≡ None)
+file_wrote : (host : Host) (key : Key) (e : Entry) (gap : Gap) (k : ℕ) (r : Record) → (gap ≡ Holes → (p : ℕ) → length_of host key e ≤ p → record_or_hole host key e p ≡ None)
     → file_of host key (entry_after_write gap (length_of host key e) k r e) ≡ with_record gap k r (file_of host key e)
 file_wrote host key e gap k r past =
     let n = length_of host key e in
-    list_written (with_gap gap (record_of host key e) n) n k r (gap_record gap) (λ p l. ap (λ b. cond b (record_of host key e p) (gap_record gap)) (not_below p n l))
-    (record_of host key (entry_after_write gap n k r e)) (length_of host key (entry_after_write gap n k r e)) (length_wrote host key e gap k r)
+    list_written (with_gap gap (record_or_hole host key e) n) n k r (gap_record gap) (λ p l. ap (λ b. cond b (record_or_hole host key e p) (gap_record gap)) (not_below p n l))
+    (record_or_hole host key (entry_after_write gap n k r e)) (length_of host key (entry_after_write gap n k r e)) (length_wrote host key e gap k r)
     (λ p h. record_wrote host key e gap n k r p h (λ holes. past holes p))
-    ∙ ap (λ f. with_record gap k r f) (same_places (with_gap gap (record_of host key e) n) (record_of host key e) 0 n
-    (λ i l. let within : i < n = omega arith in ap (λ b. cond b (record_of host key e i) (gap_record gap)) (below i n within)))
+    ∙ ap (λ f. with_record gap k r f) (same_places (with_gap gap (record_or_hole host key e) n) (record_or_hole host key e) 0 n
+    (λ i l. let within : i < n = omega arith in ap (λ b. cond b (record_or_hole host key e i) (gap_record gap)) (below i n within)))
 
 pub files-wrote : (host : Host) (own : OwnFiles) (gap : Gap) (key : Key) (k : ℕ) (r : Record) (f : File) → (gap ≡ Holes → HasNoRecordPastEnd host own key) → get (files host own) key ≡ Some f
     → files host (after_write gap (length_at host own key) own key k r) ≡ insert (files host own) key (with_record gap k r f)

@@ -2,7 +2,7 @@
 use Rattle.std.specs.Prelude.{ℕ, Bool, List, Option}
 use Rattle.directory.specs.Entries.{Shape}
 use Rattle.hostfiles.specs.Hosts.{Record}
-use Rattle.hostfiles.specs.Files.{OwnFiles, entry_at, file_contents, file_of, has, length_at, record_of}
+use Rattle.hostfiles.specs.Files.{OwnFiles, entry_at, file_contents, file_of, has, length_at, record_or_hole}
 use Rattle.hostfiles.specs.File.{shape_of}
 use Rattle.hostfiles.specs.declared.journal.Entry.{Entry}
 use Rattle.hostfiles.specs.declared.file_view.FileView.{FileView}
@@ -22,7 +22,7 @@ abbrev pub view_length : FileView → ℕ
 view_length f = length_at f.host.now (view_own f) f.key
 
 abbrev pub view_record : FileView → ℕ → Option Record
-view_record f k = record_of f.host.now f.key (view_entry f) k
+view_record f k = record_or_hole f.host.now f.key (view_entry f) k
 
 abbrev pub view_shape : FileView → Shape
 view_shape f = shape_of (file_of f.host.now f.key (view_entry f))

@@ -58,23 +58,24 @@ is_host_part k (Some g) = nat_lt k g.host_end
 
 -- The record with number k, from the host file's records, the record that was written with this number, and whether the host
 -- file's record counts. A record number between the old end and a write past it is a hole.
-abbrev pub record_by : List Record → ℕ → Option Record → Bool → Option Record
-record_by host k (Some r) b = Some r
-record_by host k None true = slice_get host k
-record_by host k None false = None
+abbrev pub written_or_host_record : List Record → ℕ → Option Record → Bool → Option Record
+written_or_host_record host k (Some r) b = Some r
+written_or_host_record host k None true = slice_get host k
+written_or_host_record host k None false = None
 
-abbrev pub limit_by : ℕ → Option Growth → ℕ
-limit_by n None = n
-limit_by n (Some g) = g.host_end
+-- The number from which on no record is the host file's, after a file of length n grew.
+abbrev pub host_end_after_growth : ℕ → Option Growth → ℕ
+host_end_after_growth n None = n
+host_end_after_growth n (Some g) = g.host_end
 
 abbrev pub length_of : Host → Key → Entry → ℕ
 length_of host key e = length_by (length (base_records host key e)) e.grown
 
-abbrev pub record_of : Host → Key → Entry → ℕ → Option Record
-record_of host key e k = record_by (base_records host key e) k (get e.records k) (is_host_part k e.grown)
+abbrev pub record_or_hole : Host → Key → Entry → ℕ → Option Record
+record_or_hole host key e k = written_or_host_record (base_records host key e) k (get e.records k) (is_host_part k e.grown)
 
 abbrev pub file_of : Host → Key → Entry → File
-file_of host key e = map (record_of host key e) (range_with_len 0 (length_of host key e))
+file_of host key e = map (record_or_hole host key e) (range_with_len 0 (length_of host key e))
 
 -- ---- what a run did
 
@@ -106,7 +107,7 @@ renamed_from key e = record { base = base_renamed_from key e.base; grown = e.gro
 -- The growth after record k of a file of length n is written: the new length, and the number from which on no record is the
 -- host file's.
 abbrev pub growth_after : ℕ → ℕ → Option Growth → Option Growth
-growth_after n k g = if nat_lt k n then g else Some (record { host_end = limit_by n g; length = k + 1 })
+growth_after n k g = if nat_lt k n then g else Some (record { host_end = host_end_after_growth n g; length = k + 1 })
 
 -- The records with those of the gap from the end of a file of length n up to k, if k is past the end.
 abbrev pub records_with_gap : Gap → ℕ → ℕ → RecordMap → RecordMap
@@ -138,8 +139,8 @@ has host own key = is_there host key (entry_at own key).base
 abbrev pub length_at : Host → OwnFiles → Key → ℕ
 length_at host own key = length_of host key (entry_at own key)
 
-abbrev pub record_within : Host → OwnFiles → Key → ℕ → Option Record
-record_within host own key k = if nat_lt k (length_at host own key) then record_of host key (entry_at own key) k else None
+abbrev pub record_below_length : Host → OwnFiles → Key → ℕ → Option Record
+record_below_length host own key k = if nat_lt k (length_at host own key) then record_or_hole host key (entry_at own key) k else None
 
 abbrev pub file_at : Host → OwnFiles → Key → Option File
 file_at host own key = if has host own key then Some (file_of host key (entry_at own key)) else None
@@ -148,8 +149,8 @@ abbrev pub records : Host → OwnFiles → Key → Option ℕ
 records host own key = if has host own key then Some (length_at host own key) else None
 
 -- The record with number k, if the file is there, is long enough and has no hole there.
-abbrev pub record_at : Host → OwnFiles → Key → ℕ → Option Record
-record_at host own key k = if has host own key then record_within host own key k else None
+abbrev pub record_if_there : Host → OwnFiles → Key → ℕ → Option Record
+record_if_there host own key k = if has host own key then record_below_length host own key k else None
 
 -- The contents of the file with a key, if there is one.
 abbrev pub file_contents : Host → OwnFiles → Key → Option (List Record)

@@ -17,12 +17,12 @@ abbrev pub padded_record : List ℕ → Record
 padded_record piece = piece ++ replicate (128 - length piece) 26
 
 -- The record with number i of a file with these bytes.
-abbrev pub record_in : List ℕ → ℕ → Record
-record_in bytes i = padded_record (take 128 (drop (128 * i) bytes))
+abbrev pub padded_record_at : List ℕ → ℕ → Record
+padded_record_at bytes i = padded_record (take 128 (drop (128 * i) bytes))
 
 -- All records of a file with these bytes.
 abbrev pub records_in : List ℕ → List Record
-records_in bytes = map (record_in bytes) (range_with_len 0 ((length bytes + 127) / 128))
+records_in bytes = map (padded_record_at bytes) (range_with_len 0 ((length bytes + 127) / 128))
 
 -- Whether a file with this key can be set: there is one already, or there are fewer than 512 files.
 abbrev pub has_room : Host → Key → Bool

@@ -7,7 +7,7 @@ ghost use Rattle.std.specs.FinMap as finmap;
 ghost use Rattle.keymaps.specs.Order.{IsLeastAbove};
 ghost use Rattle.keymaps.specs.Walks.{IsAbsent};
 ghost use Rattle.hostfiles.specs.Files.{file_contents};
-ghost use Rattle.hostfiles.specs.Hosts.{records_in, record_in, padded_record, refusal_of, has_room, IsHost};
+ghost use Rattle.hostfiles.specs.Hosts.{records_in, padded_record_at, padded_record, refusal_of, has_room, IsHost};
 
 use crate::changes::Changes;
 use crate::file_view::FileView;
@@ -55,7 +55,7 @@ impl HostFile {
         let count = (bytes.len() + RECORD_BYTES - 1) / RECORD_BYTES;
         let mut records = Vec::with_capacity(alloc, count)?;
         for i in 0..count {
-            records.push(record_in(bytes, i))?;
+            records.push(padded_record_at(bytes, i))?;
         }
         Ok(HostFile { records })
     }
@@ -76,9 +76,9 @@ impl HostFile {
 }
 
 // Returns the record with this number, padded with 1AH.
-fn record_in(bytes: &[u8], i: usize) -> Record
+fn padded_record_at(bytes: &[u8], i: usize) -> Record
     requires { 128 * i < length bytes.now }
-    ensures { result ≡ record_in bytes.now i }
+    ensures { result ≡ padded_record_at bytes.now i }
 {
     let start = RECORD_BYTES * i;
     if bytes.len() - start > RECORD_BYTES {

@@ -157,8 +157,8 @@ module _ (s : Session) (from end n : ℕ) (looked : AllLooks) (old new : StateVi
       joined s from end n n looked old new here.low high here.same here.quiet (Err e) (ends_by_failure s n (n + (end - n)) n old new old.looked (omega arith) refl here.at none_between e (omega (arith, high)) w) tt
 
 -- Steps that all looked at nothing new.
-pub ends_alike : (s : Session) (from end n : ℕ) (looked : AllLooks) (running : StateView) → n ≤ end → Arrives s from n looked running → RunsStretch s from end looked n (Ok None) running
-ends_alike s from end n looked running high here = record {
+pub ends_alike : (s : Session) (from end n : ℕ) (looked : AllLooks) (state : StateView) → n ≤ end → Arrives s from n looked state → RunsStretch s from end looked n (Ok None) state
+ends_alike s from end n looked state high here = record {
   within = (here.low, high);
   at = here.at;
   stopped = tt;
@@ -166,8 +166,8 @@ ends_alike s from end n looked running high here = record {
   before_last = λ i l h q. here.quiet i l (omega (arith, h)) q;
   before_stop = tt;
   before_failure = tt;
-  last = λ past q. alike looked running.looked here.same q ∙ absorbs (is_looked_at looked q) (is_in q (looks (session_answers s) (n - 1))) (here.quiet (n - 1) (omega (arith, past)) (omega (arith, past)) q);
-  none = λ _ q. alike looked running.looked here.same q ∙ sym (or-false (is_looked_at looked q));
+  last = λ past q. alike looked state.looked here.same q ∙ absorbs (is_looked_at looked q) (is_in q (looks (session_answers s) (n - 1))) (here.quiet (n - 1) (omega (arith, past)) (omega (arith, past)) q);
+  none = λ _ q. alike looked state.looked here.same q ∙ sym (or-false (is_looked_at looked q));
   at_stop = tt;
   extends = record {
     cells = subst (λ (c : List ℕ). memory.Extends looked.cells c) (sym here.same.cells) (extends_itself looked.cells);

@@ -5,6 +5,7 @@ pub mod FitLemmas
 pub mod StepLemmas
 pub mod StretchLemmas
 pub mod KnownSteps
+mod Forgetting
 pub mod JoinedStretches
 pub mod TidyFiles
 pub mod WholeFiles

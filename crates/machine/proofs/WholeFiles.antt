@@ -12,7 +12,7 @@ use Rattle.std.specs.FinMap.{get, empty, entries, entries_sorted, get-entries, g
 use Rattle.std.specs.FinMap.Entries.{below_all, is_sorted, find-where_key, is_sorted-where_key, same_entries}
 use Rattle.hostfiles.proofs.Views.{same_key}
 use Rattle.hostfiles.specs.Hosts.{Key, Record, Host}
-use Rattle.hostfiles.specs.Files.{OwnFiles, has, entry_at, length_at, record_within, record_by, record_of, file_of, file_at, shapes, files, after_delete, after_write}
+use Rattle.hostfiles.specs.Files.{OwnFiles, has, entry_at, length_at, record_below_length, written_or_host_record, record_or_hole, file_of, file_at, shapes, files, after_delete, after_write}
 use Rattle.hostfiles.specs.File.{File, shape_of}
 use Rattle.hostfiles.proofs.FileLemmas.{get-files, get-shapes, files-made, files-deleted}
 use Rattle.hostfiles.proofs.LaidLemmas.{below, not_below, entry_file, files-renamed, files-read}
@@ -29,13 +29,13 @@ use Rattle.machine.proofs.TidyFiles.{IsTidy}
 
 -- ---- the host files
 
-all_stand : (u : List Record) → file_of_records u ≡ map (λ k. record_by u k (get {R = nat_cmp} empty k) true) (range_with_len 0 (length u))
-all_stand u = fill_by_all (λ k. record_by u k (get {R = nat_cmp} empty k) true) (file_of_records u) (length u) None (length-map u (λ r. Some r))
-    (λ k h. get_or-map (λ r. Some r) u k [] None h ∙ sym (ap (λ o. record_by u k o true) (get-empty nat_cmp k) ∙ slice_get-get_or u k [] h))
+all_stand : (u : List Record) → file_of_records u ≡ map (λ k. written_or_host_record u k (get {R = nat_cmp} empty k) true) (range_with_len 0 (length u))
+all_stand u = fill_by_all (λ k. written_or_host_record u k (get {R = nat_cmp} empty k) true) (file_of_records u) (length u) None (length-map u (λ r. Some r))
+    (λ k h. get_or-map (λ r. Some r) u k [] None h ∙ sym (ap (λ o. written_or_host_record u k o true) (get-empty nat_cmp k) ∙ slice_get-get_or u k [] h))
 
 host_file : (host : Host) (q : Key) → option_map file_of_records (get host q) ≡ entry_file host q None
 host_file host q = by (get host q) where
-  by : (o : Option (List Record)) → option_map file_of_records o ≡ cond (is_some o) (Some (map (λ k. record_by (unwrap_or o []) k (get {R = nat_cmp} empty k) true) (range_with_len 0 (length (unwrap_or o []))))) None
+  by : (o : Option (List Record)) → option_map file_of_records o ≡ cond (is_some o) (Some (map (λ k. written_or_host_record (unwrap_or o []) k (get {R = nat_cmp} empty k) true) (range_with_len 0 (length (unwrap_or o []))))) None
   by None = refl
   by (Some u) = ap (λ (f : File). Some f) (all_stand u)
 
@@ -85,12 +85,12 @@ module _ (host : Host) (own : OwnFiles) where
     file_is key = ap (λ o. unwrap_or o []) (get-files host own key) ∙ by (has host own key) refl where
       by : (b : Bool) → has host own key ≡ b → unwrap_or (cond b (Some (file_of host key (entry_at own key))) None) [] ≡ file_of host key (entry_at own key)
       by true h = refl
-      by false h = ap (λ n. map (record_of host key (entry_at own key)) (range_with_len 0 n)) (sym (tidy.absent key h))
+      by false h = ap (λ n. map (record_or_hole host key (entry_at own key)) (range_with_len 0 n)) (sym (tidy.absent key h))
 
-    place_is : (key : Key) (k : ℕ) (b : Bool) → has host own key ≡ b → cond b (record_within host own key k) None ≡ record_of host key (entry_at own key) k
+    place_is : (key : Key) (k : ℕ) (b : Bool) → has host own key ≡ b → cond b (record_below_length host own key k) None ≡ record_or_hole host key (entry_at own key) k
     place_is key k true h = elim (cases_lt k (length_at host own key)) [
-      | inl l ↦ ap (λ b. cond b (record_of host key (entry_at own key) k) None) (below k (length_at host own key) l)
-      | inr l ↦ ap (λ b. cond b (record_of host key (entry_at own key) k) None) (not_below k (length_at host own key) l) ∙ sym (tidy.ends key k l)
+      | inl l ↦ ap (λ b. cond b (record_or_hole host key (entry_at own key) k) None) (below k (length_at host own key) l)
+      | inr l ↦ ap (λ b. cond b (record_or_hole host key (entry_at own key) k) None) (not_below k (length_at host own key) l) ∙ sym (tidy.ends key k l)
     ]
     place_is key k false h = sym (tidy.ends key k (rw (tidy.absent key h) (omega arith)))
 

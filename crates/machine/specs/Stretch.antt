@@ -1,11 +1,11 @@
--- Steps one after another, of which only the last looks at anything new. (This project's own.)
+-- Steps one after another: those of which only the last looks at anything new, and those whose looks are forgotten. (This project's own.)
 use Rattle.std.specs.Prelude.{◌≡◌, ℕ, ◌+◌, ◌<◌, ◌≤◌, ◌-◌, true, [], Option, Some, IfOk, IfNone, IfSome, OnErr}
 use Rattle.std.specs.declared.result.Result.{Result}
 use Rattle.std.specs.declared.alloc.AllocError.{AllocError}
 use Rattle.interaction_trees.specs.Outcome.{Stop}
 use Rattle.console_calls.specs.declared.cause.Cause.{Cause}
 use Rattle.machine.specs.Inputs.{Session}
-use Rattle.machine.specs.StateView.{AllLooks, StateView}
+use Rattle.machine.specs.StateView.{AllLooks, PartialState, StateView}
 use Rattle.machine.specs.Bound.{image_beneath, IsBound}
 use Rattle.first_looks.specs.declared.question.Question.{Question}
 use Rattle.first_looks.specs.Questions.{is_in}
@@ -39,3 +39,10 @@ pub record RunsQuietly (n : ℕ) (old new : StateView) : Type 0 where
   pub quiet : (s : Session) → IsBound s old → (from : ℕ) → after (session_answers s) from ≡ Some old.state → LooksAtNothingNew (session_answers s) old.looked from (from + n)
   pub looked : new.looked ≡ old.looked
   pub beneath : image_beneath new ≡ image_beneath old
+
+-- Steps from `from` on led to the state after n steps: to step `end`, to a stop before it, or to an error before it.
+pub record RunsForgetting (s : Session) (from end n : ℕ) (result : Result (Option Cause) AllocError) (new : PartialState) : Type 0 where
+  pub within : (from ≤ n) × (n ≤ end)
+  pub at : after (session_answers s) n ≡ Some new
+  pub ended : IfOk result (λ stop. IfNone stop (n ≡ end))
+  pub stopped : IfOk result (λ stop. IfSome stop (λ cause. (n < end) × (outcome (session_answers s) new ≡ Stop cause)))

@@ -1,15 +1,14 @@
-ghost use Rattle.std.specs.Prelude.{◌≡◌, ◌+◌, ◌-◌, ◌^◌, ◌<◌, ◌≤◌, Some, IfNone, IfOk, IfSome, IsNone, OnOk, length};
+ghost use Rattle.std.specs.Prelude.{◌≡◌, ◌+◌, ◌-◌, ◌^◌, ◌<◌, ◌≤◌, ◌↔◌, Some, IfNone, IfOk, IfSome, IsNone, IsTrue, OnOk, length};
 ghost use Rattle.first_looks.specs.FirstLooks.{with_seen};
 ghost use Rattle.machine.specs.FirstLooks.{NotesSeenStep};
 ghost use Rattle.machine.specs.Machine.{HasNoQuestions, looks_from, cold_run, session_answers};
 ghost use Rattle.machine.specs.Runs.{GoesOn, EndsBy, NotesWholeRun, StopsBelow, asked_by, seen_by};
-ghost use Rattle.machine.specs.declared.noting.Noting.TheVariants.{Looks};
 
 use crate::meter::Meter;
 use crate::noting::Noting;
 use crate::session::{STEP_LIMIT, Session};
 use crate::state::State;
-use crate::stretch::run_from;
+use crate::stretch::{run_forgetting, run_from};
 use crate::whole_run::WholeRun;
 use console_calls::Cause;
 use first_looks::FirstLooks;
@@ -94,7 +93,7 @@ impl<'s> Run<'s> {
         Ok(None)
     }
 
-    // Runs up to step `end`, to a step that looks at something new, or to a stop, and notes the looks.
+    // Runs up to step `end`, to a stop, or, if it notes looks, to a step that looks at something new.
     fn advance_once(&mut self, end: u64, meter: &mut Meter) -> Result<Option<Cause>, AllocError>
         requires order { (self.old.step < end) × (end ≤ STEP_LIMIT) }
         requires room { meter.old + (end - self.old.step) < 2 ^ 64 }
@@ -106,16 +105,65 @@ impl<'s> Run<'s> {
         ensures noted { self.old.seen ≡ Some self.old.step
             → IfOk result (λ stop. self.new.seen ≡ Some (asked_by self.new.step stop)) }
     {
+        if self.notes_next() {
+            return self.advance_noting(end, meter);
+        }
+        self.advance_forgetting(end, meter)
+    }
+
+    // Returns whether the run notes looks, and the next step is the first one whose looks are not noted.
+    fn notes_next(&self) -> bool
+        ensures { IsTrue result ↔ (self.now.seen ≡ Some self.now.step) }
+    {
+        match self.noting {
+            Noting::Looks => self.looks.seen() == self.step,
+            Noting::Nothing => false,
+        }
+    }
+
+    // Runs up to step `end` or to a stop, and notes nothing from then on.
+    fn advance_forgetting(
+        &mut self,
+        end: u64,
+        meter: &mut Meter,
+    ) -> Result<Option<Cause>, AllocError>
+        requires order { (self.old.step < end) × (end ≤ STEP_LIMIT) }
+        requires room { meter.old + (end - self.old.step) < 2 ^ 64 }
+        ensures goes { GoesOn self.old self.new end }
+        ensures ticks { meter.new + self.old.step ≡ meter.old + self.new.step }
+        ensures moves { IfOk result (λ stop. IfNone stop (self.old.step < self.new.step)) }
+        ensures stops { IfOk result (λ stop. IfSome stop
+            (StopsBelow (session_answers self.new.session) end self.new.step)) }
+    {
         let from = self.step;
-        let noting = noting_at(self.noting, self.looks.seen(), from);
+        self.noting = Noting::Nothing;
+        let (reached, ended) = run_forgetting(&mut self.state, self.session, from, end);
+        self.step = reached;
+        meter.tick_by(reached - from);
+        ended
+    }
+
+    // Runs up to step `end`, to a step that looks at something new, or to a stop, and notes the looks.
+    fn advance_noting(&mut self, end: u64, meter: &mut Meter) -> Result<Option<Cause>, AllocError>
+        requires order { (self.old.step < end) × (end ≤ STEP_LIMIT) }
+        requires room { meter.old + (end - self.old.step) < 2 ^ 64 }
+        requires next { self.old.seen ≡ Some self.old.step }
+        ensures goes { GoesOn self.old self.new end }
+        ensures ticks { meter.new + self.old.step ≡ meter.old + self.new.step }
+        ensures moves { IfOk result (λ stop. IfNone stop (self.old.step < self.new.step)) }
+        ensures stops { IfOk result (λ stop. IfSome stop
+            (StopsBelow (session_answers self.new.session) end self.new.step)) }
+        ensures noted { IfOk result (λ stop. self.new.seen ≡ Some (asked_by self.new.step stop)) }
+    {
+        let from = self.step;
         let cells = self.state.look_count();
         self.noting = Noting::Nothing;
         let (reached, ended) = run_from(&mut self.state, self.session, meter, from, end);
         self.step = reached;
         let stop = ended?;
         let asking = last_asking(reached, stop);
-        note_or_forget(noting, &mut self.looks, asking, &mut self.state, cells)?;
-        self.noting = noting;
+        note_step(&mut self.looks, asking, &mut self.state, cells)?;
+        self.noting = Noting::Looks;
         Ok(stop)
     }
 
@@ -155,17 +203,6 @@ impl<'s> Run<'s> {
     }
 }
 
-// Returns what a run notes from this step on: its looks, if it notes looks and this step is the next one.
-fn noting_at(noting: Noting, seen: u64, step: u64) -> Noting
-    ensures next { result ≡ Looks → seen_by noting seen ≡ Some step }
-    ensures looks { seen_by noting seen ≡ Some step → result ≡ Looks }
-{
-    match noting {
-        Noting::Looks if seen == step => Noting::Looks,
-        _ => Noting::Nothing,
-    }
-}
-
 // Returns the last step that asked when a run reached this step: that before it, or a stop.
 fn last_asking(reached: u64, stop: Option<Cause>) -> u64
     requires { IsNone stop → 0 < reached }
@@ -177,31 +214,25 @@ fn last_asking(reached: u64, stop: Option<Cause>) -> u64
     }
 }
 
-// Notes the new looks of a state, with the cells from index `from` on, as looks of this step, or forgets them. The earlier steps that
-// were not seen looked at nothing new.
-fn note_or_forget(
-    noting: Noting,
+// Notes the new looks of a state, with the cells from index `from` on, as looks of this step. The earlier steps that were not seen
+// looked at nothing new.
+fn note_step(
     looks: &mut FirstLooks,
     step: u64,
     state: &mut State,
     from: usize,
 ) -> Result<(), AllocError>
-    requires order { noting ≡ Looks → (looks.old.seen ≤ step) × (step ≤ STEP_LIMIT) }
+    requires order { (looks.old.seen ≤ step) × (step ≤ STEP_LIMIT) }
     requires few { from ≤ length state.old.looked.cells }
-    ensures noted { noting ≡ Looks → OnOk result
+    ensures noted { OnOk result
         (NotesSeenStep (with_seen looks.old step) looks.new (looks_from from state.old.looked)) }
     ensures drained { OnOk result (HasNoQuestions state.new.looked) }
     ensures state { state.new.state ≡ state.old.state }
     ensures cells { state.new.looked.cells ≡ state.old.looked.cells }
     ensures beneath { state.new.beneath ≡ state.old.beneath }
 {
-    match noting {
-        Noting::Nothing => state.forget_questions(),
-        Noting::Looks => {
-            looks.advance_to(step);
-            state.note_looks(from, looks)?;
-            looks.next_step();
-        }
-    }
+    looks.advance_to(step);
+    state.note_looks(from, looks)?;
+    looks.next_step();
     Ok(())
 }

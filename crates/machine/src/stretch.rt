@@ -5,11 +5,11 @@ ghost use Rattle.i8080.specs.Instruction.{instruction};
 ghost use Rattle.i8080.specs.Performs.{Performs};
 ghost use Rattle.pagemem.specs.Overlay.{beneath_of, is_ready_at};
 ghost use Rattle.machine.specs.Bound.{IsBound};
-ghost use Rattle.machine.specs.Machine.{session_answers, after, IsReached};
+ghost use Rattle.machine.specs.Machine.{session_answers, after, HasNoQuestions, IsReached};
 ghost use Rattle.machine.specs.Session.{image_of};
 ghost use Rattle.machine.specs.Stops.{stop_of_instruction};
 ghost use Rattle.machine.specs.TakesStep.{memory_over_image, TakesStep};
-ghost use Rattle.machine.specs.Stretch.{RunsQuietly, RunsStretch};
+ghost use Rattle.machine.specs.Stretch.{RunsForgetting, RunsQuietly, RunsStretch};
 
 use crate::meter::Meter;
 use crate::session::Session;
@@ -24,11 +24,11 @@ use std::alloc::AllocError;
 // Executes at most `steps` instructions below the system area that need only known cells. Returns how many they were. It is never
 // inlined and calls nothing, so that the loop has all registers of the processor.
 #[inline(never)]
-fn run_quietly(running: &mut State, steps: u64) -> u64
+fn run_quietly(state: &mut State, steps: u64) -> u64
     ensures within { result ≤ steps }
-    ensures runs { RunsQuietly result running.old running.new }
+    ensures runs { RunsQuietly result state.old state.new }
 {
-    run_known(&mut running.regs, &mut running.overlay, steps)
+    run_known(&mut state.regs, &mut state.overlay, steps)
 }
 
 // Executes an instruction over a session's image.
@@ -80,23 +80,23 @@ fn stop_of_instruction(did: Did) -> Option<Cause>
 // Executes one step, or returns the cause of a stop. If `learns`, each cell that it reads becomes known.
 #[inline(always)]
 fn take_step(
-    running: &mut State,
+    state: &mut State,
     session: &Session,
     learns: bool,
 ) -> Result<Option<Cause>, AllocError>
-    requires at { IsReached (session_answers session.now) running.old.state }
-    requires bound { learns ≡ true → IsBound session.now running.old }
-    ensures step { TakesStep session.now running.old result running.new }
-    ensures bound { learns ≡ true → IsBound session.now running.new }
+    requires at { IsReached (session_answers session.now) state.old.state }
+    requires bound { learns ≡ true → IsBound session.now state.old }
+    ensures step { TakesStep session.now state.old result state.new }
+    ensures bound { learns ≡ true → IsBound session.now state.new }
 {
-    if running.regs.pc >= SYSTEM_AREA {
-        return enter_system(running, session, learns);
+    if state.regs.pc >= SYSTEM_AREA {
+        return enter_system(state, session, learns);
     }
     if learns {
-        let did = execute_learning(&mut running.regs, &mut running.overlay, session)?;
+        let did = execute_learning(&mut state.regs, &mut state.overlay, session)?;
         return Ok(stop_of_instruction(did));
     }
-    let did = execute_over(&mut running.regs, &mut running.overlay, session)?;
+    let did = execute_over(&mut state.regs, &mut state.overlay, session)?;
     Ok(stop_of_instruction(did))
 }
 
@@ -111,41 +111,79 @@ fn take_step(
 /// step that failed.
 #[inline(never)]
 pub fn run_from(
-    running: &mut State,
+    state: &mut State,
     session: &Session,
     meter: &mut Meter,
     from: u64,
     end: u64,
 ) -> (u64, Result<Option<Cause>, AllocError>)
     requires order { from < end }
-    requires at { after (session_answers session.now) from ≡ Some running.old.state }
+    requires at { after (session_answers session.now) from ≡ Some state.old.state }
     requires room { meter.old + (end - from) < 2 ^ 64 }
-    requires bound { IsBound session.now running.old }
-    ensures runs { RunsStretch session.now from end running.old.looked result.0 result.1 running.new }
+    requires bound { IsBound session.now state.old }
+    ensures runs { RunsStretch session.now from end state.old.looked result.0 result.1 state.new }
     ensures ticks { meter.new + from ≡ meter.old + result.0 }
     ensures progress { IfOk result.1 (λ stop. IfNone stop (from < result.0)) }
-    ensures bound { IsBound session.now running.new }
+    ensures bound { IsBound session.now state.new }
 {
-    let cells = running.look_count();
-    let offsets = running.script_looks();
+    let cells = state.look_count();
+    let offsets = state.script_looks();
     let mut n = from;
     while n < end {
-        let count = run_quietly(running, end - n);
+        let count = run_quietly(state, end - n);
         meter.tick_by(count);
         n += count;
         if n == end {
             return (n, Ok(None));
         }
-        match take_step(running, session, true) {
+        match take_step(state, session, true) {
             Ok(None) => {}
             Ok(Some(cause)) => return (n, Ok(Some(cause))),
             Err(error) => return (n, Err(error)),
         }
         meter.tick();
         n += 1;
-        if !running.looks_at_no_more(cells, offsets) {
+        if !state.looks_at_no_more(cells, offsets) {
             return (n, Ok(None));
         }
+    }
+    (n, Ok(None))
+}
+
+/// Executes steps from step `from` on up to step `end`, or to a stop, whose cause it returns. It forgets the script offsets and the
+/// questions to the host files that each step looked at, so it need not end there. Returns the step that was reached, also at `Err`.
+///
+/// # Errors
+///
+/// `Err` means out of memory. It leaves the state that was reached.
+#[inline(never)]
+pub(crate) fn run_forgetting(
+    state: &mut State,
+    session: &Session,
+    from: u64,
+    end: u64,
+) -> (u64, Result<Option<Cause>, AllocError>)
+    requires order { from ≤ end }
+    requires at { after (session_answers session.now) from ≡ Some state.old.state }
+    requires bound { IsBound session.now state.old }
+    ensures runs { RunsForgetting session.now from end result.0 result.1 state.new.state }
+    ensures forgets { HasNoQuestions state.old.looked
+        → IfOk result.1 (λ stop. IfNone stop (HasNoQuestions state.new.looked)) }
+    ensures bound { IsBound session.now state.new }
+{
+    let mut n = from;
+    while n < end {
+        n += run_quietly(state, end - n);
+        if n == end {
+            return (n, Ok(None));
+        }
+        match take_step(state, session, true) {
+            Ok(None) => {}
+            Ok(Some(cause)) => return (n, Ok(Some(cause))),
+            Err(error) => return (n, Err(error)),
+        }
+        n += 1;
+        state.forget_questions();
     }
     (n, Ok(None))
 }
@@ -157,18 +195,18 @@ pub fn run_from(
 ///
 /// `Err` means out of memory. It leaves the state unchanged, with the earlier looks and some of the looks of the step.
 pub fn step(
-    running: &mut State,
+    state: &mut State,
     session: &Session,
     meter: &mut Meter,
 ) -> Result<Option<Cause>, AllocError>
-    requires at { IsReached (session_answers session.now) running.old.state }
+    requires at { IsReached (session_answers session.now) state.old.state }
     requires room { meter.old + 1 < 2 ^ 64 }
-    ensures step { TakesStep session.now running.old result running.new }
+    ensures step { TakesStep session.now state.old result state.new }
     ensures ticked { IfOk result (λ r. IfNone r (meter.new ≡ meter.old + 1)) }
     ensures stopped { IfOk result (λ r. IfSome r (λ _. meter.new ≡ meter.old)) }
     ensures failed { OnErr result (meter.new ≡ meter.old) }
 {
-    let stop = take_step(running, session, false)?;
+    let stop = take_step(state, session, false)?;
     if stop.is_none() {
         meter.tick();
     }

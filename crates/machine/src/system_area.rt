@@ -86,22 +86,22 @@ fn stop_of_call(served: Served) -> Option<Cause>
 // cell that it reads becomes known.
 #[inline(always)]
 pub(crate) fn enter_system(
-    running: &mut State,
+    state: &mut State,
     session: &Session,
     learns: bool,
 ) -> Result<Option<Cause>, AllocError>
-    requires area { 0xfe00 ≤ running.old.state.core.regs.pc }
-    requires sound { AreSoundOwnFiles session.now.files running.old.state.own.files }
-    requires bound { learns ≡ true → IsBound session.now running.old }
-    ensures step { TakesStep session.now running.old result running.new }
-    ensures bound { learns ≡ true → IsBound session.now running.new }
+    requires area { 0xfe00 ≤ state.old.state.core.regs.pc }
+    requires sound { AreSoundOwnFiles session.now.files state.old.state.own.files }
+    requires bound { learns ≡ true → IsBound session.now state.old }
+    ensures step { TakesStep session.now state.old result state.new }
+    ensures bound { learns ≡ true → IsBound session.now state.new }
 {
     let State {
         regs,
         overlay,
         desk,
         changes,
-    } = running;
+    } = state;
     if regs.pc == WARM_START {
         return Ok(Some(Cause::WarmBoot));
     }

@@ -9,7 +9,7 @@ use std::marker::Model;
 use std::rc::Rc;
 
 /// The records of an extent, up to the last one that was written. A snapshot shares them, and the first write after it copies
-/// them.
+/// them. An extent that is written in order has memory for at most twice its records, any other for all 128.
 #[derive(Drop)]
 pub struct Extent {
     places: Rc<ExtentRecords>,
@@ -152,8 +152,22 @@ impl ExtentRecords {
             self.marks[at] = true;
             return Ok(());
         }
+        reserve_past_gap(&mut self.records, at)?;
         append(&mut self.records, &mut self.marks, at, content)
     }
+}
+
+// Reserves memory for a whole extent if there is a gap before an index past all others: a file that is not written in order fills
+// its extents in the end.
+fn reserve_past_gap(records: &mut Vec<Record>, at: usize) -> Result<(), AllocError>
+    requires { at < 128 }
+    ensures { records.new.items ≡ records.old.items }
+{
+    let len = records.len();
+    if len < at {
+        records.reserve_exact(EXTENT_RECORDS as usize - len)?;
+    }
+    Ok(())
 }
 
 // Sets the record at an index past all others; the indexes between them have no record. On `Err`, the records are unchanged.

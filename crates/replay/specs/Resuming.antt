@@ -31,9 +31,9 @@ resume_step s checkpoints = start_step s.limit checkpoints.ring.items
 
 -- A run of a session resumes here from a kept step or from the start; what was looked at is noted, and the checkpoints fit their
 -- slots.
-pub record IsResumePoint (s : Session) (checkpoints : Checkpoints) (from : ℕ) (running : StateView) : Type 0 where
-  pub at : after (session_answers s) from ≡ Some running.state
-  pub looks : AllNoted checkpoints.notes.looks running.looked
+pub record IsResumePoint (s : Session) (checkpoints : Checkpoints) (from : ℕ) (state : StateView) : Type 0 where
+  pub at : after (session_answers s) from ≡ Some state.state
+  pub looks : AllNoted checkpoints.notes.looks state.looked
   pub seen : from ≤ checkpoints.notes.looks.seen
   pub low : from ≤ s.limit
   pub started : (from ≡ 0) ⊎ SomeStep checkpoints.ring.items from

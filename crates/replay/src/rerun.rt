@@ -92,8 +92,8 @@ fn begin(
 {
     let Some(checkpoint) = latest_within(ring, session.limit()) else {
         let marks = take_marks(alloc, spare)?;
-        let running = State::load_over(alloc, session, marks)?;
-        return Ok((0, running));
+        let state = State::load_over(alloc, session, marks)?;
+        return Ok((0, state));
     };
     let marks = take_marks(alloc, spare)?;
     let overlay = checkpoint.state.overlay(session, marks)?;
@@ -110,14 +110,14 @@ fn begin(
 fn save_end(
     text: &mut Vec<u8>,
     spare: &mut Option<BlankMarks>,
-    running: State,
+    state: State,
     text_use: TextUse,
 ) -> SavedState
-    ensures kept { result ≡ saved_state_of running.state }
-    ensures moved { text_use ≡ TextUse.Move → text.new.items ≡ running.state.core.desk.text }
+    ensures kept { result ≡ saved_state_of state.state }
+    ensures moved { text_use ≡ TextUse.Move → text.new.items ≡ state.state.core.desk.text }
     ensures copied { text_use ≡ TextUse.Copy → text.new.items ≡ text.old.items }
 {
-    let (kept, own, marks) = running.into_saved();
+    let (kept, own, marks) = state.into_saved();
     *spare = Some(marks);
     if let TextUse::Move = text_use {
         *text = own;
@@ -159,7 +159,7 @@ pub fn rerun(
     checkpoints.notes.alloc_failures = AllocFailures::new();
     let newest = newest_step(&checkpoints.ring);
     let text_use = text_use_of(last_run.session.limit(), newest);
-    let (from, mut running) = begin(
+    let (from, mut state) = begin(
         alloc,
         &last_run.session,
         &mut last_run.text,
@@ -168,8 +168,8 @@ pub fn rerun(
         text_use,
     )?;
     let session = &last_run.session;
-    let ran = resume(session, checkpoints, meter, newest, from, &mut running);
-    let kept = save_end(&mut last_run.text, &mut last_run.marks, running, text_use);
+    let ran = resume(session, checkpoints, meter, newest, from, &mut state);
+    let kept = save_end(&mut last_run.text, &mut last_run.marks, state, text_use);
     let (steps, cause) = ran?;
     last_run.end = Some(kept);
     Ok((steps, cause))

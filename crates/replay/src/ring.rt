@@ -70,18 +70,18 @@ pub fn push_checkpoint(
     newest: u64,
     step: u64,
     seen: u64,
-    running: &mut State,
+    state: &mut State,
     failures: &mut AllocFailures,
 ) -> u64
     requires room { failures.old < 2 ^ 63 }
     ensures newest { result ≡ max newest step }
     ensures seen { seen < step → ring.new ≡ ring.old }
-    ensures ring { PushesIfAbove newest ring.old ring.new (checkpoint_at step running.old.state) }
+    ensures ring { PushesIfAbove newest ring.old ring.new (checkpoint_at step state.old.state) }
     ensures made { newest < step → step ≤ seen → failures.new ≡ failures.old
-        → ring.new ≡ ring_with ring.old (checkpoint_at step running.old.state) }
+        → ring.new ≡ ring_with ring.old (checkpoint_at step state.old.state) }
     ensures refused { (failures.new ≡ failures.old)
         ⊎ ((newest < step) × (step ≤ seen) × (failures.new ≡ failures.old + 1) × (ring.new ≡ ring.old)) }
-    ensures running { running.new ≡ running.old }
+    ensures state { state.new ≡ state.old }
 {
     if step <= newest {
         return newest;
@@ -89,7 +89,7 @@ pub fn push_checkpoint(
     if seen < step {
         return step;
     }
-    if let Some(kept) = save_or_count(running, failures) {
+    if let Some(kept) = save_or_count(state, failures) {
         let _ = ring.push_back(Checkpoint { step, state: kept });
     }
     step

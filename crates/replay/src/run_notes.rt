@@ -38,14 +38,14 @@ impl AllocFailures {
 }
 
 /// Returns what is kept of the state, or `None` if an allocation fails, which is counted.
-pub fn save_or_count(running: &mut State, failures: &mut AllocFailures) -> Option<SavedState>
+pub fn save_or_count(state: &mut State, failures: &mut AllocFailures) -> Option<SavedState>
     requires { failures.old < 2 ^ 63 }
-    ensures kept { IfSome result (λ k. k ≡ saved_state_of running.old.state) }
+    ensures kept { IfSome result (λ k. k ≡ saved_state_of state.old.state) }
     ensures some { IsSome result → failures.new ≡ failures.old }
     ensures none { IsNone result → failures.new ≡ failures.old + 1 }
-    ensures running { running.new ≡ running.old }
+    ensures state { state.new ≡ state.old }
 {
-    match running.save() {
+    match state.save() {
         Ok(kept) => Some(kept),
         Err(_) => {
             failures.count += 1;
@@ -61,20 +61,20 @@ pub struct RunNotes {
     pub alloc_failures: AllocFailures,
 }
 
-/// Notes the new looks of `running`, with the cells from index `from` on, as looks of step `seen`, which is then seen. If an
+/// Notes the new looks of `state`, with the cells from index `from` on, as looks of step `seen`, which is then seen. If an
 /// allocation fails, that is counted, and step `seen` is not seen.
-pub fn note_or_count(notes: &mut RunNotes, running: &mut State, from: usize)
-    requires few { from ≤ length running.old.looked.cells }
+pub fn note_or_count(notes: &mut RunNotes, state: &mut State, from: usize)
+    requires few { from ≤ length state.old.looked.cells }
     requires low { (notes.old.alloc_failures < 2 ^ 63) × (notes.old.looks.seen ≤ STEP_LIMIT) }
-    ensures noted { (NotesSeenStep notes.old.looks notes.new.looks (looks_from from running.old.looked)
-        × (notes.new.alloc_failures ≡ notes.old.alloc_failures) × HasNoQuestions running.new.looked)
+    ensures noted { (NotesSeenStep notes.old.looks notes.new.looks (looks_from from state.old.looked)
+        × (notes.new.alloc_failures ≡ notes.old.alloc_failures) × HasNoQuestions state.new.looked)
         ⊎ (ForgetsSeenStep notes.old.looks notes.new.looks
         × (notes.new.alloc_failures ≡ notes.old.alloc_failures + 1)) }
-    ensures state { running.new.state ≡ running.old.state }
-    ensures cells { running.new.looked.cells ≡ running.old.looked.cells }
-    ensures beneath { running.new.beneath ≡ running.old.beneath }
+    ensures state { state.new.state ≡ state.old.state }
+    ensures cells { state.new.looked.cells ≡ state.old.looked.cells }
+    ensures beneath { state.new.beneath ≡ state.old.beneath }
 {
-    match running.note_looks(from, &mut notes.looks) {
+    match state.note_looks(from, &mut notes.looks) {
         Ok(()) => notes.looks.next_step(),
         Err(_) => {
             let seen = notes.looks.seen();

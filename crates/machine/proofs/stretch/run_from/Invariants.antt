@@ -4,7 +4,7 @@ use Rattle.machine.proofs.stretch.run_from.Given as goal
 
 abbrev pub invariant-loop-n : goal.invariant-loop-n
 invariant-loop-n l = record {
-  here : Arrives l.session l.from l.n l.initial.running.looked l.running;
+  here : Arrives l.session l.from l.n l.initial.state.looked l.state;
   high : l.n ≤ l.end;
   meter : l.meter + l.from ≡ l.initial.meter + l.n;
 }

@@ -9,7 +9,7 @@ use Rattle.replay.proofs.StartLemmas.{has_valid, has_step}
 use Rattle.replay.proofs.rerun.begin.Goals as goal
 
 pub returns-in_default-clause-at : goal.returns-in_default-clause-at
-returns-in_default-clause-at c = after_zero _ _ _ c.in_ok-running.ensures.state
+returns-in_default-clause-at c = after_zero _ _ _ c.in_ok-state.ensures.state
 
 pub text_prefix-requires : goal.text_prefix-requires
 text_prefix-requires c =

@@ -21,7 +21,7 @@ returns-in_err-from-clause-broken_off c =
 pub returns-in_err-steps-clause-broken_off : goal.returns-in_err-steps-clause-broken_off
 returns-in_err-steps-clause-broken_off c =
     let at = c.resume-ran.ensures.at in
-    on_err c.from_residual-in_err-steps.result _ (at.0, c.resume-ran.new.running.state, at.1, omega (arith, at.2, c.limit.ensures.value), rw (← c.in_ok-from.ensures.step) at.5)
+    on_err c.from_residual-in_err-steps.result _ (at.0, c.resume-ran.new.state.state, at.1, omega (arith, at.2, c.limit.ensures.value), rw (← c.in_ok-from.ensures.step) at.5)
 
 pub resume-ran-requires-clause-begins : goal.resume-ran-requires-clause-begins
 resume-ran-requires-clause-begins c = record {
@@ -43,18 +43,18 @@ resume-ran-requires-clause-sound c = record {
   seen_in = c.requires.sound.seen_in;
 }
 
-failed : (c : goal.After-drop-kept-inside-in_err-steps) → Left (session_answers c.args.last_run.now.session) c.resume-ran.new.running.state c.save_end-kept.new.text.items c.resume-ran.new.checkpoints.ring.items
+failed : (c : goal.After-drop-kept-inside-in_err-steps) → Left (session_answers c.args.last_run.now.session) c.resume-ran.new.state.state c.save_end-kept.new.text.items c.resume-ran.new.checkpoints.ring.items
 failed c =
     let at = c.resume-ran.ensures.at in
-    left (session_answers c.args.last_run.now.session) c.args.last_run.now.session.limit c.newest_step-newest.result c.in_ok-from.from c.limit.result c.resume-ran.new.running.state c.args.checkpoints.now.ring c.resume-ran.new.checkpoints.ring
+    left (session_answers c.args.last_run.now.session) c.args.last_run.now.session.limit c.newest_step-newest.result c.in_ok-from.from c.limit.result c.resume-ran.new.state.state c.args.checkpoints.now.ring c.resume-ran.new.checkpoints.ring
     c.args.last_run.now.text.items c.begin.new.text.items c.save_end-kept.new.text.items
     c.requires.sound.valid c.newest_step-newest.ensures.there c.limit.ensures.value c.in_ok-from.ensures.step (at.0, at.1, at.2, at.3) c.resume-ran.ensures.same c.resume-ran.ensures.sound.valid
     _ c.text_use_of-text_use.ensures c.in_ok-from.ensures.copied c.save_end-kept.ensures.moved c.save_end-kept.ensures.copied
 
-ended : (c : goal.Joined-last_run-2) → Left (session_answers c.args.last_run.now.session) c.resume-ran.new.running.state c.save_end-kept.new.text.items c.resume-ran.new.checkpoints.ring.items
+ended : (c : goal.Joined-last_run-2) → Left (session_answers c.args.last_run.now.session) c.resume-ran.new.state.state c.save_end-kept.new.text.items c.resume-ran.new.checkpoints.ring.items
 ended c =
     let at = c.resume-ran.ensures.at in
-    left (session_answers c.args.last_run.now.session) c.args.last_run.now.session.limit c.newest_step-newest.result c.in_ok-from.from c.limit.result c.resume-ran.new.running.state c.args.checkpoints.now.ring c.resume-ran.new.checkpoints.ring
+    left (session_answers c.args.last_run.now.session) c.args.last_run.now.session.limit c.newest_step-newest.result c.in_ok-from.from c.limit.result c.resume-ran.new.state.state c.args.checkpoints.now.ring c.resume-ran.new.checkpoints.ring
     c.args.last_run.now.text.items c.begin.new.text.items c.save_end-kept.new.text.items
     c.requires.sound.valid c.newest_step-newest.ensures.there c.limit.ensures.value c.in_ok-from.ensures.step (at.0, at.1, at.2, at.3) c.resume-ran.ensures.same c.resume-ran.ensures.sound.valid
     _ c.text_use_of-text_use.ensures c.in_ok-from.ensures.copied c.save_end-kept.ensures.moved c.save_end-kept.ensures.copied

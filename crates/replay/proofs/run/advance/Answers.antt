@@ -25,8 +25,8 @@ loop-n-preserved c =
     let more : c.loop-n.n < reached = rw (c.in_ok-stop.was, c.in_default.is) at c.run_from-reached.ensures.progress in
     let seen : c.loop-n.n < c.loop-n.notes.looks.seen → reached ≤ c.loop-n.notes.looks.seen = λ low. omega (arith, stretch.within, c.seen.ensures, c.bound_of-bound.ensures.seen (omega (arith, low, c.seen.ensures))) in
     let other = c.note_last_step.ensures.other in
-    let notes = stretch_kept c.args.session.now c.bound_of-bound.result c.loop-n.n reached c.loop-n.notes.looks c.note_last_step.new.notes.looks c.loop-n.notes.alloc_failures c.note_last_step.new.notes.alloc_failures _ c.loop-n.running.looked
-    c.run_from-reached.new.running.looked c.note_last_step.new.running.looked stretch more i.noted i.looks seen c.note_last_step.ensures.cells (λ ne. (ap (λ (t : RunNotes). t.looks) (other ne).0, ap (λ (t : RunNotes). t.alloc_failures) (other ne).0, (other ne).1))
+    let notes = stretch_kept c.args.session.now c.bound_of-bound.result c.loop-n.n reached c.loop-n.notes.looks c.note_last_step.new.notes.looks c.loop-n.notes.alloc_failures c.note_last_step.new.notes.alloc_failures _ c.loop-n.state.looked
+    c.run_from-reached.new.state.looked c.note_last_step.new.state.looked stretch more i.noted i.looks seen c.note_last_step.ensures.cells (λ ne. (ap (λ (t : RunNotes). t.looks) (other ne).0, ap (λ (t : RunNotes). t.alloc_failures) (other ne).0, (other ne).1))
     (rw c.look_count-noted.ensures at c.note_last_step.ensures.here) in
     record {
       at = stretch.at ∙ ap (λ (st : PartialState). Some st) (sym c.note_last_step.ensures.state);
@@ -40,7 +40,7 @@ loop-n-preserved c =
       low = omega (arith, more, i.low);
       high = omega (arith, stretch.within, c.bound_of-bound.ensures.within);
       meter = omega (arith, c.run_from-reached.ensures.ticks, i.meter);
-      bound = still_bound c.args.session.now c.run_from-reached.new.running c.note_last_step.new.running c.note_last_step.ensures.beneath c.run_from-reached.ensures.bound;
+      bound = still_bound c.args.session.now c.run_from-reached.new.state c.note_last_step.new.state c.note_last_step.ensures.beneath c.run_from-reached.ensures.bound;
     }
 
 pub returns-in-Some-clause-noted : goal.returns-in-Some-clause-noted
@@ -49,10 +49,10 @@ returns-in-Some-clause-noted c =
     let stretch = rw (c.in_ok-stop.was, c.in-Some.is) at c.run_from-reached.ensures.runs in
     elim (eqb_tells c.loop-n.n c.loop-n.notes.looks.seen) [
       | inl e ↦
-          let quiet : LooksAtNothingNew (session_answers c.args.session.now) c.loop-n.running.looked c.loop-n.notes.looks.seen c.run_from-reached.result.0 =
-          subst (λ (k : ℕ). LooksAtNothingNew (session_answers c.args.session.now) c.loop-n.running.looked k c.run_from-reached.result.0) e.1 stretch.before_stop in
+          let quiet : LooksAtNothingNew (session_answers c.args.session.now) c.loop-n.state.looked c.loop-n.notes.looks.seen c.run_from-reached.result.0 =
+          subst (λ (k : ℕ). LooksAtNothingNew (session_answers c.args.session.now) c.loop-n.state.looked k c.run_from-reached.result.0) e.1 stretch.before_stop in
           subst (λ (t : FirstLooksView). IsFirstLooks (session_answers c.args.session.now) t) (sym (c.pass_seen.ensures.here e.1))
-          (passed (session_answers c.args.session.now) c.loop-n.notes.looks c.loop-n.running.looked i.noted (i.looks (omega (arith, e.1))) c.run_from-reached.result.0 (omega (arith, e.1, stretch.within)) quiet)
+          (passed (session_answers c.args.session.now) c.loop-n.notes.looks c.loop-n.state.looked i.noted (i.looks (omega (arith, e.1))) c.run_from-reached.result.0 (omega (arith, e.1, stretch.within)) quiet)
       | inr ne ↦ subst (λ (t : FirstLooksView). IsFirstLooks (session_answers c.args.session.now) t) (sym (c.pass_seen.ensures.other ne.1)) i.noted
     ]
 

@@ -8,8 +8,8 @@ use Rattle.replay.proofs.run.advance.Given as goal
 
 abbrev pub invariant-loop-n : goal.invariant-loop-n
 invariant-loop-n l = record {
-  at : after (session_answers l.session) l.n ≡ Some l.running.state;
-  looks : l.n ≤ l.notes.looks.seen → AllNoted l.notes.looks l.running.looked;
+  at : after (session_answers l.session) l.n ≡ Some l.state.state;
+  looks : l.n ≤ l.notes.looks.seen → AllNoted l.notes.looks l.state.looked;
   noted : IsFirstLooks (session_answers l.session) l.notes.looks;
   seen_in : l.notes.looks.seen ≤ STEP_LIMIT;
   counted : (l.initial.notes.alloc_failures ≤ l.notes.alloc_failures) × (l.notes.alloc_failures + l.from ≤ l.initial.notes.alloc_failures + l.n);
@@ -19,7 +19,7 @@ invariant-loop-n l = record {
   low : l.from ≤ l.n;
   high : l.n ≤ l.end;
   meter : l.meter + l.from ≡ l.initial.meter + l.n;
-  bound : IsBound l.session l.running;
+  bound : IsBound l.session l.state;
 }
 
 abbrev pub decreases-loop-n : goal.decreases-loop-n

@@ -78,9 +78,9 @@ returns-in_err-reached-clause-sound c =
 pub returns-in-Some-clause-cold : goal.returns-in-Some-clause-cold
 returns-in-Some-clause-cold c =
     let a = c.in_ok-reached.ensures.at in
-    let at : after (session_answers c.args.session.now) c.in_ok-reached.reached ≡ Some c.advance.new.running.state = rw a.4 a.1 in
+    let at : after (session_answers c.args.session.now) c.in_ok-reached.reached ≡ Some c.advance.new.state.state = rw a.4 a.1 in
     let stopped = rw c.in-Some.is at c.in_ok-reached.ensures.stopped in
-    rw c.push_checkpoint-newest_tried.ensures.running (cold_stop _ _ _ _ at (omega (arith, stopped.0, c.due_after-end.ensures.later, c.limit-limit.ensures.value)) stopped.1)
+    rw c.push_checkpoint-newest_tried.ensures.state (cold_stop _ _ _ _ at (omega (arith, stopped.0, c.due_after-end.ensures.later, c.limit-limit.ensures.value)) stopped.1)
 
 pub returns-in-Some-clause-at : goal.returns-in-Some-clause-at
 returns-in-Some-clause-at c =
@@ -90,7 +90,7 @@ returns-in-Some-clause-at c =
     let low = a.2 in
     let high = a.3 in (
       a.0,
-      a.1 ∙ ap (λ (r : StateView). Some r.state) (sym c.push_checkpoint-newest_tried.ensures.running),
+      a.1 ∙ ap (λ (r : StateView). Some r.state) (sym c.push_checkpoint-newest_tried.ensures.state),
       omega (arith, high, c.due_after-end.ensures.later, c.limit-limit.ensures.value),
       λ h. kept_each _ c.loop-n.checkpoints.ring _ _ _ c.push_checkpoint-newest_tried.ensures.ring (Each-weaken _ _ _ (λ d e. omega (arith, e, low)) (i.upto h)) (λ e. omega (arith, here)),
       omega (arith, low, i.low),
@@ -151,7 +151,7 @@ pub returns-in-Some-clause-sound : goal.returns-in-Some-clause-sound
 returns-in-Some-clause-sound c =
     let i = c.loop-n.invariant in
     let a = c.in_ok-reached.ensures.at in
-    let at : after (session_answers c.args.session.now) c.in_ok-reached.reached ≡ Some c.advance.new.running.state = rw a.4 a.1 in
+    let at : after (session_answers c.args.session.now) c.in_ok-reached.reached ≡ Some c.advance.new.state.state = rw a.4 a.1 in
     let low : c.loop-n.n ≤ c.in_ok-reached.reached = rw a.4 a.2 in
     let g = relast_adding _ _ _ _ _ _ c.in_ok-reached.reached _ _ c.loop-n-test.true i.adds in
     let ring = c.push_checkpoint-newest_tried.ensures.ring in
@@ -174,7 +174,7 @@ loop-n-preserved c =
     let i = c.loop-n.invariant in
     let s = c.advance.ensures.seen.0 in
     let a = c.in_ok-reached.ensures.at in
-    let at : after (session_answers c.args.session.now) c.in_ok-reached.reached ≡ Some c.advance.new.running.state = rw a.4 a.1 in
+    let at : after (session_answers c.args.session.now) c.in_ok-reached.reached ≡ Some c.advance.new.state.state = rw a.4 a.1 in
     let low : c.loop-n.n ≤ c.in_ok-reached.reached = rw a.4 a.2 in
     let ring = c.push_checkpoint-newest_tried.ensures.ring in
     let newest = c.push_checkpoint-newest_tried.ensures.newest in
@@ -185,14 +185,14 @@ loop-n-preserved c =
     let kept = counted_above _ _ _ _ _ _ (rw c.seen-seen.ensures at refused) in
     let ends_later : c.loop-n.n < c.in_ok-reached.reached = omega (arith, ends, c.due_after-end.ensures.later) in
     record {
-      at = rw c.push_checkpoint-newest_tried.ensures.running at;
-      looks = rw c.push_checkpoint-newest_tried.ensures.running looks;
+      at = rw c.push_checkpoint-newest_tried.ensures.state at;
+      looks = rw c.push_checkpoint-newest_tried.ensures.state looks;
       noted = c.advance.ensures.noted;
       seen_in = c.advance.ensures.seen.1;
       low = omega (arith, low);
       high = omega (arith, ends, c.due_after-end.ensures.later);
       meter = omega (arith, a.4, a.5, i.meter);
-      bound = rw c.push_checkpoint-newest_tried.ensures.running c.advance.ensures.bound;
+      bound = rw c.push_checkpoint-newest_tried.ensures.state c.advance.ensures.bound;
       on = λ r. elim refused [
         | inl e ↦ c.in_ok-reached.ensures.counts.1.all (i.on (omega (arith, counted.grows, e, r))) (omega (arith, counted.grows, e, r))
         | inr e ↦ absurd (omega (arith, e.2, r))

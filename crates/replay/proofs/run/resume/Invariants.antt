@@ -11,14 +11,14 @@ use Rattle.replay.proofs.run.resume.Given as goal
 
 abbrev pub invariant-loop-n : goal.invariant-loop-n
 invariant-loop-n l = record {
-  at : after (session_answers l.session) l.n ≡ Some l.running.state;
-  looks : l.n ≤ l.checkpoints.notes.looks.seen → AllNoted l.checkpoints.notes.looks l.running.looked;
+  at : after (session_answers l.session) l.n ≡ Some l.state.state;
+  looks : l.n ≤ l.checkpoints.notes.looks.seen → AllNoted l.checkpoints.notes.looks l.state.looked;
   noted : IsFirstLooks (session_answers l.session) l.checkpoints.notes.looks;
   seen_in : l.checkpoints.notes.looks.seen ≤ STEP_LIMIT;
   low : l.from ≤ l.n;
   high : l.n ≤ l.limit;
   meter : l.meter + l.from ≡ l.initial.meter + l.n;
-  bound : IsBound l.session l.running;
+  bound : IsBound l.session l.state;
   spacing : l.checkpoints.spacing ≡ l.initial.checkpoints.spacing;
   capacity : l.checkpoints.ring.capacity ≡ l.initial.checkpoints.ring.capacity;
   valid : Each (IsValid (session_answers l.session)) l.checkpoints.ring.items;

@@ -1,5 +1,5 @@
 use Rattle.std.proofs.Common.{sym, ◌∙◌, ◌≤◌, ◌+◌, ◌-◌, ◌*◌, ◌≡◌, true, false, get_or, arith}
-use Rattle.hostfiles.specs.Files.{entry_at, file_of, record_of, length_at}
+use Rattle.hostfiles.specs.Files.{entry_at, file_of, record_or_hole, length_at}
 use Rattle.hostfiles.specs.File.{shape_of}
 use Rattle.hostfiles.proofs.CountLemmas.{none_past, none_from, count_found, count_empty}
 use Rattle.hostfiles.proofs.file_view.FileView.count.Goals as goal
@@ -7,7 +7,7 @@ use Rattle.hostfiles.proofs.file_view.FileView.count.Goals as goal
 pub loop-i-init : goal.loop-i-init
 loop-i-init c = (
   c.places_in-i.ensures.within,
-  none_past (record_of c.args.self.now.host.now c.args.self.now.key (entry_at c.args.self.now.journal.now.entries c.args.self.now.key)) (length_at c.args.self.now.host.now c.args.self.now.journal.now.entries c.args.self.now.key) c.args.extent _
+  none_past (record_or_hole c.args.self.now.host.now c.args.self.now.key (entry_at c.args.self.now.journal.now.entries c.args.self.now.key)) (length_at c.args.self.now.host.now c.args.self.now.journal.now.entries c.args.self.now.key) c.args.extent _
       (λ k l u. let past = c.places_in-i.ensures.past k l u in let count = c.length.ensures in omega arith),
 )
 

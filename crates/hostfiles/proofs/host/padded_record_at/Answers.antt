@@ -1,7 +1,7 @@
 use Rattle.std.proofs.Common.{ap, sym, ◌∙◌, ◌≡◌, ◌-◌, ◌*◌, length, drop, arith}
 use Rattle.std.proofs.lemmas.List.{take_all, length-drop}
 use Rattle.hostfiles.specs.Hosts.{padded_record}
-use Rattle.hostfiles.proofs.host.record_in.Goals as goal
+use Rattle.hostfiles.proofs.host.padded_record_at.Goals as goal
 
 pub returns : goal.returns
 returns c =
