@@ -17,8 +17,8 @@ LIMIT = 1500
 """The most lines for the first group."""
 
 CHECKPOINT_WORDS = {
-    'AllStand', 'RestartsCount', 'Effects', 'EffectsAtFault', 'EndsAs', 'KeepsUntouched', 'AddsAllDueTo', 'RerunsTo', 'AddsDueTo', 'SameOptions',
-    'StopsForMemory', 'TicksTo', 'session_answers', 'rerun_start', 'with_no_checkpoint',
+    'AllStand', 'RestartsCount', 'HasEffects', 'EndsAs', 'KeepsUntouched', 'AddsAllDueTo', 'RerunsTo', 'AddsDueTo', 'SameOptions',
+    'TicksTo', 'session_answers', 'rerun_start', 'with_no_checkpoint',
 }
 """The words of clauses that say which steps a run executes again, what becomes of the checkpoints and of the meter, and which allocations may
 fail. They count only for the last group."""

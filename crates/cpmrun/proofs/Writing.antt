@@ -1,15 +1,14 @@
 -- What a replay wrote, and what it read.
-use Rattle.std.proofs.Common.{◌≡◌, ◌<◌, arith, ℕ, List, [], ◌∷◌, ◌++◌, take, append-nil, refl, sym, ap, subst, ◌∙◌, ◌⊎◌, inl, inr, Option, Some, None, Result, Ok, Err, IfOk, IfSome, OnOk}
+use Rattle.std.proofs.Common.{◌≡◌, ◌<◌, arith, ℕ, List, [], ◌∷◌, ◌++◌, take, append-nil, refl, sym, ap, subst, ◌∙◌, ◌⊎◌, inl, inr, Option, Some, None, Result, Ok, Err, IfErr, IfSome, OnOk}
 use Rattle.std.proofs.lemmas.List.{take_all}
 use Rattle.std.specs.Io.KnownBytes.{Consumes, IsAtEnd}
 use Rattle.machine.specs.Inputs.{Session}
 use Rattle.edit_lines.specs.declared.ending.Ending.{Ending}
 use Rattle.edit_lines.specs.declared.ending.ReplayFault.{ReplayFault}
-use Rattle.edit_lines.specs.Pieces.{lines_of}
-use Rattle.edit_lines.specs.Replay.{Finished, Replays}
-use Rattle.edit_lines.specs.Effects.{Effects}
+use Rattle.edit_lines.specs.Effects.{HasEffects}
+use Rattle.edit_lines.specs.Faults.{AreLines, EndsReplay, replay_view}
 use Rattle.replay.specs.RunnerView.{RunnerView}
-use Rattle.report_lines.specs.Streams.{Output, WritesWhole}
+use Rattle.report_lines.specs.Streams.{Output}
 use Rattle.folders.specs.FileSystem.{Path, FileBytes, Opens, text_at}
 use Rattle.cpmrun.specs.Ends.{BreaksOffWith}
 use Rattle.cpmrun.specs.MeteredEnds.{WritesReplayBy}
@@ -20,24 +19,31 @@ all_read None d bytes c e = tt
 all_read (Some all) None bytes c e = absurd c
 all_read (Some all) (Some rest) bytes c e = c ∙ ap (λ r. bytes ++ r) e ∙ append-nil bytes
 
--- A replay that ended wrote its text, by the runner that it was given.
-pub writes_replay : (given first now : RunnerView) (begun steps : ℕ) (a d : Option (List ℕ)) (before after : Output) (r : Result Ending ReplayFault)
-    → first ≡ given → begun ≡ 0
-    → IfOk r (λ e. (bytes : List ℕ) × (text : List ℕ) × Consumes a d bytes × IsAtEnd d × WritesWhole before after text
-    × Replays first.session (lines_of bytes) text now.session (Finished e.lines)
-    × Effects first begun (lines_of bytes) now steps)
-    → OnOk r (WritesReplayBy a given before after steps)
-writes_replay given first now begun steps a d before after (Ok e) same none h = record {
+-- What a replay by this runner does, by its result.
+abbrev pub EndsBy : RunnerView → RunnerView → ℕ → Option (List ℕ) → Option (List ℕ) → Output → Output → Result Ending ReplayFault → Type 0
+EndsBy first now steps a left before after r = (bytes : List ℕ) × (done : List (List ℕ)) × (next : List (List ℕ)) × Consumes a left bytes × AreLines left bytes done next
+    × EndsReplay left bytes done next (replay_view first.session before) (replay_view now.session after) r × HasEffects first 0 done next now steps r
+
+-- A replay that ended wrote its text.
+pub writes_replay : (first now : RunnerView) (steps : ℕ) (a left : Option (List ℕ)) (before after : Output) (r : Result Ending ReplayFault)
+    → EndsBy first now steps a left before after r → OnOk r (WritesReplayBy a first before after steps)
+writes_replay first now steps a left before after (Ok e) (bytes, done, next, consumed, lines, (end, are, wrote), effects) = record {
   last = now;
-  bytes = h.0;
-  text = h.1;
+  bytes = bytes;
+  text = wrote.text;
   count = e.lines;
-  whole = all_read a d h.0 h.2 h.3;
-  written = h.4;
-  replayed = subst (λ (v : RunnerView). Replays v.session (lines_of h.0) h.1 now.session (Finished e.lines)) same h.5;
-  effects = subst (λ m. Effects given m (lines_of h.0) now steps) none (subst (λ (v : RunnerView). Effects v begun (lines_of h.0) now steps) same h.6);
+  whole = all_read a left bytes consumed end;
+  written = wrote.written;
+  replayed = rw are wrote.replays;
+  effects = rw are effects;
 }
-writes_replay given first now begun steps a d before after (Err f) same none h = tt
+writes_replay first now steps a left before after (Err f) h = tt
+
+pub breaks_replay : (first now : RunnerView) (steps : ℕ) (a left : Option (List ℕ)) (before after : Output) (r : Result Ending ReplayFault)
+    → EndsBy first now steps a left before after r → IfErr r (λ f. BreaksOffWith f a first.session before after)
+breaks_replay first now steps a left before after (Ok e) h = tt
+breaks_replay first now steps a left before after (Err f) (bytes, done, next, consumed, lines, faults, effects) =
+    record { left = left; last = now.session; bytes = bytes; done = done; next = next; read = consumed; lines = lines; leaves = faults }
 
 -- The bytes of a reader are the bytes of the file that it was opened for, if these are known.
 pub of_file : (files : Option FileBytes) (path : Path) (left : Option (List ℕ)) → Opens files path left → (text_at files path ≡ left) ⊎ (text_at files path ≡ None)
@@ -56,7 +62,7 @@ pub breaks_file : (files : Option FileBytes) (path : Path) (left : Option (List 
     → BreaksOffWith f left s before after → BreaksOffWith f (text_at files path) s before after
 breaks_file files path left f s before after o b = elim (of_file files path left o) [
   | inl e ↦ subst (λ source. BreaksOffWith f source s before after) (sym e) b
-  | inr e ↦ subst (λ source. BreaksOffWith f source s before after) (sym e) (record { left = b.left; last = b.last; bytes = b.bytes; read = tt; leaves = b.leaves })
+  | inr e ↦ subst (λ source. BreaksOffWith f source s before after) (sym e) (record { left = b.left; last = b.last; bytes = b.bytes; done = b.done; next = b.next; read = tt; lines = b.lines; leaves = b.leaves })
 ]
 
 -- A reader that had not failed failed, and that was noted.

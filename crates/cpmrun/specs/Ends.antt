@@ -21,7 +21,7 @@ use Rattle.one_run.specs.declared.fault.RunFault.{RunFault}
 use Rattle.folders.specs.FileSystem.{text_at}
 use Rattle.edit_lines.specs.Pieces.{lines_of}
 use Rattle.requests.specs.FaultReports.{EndsWithFault, of_run}
-use Rattle.edit_lines.specs.Faults.{Faults}
+use Rattle.edit_lines.specs.Faults.{AreLines, Faults, replay_view}
 use Rattle.edit_lines.specs.Replay.{Finished, Replays}
 
 -- The replay of the edit lines, from this session to their end, wrote its text. If a reader reports its bytes, these are the
@@ -40,8 +40,11 @@ pub record BreaksOffWith (f : ReplayFault) (source : Option (List ℕ)) (first :
   pub left : Option (List ℕ)
   pub last : Session
   pub bytes : List ℕ
+  pub done : List (List ℕ)
+  pub next : List (List ℕ)
   pub read : Consumes source left bytes
-  pub leaves : Faults left first before bytes last after f
+  pub lines : AreLines left bytes done next
+  pub leaves : Faults bytes done next (replay_view first before) (replay_view last after) f
 
 -- What an error that broke off the replay of the edit lines of this path leaves; the file has these bytes if they are known.
 abbrev pub BreaksReplay : List ℕ → Option (List ℕ) → Session → Output → Output → Fault → Type 0

@@ -1,7 +1,7 @@
 -- A text cut at a byte, as it grows.
-use Rattle.std.proofs.Common.{◌≡◌, ℕ, suc, ◌<◌, List, [], ◌∷◌, ◌++◌, length, refl, sym, ap, ◌∙◌, ◌+◌, arith, add-one, zero-le, eqb-true, take-append-drop, drop-cons, append_assoc, inl, inr, eqb, take, drop, zero, slice_index}
+use Rattle.std.proofs.Common.{◌≡◌, ℕ, suc, ◌<◌, List, [], ◌∷◌, ◌++◌, length, refl, sym, ap, ◌∙◌, ◌+◌, ◌-◌, ◌≤◌, arith, add-one, zero-le, eqb-true, take-append-drop, drop-cons, append_assoc, inl, inr, eqb, take, drop, zero, slice_index}
 use Rattle.std.proofs.lemmas.Bool.{cases_Bool, eq-eqb, ne_eqb}
-use Rattle.std.proofs.lemmas.List.{append-nil}
+use Rattle.std.proofs.lemmas.List.{append-nil, length-drop, take_all}
 use Rattle.memchr.specs.Find.{Nowhere, NoneBefore, Passes, is_byte}
 use Rattle.edit_lines.specs.Pieces.{first_piece, other_pieces, pieces, without_empty_last, lines_of, past_lines}
 
@@ -52,21 +52,30 @@ past_lines-pieces (b ∷ xs) ys (d ∷ ds) l e = elim (cases_Bool (eqb b 10)) [
       rw f (past_lines-pieces xs ys (first_piece 10 xs ∷ ds) l (ap (λ ps. first_piece 10 xs ∷ ps) others))
 ]
 
--- Nothing follows a last line that has no end.
-pub past_lines-last : (xs : List ℕ) (ds : List (List ℕ)) (l : List ℕ) → pieces 10 xs ≡ ds ++ l ∷ []
-    → past_lines (suc (length ds)) xs ≡ []
-past_lines-last [] ds l e = refl
-past_lines-last (b ∷ xs) [] l e = elim (cases_Bool (eqb b 10)) [
-  | inl t ↦ let g = rw t at e in absurd (cc)
-  | inr f ↦ let g = rw f at e in
-      let others : other_pieces 10 xs ≡ [] = cc in
-      rw f (past_lines-last xs [] (first_piece 10 xs) (ap (λ ps. first_piece 10 xs ∷ ps) others))
+-- No more bytes follow more lines.
+past_lines_shorter : (j : ℕ) (xs : List ℕ) → length (past_lines j xs) ≤ length xs
+past_lines_shorter zero xs = omega arith
+past_lines_shorter (suc j) [] = omega arith
+past_lines_shorter (suc j) (b ∷ xs) = elim (cases_Bool (eqb b 10)) [
+  | inl t ↦ rw t (omega (arith, past_lines_shorter j xs))
+  | inr f ↦ rw f (omega (arith, past_lines_shorter (suc j) xs))
 ]
-past_lines-last (b ∷ xs) (d ∷ ds) l e = elim (cases_Bool (eqb b 10)) [
-  | inl t ↦ let g = rw t at e in rw t (past_lines-last xs ds l cc)
-  | inr f ↦ let g = rw f at e in
-      let others : other_pieces 10 xs ≡ ds ++ l ∷ [] = cc in
-      rw f (past_lines-last xs (first_piece 10 xs ∷ ds) l (ap (λ ps. first_piece 10 xs ∷ ps) others))
+
+pub past_more_lines : (j k : ℕ) (xs : List ℕ) → j ≤ k → length (past_lines k xs) ≤ length (past_lines j xs)
+past_more_lines zero k xs h = past_lines_shorter k xs
+past_more_lines (suc j) zero xs h = absurd (omega (arith, h))
+past_more_lines (suc j) (suc k) [] h = omega arith
+past_more_lines (suc j) (suc k) (b ∷ xs) h = elim (cases_Bool (eqb b 10)) [
+  | inl t ↦ rw t (past_more_lines j k xs (omega (arith, h)))
+  | inr f ↦ rw f (past_more_lines (suc j) (suc k) xs h)
+]
+
+-- The first piece of a longer text is as long or longer.
+pub first_piece-longer : (xs ys : List ℕ) → length (first_piece 10 xs) ≤ length (first_piece 10 (xs ++ ys))
+first_piece-longer [] ys = omega arith
+first_piece-longer (b ∷ xs) ys = elim (cases_Bool (eqb b 10)) [
+  | inl t ↦ rw t (omega arith)
+  | inr f ↦ rw f (omega (arith, first_piece-longer xs ys))
 ]
 
 -- Only the last member matters.
@@ -157,3 +166,7 @@ cut_here xs ds l e =
 pub one_line : (l : List ℕ) → 0 < length l → without_empty_last (l ∷ []) ≡ l ∷ []
 one_line [] h = absurd (omega arith)
 one_line (b ∷ l) h = refl
+
+-- The bytes from an index on.
+pub all_after : (m : ℕ) (t : List ℕ) → take (length t - m) (drop m t) ≡ drop m t
+all_after m t = take_all (length t - m) (drop m t) (omega (arith, length-drop m t))

@@ -1,11 +1,7 @@
-pub mod Parts
 pub mod Cutting
 pub mod Executing
-pub mod Carrying
 pub mod Stepping
-pub mod EffectLemmas
-pub mod Stopping
-pub mod Answering
+pub mod Breaking
 pub mod Grammar
 pub mod Once
 pub mod SaidNames

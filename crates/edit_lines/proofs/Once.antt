@@ -4,8 +4,9 @@ use Rattle.std.specs.List.{concat}
 use Rattle.machine.specs.Inputs.{Session}
 use Rattle.edit_lines.specs.declared.line.Command.{Command}
 use Rattle.edit_lines.specs.EditLine.{EditLine}
+use Rattle.edit_lines.specs.Pieces.{words_of}
 use Rattle.edit_lines.specs.Replay.{ExecutesLines, none, more, ReplayEnd, Finished, MalformedAt, TooLongAt, EndsAt, Replays, reply, session_after}
-use Rattle.edit_lines.proofs.Grammar.{one_command_lem}
+use Rattle.edit_lines.proofs.Grammar.{one_command}
 use Rattle.edit_lines.specs.declared.limits.TheConstants.{LINE_LIMIT, LINES_LIMIT}
 
 ends_once : (n : ℕ) (left : List (List ℕ)) (d e : ReplayEnd) → EndsAt n left d → EndsAt n left e → d ≡ e
@@ -45,7 +46,7 @@ carried_once s t u (l ∷ ds) [] ps qs n m k left others d e (more c short is re
 carried_once s t u (l ∷ ds) (l' ∷ es) _ _ n m k left others d e (more c short is rest) (more c' short' is' rest') cut p q few few' x y =
     let line : l' ≡ l = cc in
     let tail : ds ++ left ≡ es ++ others = cc in
-    let one : c' ≡ c = sym (one_command_lem l c c' is (subst (λ z. EditLine z c') line is')) in
+    let one : c' ≡ c = sym (one_command (words_of l) c c' is (subst (λ z. EditLine z c') line is')) in
     let again = carried_once (session_after s c) t u ds es _ _ (n + 1) m k left others d e rest (rw one at rest')
     tail (omega (arith, p)) (omega (arith, q)) few few' x y in
     (rw one (ap (λ rs. reply s c ∷ rs) again.0), again.1, again.2)

@@ -1,5 +1,5 @@
--- The command of a line of an edit text, one case for each command: `insert AT HEX`, `replace AT HEX`, `remove AT COUNT`,
--- `poke ADDR HEX`, `file NAME HEX`, `gone NAME`, `limit N`, `drop N`, `run`. (This project's own.)
+-- The command of a line of an edit text: `insert AT HEX`, `replace AT HEX`, `remove AT COUNT`, `poke ADDR HEX`, `file NAME HEX`,
+-- `gone NAME`, `limit N`, `drop N`, `run`. (This project's own.)
 use Rattle.std.specs.Prelude.{◌≡◌, ℕ, ◌+◌, ◌*◌, ◌<◌, ◌≤◌, ◌⊎◌, List, [], ◌∷◌, length, codes, Ok}
 use Rattle.std.specs.Str.Parse.{IsNumeral, digits_value}
 use Rattle.hex.specs.Hex.{decode_of}
@@ -25,18 +25,18 @@ IsHexText word bytes = ((word ≡ codes "-") × (bytes ≡ [])) ⊎ ((0 < length
 abbrev pub IsName : List ℕ → Key → Type 0
 IsName word key = name_of word ≡ Ok key
 
+-- The command of these words, one case for each command.
+abbrev pub IsCommand : List (List ℕ) → Command → Type 0
+IsCommand (verb ∷ at ∷ hex ∷ []) (Edit (Insert n bytes)) = (verb ≡ codes "insert") × IsNumber at n × IsHexText hex bytes
+IsCommand (verb ∷ at ∷ hex ∷ []) (Edit (Replace n bytes)) = (verb ≡ codes "replace") × IsNumber at n × IsHexText hex bytes
+IsCommand (verb ∷ at ∷ count ∷ []) (Edit (Remove n k)) = (verb ≡ codes "remove") × IsNumber at n × IsNumber count k
+IsCommand (verb ∷ addr ∷ hex ∷ []) (Edit (Poke a bytes)) = (verb ≡ codes "poke") × IsAddress addr a × IsHexText hex bytes
+IsCommand (verb ∷ name ∷ hex ∷ []) (Edit (SetFile key bytes)) = (verb ≡ codes "file") × IsName name key × IsHexText hex bytes
+IsCommand (verb ∷ name ∷ []) (Edit (RemoveFile key)) = (verb ≡ codes "gone") × IsName name key
+IsCommand (verb ∷ limit ∷ []) (Edit (SetLimit n)) = (verb ≡ codes "limit") × IsNumber limit n
+IsCommand (verb ∷ count ∷ []) (DropOldest n) = (verb ≡ codes "drop") × IsNumber count n
+IsCommand (verb ∷ []) Run = verb ≡ codes "run"
+IsCommand words command = ⊥
+
 abbrev pub EditLine : List ℕ → Command → Type 0
-EditLine line (Edit (Insert at bytes)) =
-    (a : List ℕ) × (h : List ℕ) × (words_of line ≡ codes "insert" ∷ a ∷ h ∷ []) × IsNumber a at × IsHexText h bytes
-EditLine line (Edit (Replace at bytes)) =
-    (a : List ℕ) × (h : List ℕ) × (words_of line ≡ codes "replace" ∷ a ∷ h ∷ []) × IsNumber a at × IsHexText h bytes
-EditLine line (Edit (Remove at count)) =
-    (a : List ℕ) × (w : List ℕ) × (words_of line ≡ codes "remove" ∷ a ∷ w ∷ []) × IsNumber a at × IsNumber w count
-EditLine line (Edit (Poke at bytes)) =
-    (a : List ℕ) × (h : List ℕ) × (words_of line ≡ codes "poke" ∷ a ∷ h ∷ []) × IsAddress a at × IsHexText h bytes
-EditLine line (Edit (SetFile key bytes)) =
-    (a : List ℕ) × (h : List ℕ) × (words_of line ≡ codes "file" ∷ a ∷ h ∷ []) × IsName a key × IsHexText h bytes
-EditLine line (Edit (RemoveFile key)) = (w : List ℕ) × (words_of line ≡ codes "gone" ∷ w ∷ []) × IsName w key
-EditLine line (Edit (SetLimit n)) = (w : List ℕ) × (words_of line ≡ codes "limit" ∷ w ∷ []) × IsNumber w n
-EditLine line Run = words_of line ≡ codes "run" ∷ []
-EditLine line (DropOldest n) = (w : List ℕ) × (words_of line ≡ codes "drop" ∷ w ∷ []) × IsNumber w n
+EditLine line command = IsCommand (words_of line) command

@@ -1,5 +1,5 @@
 -- What the lines of an edit text do, one after the other, to a runner and its checkpoints and to the meter. (This project's own.)
-use Rattle.std.specs.Prelude.{◌≡◌, ℕ, ◌+◌, ◌-◌, ◌⊎◌, List, [], ◌∷◌, ◌++◌, length, Result, Ok, Err}
+use Rattle.std.specs.Prelude.{◌≡◌, ℕ, ◌+◌, ◌⊎◌, List, [], ◌∷◌, Result, Ok, Err}
 use Rattle.machine.specs.Inputs.{Session}
 use Rattle.machine.specs.Machine.{session_answers}
 use Rattle.machine.specs.PlainState.{plain_run}
@@ -8,9 +8,8 @@ use Rattle.replay.specs.RunnerView.{RunnerView, SameOptions, KeepsUntouched, Dro
 use Rattle.edit_lines.specs.declared.line.Command.{Command}
 use Rattle.edit_lines.specs.declared.line.Command.TheVariants.{Edit, Run, DropOldest}
 use Rattle.edit_lines.specs.declared.ending.ReplayFault.{ReplayFault}
-use Rattle.edit_lines.specs.declared.ending.ReplayFault.TheVariants.{Malformed, LineTooLong, Read, Write, OutOfMemory}
+use Rattle.edit_lines.specs.declared.ending.ReplayFault.TheVariants.{OutOfMemory}
 use Rattle.edit_lines.specs.EditLine.{EditLine}
-use Rattle.edit_lines.specs.Pieces.{pieces, lines_of}
 
 -- An edit that is applied leaves exactly the checkpoints that it does not touch; an edit that is refused changes nothing.
 abbrev pub EditEffect : Result Session ℕ → RunnerView → RunnerView → Type 0
@@ -53,38 +52,16 @@ pub record RunCutShort (old : RunnerView) (meter : ℕ) (new : RunnerView) (mete
   pub reran : AddsDueTo old new old.session.limit
   pub counted : RestartsCount old new old.session.limit
 
--- The lines whose 0AH is among the bytes had their effects.
-pub record EffectsOfEnded (first : RunnerView) (begun : ℕ) (bytes : List ℕ) (now : RunnerView) (meter : ℕ) : Type 0 where
-  pub ended : List (List ℕ)
-  pub rest : List ℕ
-  pub cut : pieces 10 bytes ≡ ended ++ rest ∷ []
-  pub effects : Effects first begun ended now meter
-
--- The first `count` lines of the bytes had their effects.
-pub record FirstEffects (first : RunnerView) (begun : ℕ) (bytes : List ℕ) (count : ℕ) (now : RunnerView) (meter : ℕ) : Type 0 where
-  pub done : List (List ℕ)
-  pub others : List (List ℕ)
-  pub cut : lines_of bytes ≡ done ++ others
-  pub counted : count ≡ length done
-  pub effects : Effects first begun done now meter
-
--- Some first lines of the bytes had their effects, and the run of the next one was cut short.
-pub record EffectsCutShort (first : RunnerView) (begun : ℕ) (bytes : List ℕ) (now : RunnerView) (meter : ℕ) : Type 0 where
-  pub done : List (List ℕ)
-  pub line : List ℕ
-  pub others : List (List ℕ)
-  pub cut : lines_of bytes ≡ done ++ line ∷ others
-  pub is_run : EditLine line Run
+-- These lines had their effects, and then the run of the next line was cut short.
+pub record EffectsCutShort (first : RunnerView) (begun : ℕ) (done next : List (List ℕ)) (now : RunnerView) (meter : ℕ) : Type 0 where
   pub before : RunnerView
   pub metered : ℕ
   pub effects : Effects first begun done before metered
+  pub is_run : (line : List ℕ) × (others : List (List ℕ)) × (next ≡ line ∷ others) × EditLine line Run
   pub part : RunCutShort before metered now meter
 
--- What was done if an error ended the replay of the bytes.
-abbrev pub EffectsAtFault : RunnerView → ℕ → List ℕ → RunnerView → ℕ → ReplayFault → Type 0
-EffectsAtFault first begun bytes now meter (Malformed k) = FirstEffects first begun bytes (k - 1) now meter
-EffectsAtFault first begun bytes now meter (LineTooLong k) = FirstEffects first begun bytes (k - 1) now meter
-EffectsAtFault first begun bytes now meter Read = EffectsOfEnded first begun bytes now meter
-EffectsAtFault first begun bytes now meter Write = (count : ℕ) × FirstEffects first begun bytes count now meter
-EffectsAtFault first begun bytes now meter OutOfMemory =
-    ((count : ℕ) × FirstEffects first begun bytes count now meter) ⊎ EffectsCutShort first begun bytes now meter
+-- What a replay did, by its result, if `done` are the lines that it executed and `next` the lines after them: each line had its effect. If
+-- an allocation failed, the run of the next line may have been cut short.
+abbrev pub HasEffects : {T : Type 0} → RunnerView → ℕ → List (List ℕ) → List (List ℕ) → RunnerView → ℕ → Result T ReplayFault → Type 0
+HasEffects first begun done next now meter (Err OutOfMemory) = Effects first begun done now meter ⊎ EffectsCutShort first begun done next now meter
+HasEffects first begun done next now meter result = Effects first begun done now meter

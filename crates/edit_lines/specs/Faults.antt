@@ -1,55 +1,68 @@
--- What holds after each error of a replay. (This project's own.)
-use Rattle.std.specs.Prelude.{◌*◌, ◌≡◌, ℕ, ◌+◌, ◌-◌, ◌≤◌, List, ◌∷◌, [], ◌++◌, length, take, Option, Some}
-use Rattle.std.specs.List.{concat}
-use Rattle.std.specs.Io.KnownBytes.{Appends}
-use Rattle.report_lines.specs.Streams.{Output, WritesWhole}
+-- What holds at the end of a replay, by its result. (This project's own.)
+use Rattle.std.specs.Prelude.{◌*◌, ◌≡◌, ℕ, ◌+◌, ◌<◌, ◌≤◌, ◌⊎◌, List, ◌∷◌, [], ◌++◌, length, Option, IfSome, Result, Ok, Err}
+use Rattle.std.specs.Io.KnownBytes.{IsAtEnd}
+use Rattle.report_lines.specs.Streams.{Output, WritesPart, WritesWhole}
 use Rattle.machine.specs.Inputs.{Session}
+use Rattle.edit_lines.specs.declared.ending.Ending.{Ending}
 use Rattle.edit_lines.specs.declared.ending.ReplayFault.{ReplayFault}
 use Rattle.edit_lines.specs.declared.ending.ReplayFault.TheVariants.{Malformed, LineTooLong, Read, Write, OutOfMemory}
+use Rattle.edit_lines.specs.Allocating.{LineAllocates}
 use Rattle.edit_lines.specs.Pieces.{pieces, lines_of, past_lines}
-use Rattle.edit_lines.specs.Replay.{ExecutesLines, ReplayEnd, Finished, MalformedAt, TooLongAt, Replays}
+use Rattle.edit_lines.specs.Replay.{ReplayEnd, Finished, MalformedAt, TooLongAt, Replays}
 use Rattle.edit_lines.specs.declared.limits.TheConstants.{LINE_LIMIT, LINES_LIMIT}
 
--- The replay of these bytes and of what is left has this end; if the reader does not report what is left, the replay of some text that
--- begins with these bytes has it. Little more than k - 1 lines was read.
-pub record EndsAtFault (left : Option (List ℕ)) (first : Session) (before : Output) (bytes : List ℕ) (now : Session) (after : Output) (k : ℕ) (end : ReplayEnd) : Type 0 where
-  pub text : List ℕ
-  pub written : WritesWhole before after text
-  pub replays : (rest : List ℕ) → left ≡ Some rest → Replays first (lines_of (bytes ++ rest)) text now end
-  pub some : (rest : List ℕ) × Replays first (lines_of (bytes ++ rest)) text now end
-  pub near : length (past_lines (k - 1) bytes) ≤ 2 * LINE_LIMIT
+-- A session, and what a writer holds.
+pub record ReplayView : Type 0 where
+  pub session : Session
+  pub output : Output
 
--- Some first lines were read and executed. All their replies except the last were written whole, the last one in part. The lines
--- are the first lines of the bytes that were read, and of these with what is left if the reader reports that. The writer failed
--- `failures` times.
-pub record StopsMidLine (left : Option (List ℕ)) (first : Session) (before : Output) (bytes : List ℕ) (now : Session) (after : Output) (failures : ℕ) : Type 0 where
-  pub text : List ℕ
-  pub written : Appends before.holds after.holds text
-  pub failed : after.failures ≡ before.failures + failures
-  pub done : List (List ℕ)
-  pub replies : List (List ℕ)
-  pub read : (others : List (List ℕ)) × (lines_of bytes ≡ done ++ others)
-  pub cut : (rest : List ℕ) → left ≡ Some rest → (others : List (List ℕ)) × (lines_of (bytes ++ rest) ≡ done ++ others)
-  pub few : length done ≤ LINES_LIMIT
-  pub carried : ExecutesLines first done replies now
-  pub begins : (rest : List ℕ) × (concat replies ≡ text ++ rest)
-  pub contains : (rest : List ℕ) × (text ≡ concat (take (length replies - 1) replies) ++ rest)
+abbrev pub replay_view : Session → Output → ReplayView
+replay_view session output = record { session = session; output = output }
+
+-- The lines are the first lines of the bytes.
+abbrev pub AreRead : List ℕ → List (List ℕ) → Type 0
+AreRead bytes lines = (others : List (List ℕ)) × (lines_of bytes ≡ lines ++ others)
+
+-- The lines of an input of which these bytes were read: `done`, and then `next`. `left` is what is left, if the reader reports that; else
+-- they are the lines of some text that begins with the bytes. All of `done` was read, and little more.
+pub record AreLines (left : Option (List ℕ)) (bytes : List ℕ) (done next : List (List ℕ)) : Type 0 where
+  pub rest : List ℕ
+  pub whole : IfSome left (λ all. all ≡ rest)
+  pub cut : lines_of (bytes ++ rest) ≡ done ++ next
+  pub read : AreRead bytes done
   pub near : length (past_lines (length done) bytes) ≤ 2 * LINE_LIMIT
 
--- The lines whose 0AH was read were executed, and their replies written.
-pub record StopsReading (first : Session) (before : Output) (bytes : List ℕ) (now : Session) (after : Output) : Type 0 where
+-- The replay of the lines has this end, and exactly its text was written.
+pub record WritesReplies (old : ReplayView) (lines : List (List ℕ)) (new : ReplayView) (end : ReplayEnd) : Type 0 where
   pub text : List ℕ
-  pub written : WritesWhole before after text
-  pub ended : List (List ℕ)
-  pub rest : List ℕ
-  pub cut : pieces 10 bytes ≡ ended ++ rest ∷ []
-  pub replays : Replays first ended text now (Finished (length ended))
-  pub near : length rest ≤ 2 * LINE_LIMIT
+  pub replays : Replays old.session lines text new.session end
+  pub written : WritesWhole old.output new.output text
 
--- What holds after an error, once these bytes were read and `left` is what is left, if the reader reports it.
-abbrev pub Faults : Option (List ℕ) → Session → Output → List ℕ → Session → Output → ReplayFault → Type 0
-Faults left first before bytes now after (Malformed k) = EndsAtFault left first before bytes now after k (MalformedAt k)
-Faults left first before bytes now after (LineTooLong k) = EndsAtFault left first before bytes now after k (TooLongAt k)
-Faults left first before bytes now after Read = StopsReading first before bytes now after
-Faults left first before bytes now after Write = StopsMidLine left first before bytes now after 1
-Faults left first before bytes now after OutOfMemory = StopsMidLine left first before bytes now after 0
+-- The lines were replayed. All replies but the last were written whole, and the last one in part.
+pub record WritesLastInPart (old : ReplayView) (lines : List (List ℕ)) (new : ReplayView) : Type 0 where
+  pub earlier : List (List ℕ)
+  pub cut : (last : List ℕ) × (lines ≡ earlier ++ last ∷ [])
+  pub between : ReplayView
+  pub whole : WritesReplies old earlier between (Finished (length earlier))
+  pub reply : List ℕ
+  pub replays : Replays old.session lines (whole.text ++ reply) new.session (Finished (length lines))
+  pub part : WritesPart between.output new.output reply
+
+-- Nothing was read, or the line after those that were executed may need memory.
+abbrev pub MayAllocate : List ℕ → List (List ℕ) → Session → Type 0
+MayAllocate bytes done s =
+    (bytes ≡ [])
+    ⊎ ((line : List ℕ) × AreRead bytes (done ++ line ∷ []) × (length done < LINES_LIMIT) × LineAllocates s line)
+
+-- What holds after an error: these bytes were read, the lines `done` executed, and `next` are the lines after them.
+abbrev pub Faults : List ℕ → List (List ℕ) → List (List ℕ) → ReplayView → ReplayView → ReplayFault → Type 0
+Faults bytes done next old new (Malformed k) = (k ≡ length done + 1) × WritesReplies old (done ++ next) new (MalformedAt k)
+Faults bytes done next old new (LineTooLong k) = (k ≡ length done + 1) × WritesReplies old (done ++ next) new (TooLongAt k)
+Faults bytes done next old new Read = ((begun : List ℕ) × (pieces 10 bytes ≡ done ++ begun ∷ [])) × WritesReplies old done new (Finished (length done))
+Faults bytes done next old new Write = WritesLastInPart old done new
+Faults bytes done next old new OutOfMemory = WritesReplies old done new (Finished (length done)) × MayAllocate bytes done new.session
+
+-- What holds at the end of a replay, by its result: all was read and replayed, or there was an error.
+abbrev pub EndsReplay : Option (List ℕ) → List ℕ → List (List ℕ) → List (List ℕ) → ReplayView → ReplayView → Result Ending ReplayFault → Type 0
+EndsReplay left bytes done next old new (Ok e) = IsAtEnd left × (lines_of bytes ≡ done) × WritesReplies old done new (Finished e.lines)
+EndsReplay left bytes done next old new (Err f) = Faults bytes done next old new f

@@ -1,11 +1,10 @@
 pub mod Pieces
 pub mod EditLine
-pub mod LineParts
+pub mod Parsing
+pub mod Allocating
 pub mod Reports
 pub mod Replay
 pub mod Faults
-pub mod Progress
 pub mod Effects
-pub mod MemoryFaults
-pub mod FileLines
+pub mod Progress
 pub mod Replies

@@ -1,97 +1,72 @@
 -- How far a replay has come, and the result of each of its parts. (This project's own.)
-use Rattle.std.specs.Prelude.{◌≡◌, ℕ, ◌+◌, ◌<◌, ◌≤◌, ◌⊎◌, List, [], ◌∷◌, ◌++◌, length, Option, Result, Ok, Err, Vec, vec_capacity}
-use Rattle.std.specs.List.{All, concat}
-use Rattle.std.specs.Io.KnownBytes.{IsAtEnd}
+use Rattle.std.specs.Prelude.{◌≡◌, ℕ, ◌+◌, ◌<◌, ◌≤◌, ◌⊎◌, List, [], ◌∷◌, ◌++◌, length, Result, Ok, Err}
 use Rattle.report_lines.specs.Streams.{Output, WritesPart, WritesWhole}
 use Rattle.replay.specs.RunnerView.{RunnerView}
 use Rattle.edit_lines.specs.declared.line.Command.{Command}
 use Rattle.edit_lines.specs.declared.line.Command.TheVariants.{Run}
-use Rattle.edit_lines.specs.declared.ending.Ending.{Ending}
 use Rattle.edit_lines.specs.declared.ending.ReplayFault.{ReplayFault}
-use Rattle.edit_lines.specs.declared.ending.ReplayFault.TheVariants.{Malformed, LineTooLong, Read, Write, OutOfMemory}
+use Rattle.edit_lines.specs.declared.ending.ReplayFault.TheVariants.{Malformed, LineTooLong, Write, OutOfMemory}
+use Rattle.edit_lines.specs.Allocating.{CommandAllocates, NamesBytes}
 use Rattle.edit_lines.specs.EditLine.{EditLine}
-use Rattle.edit_lines.specs.LineParts.{CommandAllocates, LineAllocates}
-use Rattle.edit_lines.specs.Effects.{Effect, Effects, EffectsAtFault, IsUnchanged, RunCutShort}
-use Rattle.edit_lines.specs.Faults.{Faults}
-use Rattle.edit_lines.specs.Pieces.{pieces, lines_of}
-use Rattle.edit_lines.specs.Replay.{ExecutesLines, Finished, IsMalformed, Replays, reply}
+use Rattle.edit_lines.specs.Effects.{Effect, RunCutShort}
+use Rattle.edit_lines.specs.Pieces.{first_piece, pieces}
+use Rattle.edit_lines.specs.Replay.{IsMalformed, reply}
 use Rattle.edit_lines.specs.declared.limits.TheConstants.{LINE_LIMIT, LINES_LIMIT}
 
--- A replay in progress: its runner, the count of its meter, its output, the beginning of a line that was read, the capacity of the buffer
--- for it, and the number of lines that were executed.
+-- What a replay changes: its runner, the count of its meter, and its output.
 pub record ReplayState : Type 0 where
   pub runner : RunnerView
   pub meter : ℕ
   pub output : Output
-  pub line : List ℕ
-  pub room : ℕ
-  pub count : ℕ
 
-abbrev pub replay_state : {Z : Type 0} → RunnerView → ℕ → Output → Vec ℕ Z → ℕ → ReplayState
-replay_state runner meter output line count =
-    record { runner = runner; meter = meter; output = output; line = line.items; room = vec_capacity line; count = count }
+abbrev pub replay_state : RunnerView → ℕ → Output → ReplayState
+replay_state runner meter output = record { runner = runner; meter = meter; output = output }
 
--- The bytes read so far are whole lines, all executed with their replies and effects, and the beginning of one more, whose buffer has
--- room for each of them.
-pub record IsReplayedTo (first : ReplayState) (bytes : List ℕ) (now : ReplayState) : Type 0 where
-  pub done : List (List ℕ)
-  pub replies : List (List ℕ)
-  pub cut : pieces 10 bytes ≡ done ++ now.line ∷ []
-  pub carried : ExecutesLines first.runner.session done replies now.runner.session
-  pub written : WritesWhole first.output now.output (concat replies)
-  pub effects : Effects first.runner first.meter done now.runner now.meter
-  pub counted : now.count ≡ length done
-  pub fits : All (λ l. length l ≤ now.room) done
-
--- What a command did to a runner, a meter and an output, by its result. If its reply could not be written whole, it was executed. If
--- memory ran out, nothing was written, and nothing was done, or it is a run that was cut short.
-abbrev pub ExecutesCommand : {U : Type 0} → Command → RunnerView → ℕ → Output → RunnerView → ℕ → Output → Result U ReplayFault → Type 0
-ExecutesCommand c old meter before new metered after (Ok _) =
-    Effect c old meter new metered × WritesWhole before after (reply old.session c)
-ExecutesCommand c old meter before new metered after (Err Write) =
-    Effect c old meter new metered × WritesPart before after (reply old.session c)
-ExecutesCommand c old meter before new metered after (Err OutOfMemory) =
-    CommandAllocates old.session c × (after ≡ before) × (IsUnchanged old meter new metered ⊎ ((c ≡ Run) × RunCutShort old meter new metered))
-ExecutesCommand c old meter before new metered after (Err (Malformed k)) = ⊥
-ExecutesCommand c old meter before new metered after (Err (LineTooLong k)) = ⊥
-ExecutesCommand c old meter before new metered after (Err Read) = ⊥
+-- What a command did, by its result. If its reply could not be written whole, it was executed. If an allocation failed, nothing was
+-- written, and nothing was done, or it is a run that was cut short.
+abbrev pub ExecutesCommand : {U : Type 0} → Command → ReplayState → ReplayState → Result U ReplayFault → Type 0
+ExecutesCommand c old new (Ok _) =
+    Effect c old.runner old.meter new.runner new.meter × WritesWhole old.output new.output (reply old.runner.session c)
+ExecutesCommand c old new (Err Write) =
+    Effect c old.runner old.meter new.runner new.meter × WritesPart old.output new.output (reply old.runner.session c)
+ExecutesCommand c old new (Err OutOfMemory) =
+    (NamesBytes c ⊎ CommandAllocates old.runner.session c) × (new.output ≡ old.output)
+    × (((new.runner ≡ old.runner) × (new.meter ≡ old.meter)) ⊎ ((c ≡ Run) × RunCutShort old.runner old.meter new.runner new.meter))
+ExecutesCommand c old new result = ⊥
 
 -- What line number n did, by its result.
-abbrev pub ExecutesLine : {U : Type 0} → ℕ → List ℕ → RunnerView → ℕ → Output → RunnerView → ℕ → Output → Result U ReplayFault → Type 0
-ExecutesLine n line old meter before new metered after (Ok _) =
-    (c : Command) × EditLine line c × (n ≤ LINES_LIMIT) × Effect c old meter new metered × WritesWhole before after (reply old.session c)
-ExecutesLine n line old meter before new metered after (Err Write) =
-    (c : Command) × EditLine line c × (n ≤ LINES_LIMIT) × Effect c old meter new metered × WritesPart before after (reply old.session c)
-ExecutesLine n line old meter before new metered after (Err OutOfMemory) =
-    (n ≤ LINES_LIMIT) × LineAllocates old.session line × (after ≡ before)
-    × (IsUnchanged old meter new metered ⊎ (EditLine line Run × RunCutShort old meter new metered))
-ExecutesLine n line old meter before new metered after (Err (Malformed k)) =
-    (k ≡ n) × IsMalformed n line × (after ≡ before) × IsUnchanged old meter new metered
-ExecutesLine n line old meter before new metered after (Err (LineTooLong k)) = ⊥
-ExecutesLine n line old meter before new metered after (Err Read) = ⊥
+abbrev pub ExecutesLine : {U : Type 0} → ℕ → List ℕ → ReplayState → ReplayState → Result U ReplayFault → Type 0
+ExecutesLine n line old new (Err (Malformed k)) = (k ≡ n) × IsMalformed n line × (new ≡ old)
+ExecutesLine n line old new result = (c : Command) × (n ≤ LINES_LIMIT) × EditLine line c × ExecutesCommand c old new result
 
--- Why the next part of a line is not taken: the line would be too long; or it would not, and the buffer is too small for it.
--- `count` lines were executed, the line has `taken` bytes and the part `more`, and the buffer has room for `room`.
-abbrev pub IsPartFault : ℕ → ℕ → ℕ → ℕ → ReplayFault → Type 0
-IsPartFault count taken more room (LineTooLong k) = (k ≡ count + 1) × (LINE_LIMIT < taken + more)
-IsPartFault count taken more room OutOfMemory = (room < taken + more) × (taken + more ≤ LINE_LIMIT)
-IsPartFault count taken more room (Malformed k) = ⊥
-IsPartFault count taken more room Read = ⊥
-IsPartFault count taken more room Write = ⊥
+-- The lines after the first n were executed in order, and their replies written.
+pub data Executes : ℕ → ReplayState → List (List ℕ) → ReplayState → Type 0 where
+  none : {n : ℕ} {s : ReplayState} → Executes n s [] s
+  more : {n : ℕ} {s t u : ReplayState} {l : List ℕ} {ls : List (List ℕ)} → length l ≤ LINE_LIMIT
+      → ExecutesLine {U = Unit {0}} (n + 1) l s t (Ok tt) → Executes (n + 1) t ls u → Executes n s (l ∷ ls) u
 
--- The result of a step over some bytes, if the rest was read too.
-abbrev pub ContinuesReplay : {U : Type 0} → ReplayState → List ℕ → List ℕ → ReplayState → Result U ReplayFault → Type 0
-ContinuesReplay first bytes rest now (Ok _) = IsReplayedTo first bytes now
-ContinuesReplay first bytes rest now (Err f) =
-    ((left : Option (List ℕ)) → length rest ≤ 65535
-    → Faults left first.runner.session first.output (bytes ++ rest) now.runner.session now.output f)
-    × EffectsAtFault first.runner first.meter (bytes ++ rest) now.runner now.meter f
+-- More bytes were read after the beginning of line number n + 1. Each line that ended was executed, and `left` is the beginning of line
+-- number m + 1.
+pub record Takes (n : ℕ) (old : ReplayState) (line bytes : List ℕ) (m : ℕ) (new : ReplayState) (left : List ℕ) : Type 0 where
+  pub done : List (List ℕ)
+  pub counted : m ≡ n + length done
+  pub executed : Executes n old done new
+  pub cut : (text : List ℕ) (lines : List (List ℕ)) → pieces 10 text ≡ lines ++ line ∷ []
+      → pieces 10 (text ++ bytes) ≡ (lines ++ done) ++ left ∷ []
 
--- The result of the end of the input, for this runner, meter and writer.
-abbrev pub FinishesReplay : ReplayState → List ℕ → RunnerView → ℕ → Output → Result Ending ReplayFault → Type 0
-FinishesReplay first bytes now meter after (Ok e) =
-    (text : List ℕ) × WritesWhole first.output after text × Replays first.runner.session (lines_of bytes) text now.session (Finished e.lines)
-    × Effects first.runner first.meter (lines_of bytes) now meter
-FinishesReplay first bytes now meter after (Err f) =
-    ((left : Option (List ℕ)) → IsAtEnd left → Faults left first.runner.session first.output bytes now.session after f)
-    × EffectsAtFault first.runner first.meter bytes now meter f
+-- Why line number n + 1 is not executed, if these bytes follow its beginning: it is too long, or it ends there and fails.
+abbrev pub FailsAt : ℕ → List ℕ → List ℕ → ReplayState → ReplayState → ReplayFault → Type 0
+FailsAt n line bytes old new (LineTooLong k) = (k ≡ n + 1) × (new ≡ old) × (LINE_LIMIT < length line + length (first_piece 10 bytes))
+FailsAt n line bytes old new fault = ((rest : List ℕ) × (bytes ≡ 10 ∷ rest)) × ExecutesLine {U = Unit {0}} (n + 1) line old new (Err fault)
+
+-- More bytes were read after the beginning of line number n + 1. The lines that ended were executed, up to one that is not.
+pub record Breaks (n : ℕ) (old : ReplayState) (line bytes : List ℕ) (new : ReplayState) (fault : ReplayFault) : Type 0 where
+  pub m : ℕ
+  pub last : ReplayState
+  pub held : List ℕ
+  pub taken : List ℕ
+  pub rest : List ℕ
+  pub split : taken ++ rest ≡ bytes
+  pub takes : Takes n old line taken m last held
+  pub short : length held ≤ LINE_LIMIT
+  pub fails : FailsAt m held rest last new fault

@@ -1,6 +1,6 @@
 ghost use Rattle.std.specs.Prelude.{◌≡◌, ℕ, ◌+◌, ◌^◌, ◌≤◌};
 ghost use Rattle.replay.specs.Report.{run_of, session_of};
-ghost use Rattle.edit_lines.specs.Progress.{ExecutesLine, ExecutesCommand};
+ghost use Rattle.edit_lines.specs.Progress.{ExecutesCommand, ExecutesLine, replay_state};
 ghost use Rattle.edit_lines.specs.Reports.{report_text};
 ghost use Rattle.edit_lines.specs.Replies.{Replies};
 ghost use Rattle.report_lines.specs.Streams.{WritesText};
@@ -35,7 +35,7 @@ fn execute_edit<W: Writer>(
     writer: &mut W,
 ) -> Result<(), ReplayFault>
     ensures { (meter : ℕ) → ExecutesCommand (Command.Edit edit)
-        runner.old meter (W.output writer.old) runner.new meter (W.output writer.new) result }
+        (replay_state runner.old meter (W.output writer.old)) (replay_state runner.new meter (W.output writer.new)) result }
 {
     match runner.edit(edit) {
         Ok(()) => write_reply(writer, b"ok\n"),
@@ -51,7 +51,7 @@ fn drop_oldest<W: Writer>(
     writer: &mut W,
 ) -> Result<(), ReplayFault>
     ensures { (meter : ℕ) → ExecutesCommand (Command.DropOldest count)
-        runner.old meter (W.output writer.old) runner.new meter (W.output writer.new) result }
+        (replay_state runner.old meter (W.output writer.old)) (replay_state runner.new meter (W.output writer.new)) result }
 {
     runner.drop_oldest(count);
     write_reply(writer, b"ok\n")
@@ -86,8 +86,8 @@ fn write_short_at_once<W: Writer>(report: &Report<'_>, writer: &mut W) -> Result
 /// to the meter.
 fn run<W: Writer>(runner: &mut Runner, meter: &mut Meter, writer: &mut W) -> Result<(), ReplayFault>
     requires { meter.old ≤ 2 ^ 63 }
-    ensures does { ExecutesCommand Command.Run
-        runner.old meter.old (W.output writer.old) runner.new meter.new (W.output writer.new) result }
+    ensures does { ExecutesCommand Command.Run (replay_state runner.old meter.old (W.output writer.old))
+        (replay_state runner.new meter.new (W.output writer.new)) result }
     ensures meter { meter.new ≤ meter.old + STEP_LIMIT }
 {
     let report = runner.rerun(meter)?;
@@ -108,8 +108,8 @@ pub fn execute_line<W: Writer>(
     writer: &mut W,
 ) -> Result<(), ReplayFault>
     requires { meter.old ≤ 2 ^ 63 }
-    ensures does { ExecutesLine number line.now
-        runner.old meter.old (W.output writer.old) runner.new meter.new (W.output writer.new) result }
+    ensures does { ExecutesLine number line.now (replay_state runner.old meter.old (W.output writer.old))
+        (replay_state runner.new meter.new (W.output writer.new)) result }
     ensures meter { meter.new ≤ meter.old + STEP_LIMIT }
 {
     if number > LINES_LIMIT {

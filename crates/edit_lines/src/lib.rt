@@ -1,14 +1,14 @@
 //! Edit lines and their replies, and a replay of edit lines over any reader and writer.
 //!
-//! - `line`, `file_lines`, `reply`: the command of a line; the words of `file NAME HEX` and `gone NAME`; the reply to a refused
-//!   edit
-//! - `execute`, `stream`, `ending`: one line executed; lines read from a reader and executed one by one; how a replay ends
+//! - `line`, `reply`: the command of a line; the reply to a refused edit
+//! - `execute`, `buffer`, `stream`, `ending`: one line executed; the line that is being read; lines read from a reader and executed
+//!   one by one; how a replay ends
 //! - `limits`: the largest length of a line, and the largest number of lines
 #![tactic(auto)]
 
+mod buffer;
 mod ending;
 mod execute;
-mod file_lines;
 mod limits;
 mod line;
 mod reply;

@@ -1,17 +1,19 @@
-ghost use Rattle.std.specs.Prelude.{◌≡◌, ℕ, ◌<◌, ◌∷◌, [], List, length, IfOk, OnErr, IfSome, IfNone, MatchBool, MatchOption, codes};
+ghost use Rattle.std.specs.Prelude.{◌≡◌, ℕ, ◌<◌, ◌∷◌, [], List, length, MatchBool, MatchOption, codes};
 ghost use Rattle.std.specs.List.{AllPass};
 ghost use Rattle.hex.specs.Hex.{is_hex_digit};
-ghost use Rattle.edit_lines.specs.EditLine.{EditLine, IsAddress, IsHexText, IsNumber};
-ghost use Rattle.edit_lines.specs.LineParts.{AreSplit, IsTwoWordCommand, IsThreeWordCommand, NamesBytes};
+ghost use Rattle.edit_lines.specs.Allocating.{NamesBytes};
+ghost use Rattle.edit_lines.specs.EditLine.{EditLine, IsAddress, IsCommand, IsHexText, IsName, IsNumber};
+ghost use Rattle.edit_lines.specs.Parsing.{AreSplit, Finds, Parses};
 ghost use Rattle.edit_lines.specs.Pieces.{first_piece, other_pieces, pieces, words_of};
 ghost use Rattle.edit_lines.specs.declared.line.Command.{Command};
 
-use crate::file_lines::{file, name};
 use hex::{FromHex, FromHexError};
+use hostfiles::Name;
 use machine::Bytes;
 use memchr::memchr;
 use replay::Edit;
 use std::alloc::{AllocError, Global};
+use std::str;
 
 /// The command of a line of an edit text.
 #[derive(Drop)]
@@ -71,8 +73,7 @@ fn split(line: &[u8]) -> Words<'_>
 
 /// Parses a number of one to ten decimal digits.
 fn number(word: &[u8]) -> Option<u64>
-    ensures found { IfSome result (IsNumber word.now) }
-    ensures none { IfNone result ((n : ℕ) → IsNumber word.now n → ⊥) }
+    ensures { Finds (IsNumber word.now) result }
 {
     if word.is_empty() || word.len() > 10 {
         return None;
@@ -108,20 +109,17 @@ fn are_digits(word: &[u8]) -> bool
 }
 
 /// Parses bytes: `-` for none, or two hexadecimal digits for each. An allocation can fail only for a word with bytes.
-pub(crate) fn hex_bytes(alloc: Global, word: &[u8]) -> Result<Option<Vec<u8>>, AllocError>
-    ensures found { IfOk result (λ r. IfSome r (λ v. IsHexText word.now v.items)) }
-    ensures none { IfOk result (λ r. IfNone r ((bytes : List ℕ) → IsHexText word.now bytes → ⊥)) }
-    ensures memory { OnErr result
-        ((bytes : List ℕ) × IsHexText word.now bytes × (0 < length bytes)) }
+fn hex_bytes(alloc: Global, word: &[u8]) -> Result<Option<Bytes>, AllocError>
+    ensures { Parses (IsHexText word.now) (λ bytes. 0 < length bytes) result }
 {
     if word == b"-".as_slice() {
-        return Ok(Some(Vec::new(alloc)));
+        return Ok(Some(Bytes::new(Vec::new(alloc))));
     }
     if word.is_empty() {
         return Ok(None);
     }
     match hex::decode(alloc, word) {
-        Ok(bytes) => Ok(Some(bytes)),
+        Ok(bytes) => Ok(Some(Bytes::new(bytes))),
         Err(FromHexError::OutOfMemory) => {
             if are_digits(word) {
                 return Err(AllocError);
@@ -134,8 +132,7 @@ pub(crate) fn hex_bytes(alloc: Global, word: &[u8]) -> Result<Option<Vec<u8>>, A
 
 /// Parses an address of four hexadecimal digits.
 fn address(word: &[u8]) -> Option<u16>
-    ensures found { IfSome result (IsAddress word.now) }
-    ensures none { IfNone result ((a : ℕ) → IsAddress word.now a → ⊥) }
+    ensures { Finds (IsAddress word.now) result }
 {
     match <[u8; 2] as FromHex>::from_hex(word) {
         Ok(bytes) => Some(u16::from(bytes[0]) * 256 + u16::from(bytes[1])),
@@ -143,10 +140,23 @@ fn address(word: &[u8]) -> Option<u16>
     }
 }
 
+/// Parses the name of a file, in either case: 1 to 8 bytes, then optionally a `.` and a type of up to 3 bytes. A letter A to D
+/// and `:` before it name the drive, which is A by default.
+fn name(word: &[u8]) -> Option<Name>
+    ensures { Finds (IsName word.now) result }
+{
+    let Ok(text) = str::from_utf8(word) else {
+        return None;
+    };
+    match Name::parse(text) {
+        Ok(name) => Some(name),
+        Err(_) => None,
+    }
+}
+
 /// Parses the command of two words, of which the second is a number or a name.
 fn two_word_command(verb: &[u8], word: &[u8]) -> Option<Command>
-    ensures found { IfSome result (IsTwoWordCommand verb.now word.now) }
-    ensures none { IfNone result ((c : Command) → IsTwoWordCommand verb.now word.now c → ⊥) }
+    ensures { Finds (IsCommand (verb.now ∷ word.now ∷ [])) result }
 {
     if verb == b"gone".as_slice() {
         let name = name(word)?;
@@ -165,60 +175,46 @@ fn two_word_command(verb: &[u8], word: &[u8]) -> Option<Command>
 
 /// Parses the words after `poke`: an address and the bytes.
 fn poke(alloc: Global, at: &[u8], bytes: &[u8]) -> Result<Option<Command>, AllocError>
-    ensures found { IfOk result (λ r. IfSome r (IsThreeWordCommand (codes "poke") at.now bytes.now)) }
-    ensures none { IfOk result
-        (λ r. IfNone r ((c : Command) → IsThreeWordCommand (codes "poke") at.now bytes.now c → ⊥)) }
-    ensures memory { OnErr result
-        ((c : Command) × IsThreeWordCommand (codes "poke") at.now bytes.now c × NamesBytes c) }
+    ensures { Parses (IsCommand (codes "poke" ∷ at.now ∷ bytes.now ∷ [])) NamesBytes result }
 {
     let Some(at) = address(at) else {
         return Ok(None);
     };
     match hex_bytes(alloc, bytes)? {
-        Some(bytes) => Ok(Some(Command::Edit(Edit::Poke(at, Bytes::new(bytes))))),
+        Some(bytes) => Ok(Some(Command::Edit(Edit::Poke(at, bytes)))),
         None => Ok(None),
     }
 }
 
 /// Parses the words after `insert`: an offset and the bytes.
 fn insert(alloc: Global, at: &[u8], bytes: &[u8]) -> Result<Option<Command>, AllocError>
-    ensures found { IfOk result (λ r. IfSome r (IsThreeWordCommand (codes "insert") at.now bytes.now)) }
-    ensures none { IfOk result
-        (λ r. IfNone r ((c : Command) → IsThreeWordCommand (codes "insert") at.now bytes.now c → ⊥)) }
-    ensures memory { OnErr result
-        ((c : Command) × IsThreeWordCommand (codes "insert") at.now bytes.now c × NamesBytes c) }
+    ensures { Parses (IsCommand (codes "insert" ∷ at.now ∷ bytes.now ∷ [])) NamesBytes result }
 {
     let Some(at) = number(at) else {
         return Ok(None);
     };
     match hex_bytes(alloc, bytes)? {
-        Some(bytes) => Ok(Some(Command::Edit(Edit::Insert(at, Bytes::new(bytes))))),
+        Some(bytes) => Ok(Some(Command::Edit(Edit::Insert(at, bytes)))),
         None => Ok(None),
     }
 }
 
 /// Parses the words after `replace`: an offset and the bytes.
 fn replace(alloc: Global, at: &[u8], bytes: &[u8]) -> Result<Option<Command>, AllocError>
-    ensures found { IfOk result (λ r. IfSome r (IsThreeWordCommand (codes "replace") at.now bytes.now)) }
-    ensures none { IfOk result
-        (λ r. IfNone r ((c : Command) → IsThreeWordCommand (codes "replace") at.now bytes.now c → ⊥)) }
-    ensures memory { OnErr result
-        ((c : Command) × IsThreeWordCommand (codes "replace") at.now bytes.now c × NamesBytes c) }
+    ensures { Parses (IsCommand (codes "replace" ∷ at.now ∷ bytes.now ∷ [])) NamesBytes result }
 {
     let Some(at) = number(at) else {
         return Ok(None);
     };
     match hex_bytes(alloc, bytes)? {
-        Some(bytes) => Ok(Some(Command::Edit(Edit::Replace(at, Bytes::new(bytes))))),
+        Some(bytes) => Ok(Some(Command::Edit(Edit::Replace(at, bytes)))),
         None => Ok(None),
     }
 }
 
 /// Parses the words after `remove`: an offset and a count.
 fn remove(at: &[u8], count: &[u8]) -> Option<Command>
-    ensures found { IfSome result (IsThreeWordCommand (codes "remove") at.now count.now) }
-    ensures none { IfNone result
-        ((c : Command) → IsThreeWordCommand (codes "remove") at.now count.now c → ⊥) }
+    ensures { Finds (IsCommand (codes "remove" ∷ at.now ∷ count.now ∷ [])) result }
 {
     let at = number(at)?;
     let count = number(count)?;
@@ -226,15 +222,14 @@ fn remove(at: &[u8], count: &[u8]) -> Option<Command>
 }
 
 /// Parses the words after `file`: a name and the bytes.
-fn set_file(alloc: Global, name: &[u8], bytes: &[u8]) -> Result<Option<Command>, AllocError>
-    ensures found { IfOk result (λ r. IfSome r (IsThreeWordCommand (codes "file") name.now bytes.now)) }
-    ensures none { IfOk result
-        (λ r. IfNone r ((c : Command) → IsThreeWordCommand (codes "file") name.now bytes.now c → ⊥)) }
-    ensures memory { OnErr result
-        ((c : Command) × IsThreeWordCommand (codes "file") name.now bytes.now c × NamesBytes c) }
+fn set_file(alloc: Global, name_word: &[u8], bytes: &[u8]) -> Result<Option<Command>, AllocError>
+    ensures { Parses (IsCommand (codes "file" ∷ name_word.now ∷ bytes.now ∷ [])) NamesBytes result }
 {
-    match file(alloc, name, bytes)? {
-        Some((name, bytes)) => Ok(Some(Command::Edit(Edit::SetFile(name, bytes)))),
+    let Some(name) = name(name_word) else {
+        return Ok(None);
+    };
+    match hex_bytes(alloc, bytes)? {
+        Some(bytes) => Ok(Some(Command::Edit(Edit::SetFile(name, bytes)))),
         None => Ok(None),
     }
 }
@@ -246,11 +241,7 @@ fn three_word_command(
     at: &[u8],
     last: &[u8],
 ) -> Result<Option<Command>, AllocError>
-    ensures found { IfOk result (λ r. IfSome r (IsThreeWordCommand verb.now at.now last.now)) }
-    ensures none { IfOk result
-        (λ r. IfNone r ((c : Command) → IsThreeWordCommand verb.now at.now last.now c → ⊥)) }
-    ensures memory { OnErr result
-        ((c : Command) × IsThreeWordCommand verb.now at.now last.now c × NamesBytes c) }
+    ensures { Parses (IsCommand (verb.now ∷ at.now ∷ last.now ∷ [])) NamesBytes result }
 {
     if verb == b"insert".as_slice() {
         return insert(alloc, at, last);
@@ -276,9 +267,7 @@ fn three_word_command(
 ///
 /// Returns `Err` if an allocation fails for the bytes of a command. A line that has no command never fails.
 pub fn parse_line(alloc: Global, line: &[u8]) -> Result<Option<Command>, AllocError>
-    ensures found { IfOk result (λ r. IfSome r (EditLine line.now)) }
-    ensures none { IfOk result (λ r. IfNone r ((c : Command) → EditLine line.now c → ⊥)) }
-    ensures memory { OnErr result ((c : Command) × EditLine line.now c × NamesBytes c) }
+    ensures { Parses (EditLine line.now) NamesBytes result }
 {
     match split(line) {
         Words::One(verb) if verb == b"run".as_slice() => Ok(Some(Command::Run)),

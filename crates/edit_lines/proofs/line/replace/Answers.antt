@@ -1,16 +1,14 @@
-use Rattle.std.proofs.Common.{refl}
+use Rattle.std.proofs.Common.{refl, rules}
+use Rattle.std.proofs.lemmas.Result.{err_from_is_err_and}
 use Rattle.replay.specs.declared.edit.Edit.TheVariants.{Replace}
 use Rattle.edit_lines.specs.declared.line.Command.TheVariants.{Edit}
-use Rattle.edit_lines.proofs.Grammar.{on_err, no_replace_place, no_replace_bytes}
+use Rattle.edit_lines.proofs.Grammar.{no_bytes}
 use Rattle.edit_lines.proofs.line.replace.Goals as goal
 
-pub returns-in_default-clause-none : goal.returns-in_default-clause-none
-returns-in_default-clause-none c = no_replace_place _ _ (rw c.in_default.is at c.number.ensures.none)
+pub returns-in_err-bytes : goal.returns-in_err-bytes
+returns-in_err-bytes c =
+    let h = c.in_err-bytes.ensures in
+    rw (err_from_is_err_and c.from_residual.result c.from_residual.ensures.1).1 (Edit (Replace _ h.0), (refl, c.in-Some.ensures, h.1), h.2)
 
-pub returns-in_err-bytes-clause-memory : goal.returns-in_err-bytes-clause-memory
-returns-in_err-bytes-clause-memory c =
-    let h = c.in_err-bytes.ensures.memory in
-    on_err c.from_residual.result (Edit (Replace _ h.0), (refl, c.in-Some.ensures.found, h.1), h.2)
-
-pub returns-in-None-clause-none : goal.returns-in-None-clause-none
-returns-in-None-clause-none c = no_replace_bytes _ _ (rw c.in-None.is at c.in_ok-bytes.ensures.none)
+pub returns-in-None : goal.returns-in-None
+returns-in-None c = no_bytes _ _ _ (rw c.in-None.is at c.in_ok-bytes.ensures) (search rules)

@@ -1,7 +1,6 @@
 use Rattle.std.proofs.Common.{◌≡◌, ◌+◌, drop, ap, sym, ◌∙◌}
 use Rattle.edit_lines.specs.Pieces.{other_pieces, pieces}
-use Rattle.edit_lines.proofs.Cutting.{found_nowhere, found_pieces}
-use Rattle.edit_lines.proofs.Parts.{all_after}
+use Rattle.edit_lines.proofs.Cutting.{all_after, found_nowhere, found_pieces}
 use Rattle.edit_lines.proofs.line.split_word.Goals as goal
 
 pub returns-in-Some-clause-word : goal.returns-in-Some-clause-word
