@@ -232,7 +232,13 @@ fn make_rule(
     let mut text = Vec::new(alloc);
     push_line(&mut text, targets, &paths)?;
     push_empty_rules(&mut text, paths.others.as_slice())?;
-    push_absent_lines(alloc, &mut text, run.session.files(), run.looks.files(), drives)?;
+    push_absent_lines(
+        alloc,
+        &mut text,
+        run.session.files(),
+        run.looks.files(),
+        drives,
+    )?;
     push_stop_comment(&mut text, run.cause)?;
     Ok(text)
 }

@@ -8,7 +8,7 @@ use Rattle.cpmrun.proofs.command_line.run.Goals as goal
 pub returns-in_default-clause-done : goal.returns-in_default-clause-done
 returns-in_default-clause-done g c =
     let are = rw c.in-Session.is at c.in_ok-words.ensures.request in
-    ran_once _ c.in-Session.words are c.in_ok-session.session
+    ran_once _ c.in-Session.words are NONE c.in_ok-session.session
     (world (g.S.FileSystem.files c.args.system.now) (g.O.Writer.output c.args.out.now) (g.E.Writer.output c.args.err.now))
     (world (g.S.FileSystem.files c.run_once.new.system) (g.O.Writer.output c.run_once.new.out) (g.E.Writer.output c.run_once.new.err))
     c.run_once.new.meter (rw c.session.ensures at c.in_ok-session.ensures.session) c.in_ok-run_once.field-0 c.in_default.is
@@ -18,7 +18,7 @@ pub returns-in_err-run_once-clause-fault : goal.returns-in_err-run_once-clause-f
 returns-in_err-run_once-clause-fault g c =
     let are = rw c.in-Session.is at c.in_ok-words.ensures.request in
     let left = err_from_is_err_and c.from_residual-in_err-run_once.result c.from_residual-in_err-run_once.ensures.1 in
-    run_broken _ c.in-Session.words are c.in_ok-session.session
+    run_broken _ c.in-Session.words are NONE c.in_ok-session.session
     (world (g.S.FileSystem.files c.args.system.now) (g.O.Writer.output c.args.out.now) (g.E.Writer.output c.args.err.now))
     (world (g.S.FileSystem.files c.run_once.new.system) (g.O.Writer.output c.run_once.new.out) (g.E.Writer.output c.run_once.new.err))
     0 (rw c.session.ensures at c.in_ok-session.ensures.session) _ c.in_err-run_once.field-0.0 (left.1 ∙ ap Err left.2) c.in_default.is
@@ -28,7 +28,7 @@ pub returns-in_err-replay_file-clause-fault : goal.returns-in_err-replay_file-cl
 returns-in_err-replay_file-clause-fault g c =
     let are = rw c.in-Session.is at c.in_ok-words.ensures.request in
     let left = err_from_is_err_and c.from_residual-in_err-replay_file.result c.from_residual-in_err-replay_file.ensures.1 in
-    replay_broken _ c.in-Session.words are c.in_ok-session.session
+    replay_broken _ c.in-Session.words are NONE c.in_ok-session.session
     (world (g.S.FileSystem.files c.args.system.now) (g.O.Writer.output c.args.out.now) (g.E.Writer.output c.args.err.now))
     (world (g.S.FileSystem.files c.replay_file.new.system) (g.O.Writer.output c.replay_file.new.out) (g.E.Writer.output c.args.err.now))
     0 (rw c.session.ensures at c.in_ok-session.ensures.session) _ c.in_err-replay_file.field-0.0 c.in-Some.path
@@ -38,7 +38,7 @@ returns-in_err-replay_file-clause-fault g c =
 pub returns-clause-done : goal.returns-clause-done
 returns-clause-done g c =
     let are = rw c.in-Session.is at c.in_ok-words.ensures.request in
-    replayed _ c.in-Session.words are c.in_ok-session.session
+    replayed _ c.in-Session.words are NONE c.in_ok-session.session
     (world (g.S.FileSystem.files c.args.system.now) (g.O.Writer.output c.args.out.now) (g.E.Writer.output c.args.err.now))
     (world (g.S.FileSystem.files c.replay_file.new.system) (g.O.Writer.output c.replay_file.new.out) (g.E.Writer.output c.args.err.now))
     c.replay_file.new.meter (rw c.session.ensures at c.in_ok-session.ensures.session) c.in-Some.path c.in-Some.is refl (c.replay_file.ensures.unchanged.bytes ∙ c.load.ensures.unchanged.bytes)

@@ -1,5 +1,3 @@
-use Rattle.std.proofs.Common.{◌∙◌, subst}
-use Rattle.folders.specs.FileSystem.{ChangesAt, PutsInPlace}
 use Rattle.folders.proofs.WriteLemmas.{changes_twice}
 use Rattle.folders.proofs.writing.write_at.Goals as goal
 

@@ -1,4 +1,4 @@
-use Rattle.std.proofs.Common.{◌∙◌, sym, inl, subst}
+use Rattle.std.proofs.Common.{◌∙◌, sym}
 use Rattle.folders.proofs.WriteLemmas.{temporary_differs}
 use Rattle.folders.proofs.writing.write_path.Goals as goal
 
