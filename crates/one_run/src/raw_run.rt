@@ -94,7 +94,11 @@ fn write_stop_lines<E: Writer>(err: &mut E, line: &[u8], host: &HostFiles, journ
 
 /// Reports on standard error why the run stopped, and which of the changed files are gone. A failure of the writer is ignored. If
 /// an allocation fails, nothing is written.
-pub fn report_stop<E: Writer>(alloc: Global, run: &WholeRun<'_>, err: &mut E) -> Result<(), RunFault>
+pub fn report_stop<E: Writer>(
+    alloc: Global,
+    run: &WholeRun<'_>,
+    err: &mut E,
+) -> Result<(), RunFault>
     requires { (E.output err.old).failures < 2 ^ 63 }
     ensures told { OnOk result
         (WritesOrFails (E.output err.old) (E.output err.new)

@@ -5,7 +5,7 @@ use Rattle.hostfiles.specs.Changed.{changed_names}
 use Rattle.hostfiles.specs.Files.{files}
 use Rattle.one_run.specs.WrittenPaths.{paths_of_written, written_path}
 use Rattle.one_run.proofs.Walking.{there_above}
-use Rattle.one_run.proofs.written_paths.paths_of_changed.Given as goal
+use Rattle.one_run.proofs.target_paths.paths_of_changed.Given as goal
 
 -- The first paths are there, and those of the files with names above the last one are left.
 abbrev pub invariant-loop-changed : goal.invariant-loop-changed
