@@ -34,9 +34,10 @@ fn targets_or(
     ensures { IfOk result (λ all.
         map string_bytes all.items ≡ or_rule path.now (map string_bytes targets.items)) }
 {
-    if targets.is_empty() {
-        targets.push(String::from_str(alloc, path)?)?;
+    if !targets.is_empty() {
+        return Ok(targets);
     }
+    targets.push(String::from_str(alloc, path)?)?;
     Ok(targets)
 }
 
