@@ -28,7 +28,11 @@ without_steps WithRule words status before after steps (failures, ends) = (
   elim ends [
     | inl informs ↦ inl informs
     | inr done ↦ let (w, are, rest) = done in
-        inr (w, are, in_none _ w.deps (λ run. let (s, is, completes) = run in
-        (s, is, on_some _ w.edits (λ path h. let (zero, err, files, replayed) = h in (zero, err, files, replay_without_steps _ _ _ _ _ replayed)) completes)) rest)
+        inr (
+          w,
+          are,
+          in_none _ w.deps (λ run. let (s, is, completes) = run in
+              (s, is, on_some _ w.edits (λ path h. let (zero, err, files, replayed) = h in (zero, err, files, replay_without_steps _ _ _ _ _ replayed)) completes)) rest,
+        )
   ],
 )

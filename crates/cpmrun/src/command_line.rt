@@ -10,6 +10,7 @@ ghost use Rattle.cpmrun.specs.Ends.{BreaksOffWith, BreaksReplay, EndsWithoutFaul
 ghost use Rattle.cpmrun.specs.RuleEnds.{BreaksWithRule, RunsWithRule};
 ghost use Rattle.cpmrun.specs.MeteredEnds.{MeteredEnds, WritesReplayBy, options_of};
 ghost use Rattle.one_run.specs.World.{world};
+ghost use Rattle.report_lines.specs.Streams.{Output};
 ghost use Rattle.folders.specs.FileSystem.{text_at};
 
 use crate::edit_file::EditFile;
@@ -110,9 +111,9 @@ fn run<'a, S: FileSystem, O: Writer, E: Writer>(
     ensures done { IfOk result (λ status. MeteredEnds RunsWithRule (map string_bytes words.entry.now) status
         (world (S.files system.old) (O.output out.old) (E.output err.old))
         (world (S.files system.new) (O.output out.new) (E.output err.new)) meter.new) }
-    ensures fault { IfErr result (FaultOf BreaksWithRule (map string_bytes words.entry.now)
-        (world (S.files system.old) (O.output out.old) (E.output err.old))
-        (world (S.files system.new) (O.output out.new) (E.output err.new))) }
+    ensures fault { IfErr result (λ fault. (old new : Output) → FaultOf BreaksWithRule
+        (map string_bytes words.entry.now) (world (S.files system.old) (O.output out.old) old)
+        (world (S.files system.new) (O.output out.new) new) fault) }
     ensures untold { OnErr result (err.new ≡ err.old) }
     ensures failed { ReportsPaths file_paths result (S.files system.old) (S.files system.new) }
 {

@@ -11,6 +11,7 @@ ghost use Rattle.make_rules.specs.Faults.{rule_paths};
 ghost use Rattle.make_rules.specs.RunRules.{BreaksRule, IsRule};
 ghost use Rattle.one_run.specs.Faults.{fault_of, run_paths};
 ghost use Rattle.one_run.specs.World.{world};
+ghost use Rattle.report_lines.specs.Streams.{Output};
 ghost use Rattle.requests.specs.FaultReports.{file_paths};
 ghost use Rattle.cpmrun.specs.RuleEnds.{BreaksRuleRun, BreaksWithRule, RunsRule, RunsWithRule, or_rule, targets_of};
 
@@ -89,9 +90,9 @@ fn report_with_rule<'a, S: FileSystem, O: Writer, E: Writer>(
     ensures done { IfOk result (λ status. RunsRule words.now path.now run.now.session.now status
         (world (S.files system.old) (O.output out.old) (E.output err.old))
         (world (S.files system.new) (O.output out.new) (E.output err.new))) }
-    ensures fault { IfErr result (BreaksRuleRun words.now path.now run.now.session.now
-        (world (S.files system.old) (O.output out.old) (E.output err.old))
-        (world (S.files system.new) (O.output out.new) (E.output err.new))) }
+    ensures fault { IfErr result (λ fault. (old new : Output) → BreaksRuleRun words.now path.now run.now.session.now
+        (world (S.files system.old) (O.output out.old) old)
+        (world (S.files system.new) (O.output out.new) new) fault) }
     ensures untold { OnErr result (err.new ≡ err.old) }
     ensures failed { ReportsPaths file_paths result (S.files system.old) (S.files system.new) }
 {
@@ -118,9 +119,9 @@ pub fn run_with_rule<'a, S: FileSystem, O: Writer, E: Writer>(
     ensures done { IfOk result (λ status. RunsWithRule words.now path.entry status
         (world (S.files system.old) (O.output out.old) (E.output err.old))
         (world (S.files system.new) (O.output out.new) (E.output err.new))) }
-    ensures fault { IfErr result (BreaksWithRule words.now path.entry
-        (world (S.files system.old) (O.output out.old) (E.output err.old))
-        (world (S.files system.new) (O.output out.new) (E.output err.new))) }
+    ensures fault { IfErr result (λ fault. (old new : Output) → BreaksWithRule words.now path.entry
+        (world (S.files system.old) (O.output out.old) old)
+        (world (S.files system.new) (O.output out.new) new) fault) }
     ensures untold { OnErr result (err.new ≡ err.old) }
     ensures failed { ReportsPaths file_paths result (S.files system.old) (S.files system.new) }
 {

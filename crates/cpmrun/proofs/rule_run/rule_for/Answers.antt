@@ -1,4 +1,4 @@
-use Rattle.std.proofs.Common.{◌≡◌, ◌∙◌, IfErr, IfOk, ap, map, string_bytes, subst}
+use Rattle.std.proofs.Common.{◌∙◌, IfErr, IfOk, ap, map, string_bytes, subst}
 use Rattle.command_words.specs.RunLine.{session_words}
 use Rattle.make_rules.specs.RunRules.{BreaksRule, IsRule}
 use Rattle.cpmrun.specs.RuleEnds.{or_rule}
