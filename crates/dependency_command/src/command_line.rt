@@ -23,7 +23,7 @@ use machine::{Cause, Meter, Session, WholeRun};
 use make_rules::{RuleFault, check_paths, rule_of_run};
 use report_lines::{Writer, write_all};
 use requests::{Fault, Request, Tool, print_information, report_fault};
-use std::alloc::Global;
+use std::alloc::{AllocError, Global};
 
 /// Returns which neighbours the words put into one row.
 fn rows(words: &DependencyWords<'_>) -> Rows
@@ -58,6 +58,15 @@ fn write_listing<'a, O: Writer>(
     }
 }
 
+/// Returns a list of one path.
+fn one_path(alloc: Global, path: &str) -> Result<Vec<String>, AllocError>
+    ensures { IfOk result (λ paths. map string_bytes paths.items ≡ path.now ∷ []) }
+{
+    let mut paths = Vec::new(alloc);
+    paths.push(String::from_str(alloc, path)?)?;
+    Ok(paths)
+}
+
 /// Returns the rule for make with this target and the files on which the run of a session depends.
 fn rule_for<S: FileSystem>(
     system: &mut S,
@@ -72,8 +81,7 @@ fn rule_for<S: FileSystem>(
         (BreaksRule words.now (target.now ∷ []) (S.files system.old) run.now.session.now) }
     ensures unchanged { KeepsFiles rule_paths result (S.files system.old) (S.files system.new) }
 {
-    let mut targets = Vec::new(system.alloc());
-    targets.push(String::from_str(system.alloc(), target)?)?;
+    let targets = one_path(system.alloc(), target)?;
     rule_of_run(system, targets.as_slice(), words, run)
 }
 

@@ -21,9 +21,12 @@ returns-in-Ok-write_all-clause-done g c = (
 
 pub returns-clause-fault : goal.returns-clause-fault
 returns-clause-fault g c =
-    inl (refl, (
-      c.as_slice.result.now,
-      subst (IsRule c.args.words.now (c.args.target.now ∷ []) (g.S.FileSystem.files c.args.system.now) c.args.session.now) (sym c.as_slice.ensures.value)
-          (rw c.in-Ok.ensures.session at c.in_ok-text.ensures.rule),
-      c.in-Err.ensures,
-    ))
+    inl (
+      refl,
+      (
+        c.as_slice.result.now,
+        subst (IsRule c.args.words.now (c.args.target.now ∷ []) (g.S.FileSystem.files c.args.system.now) c.args.session.now) (sym c.as_slice.ensures.value)
+            (rw c.in-Ok.ensures.session at c.in_ok-text.ensures.rule),
+        c.in-Err.ensures,
+      ),
+    )
