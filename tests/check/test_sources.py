@@ -78,6 +78,7 @@ EXECUTE = rf'{item("i8080", "execute|instructions")}|{item("known_run", "run_kno
 CALL = item('console_calls|bdos', 'console_call|calls?')
 STEPS = rf'\brun_from\b|{item("machine", "step")}'
 COMMAND = 'crates/cpmrun/src/command_line.rt'
+LISTING = 'crates/dependency_command/src/command_line.rt'
 LOOP = 'crates/replay/src/run.rt'
 RUN = 'crates/machine/src/run.rt'
 DEPENDENCIES = 'crates/dependencies/src/dependencies.rt'
@@ -181,11 +182,12 @@ class SourcesTest(RuleTest):
         self.assertEqual(count_in_code(pattern, path), count, f'matches of {pattern} in {path}')
 
     def test_only_command_the_tests_and_the_example_make_a_meter(self) -> None:
-        self.refuse(in_code(METER, COMMAND, DEPENDENCIES, 'crates/machine/src/meter.rt', 'crates/embedding/'))
+        self.refuse(in_code(METER, COMMAND, DEPENDENCIES, LISTING, 'crates/machine/src/meter.rt', 'crates/embedding/'))
 
     def test_only_dependency_command_and_the_tests_call_of_run_which_makes_a_meter(self) -> None:
         self.refuse(in_code(r'\bof_run\b', DEPENDENCIES, 'crates/dependency_command/'))
         self.expect_count(1, METER, DEPENDENCIES)
+        self.expect_count(1, METER, LISTING)
 
     def test_command_makes_one_meter(self) -> None:
         self.expect_count(1, METER, COMMAND)
