@@ -133,11 +133,7 @@ command_words::read_dependency_words
 command_words::read_words
 cpmdeps::main
 cpmrun::replay_file
-dependency_command::check_paths
-dependency_command::list_drives
-dependency_command::refusal
-dependency_command::rule_of
-dependency_command::two_forms
+cpmrun::run_with_rule
 dependency_command::write_listing
 dependency_command::write_rule
 edit_lines::execute_edit
@@ -152,9 +148,11 @@ folders::set
 folders::read_failure
 folders::write_failure
 folders::write_file
+folders::write_path
 hostfiles::number
 loading::read_fault
 loading::tail_of
+make_rules::refusal
 one_run::report_stop
 one_run::run_once
 replay::number
@@ -163,6 +161,7 @@ requests::message
 requests::report_fault
 requests::request_of_error
 requests::status
+requests::two_forms
 '''.split())
 """The functions of the product that report out of memory themselves, not by `?` or in a `From`. Any function that may fail so could claim it,
 and no contract refuses that everywhere. Most of these turn one error into another, or into a number or a message."""

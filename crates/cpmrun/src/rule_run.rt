@@ -52,7 +52,8 @@ fn rule_for<S: FileSystem>(
 ) -> Result<Vec<u8>, RuleFault>
     requires { AreDependencies run.now.session.now run.now.looks run.now.steps run.now.cause }
     ensures rule { IfOk result (λ text. IsRule (session_words words.now)
-        (targets_of words.now path.now run.now.session.now) (S.files system.old) run.now.session.now text.items) }
+        (targets_of words.now path.now run.now.session.now) (S.files system.old)
+        run.now.session.now text.items) }
     ensures fault { IfErr result (BreaksRule (session_words words.now)
         (targets_of words.now path.now run.now.session.now) (S.files system.old) run.now.session.now) }
     ensures unchanged { KeepsFiles rule_paths result (S.files system.old) (S.files system.new) }
@@ -90,8 +91,8 @@ fn report_with_rule<'a, S: FileSystem, O: Writer, E: Writer>(
     ensures done { IfOk result (λ status. RunsRule words.now path.now run.now.session.now status
         (world (S.files system.old) (O.output out.old) (E.output err.old))
         (world (S.files system.new) (O.output out.new) (E.output err.new))) }
-    ensures fault { IfErr result (λ fault. (old new : Output) → BreaksRuleRun words.now path.now run.now.session.now
-        (world (S.files system.old) (O.output out.old) old)
+    ensures fault { IfErr result (λ fault. (old new : Output) → BreaksRuleRun
+        words.now path.now run.now.session.now (world (S.files system.old) (O.output out.old) old)
         (world (S.files system.new) (O.output out.new) new) fault) }
     ensures untold { OnErr result (err.new ≡ err.old) }
     ensures failed { ReportsPaths file_paths result (S.files system.old) (S.files system.new) }

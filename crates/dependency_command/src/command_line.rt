@@ -97,7 +97,8 @@ fn write_rule<'a, S: FileSystem, O: Writer, E: Writer>(
 ) -> Result<(), Fault<'a>>
     requires out { (O.output out.old).failures < 2 ^ 63 }
     requires err { (E.output err.old).failures < 2 ^ 63 }
-    ensures done { OnOk result (WritesAnswer (IsRule words.now (target.now ∷ []) (S.files system.old) session.now)
+    ensures done { let files = S.files system.old in OnOk result
+        (WritesAnswer (IsRule words.now (target.now ∷ []) files session.now)
         (O.output out.old) (O.output out.new)) }
     ensures reported { OnOk result (ReportsStop session.now (E.output err.old) (E.output err.new)) }
     ensures fault { let files = S.files system.old in IfErr result

@@ -25,7 +25,8 @@ pub fn is_target(path: &[u8], targets: &[String]) -> bool
 // Adds a path that a call of make can have, unless make takes it for a target.
 fn push_path(paths: &mut Vec<String>, targets: &[String], path: String) -> Result<(), AllocError>
     ensures { OnOk result (map string_bytes paths.new.items
-        ≡ map string_bytes paths.old.items ++ texts.path_in_call (map string_bytes targets.now) (string_bytes path)) }
+        ≡ map string_bytes paths.old.items
+        ++ texts.path_in_call (map string_bytes targets.now) (string_bytes path)) }
 {
     if fits_call(path.as_bytes()) && !is_target(path.as_bytes(), targets) {
         paths.push(path)?;
@@ -42,7 +43,8 @@ fn push_in_call(
     name: &Name,
 ) -> Result<(), AllocError>
     ensures { OnOk result (map string_bytes paths.new.items
-        ≡ map string_bytes paths.old.items ++ texts.paths_in_call (map string_bytes targets.now) drive.now name.now) }
+        ≡ map string_bytes paths.old.items
+        ++ texts.paths_in_call (map string_bytes targets.now) drive.now name.now) }
 {
     let Some(drive) = drive else {
         return Ok(());
@@ -62,7 +64,8 @@ fn push_folder_of_absent(
     name: &Name,
 ) -> Result<(), AllocError>
     ensures { OnOk result (map string_bytes paths.new.items
-        ≡ map string_bytes paths.old.items ++ texts.folder_of_absent (map string_bytes targets.now) drive.now name.now) }
+        ≡ map string_bytes paths.old.items
+        ++ texts.folder_of_absent (map string_bytes targets.now) drive.now name.now) }
 {
     let Some(drive) = drive else {
         return Ok(());
@@ -95,7 +98,8 @@ fn push_missing_file(
     key: &Key,
 ) -> Result<(), AllocError>
     ensures { OnOk result (map string_bytes paths.new.items
-        ≡ map string_bytes paths.old.items ++ texts.in_call_part (map string_bytes targets.now) host.now drives.now key.now) }
+        ≡ map string_bytes paths.old.items
+        ++ texts.in_call_part (map string_bytes targets.now) host.now drives.now key.now) }
 {
     let Some(name) = absent_name(host, key) else {
         return Ok(());
@@ -119,7 +123,8 @@ pub fn push_missing_files(
     drives: &[Option<DriveFolder<'_>>; 4],
 ) -> Result<(), AllocError>
     ensures { OnOk result (map string_bytes paths.new.items
-        ≡ map string_bytes paths.old.items ++ texts.all_in_call (map string_bytes targets.now) host.now asked.now drives.now) }
+        ≡ map string_bytes paths.old.items
+        ++ texts.all_in_call (map string_bytes targets.now) host.now asked.now drives.now) }
 {
     let mut after: Option<Key> = None;
     while let Some(key) = asked.has.next_key(after) {
