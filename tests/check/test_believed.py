@@ -23,8 +23,12 @@ CHECKPOINT_WORDS = {
 """The words of clauses that say which steps a run executes again, what becomes of the checkpoints and of the meter, and which allocations may
 fail. They count only for the last group."""
 
+RULE_WORDS = {'RunsWithRule', 'BreaksWithRule'}
+"""The words of clauses that say what is written with `cpmrun --deps`. They count only for the group of rules."""
+
 REPORT = [f'Report::{name}' for name in ('cause', 'steps', 'regs', 'text', 'cell', 'has', 'records', 'record', 'next_changed', 'files')]
 CHECKPOINTS = 'Which steps are executed again, and what input a run depends on'
+RULES = 'What `cpmdeps` prints, and the rule of `cpmrun --deps`'
 GROUPS = {
     'What a run gives': [('replay', 'runner', ['Runner::rerun']), ('replay', 'report', REPORT)],
     'What a session and its edits are': [('machine', 'session', ['Session::new']), ('replay', 'runner', ['Runner::new', 'Runner::edit'])],
@@ -38,7 +42,7 @@ GROUPS = {
         ('replay', 'report', ['Report::journal']),
         ('edit_lines', 'stream', ['replay']),
     ],
-    'What `cpmdeps` prints': [('dependency_command', 'command_line', ['dependency_command'])],
+    RULES: [('dependency_command', 'command_line', ['dependency_command']), ('cpmrun', 'command_line', ['command'])],
 }
 """The functions of each group, by crate, source and name. A key is the heading of a part of the page."""
 
@@ -87,7 +91,8 @@ def cited_files(heading: str) -> Iterator[Path]:
             if name not in contracts:
                 raise LookupError(f'crates/{crate}/src/{module}.rt has no function {name}')
         words = [word for name in names for word in re.findall(r"(?<![\w.'-])[A-Za-z_][\w'-]*", contracts[name])]
-        defined = [word for word in words if word in modules and (heading == CHECKPOINTS or word not in CHECKPOINT_WORDS)]
+        skipped = (set() if heading == CHECKPOINTS else CHECKPOINT_WORDS) | (set() if heading == RULES else RULE_WORDS)
+        defined = [word for word in words if word in modules and word not in skipped]
         yield from filter(None, (path_of(modules[word]) for word in defined))
 
 

@@ -63,13 +63,12 @@ class ExamplesTest(ProgramTest):
 
 
 class RebuildTest(ProgramTest):
-    """The Makefile whose rules cpmdeps writes."""
+    """The Makefile whose rules cpmrun writes."""
 
     def build(self, status: int = 0) -> list[str]:
         """Returns the programs that make assembles, the last one in vain if the status is not 0."""
         env = {name: value for name, value in os.environ.items() if name not in ('MAKEFLAGS', 'MAKELEVEL')}
-        words = ['make', '-s', '-f', EXAMPLES / 'rebuild/Makefile', f'CPMRUN={PROGRAM}', f'CPMDEPS={DEPENDENCIES_PROGRAM}',
-                 'ASSEMBLER=assemble.com', 'PROGRAMS=HI LETTERS']
+        words = ['make', '-s', '-f', EXAMPLES / 'rebuild/Makefile', f'CPMRUN={PROGRAM}', 'ASSEMBLER=assemble.com', 'PROGRAMS=HI LETTERS']
         done = self.run_command(*words, cwd=self.work, env=env)
         self.assertEqual((done.returncode, bool(done.stderr)), (status, status != 0), done.stderr)
         return done.stdout.decode().replace('assembling ', '').split()

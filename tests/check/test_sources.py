@@ -78,6 +78,7 @@ EXECUTE = rf'{item("i8080", "execute|instructions")}|{item("known_run", "run_kno
 CALL = item('console_calls|bdos', 'console_call|calls?')
 STEPS = rf'\brun_from\b|{item("machine", "step")}'
 COMMAND = 'crates/cpmrun/src/command_line.rt'
+LISTING = 'crates/dependency_command/src/command_line.rt'
 LOOP = 'crates/replay/src/run.rt'
 RUN = 'crates/machine/src/run.rt'
 DEPENDENCIES = 'crates/dependencies/src/dependencies.rt'
@@ -132,11 +133,7 @@ command_words::read_dependency_words
 command_words::read_words
 cpmdeps::main
 cpmrun::replay_file
-dependency_command::check_paths
-dependency_command::list_drives
-dependency_command::refusal
-dependency_command::rule_of
-dependency_command::two_forms
+cpmrun::run_with_rule
 dependency_command::write_listing
 dependency_command::write_rule
 edit_lines::execute_edit
@@ -151,9 +148,11 @@ folders::set
 folders::read_failure
 folders::write_failure
 folders::write_file
+folders::write_path
 hostfiles::number
 loading::read_fault
 loading::tail_of
+make_rules::refusal
 one_run::report_stop
 one_run::run_once
 replay::number
@@ -162,6 +161,7 @@ requests::message
 requests::report_fault
 requests::request_of_error
 requests::status
+requests::two_forms
 '''.split())
 """The functions of the product that report out of memory themselves, not by `?` or in a `From`. Any function that may fail so could claim it,
 and no contract refuses that everywhere. Most of these turn one error into another, or into a number or a message."""
@@ -181,11 +181,12 @@ class SourcesTest(RuleTest):
         self.assertEqual(count_in_code(pattern, path), count, f'matches of {pattern} in {path}')
 
     def test_only_command_the_tests_and_the_example_make_a_meter(self) -> None:
-        self.refuse(in_code(METER, COMMAND, DEPENDENCIES, 'crates/machine/src/meter.rt', 'crates/embedding/'))
+        self.refuse(in_code(METER, COMMAND, DEPENDENCIES, LISTING, 'crates/machine/src/meter.rt', 'crates/embedding/'))
 
     def test_only_dependency_command_and_the_tests_call_of_run_which_makes_a_meter(self) -> None:
         self.refuse(in_code(r'\bof_run\b', DEPENDENCIES, 'crates/dependency_command/'))
         self.expect_count(1, METER, DEPENDENCIES)
+        self.expect_count(1, METER, LISTING)
 
     def test_command_makes_one_meter(self) -> None:
         self.expect_count(1, METER, COMMAND)

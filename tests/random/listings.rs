@@ -70,7 +70,20 @@ impl Test<'_> {
         self.compare(&laid, &["--by-step"], &listings[1], "by-step")?;
         let target = TARGETS[session.program.len() % TARGETS.len()];
         self.compare(&laid, &["--make", target], &laid.paths.rule(target, asked), "rule")?;
+        self.compare_written_rule(&laid, asked)?;
         Ok((laid, listings))
+    }
+
+    // Compares the rule that `cpmrun` writes for a run that writes no files with the one that `cpmdeps` prints, and with the model's.
+    fn compare_written_rule(&mut self, laid: &Laid, asked: &Asked) -> Result<(), String> {
+        self.compare(laid, &["--make", "rule.d"], &laid.paths.rule("rule.d", asked), "rule.made")?;
+        self.counts.count("Processes", "all", 1);
+        laid.run(&self.words.programs[1], &["--deps", "rule.d"])?;
+        let read = |name: &str| fs::read(laid.folder.join(name)).map_err(|fault| format!("{name} is not there: {fault}"));
+        if read("rule.d")? == read("rule.made")? {
+            return Ok(());
+        }
+        Err("rule.d and rule.made differ".to_string())
     }
 
     // Compares what `cpmdeps` prints with these options with the text of the model. Both stay in the folder.

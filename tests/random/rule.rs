@@ -1,4 +1,4 @@
-// The rule for make that `cpmdeps --make` prints.
+// The rule for make that `cpmdeps --make` prints and `cpmrun --deps` writes.
 
 use crate::model::{is_sayable, name_in_folder, printed, Asked, Cause, Key, Question, PROGRAM_START};
 use std::collections::{BTreeMap, BTreeSet};
@@ -73,8 +73,9 @@ impl Paths {
                 }
             }
         }
+        others.retain(|path| !is_target(path));
         let has_program = questions().any(|question| matches!(question, Question::Cell(address) if *address as usize >= PROGRAM_START));
-        let program = has_program.then_some(&self.program);
+        let program = has_program.then_some(&self.program).filter(|path| !is_target(path));
         let mut text = escape(target) + ":";
         for path in program.into_iter().chain(&others) {
             text += &format!(" {}", escape(path));

@@ -7,11 +7,11 @@ use Rattle.command_words.specs.CommandLine.{plain_command, text_of, texts_of, wi
 use Rattle.command_words.specs.declared.words.SessionWords.{SessionWords}
 use Rattle.command_words.specs.declared.words.Words.{Words}
 
--- The edit lines, and the folders that are written to.
+-- The edit lines, the folders that are written to, and the file of the rule for make.
 abbrev pub run_path_rules : List Rule
 run_path_rules =
     path_rule (codes "edits")
-    ∷ path_rule (codes "out") ∷ path_rule (codes "out-b") ∷ path_rule (codes "out-c") ∷ path_rule (codes "out-d") ∷ []
+    ∷ path_rule (codes "out") ∷ path_rule (codes "out-b") ∷ path_rule (codes "out-c") ∷ path_rule (codes "out-d") ∷ path_rule (codes "deps") ∷ []
 
 -- The limit of steps, and how checkpoints are made.
 abbrev pub run_number_rules : List Rule
@@ -43,5 +43,6 @@ pub record AreWordsOf (rows : List Row) (words : Words) : Type 0 where
   pub session : AreSessionWordsOf rows (session_words words)
   pub out : map text_of words.out ≡ texts_of rows (codes "out" ∷ codes "out-b" ∷ codes "out-c" ∷ codes "out-d" ∷ [])
   pub edits : text_of words.edits ≡ first_of (codes "edits") rows
+  pub deps : text_of words.deps ≡ first_of (codes "deps") rows
   pub spacing : IsNumberOf rows (codes "spacing") words.spacing
   pub slots : IsNumberOf rows (codes "slots") words.slots

@@ -46,7 +46,7 @@ const INPUT_PATHS: &[PathOption<'_>] = &[
     },
 ];
 
-/// The options of `cpmrun` for the edit lines and for the folders of changed files.
+/// The options of `cpmrun` for the edit lines, for the folders of changed files, and for the file of the rule for make.
 const RUN_PATHS: &[PathOption<'_>] = &[
     PathOption {
         name: "edits",
@@ -72,6 +72,11 @@ const RUN_PATHS: &[PathOption<'_>] = &[
         name: "out-d",
         value: "DIR",
         help: "The same for drive D",
+    },
+    PathOption {
+        name: "deps",
+        value: "FILE",
+        help: "File for a rule for make: what is written to DIRs, and what it depends on (not with --edits)",
     },
 ];
 

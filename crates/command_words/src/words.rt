@@ -40,6 +40,8 @@ pub struct Words<'a> {
     pub out: [Option<&'a str>; 4],
     /// The path of the edit lines, or `None` to run the session once.
     pub edits: Option<&'a str>,
+    /// The path of the file that gets a rule for make, if one is to be written.
+    pub deps: Option<&'a str>,
     /// The number of steps from one checkpoint to the next, 1 to 1,000,000,000.
     pub spacing: u64,
     /// The largest number of checkpoints that are kept, 1 to 4,096.
@@ -137,6 +139,7 @@ fn words_of<'a>(matches: &ArgMatches<'a>) -> Option<Words<'a>>
             matches.get_str("out-d"),
         ],
         edits: matches.get_str("edits"),
+        deps: matches.get_str("deps"),
         spacing: number(matches, "spacing", 1, 1_000_000_000)?,
         slots: number(matches, "slots", 1, 4096)? as usize,
     })

@@ -1,5 +1,5 @@
 -- How a completed or broken-off session ends the program.
-use Rattle.std.proofs.Common.{◌≡◌, ℕ, List, refl, inr, Some, None, Result, Err, IfErr}
+use Rattle.std.proofs.Common.{◌≡◌, ℕ, List, Option, refl, subst, sym, inl, inr, Some, None, Result, Ok, Err, IfErr, IfOk}
 use Rattle.std.specs.Borrow.{Bor}
 use Rattle.command_words.specs.declared.words.Words.{Words}
 use Rattle.machine.specs.Inputs.{Session}
@@ -9,26 +9,77 @@ use Rattle.requests.specs.declared.fault.Fault.{Fault}
 use Rattle.cpmrun.specs.AreWords.{AreWords}
 use Rattle.one_run.specs.RawRun.{BreaksRun, RunsOnce}
 use Rattle.one_run.specs.declared.fault.RunFault.{RunFault}
-use Rattle.one_run.specs.World.{World}
-use Rattle.requests.specs.FaultReports.{of_run}
+use Rattle.one_run.specs.declared.fault.RunFault.TheVariants as run
+use Rattle.folders.specs.FileSystem.{StoredFiles}
+use Rattle.one_run.specs.World.{World, world}
+use Rattle.report_lines.specs.Streams.{Output}
+use Rattle.std.specs.Prelude.{MatchOption}
+use Rattle.requests.specs.FaultReports.{file_paths, of_load, of_run}
+use Rattle.command_words.specs.RunLine.{session_words}
+use Rattle.folders.specs.Failures.{ReportsPaths}
+use Rattle.loading.specs.Loading.{FailsToLoad}
+use Rattle.loading.specs.declared.fault.LoadFault.{LoadFault}
+use Rattle.cpmrun.specs.RuleEnds.{BreaksWithRule, RunsWithRule}
 use Rattle.cpmrun.specs.Ends.{BreaksReplay, FaultOf, IsSessionOf}
 use Rattle.cpmrun.specs.MeteredEnds.{MeteredEnds, WritesReplayBy, options_of}
 
-module _ (words : List (List ℕ)) (w : Words) (are : AreWords words w) (s : Session) (before after : World) (steps : ℕ) (of : IsSessionOf before w s) where
-  -- The session was run once.
-  pub ran_once : (status : ℕ) → w.edits ≡ None → after.files.failed ≡ before.files.failed → RunsOnce w.out s status before after → MeteredEnds words status before after steps
-  ran_once status e same h = (same, inr (w, are, (s, of, rw e h)))
+at_some : {A : Type 0} (P : Type 0) (Q : A → Type 0) (o : Option A) (x : A) → o ≡ Some x → Q x → MatchOption o P Q
+at_some P Q o x e h = subst (λ v. MatchOption v P Q) (sym e) h
 
-  -- The edit lines were replayed.
-  pub replayed : (path : Bor (List ℕ)) → w.edits ≡ Some path → after.err ≡ before.err → after.files.bytes ≡ before.files.bytes → after.files.failed ≡ before.files.failed
-      → WritesReplayBy (text_at before.files.bytes path.now) (with_no_checkpoint s (options_of w)) before.out after.out steps → MeteredEnds words 0 before after steps
-  replayed path e err files same h = (same, inr (w, are, (s, of, rw e (refl, err, files, h))))
+-- What an error of a run leaves does not depend on standard error.
+pub any_err : (folders : List (Option (Bor (List ℕ)))) (s : Session) (files now : StoredFiles) (out written e d old new : Output) (f : RunFault)
+    → BreaksRun folders s (world files out e) (world now written d) f → BreaksRun folders s (world files out old) (world now written new) f
+any_err folders s files now out written e d old new run.CannotWrite h = h
+any_err folders s files now out written e d old new (run.Folders x) h = h
+any_err folders s files now out written e d old new run.OutOfMemory h = h
 
-  -- An error broke off the run.
-  pub run_broken : {T : Type 0} (r : Result T Fault) (f : RunFault) → r ≡ Err (of_run f) → w.edits ≡ None → BreaksRun w.out s before after f → IfErr r (FaultOf words before after)
-  run_broken r f is e h = rw is (inr (inr (w, are, inr (s, of, rw e (f, refl, h)))))
+module _ (words : List (List ℕ)) (w : Words) (are : AreWords words w) where
+  -- The session was run, and a rule for make was written.
+  pub ran_with_rule : (before after : World) (steps : ℕ) (path : Bor (List ℕ)) (r : Result ℕ Fault) → w.deps ≡ Some path → ReportsPaths file_paths r before.files after.files
+      → IfOk r (λ status. RunsWithRule w path status before after) → IfOk r (λ status. MeteredEnds RunsWithRule words status before after steps)
+  ran_with_rule before after steps path (Ok status) d same h = (same, inr (w, are, at_some _ (λ p. RunsWithRule w p status before after) w.deps path d h))
+  ran_with_rule before after steps path (Err f) d same h = tt
 
-  -- An error broke off the replay of the edit lines.
-  pub replay_broken : {T : Type 0} (r : Result T Fault) (f : Fault) (path : Bor (List ℕ)) → r ≡ Err f → w.edits ≡ Some path → after.files.bytes ≡ before.files.bytes
-      → BreaksReplay path.now (text_at before.files.bytes path.now) s before.out after.out f → IfErr r (FaultOf words before after)
-  replay_broken r f path is e files h = rw is (inr (inr (w, are, inr (s, of, rw e (h, files)))))
+  module _ (files now : StoredFiles) (out written : Output) where
+    -- The words have this error, whatever is written to standard error.
+    abbrev pub HasFault : Fault → Type 0
+    HasFault f = (old new : Output) → FaultOf BreaksWithRule words (world files out old) (world now written new) f
+
+    -- An error broke this off.
+    pub rule_broken : (path : Bor (List ℕ)) (r : Result ℕ Fault) → w.deps ≡ Some path
+        → IfErr r (λ f. (old new : Output) → BreaksWithRule w path (world files out old) (world now written new) f) → IfErr r HasFault
+    rule_broken path (Ok status) d h = tt
+    rule_broken path (Err f) d h = λ old new. inr (inr (
+      w,
+      are,
+      at_some _ (λ p. BreaksWithRule w p (world files out old) (world now written new) f) w.deps path d (h old new),
+    ))
+
+    module _ (none : w.deps ≡ None) where
+      -- The session could not be loaded.
+      pub unloaded : {T : Type 0} (r : Result T Fault) (f : LoadFault) → r ≡ Err (of_load f) → FailsToLoad files (session_words w) f → written ≡ out
+          → now.bytes ≡ files.bytes → IfErr r HasFault
+      unloaded r f is fails out_same same = rw is (λ old new. inr (inr (w, are, rw none (inl (f, refl, fails, (out_same, same))))))
+
+      module _ (s : Session) (of : IsSessionOf (world files out out) w s) where
+        -- An error broke off the run.
+        pub run_broken : {T : Type 0} (r : Result T Fault) (f : RunFault) (e d : Output) → r ≡ Err (of_run f) → w.edits ≡ None
+            → BreaksRun w.out s (world files out e) (world now written d) f → IfErr r HasFault
+        run_broken r f e d is edits h =
+            rw is (λ old new. inr (inr (w, are, rw none (inr (s, of, rw edits (f, refl, any_err w.out s files now out written e d old new f h))))))
+
+        -- An error broke off the replay of the edit lines.
+        pub replay_broken : {T : Type 0} (r : Result T Fault) (f : Fault) (path : Bor (List ℕ)) → r ≡ Err f → w.edits ≡ Some path → now.bytes ≡ files.bytes
+            → BreaksReplay path.now (text_at files.bytes path.now) s out written f → IfErr r HasFault
+        replay_broken r f path is e same h = rw is (λ old new. inr (inr (w, are, rw none (inr (s, of, rw e (h, same))))))
+
+  module _ (none : w.deps ≡ None) (s : Session) (before after : World) (steps : ℕ) (of : IsSessionOf before w s) where
+    -- The session was run once.
+    pub ran_once : (status : ℕ) → w.edits ≡ None → after.files.failed ≡ before.files.failed → RunsOnce w.out s status before after
+        → MeteredEnds RunsWithRule words status before after steps
+    ran_once status e same h = (same, inr (w, are, rw none (s, of, rw e h)))
+
+    -- The edit lines were replayed.
+    pub replayed : (path : Bor (List ℕ)) → w.edits ≡ Some path → after.err ≡ before.err → after.files.bytes ≡ before.files.bytes → after.files.failed ≡ before.files.failed
+        → WritesReplayBy (text_at before.files.bytes path.now) (with_no_checkpoint s (options_of w)) before.out after.out steps → MeteredEnds RunsWithRule words 0 before after steps
+    replayed path e err files same h = (same, inr (w, are, rw none (s, of, rw e (refl, err, files, h))))

@@ -1,5 +1,6 @@
 -- The ways in which the program ends. (This project's profile.)
 use Rattle.std.specs.Prelude.{◌≡◌, ℕ, ◌⊎◌, List, Option, IfSome, MatchOption}
+use Rattle.std.specs.Borrow.{Bor}
 use Rattle.std.specs.Io.KnownBytes.{Consumes}
 use Rattle.command_words.specs.RunLine.{run_faults, session_words}
 use Rattle.command_words.specs.ErrorClass.{HasErrorClass}
@@ -12,7 +13,7 @@ use Rattle.requests.specs.declared.fault.Fault.{Fault}
 use Rattle.requests.specs.declared.fault.Fault.TheVariants.{Usage, NotText, CannotRead, CannotWrite, Folders, Refused, Malformed, TooLong, RulePath, OutOfMemory}
 use Rattle.requests.specs.declared.tool.Tool.TheVariants.{Cpmrun}
 use Rattle.requests.specs.Requests.{FailsToInform, FailsToLoadSession, FailsToParse, WritesNothing}
-use Rattle.cpmrun.specs.AreWords.{AreWords}
+use Rattle.cpmrun.specs.AreWords.{AreWords, HasFaultClass}
 use Rattle.loading.specs.Loading.{IsLoadedFrom}
 use Rattle.one_run.specs.RawRun.{BreaksRun, RunsOnce}
 use Rattle.one_run.specs.World.{World}
@@ -71,15 +72,18 @@ Completes IsReplayed w s status before after = MatchOption w.edits
     (λ path. (status ≡ 0) × (after.err ≡ before.err) × (after.files.bytes ≡ before.files.bytes) × IsReplayed path.now)
 
 -- How the program ends without an error: it wrote help or the version, or the session was completed. No call of the file system
--- failed. `IsReplayed` holds for a replay.
-abbrev pub EndsBy : (Words → Session → List ℕ → Type 0) → List (List ℕ) → ℕ → World → World → Type 0
-EndsBy IsReplayed words status before after = (after.files.failed ≡ before.files.failed) × (
+-- failed. `IsReplayed` holds for a replay, and `WithRule` if a rule for make is written to a path.
+abbrev pub EndsBy : (Words → Session → List ℕ → Type 0) → (Words → Bor (List ℕ) → ℕ → World → World → Type 0) → List (List ℕ) → ℕ → World → World → Type 0
+EndsBy IsReplayed WithRule words status before after = (after.files.failed ≡ before.files.failed) × (
     (HasErrorClass (run_faults words) Information × (status ≡ 0) × (after.err ≡ before.err) × (after.files.bytes ≡ before.files.bytes) × ((text : List ℕ) × WritesWhole before.out after.out text))
-    ⊎ ((w : Words) × AreWords words w × ((s : Session) × IsSessionOf before w s × Completes (IsReplayed w s) w s status before after)))
+    ⊎ ((w : Words) × AreWords words w × MatchOption w.deps
+    ((s : Session) × IsSessionOf before w s × Completes (IsReplayed w s) w s status before after)
+    (λ path. WithRule w path status before after)))
 
 -- The same, with a replay that writes the text of its lines.
-abbrev pub EndsWithoutFault : List (List ℕ) → ℕ → World → World → Type 0
-EndsWithoutFault words status before after = EndsBy (λ w s path. WritesReplay (text_at before.files.bytes path) s before.out after.out) words status before after
+abbrev pub EndsWithoutFault : (Words → Bor (List ℕ) → ℕ → World → World → Type 0) → List (List ℕ) → ℕ → World → World → Type 0
+EndsWithoutFault WithRule words status before after =
+    EndsBy (λ w s path. WritesReplay (text_at before.files.bytes path) s before.out after.out) WithRule words status before after
 
 -- What an error leaves that broke off the run or the replay of the session of the words.
 abbrev pub StopsByFault : Words → Session → World → World → Fault → Type 0
@@ -89,14 +93,15 @@ StopsByFault w s before after fault = MatchOption w.edits
     × (after.files.bytes ≡ before.files.bytes))
 
 -- An error of these words, and what it leaves: an error of the words themselves, of writing help, of loading the session, or of
--- its run or replay.
-abbrev pub FaultOf : List (List ℕ) → World → World → Fault → Type 0
-FaultOf words before after fault =
-    (FailsToParse (HasErrorClass (run_faults words)) fault × WritesNothing before after)
+-- its run or replay. `BreaksWithRule` holds if a rule for make is to be written to a path.
+abbrev pub FaultOf : (Words → Bor (List ℕ) → World → World → Fault → Type 0) → List (List ℕ) → World → World → Fault → Type 0
+FaultOf BreaksWithRule words before after fault =
+    (FailsToParse (HasFaultClass words) fault × WritesNothing before after)
     ⊎ FailsToInform (HasErrorClass (run_faults words)) before after fault
-    ⊎ ((w : Words) × AreWords words w × (FailsToLoadSession (session_words w) before after fault
-    ⊎ ((s : Session) × IsSessionOf before w s × StopsByFault w s before after fault)))
+    ⊎ ((w : Words) × AreWords words w × MatchOption w.deps
+    (FailsToLoadSession (session_words w) before after fault ⊎ ((s : Session) × IsSessionOf before w s × StopsByFault w s before after fault))
+    (λ path. BreaksWithRule w path before after fault))
 
 -- An error of these words occurred and was reported.
-abbrev pub EndsByFault : List (List ℕ) → ℕ → World → World → Type 0
-EndsByFault words status before after = EndsWithFault Cpmrun (FaultOf words before after) status before after
+abbrev pub EndsByFault : (Words → Bor (List ℕ) → World → World → Fault → Type 0) → List (List ℕ) → ℕ → World → World → Type 0
+EndsByFault BreaksWithRule words status before after = EndsWithFault Cpmrun (FaultOf BreaksWithRule words before after) status before after

@@ -1,3 +1,4 @@
 pub mod AreWords
 pub mod Ends
 pub mod MeteredEnds
+pub mod RuleEnds

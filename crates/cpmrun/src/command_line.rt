@@ -7,13 +7,16 @@ ghost use Rattle.replay.specs.RunnerView.{with_no_checkpoint};
 ghost use Rattle.folders.specs.Failures.{KeepsFiles, ReportsPaths};
 ghost use Rattle.requests.specs.FaultReports.{file_paths};
 ghost use Rattle.cpmrun.specs.Ends.{BreaksOffWith, BreaksReplay, EndsWithoutFault, EndsByFault, FaultOf};
+ghost use Rattle.cpmrun.specs.RuleEnds.{BreaksWithRule, RunsWithRule};
 ghost use Rattle.cpmrun.specs.MeteredEnds.{MeteredEnds, WritesReplayBy, options_of};
 ghost use Rattle.one_run.specs.World.{world};
+ghost use Rattle.report_lines.specs.Streams.{Output};
 ghost use Rattle.folders.specs.FileSystem.{text_at};
 
 use crate::edit_file::EditFile;
 use crate::fault::report_fault;
 use crate::request::read_request;
+use crate::rule_run::run_with_rule;
 use command_words::Words;
 use edit_lines::{Ending, Reader, ReplayFault, Writer, replay};
 use folders::FileSystem;
@@ -100,12 +103,12 @@ fn run<'a, S: FileSystem, O: Writer, E: Writer>(
     err: &mut E,
 ) -> Result<u8, Fault<'a>>
     requires { meter.old ≡ 0 }
-    ensures done { IfOk result (λ status. MeteredEnds (map string_bytes words.entry.now) status
+    ensures done { IfOk result (λ status. MeteredEnds RunsWithRule (map string_bytes words.entry.now) status
         (world (S.files system.old) (O.output out.old) (E.output err.old))
         (world (S.files system.new) (O.output out.new) (E.output err.new)) meter.new) }
-    ensures fault { IfErr result (FaultOf (map string_bytes words.entry.now)
-        (world (S.files system.old) (O.output out.old) (E.output err.old))
-        (world (S.files system.new) (O.output out.new) (E.output err.new))) }
+    ensures fault { IfErr result (λ fault. (old new : Output) → FaultOf BreaksWithRule
+        (map string_bytes words.entry.now) (world (S.files system.old) (O.output out.old) old)
+        (world (S.files system.new) (O.output out.new) new) fault) }
     ensures untold { OnErr result (err.new ≡ err.old) }
     ensures failed { ReportsPaths file_paths result (S.files system.old) (S.files system.new) }
 {
@@ -116,6 +119,9 @@ fn run<'a, S: FileSystem, O: Writer, E: Writer>(
             return Ok(0);
         }
     };
+    if let Some(path) = words.deps {
+        return run_with_rule(system, &words, path, meter, out, err);
+    }
     let session = load(system, &words.session())?;
     let Some(path) = words.edits else {
         return Ok(run_once(system, &words.out, session, meter, out, err)?);
@@ -135,9 +141,9 @@ pub fn metered_command<S: FileSystem, O: Writer, E: Writer>(
     requires { meter.old ≡ 0 }
     ensures ends { let before = world (S.files system.old) (O.output out.old) (E.output err.old) in
         let after = world (S.files system.new) (O.output out.new) (E.output err.new) in
-        MeteredEnds (map string_bytes words.now) result before after meter.new
-        ⊎ EndsByFault (map string_bytes words.now) result before after }
-    ensures done { result ≡ 0 → MeteredEnds (map string_bytes words.now) result
+        MeteredEnds RunsWithRule (map string_bytes words.now) result before after meter.new
+        ⊎ EndsByFault BreaksWithRule (map string_bytes words.now) result before after }
+    ensures done { result ≡ 0 → MeteredEnds RunsWithRule (map string_bytes words.now) result
         (world (S.files system.old) (O.output out.old) (E.output err.old))
         (world (S.files system.new) (O.output out.new) (E.output err.new)) meter.new }
 {
@@ -158,9 +164,9 @@ pub fn command<S: FileSystem, O: Writer, E: Writer>(
 ) -> u8
     ensures ends { let before = world (S.files system.old) (O.output out.old) (E.output err.old) in
         let after = world (S.files system.new) (O.output out.new) (E.output err.new) in
-        EndsWithoutFault (map string_bytes words.now) result before after
-        ⊎ EndsByFault (map string_bytes words.now) result before after }
-    ensures done { result ≡ 0 → EndsWithoutFault (map string_bytes words.now) result
+        EndsWithoutFault RunsWithRule (map string_bytes words.now) result before after
+        ⊎ EndsByFault BreaksWithRule (map string_bytes words.now) result before after }
+    ensures done { result ≡ 0 → EndsWithoutFault RunsWithRule (map string_bytes words.now) result
         (world (S.files system.old) (O.output out.old) (E.output err.old))
         (world (S.files system.new) (O.output out.new) (E.output err.new)) }
 {

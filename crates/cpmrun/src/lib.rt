@@ -1,6 +1,7 @@
 //! The program except its `main`: the words of its command line, one run or a replay of edit lines, and its errors.
 //!
 //! - `request`: the request in the words of the command line
+//! - `rule_run`: one run, after which a rule for make is written
 //! - `command_line`, `edit_file`, `fault`: the command; the file of its edit lines as a reader; the report of its errors
 #![tactic(auto)]
 
@@ -8,6 +9,7 @@ mod command_line;
 mod edit_file;
 mod fault;
 mod request;
+mod rule_run;
 
 pub use command_line::{command, metered_command};
 pub use command_words::{Words, read_words};

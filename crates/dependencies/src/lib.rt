@@ -9,6 +9,6 @@ mod dependencies;
 mod laws;
 mod ranges;
 
-pub use dependencies::Dependencies;
+pub use dependencies::{Dependencies, run_noting_looks};
 pub use laws::dependencies_decide;
 pub use ranges::{LookRange, Rows, StepTable, next_range};

@@ -1,36 +1,40 @@
 -- The ways in which `cpmdeps` ends. (This project's profile.)
-use Rattle.std.specs.Prelude.{◌≡◌, ℕ, ◌⊎◌, false, List}
+use Rattle.std.specs.Prelude.{◌≡◌, ℕ, ◌⊎◌, false, IfSome, List, [], MatchOption}
 use Rattle.command_words.specs.DependencyLine.{dependency_faults}
 use Rattle.command_words.specs.ErrorClass.{HasErrorClass}
 use Rattle.command_words.specs.declared.error_classes.ErrorClass.{ErrorClass}
 use Rattle.command_words.specs.declared.error_classes.ErrorClass.TheVariants.{Information, UsageError}
 use Rattle.command_words.specs.declared.words.DependencyWords.{DependencyWords}
-use Rattle.folders.specs.FileSystem.{StoredFiles}
 use Rattle.loading.specs.Loading.{IsLoadedFrom}
 use Rattle.machine.specs.Inputs.{Session}
-use Rattle.make_rules.specs.Drives.{FailsToListAny}
+use Rattle.make_rules.specs.RefusedPaths.{FailsPaths, refuses_rule}
+use Rattle.make_rules.specs.declared.fault.RuleFault.{RuleFault}
 use Rattle.one_run.specs.World.{World}
 use Rattle.report_lines.specs.Streams.{WritesWhole}
 use Rattle.requests.specs.FaultReports.{EndsWithFault}
 use Rattle.requests.specs.Requests.{FailsToInform, FailsToLoadSession, FailsToParse, WritesNothing}
+use Rattle.requests.specs.RuleFaults.{of_rule}
 use Rattle.requests.specs.declared.fault.Fault.{Fault}
 use Rattle.requests.specs.declared.tool.Tool.TheVariants.{Cpmdeps}
 use Rattle.dependency_command.specs.AreDependencyWords.{AreDependencyWords, AsksTwice}
-use Rattle.dependency_command.specs.Answers.{BreaksAnswer, IsAnswer, IsAnswerWithout, ReportsAnswer, WritesAnswer}
-use Rattle.dependency_command.specs.RefusedPaths.{FailsPaths, refuses_rule}
+use Rattle.dependency_command.specs.Answers.{BreaksAnswer, HasNoRule, IsAnswer, ReportsAnswer, WritesAnswer}
 
--- The answer about a session by its words and the files that they name.
-abbrev pub IsAnswerFor : StoredFiles → DependencyWords → Session → List ℕ → Type 0
-IsAnswerFor files w s = IsAnswer w files.bytes files.names s
+-- A rule for make is asked for, and it can have the paths; or none is asked for.
+abbrev pub AllowsPaths : DependencyWords → Type 0
+AllowsPaths w = IfSome w.target (λ target. refuses_rule w.session target [] ≡ false)
+
+-- A rule for make is asked for that cannot have one of the paths, or an allocation failed.
+abbrev pub RefusesPaths : DependencyWords → RuleFault → Type 0
+RefusesPaths w f = MatchOption w.target ⊥ (λ target. FailsPaths w.session target [] f)
 
 -- The answer about the session of these words was written, and for a rule the line of the stop was reported.
 pub record AnswersWords (words : List (List ℕ)) (before after : World) : Type 0 where
   pub w : DependencyWords
   pub are : AreDependencyWords words w
-  pub allowed : refuses_rule w ≡ false
+  pub allowed : AllowsPaths w
   pub s : Session
   pub of : IsLoadedFrom before.files w.session s
-  pub written : WritesAnswer (IsAnswerFor before.files w s) before.out after.out
+  pub written : WritesAnswer (IsAnswer w before.files s) before.out after.out
   pub reported : ReportsAnswer w s before.err after.err
 
 -- Help or the version was written.
@@ -46,9 +50,9 @@ pub record EndsWithAnswer (words : List (List ℕ)) (status : ℕ) (before after
   pub failed : after.files.failed ≡ before.files.failed
   pub writes : Informs words before after ⊎ AnswersWords words before after
 
--- A rule for make is asked for that cannot have one of the paths, or an allocation failed, and nothing was written.
+-- The paths were refused, and nothing was written.
 abbrev pub RefusesRule : DependencyWords → World → World → Fault → Type 0
-RefusesRule w before after fault = FailsPaths w fault × WritesNothing before after
+RefusesRule w before after fault = (f : RuleFault) × (fault ≡ of_rule f) × RefusesPaths w f × WritesNothing before after
 
 -- The words are a usage error: for clap, or since they ask for a rule and for the listing by steps.
 abbrev pub HasFaultClass : List (List ℕ) → ErrorClass → Type 0
@@ -61,10 +65,9 @@ FaultOf words before after fault =
     (FailsToParse (HasFaultClass words) fault × WritesNothing before after)
     ⊎ FailsToInform (HasErrorClass (dependency_faults words)) before after fault
     ⊎ ((w : DependencyWords) × AreDependencyWords words w × (RefusesRule w before after fault
-    ⊎ ((refuses_rule w ≡ false) × (FailsToLoadSession w.session before after fault
+    ⊎ (AllowsPaths w × (FailsToLoadSession w.session before after fault
     ⊎ ((s : Session) × IsLoadedFrom before.files w.session s
-    × BreaksAnswer (IsAnswerFor before.files w s) (IsAnswerWithout w before.files.bytes before.files.names s) (FailsToListAny before.files w.session.files)
-    before.out after.out fault)))))
+    × BreaksAnswer (IsAnswer w before.files s) (HasNoRule w before.files s) before.out after.out fault)))))
 
 -- An error of these words occurred and was reported.
 abbrev pub EndsByFault : List (List ℕ) → ℕ → World → World → Type 0

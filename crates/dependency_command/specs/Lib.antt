@@ -1,5 +1,3 @@
 pub mod AreDependencyWords
-pub mod RefusedPaths
 pub mod Answers
 pub mod AnswerEnds
-pub mod Rules

@@ -1,29 +1,29 @@
 // The whole program except its `main`.
 
-ghost use Rattle.std.specs.Prelude.{◌≡◌, ◌⊎◌, IfErr, IfOk, IfSome, OnErr, OnOk, map, string_bytes};
+ghost use Rattle.std.specs.Prelude.{◌≡◌, ◌⊎◌, ◌∷◌, [], IfErr, IfOk, OnErr, OnOk, map, string_bytes};
 ghost use Rattle.folders.specs.Failures.{KeepsFiles};
 ghost use Rattle.one_run.specs.World.{world};
+ghost use Rattle.dependencies.specs.Dependencies.{AreDependencies};
 ghost use Rattle.dependency_lines.specs.Listing.{stop_line};
 ghost use Rattle.report_lines.specs.Streams.{Output, WritesOrFails};
 ghost use Rattle.requests.specs.FaultReports.{file_paths};
-ghost use Rattle.make_rules.specs.Drives.{FailsToListAny, ListsDrives};
-ghost use Rattle.dependency_command.specs.Answers.{BreaksAnswer, IsAnswerWithout, IsListing, IsRule, IsRuleWithout};
+ghost use Rattle.make_rules.specs.Faults.{rule_paths};
+ghost use Rattle.make_rules.specs.RunRules.{BreaksRule, IsRule};
+ghost use Rattle.dependency_command.specs.Answers.{BreaksAnswer, HasNoRule, IsAnswer, IsListing};
 ghost use Rattle.dependency_command.specs.Answers.{ReportsAnswer, ReportsStop, WritesAnswer, rows_of};
-ghost use Rattle.dependency_command.specs.Rules.{BreaksRule, IsListFault, IsRuleFrom};
-ghost use Rattle.dependency_command.specs.AnswerEnds.{EndsByFault, EndsWithAnswer, FaultOf, IsAnswerFor};
+ghost use Rattle.dependency_command.specs.AnswerEnds.{AllowsPaths, EndsByFault, EndsWithAnswer, FaultOf, RefusesPaths};
 
-use crate::refused_paths::check_paths;
 use crate::request::read_request;
 use command_words::{DependencyWords, SessionWords};
-use dependencies::{Dependencies, Rows};
+use dependencies::{Dependencies, Rows, run_noting_looks};
 use dependency_lines::{write_dependencies, write_stop};
-use folders::{Failure, FileSystem};
+use folders::FileSystem;
 use loading::load;
-use machine::{Cause, Session};
-use make_rules::{DriveFolder, RuleFault, RuleWords, list_folders, make_rule};
+use machine::{Cause, Meter, Session, WholeRun};
+use make_rules::{RuleFault, check_paths, rule_of_run};
 use report_lines::{Writer, write_all};
 use requests::{Fault, Request, Tool, print_information, report_fault};
-use std::alloc::Global;
+use std::alloc::{AllocError, Global};
 
 /// Returns which neighbours the words put into one row.
 fn rows(words: &DependencyWords<'_>) -> Rows
@@ -46,7 +46,7 @@ fn write_listing<'a, O: Writer>(
     ensures done { OnOk result
         (WritesAnswer (IsListing rows session.now) (O.output out.old) (O.output out.new)) }
     ensures fault { IfErr result
-        (BreaksAnswer (IsListing rows session.now) (λ p. ⊥) (λ f. ⊥) (O.output out.old) (O.output out.new)) }
+        (BreaksAnswer (IsListing rows session.now) (λ f. ⊥) (O.output out.old) (O.output out.new)) }
 {
     let Ok(dependencies) = Dependencies::of_run(alloc, session) else {
         return Err(Fault::OutOfMemory);
@@ -57,49 +57,31 @@ fn write_listing<'a, O: Writer>(
     }
 }
 
-/// Lists the folders of the drives, as far as they have folders.
-fn list_drives<'a, S: FileSystem>(
-    system: &mut S,
-    folders: &[Option<&'a str>; 4],
-) -> Result<[Option<DriveFolder<'a>>; 4], Fault<'a>>
-    ensures lists { IfOk result (λ found. IfSome (S.files system.old).bytes (λ stored.
-        ListsDrives stored (S.files system.old).names folders.now found)) }
-    ensures fault { IfErr result (IsListFault (FailsToListAny (S.files system.old) folders.now)) }
-    ensures unchanged { KeepsFiles file_paths result (S.files system.old) (S.files system.new) }
+/// Returns a list of one path.
+fn one_path(alloc: Global, path: &str) -> Result<Vec<String>, AllocError>
+    ensures { IfOk result (λ paths. map string_bytes paths.items ≡ path.now ∷ []) }
 {
-    match list_folders(system, folders) {
-        Ok(drives) => Ok(drives),
-        Err(Failure::AtFault(fault)) => Err(Fault::Folders(fault)),
-        Err(Failure::OutOfMemory) => Err(Fault::OutOfMemory),
-    }
+    let mut paths = Vec::new(alloc);
+    paths.push(String::from_str(alloc, path)?)?;
+    Ok(paths)
 }
 
-/// Returns the rule for make with the files on which the run of a session depends, with these dependencies.
-fn rule_of<'a, S: FileSystem>(
+/// Returns the rule for make with this target and the files on which the run of a session depends.
+fn rule_for<S: FileSystem>(
     system: &mut S,
-    session: &Session,
-    words: &SessionWords<'a>,
-    target: &'a str,
-    dependencies: &Dependencies,
-) -> Result<Vec<u8>, Fault<'a>>
-    ensures rule { let files = S.files system.old in IfOk result (λ text.
-        IsRuleFrom words.now target.entry files.bytes files.names session.now dependencies.now text.items) }
-    ensures fault { let files = S.files system.old in IfErr result
-        (BreaksRule words.now target.entry files.bytes files.names session.now dependencies.now
-        (FailsToListAny files words.now.files)) }
-    ensures unchanged { KeepsFiles file_paths result (S.files system.old) (S.files system.new) }
+    target: &str,
+    words: &SessionWords<'_>,
+    run: &WholeRun<'_>,
+) -> Result<Vec<u8>, RuleFault>
+    requires { AreDependencies run.now.session.now run.now.looks run.now.steps run.now.cause }
+    ensures rule { IfOk result (λ text.
+        IsRule words.now (target.now ∷ []) (S.files system.old) run.now.session.now text.items) }
+    ensures fault { IfErr result
+        (BreaksRule words.now (target.now ∷ []) (S.files system.old) run.now.session.now) }
+    ensures unchanged { KeepsFiles rule_paths result (S.files system.old) (S.files system.new) }
 {
-    let drives = list_drives(system, &words.files)?;
-    let rule_words = RuleWords {
-        target,
-        program: words.program,
-        console: words.console,
-    };
-    match make_rule(system.alloc(), &rule_words, &drives, session, dependencies) {
-        Ok(text) => Ok(text),
-        Err(RuleFault::Path(path)) => Err(Fault::RulePath(path)),
-        Err(RuleFault::OutOfMemory) => Err(Fault::OutOfMemory),
-    }
+    let targets = one_path(system.alloc(), target)?;
+    rule_of_run(system, targets.as_slice(), words, run)
 }
 
 /// Writes the rule for make with the files on which the run of a session depends, and reports its stop. A failure of the writer of
@@ -107,29 +89,28 @@ fn rule_of<'a, S: FileSystem>(
 fn write_rule<'a, S: FileSystem, O: Writer, E: Writer>(
     system: &mut S,
     session: &Session,
-    words: &SessionWords<'a>,
-    target: &'a str,
+    words: &SessionWords<'_>,
+    target: &str,
     out: &mut O,
     err: &mut E,
 ) -> Result<(), Fault<'a>>
     ensures done { let files = S.files system.old in OnOk result
-        (WritesAnswer (IsRule words.now target.entry files.bytes files.names session.now)
+        (WritesAnswer (IsRule words.now (target.now ∷ []) files session.now)
         (O.output out.old) (O.output out.new)) }
     ensures reported { OnOk result (ReportsStop session.now (E.output err.old) (E.output err.new)) }
     ensures fault { let files = S.files system.old in IfErr result
-        (BreaksAnswer (IsRule words.now target.entry files.bytes files.names session.now)
-        (IsRuleWithout words.now target.entry files.bytes files.names session.now)
-        (FailsToListAny files words.now.files) (O.output out.old) (O.output out.new)) }
+        (BreaksAnswer (IsRule words.now (target.now ∷ []) files session.now)
+        (BreaksRule words.now (target.now ∷ []) files session.now) (O.output out.old) (O.output out.new)) }
     ensures unreported { OnErr result (err.new ≡ err.old) }
     ensures unchanged { KeepsFiles file_paths result (S.files system.old) (S.files system.new) }
 {
-    let Ok(dependencies) = Dependencies::of_run(system.alloc(), session) else {
+    let Ok(run) = run_noting_looks(system.alloc(), session, &mut Meter::new()) else {
         return Err(Fault::OutOfMemory);
     };
-    let text = rule_of(system, session, words, target, &dependencies)?;
+    let text = rule_for(system, target, words, &run)?;
     match write_all(out, text.as_slice()) {
         Ok(()) => {
-            report_stop(err, dependencies.cause);
+            report_stop(err, run.cause);
             Ok(())
         }
         Err(_) => Err(Fault::CannotWrite),
@@ -147,25 +128,34 @@ fn report_stop<E: Writer>(err: &mut E, cause: Cause)
 fn write_answer<'a, S: FileSystem, O: Writer, E: Writer>(
     system: &mut S,
     session: &Session,
-    words: &DependencyWords<'a>,
+    words: &DependencyWords<'_>,
     out: &mut O,
     err: &mut E,
 ) -> Result<(), Fault<'a>>
-    ensures done { OnOk result
-        (WritesAnswer (IsAnswerFor (S.files system.old) words.now session.now)
+    ensures done { OnOk result (WritesAnswer (IsAnswer words.now (S.files system.old) session.now)
         (O.output out.old) (O.output out.new)) }
     ensures reported { OnOk result
         (ReportsAnswer words.now session.now (E.output err.old) (E.output err.new)) }
     ensures fault { let files = S.files system.old in IfErr result
-        (BreaksAnswer (IsAnswerFor files words.now session.now)
-        (IsAnswerWithout words.now files.bytes files.names session.now)
-        (FailsToListAny files words.now.session.files) (O.output out.old) (O.output out.new)) }
+        (BreaksAnswer (IsAnswer words.now files session.now) (HasNoRule words.now files session.now)
+        (O.output out.old) (O.output out.new)) }
     ensures unreported { OnErr result (err.new ≡ err.old) }
     ensures unchanged { KeepsFiles file_paths result (S.files system.old) (S.files system.new) }
 {
     match words.target {
         Some(target) => write_rule(system, session, &words.session, target, out, err),
         None => write_listing(system.alloc(), session, rows(words), out),
+    }
+}
+
+/// Checks whether a rule for make can have the paths among the words, if they ask for one.
+fn check_words(alloc: Global, words: &DependencyWords<'_>) -> Result<(), RuleFault>
+    ensures allowed { OnOk result (AllowsPaths words.now) }
+    ensures refused { IfErr result (RefusesPaths words.now) }
+{
+    match words.target {
+        Some(target) => check_paths(alloc, &words.session, target, &[]),
+        None => Ok(()),
     }
 }
 
@@ -189,7 +179,7 @@ fn run<'a, S: FileSystem, O: Writer, E: Writer>(
         Request::Session(words) => words,
         Request::Information(text) => return print_information(text.as_str(), out),
     };
-    check_paths(system.alloc(), &words)?;
+    check_words(system.alloc(), &words)?;
     let session = load(system, &words.session)?;
     write_answer(system, &session, &words, out, err)
 }

@@ -1,11 +1,10 @@
 //! The program `cpmdeps` except its `main`: it prints what the run of a session depends on, or a rule for make.
 //!
 //! - `request`: the request in the words of the command line
-//! - `command_line`, `refused_paths`: the command; paths that a rule for make cannot have
+//! - `command_line`: the command
 #![tactic(auto)]
 
 mod command_line;
-mod refused_paths;
 mod request;
 
 pub use command_line::dependency_command;

@@ -4,12 +4,11 @@ ghost use Rattle.std.specs.Prelude.{◌≡◌, IfOk, IfErr, map, string_bytes};
 ghost use Rattle.command_words.specs.DependencyLine.{dependency_faults};
 ghost use Rattle.command_words.specs.ErrorClass.{HasErrorClass};
 ghost use Rattle.requests.specs.Requests.{IsRequestOf, FailsToParse};
-ghost use Rattle.command_words.specs.declared.error_classes.ErrorClass.TheVariants.{UsageError};
 ghost use Rattle.dependency_command.specs.AnswerEnds.{HasFaultClass};
 ghost use Rattle.dependency_command.specs.AreDependencyWords.{AreDependencyWords, asks_twice};
 
 use command_words::{DependencyWords, error_class, read_dependency_words};
-use requests::{Fault, Request, request_of_error};
+use requests::{Fault, Request, request_of_error, two_forms};
 use std::alloc::Global;
 
 /// The usage error of words that ask for a rule and for the listing by steps, worded as those of `clap`.
@@ -28,16 +27,6 @@ fn asks_twice(words: &DependencyWords<'_>) -> bool
     words.target.is_some() && words.by_step
 }
 
-// Returns the error of such words.
-fn two_forms<'a>(alloc: Global) -> Fault<'a>
-    ensures { FailsToParse (λ outcome. outcome ≡ UsageError) result }
-{
-    match String::from_str(alloc, TWO_FORMS) {
-        Ok(text) => Fault::Usage(text),
-        Err(_) => Fault::OutOfMemory,
-    }
-}
-
 /// Returns the request in the words after the program's name.
 pub fn read_request<'a>(
     alloc: Global,
@@ -49,7 +38,7 @@ pub fn read_request<'a>(
         (FailsToParse (HasFaultClass (map string_bytes words.entry.now))) }
 {
     match read_dependency_words(alloc, words) {
-        Ok(words) if asks_twice(&words) => Err(two_forms(alloc)),
+        Ok(words) if asks_twice(&words) => Err(two_forms(alloc, TWO_FORMS)),
         Ok(words) => Ok(Request::Session(words)),
         Err(error) => request_of_error(error_class(&error), format!(in alloc; "{error}")),
     }

@@ -8,6 +8,7 @@ use Rattle.keymaps.proofs.Views.{same_key, key_of, get_here, get_apart}
 use Rattle.filenames.specs.Names.{Key}
 use Rattle.folders.specs.FolderNames.{folder_name, needs_slash, path_text, temporary_text}
 use Rattle.folders.specs.FileSystem.{Path, FileBytes, Becomes, ChangesAt, PutsInPlace, files_after_rename, with_file_at}
+use Rattle.folders.specs.OwnPaths.{IsTemporaryOf}
 use Rattle.hostfiles.proofs.ContentsLemmas.{record_here}
 use Rattle.std.specs.List.{concat, slice_get}
 use Rattle.std.specs.Option.{option_map, option_and_then}
@@ -110,8 +111,14 @@ longer front text before behind one four =
     let e = length-append front text in
     omega (arith, a, b, d, e, one, four)
 
+no_longer : {n : ℕ} (m : ℕ) → n ≡ m → n ≡ m + 5 → ⊥
+no_longer m p q = let same : m ≡ m + 5 = sym p ∙ q in absurd (omega (arith, same))
+
 -- The two paths of a file in a folder differ.
 pub paths_differ : (folder : Path) (name : Key) → path_text folder (temporary_text name) ≢ path_text folder (folder_name name)
-paths_differ folder name e = no_longer _ (ap length e) (longer (folder ++ cond (needs_slash folder) (47 ∷ []) []) (folder_name name) (codes ".") (codes ".new") refl refl) where
-  no_longer : {n : ℕ} (m : ℕ) → n ≡ m → n ≡ m + 5 → ⊥
-  no_longer m p q = let same : m ≡ m + 5 = sym p ∙ q in absurd (omega (arith, same))
+paths_differ folder name e = no_longer _ (ap length e) (longer (folder ++ cond (needs_slash folder) (47 ∷ []) []) (folder_name name) (codes ".") (codes ".new") refl refl)
+
+-- A path differs from the one at which its file is first written.
+pub temporary_differs : (path temporary : Path) → IsTemporaryOf path temporary → temporary ≢ path
+temporary_differs path temporary t e =
+    no_longer (length (t.folder ++ t.name)) (ap length (sym t.temporary_is ∙ e ∙ t.path_is)) (longer t.folder t.name (codes ".") (codes ".new") refl refl)

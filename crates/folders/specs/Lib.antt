@@ -5,3 +5,4 @@ pub mod Faults
 pub mod Listings
 pub mod Folders
 pub mod ChangedBytes
+pub mod OwnPaths

@@ -1,7 +1,8 @@
 // Names of files in a folder, and their paths.
 
-ghost use Rattle.std.specs.Prelude.{◌≡◌, ℕ, None, IfOk, IfSome, slice_index, string_bytes};
+ghost use Rattle.std.specs.Prelude.{◌≡◌, ◌++◌, ℕ, None, codes, IfOk, IfSome, slice_index, string_bytes};
 ghost use Rattle.filenames.specs.Drives.{drive_number};
+ghost use Rattle.folders.specs.OwnPaths.{IsTemporaryOf};
 ghost use Rattle.folders.specs.FolderNames.{key_in, folder_name, temporary_text, needs_slash, path_text};
 
 use filenames::{Drive, Name};
@@ -38,6 +39,28 @@ pub fn temporary_name(alloc: Global, name: &Name) -> Result<String, AllocError>
 {
     let plain = name.with_drive(Drive::A);
     format!(in alloc; ".{plain}.new")
+}
+
+// Returns the path at which a file is first written in a folder.
+fn temporary_in(alloc: Global, folder: &str, name: &str) -> Result<String, AllocError>
+    ensures { IfOk result (λ s.
+        string_bytes s ≡ folder.now ++ codes "/." ++ name.now ++ codes ".new") }
+{
+    let mut path = String::from_str(alloc, folder)?;
+    path.push_str("/.")?;
+    path.push_str(name)?;
+    path.push_str(".new")?;
+    Ok(path)
+}
+
+/// Returns the path at which the file of a path is first written: in the same folder, with a `.` before its name and `.new` after it.
+pub fn temporary_path(alloc: Global, path: &str) -> Result<String, AllocError>
+    ensures { IfOk result (λ s. IsTemporaryOf path.now (string_bytes s)) }
+{
+    match path.rsplit_once('/') {
+        Some((folder, name)) => temporary_in(alloc, folder, name),
+        None => format!(in alloc; ".{path}.new"),
+    }
 }
 
 /// Returns the path of a file in a folder: the folder as given, a `/` unless the folder ends with one or is empty, and the file's

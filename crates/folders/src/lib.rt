@@ -17,4 +17,4 @@ pub use file_system::{Contents, FileSystem, InputFile, SystemFile, SystemFiles};
 pub use folder_names::{file_name, name_in_folder, path_in, temporary_name};
 pub use listing::Listing;
 pub use reading::{list, read_folder, read_folders};
-pub use writing::{write_file, write_to_drive};
+pub use writing::{write_file, write_path, write_to_drive};

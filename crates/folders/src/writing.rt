@@ -8,10 +8,11 @@ ghost use Rattle.folders.specs.Faults.{FailsBy, IsWriteFault, failure_paths};
 ghost use Rattle.folders.specs.FileSystem.{ChangesAt, PutsInPlace};
 ghost use Rattle.folders.specs.Folders.{FailsToWrite, LeavesIn, WritesInto, folder_of};
 ghost use Rattle.folders.specs.ChangedBytes.{file_bytes};
+ghost use Rattle.folders.specs.OwnPaths.{IsTemporaryOf, LeavesAt, PutsAt};
 
 use crate::fault::{Failure, write_failure};
 use crate::file_system::{Contents, FileSystem};
-use crate::folder_names::{file_name, path_in, temporary_name};
+use crate::folder_names::{file_name, path_in, temporary_name, temporary_path};
 use filenames::Name;
 use hostfiles::FileView;
 use std::alloc::{AllocError, Global};
@@ -35,6 +36,14 @@ impl Contents for FileView<'_> {
     }
 }
 
+impl Contents for Vec<u8> {
+    ghost bytes = { λ bytes. bytes.items };
+
+    fn write_to<W: Write>(&self, writer: &mut W) -> io::Result<()> {
+        writer.write_all(self.as_slice())
+    }
+}
+
 // Writes a file under one path and renames it to another. What is at the first path, such as an earlier part of a file or a link,
 // is removed and not written into.
 fn write_and_rename<S: FileSystem, C: Contents>(
@@ -53,6 +62,62 @@ fn write_and_rename<S: FileSystem, C: Contents>(
     system.remove(temporary);
     system.write_new(temporary, path, contents)?;
     system.rename(temporary, path)
+}
+
+// Writes a file at a path, replacing a file that is there. The file is first written under another path, and then renamed.
+fn write_at<S: FileSystem, C: Contents>(
+    system: &mut S,
+    path: String,
+    temporary: &str,
+    contents: &C,
+) -> Result<(), Failure>
+    requires { temporary.now ≢ string_bytes path }
+    ensures written { OnOk result (PutsInPlace (S.files system.old).bytes (S.files system.new).bytes
+        (string_bytes path) temporary.now (C.bytes contents.now)) }
+    ensures err { OnErr result
+        (ChangesAt temporary.now (S.files system.old).bytes (S.files system.new).bytes) }
+    ensures fault { IfErr result (FailsBy (IsWriteFault (string_bytes path))) }
+    ensures failed { ReportsPaths failure_paths result (S.files system.old) (S.files system.new) }
+{
+    match write_and_rename(system, contents, temporary, path.as_str()) {
+        Ok(()) => Ok(()),
+        Err(error) => {
+            system.remove(temporary);
+            Err(write_failure(error, path))
+        }
+    }
+}
+
+/// Writes a file at a path, replacing a file that is there. The file is first written in the same folder, with a `.` before its name
+/// and `.new` after it, and then renamed.
+///
+/// # Errors
+///
+/// Returns the error of the path, or out of memory. A file that was there before is then unchanged.
+pub fn write_path<S: FileSystem, C: Contents>(
+    system: &mut S,
+    path: &str,
+    contents: &C,
+) -> Result<(), Failure>
+    ensures written { OnOk result (PutsAt path.now
+        (S.files system.old).bytes (S.files system.new).bytes (C.bytes contents.now)) }
+    ensures err { OnErr result
+        (LeavesAt path.now (S.files system.old).bytes (S.files system.new).bytes) }
+    ensures fault { IfErr result (FailsBy (IsWriteFault path.now)) }
+    ensures failed { ReportsPaths failure_paths result (S.files system.old) (S.files system.new) }
+{
+    let Ok((path, temporary)) = own_paths(system.alloc(), path) else {
+        return Err(Failure::OutOfMemory);
+    };
+    write_at(system, path, temporary.as_str(), contents)
+}
+
+// Returns a path, and the path under which its file is first written.
+fn own_paths(alloc: Global, path: &str) -> Result<(String, String), AllocError>
+    ensures path { IfOk result (λ r. string_bytes r.0 ≡ path.now) }
+    ensures temporary { IfOk result (λ r. IsTemporaryOf path.now (string_bytes r.1)) }
+{
+    Ok((String::from_str(alloc, path)?, temporary_path(alloc, path)?))
 }
 
 /// Writes a file into a folder, by its name without the letter and `:`, replacing a file of this name. The file is first written
@@ -78,13 +143,7 @@ pub fn write_file<S: FileSystem, C: Contents>(
     let Ok((path, temporary)) = paths(system.alloc(), folder, name) else {
         return Err(Failure::OutOfMemory);
     };
-    match write_and_rename(system, contents, temporary.as_str(), path.as_str()) {
-        Ok(()) => Ok(()),
-        Err(error) => {
-            system.remove(temporary.as_str());
-            Err(write_failure(error, path))
-        }
-    }
+    write_at(system, path, temporary.as_str(), contents)
 }
 
 // Returns the path of a file in a folder, and the path under which it is first written.

@@ -1,3 +1,4 @@
 pub mod TextLemmas
 pub mod SignLemmas
 pub mod ReadingLemmas
+mod RunRuleLemmas

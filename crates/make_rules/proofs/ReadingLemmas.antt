@@ -1,10 +1,11 @@
 -- How make reads a written line.
-use Rattle.std.proofs.Common.{◌≡◌, ℕ, suc, refl, ◌-◌, ◌&&◌, not, nat_lt, Bool, true, false, List, [], ◌∷◌, ◌++◌, map, filter, length, slice_get, codes, Option, Some, None, inl, inr, ap, sym, ◌∙◌, append_assoc, append-nil, arith}
+use Rattle.std.proofs.Common.{◌≡◌, ℕ, suc, refl, ◌-◌, ◌&&◌, not, nat_lt, Bool, true, false, List, [], ◌∷◌, ◌++◌, map, filter, length, eqb, slice_get, codes, Option, Some, None, inl, inr, ap, sym, ◌∙◌, append_assoc, append-nil, arith}
 use Rattle.std.proofs.lemmas.Bool.{cases_Bool, false≢true, true≢false}
 use Rattle.std.proofs.lemmas.Bool.Decides.{eqb_tells}
 use Rattle.std.proofs.lemmas.List.Folds.{list_all-append}
 use Rattle.std.specs.List.{flat_map, list_all, list_any}
 use Rattle.std.specs.Option.{option_map_or}
+use Rattle.command_words.specs.declared.words.SessionWords.{SessionWords}
 use Rattle.filenames.specs.Names.{Key}
 use Rattle.folders.specs.FileSystem.{Path}
 use Rattle.folders.specs.FolderNames.{folder_name, path_text}
@@ -19,9 +20,8 @@ use Rattle.std.specs.FinMap.{keys}
 use Rattle.first_looks.specs.FirstLooks.{FirstLooksView}
 use Rattle.machine.specs.Inputs.{Session}
 use Rattle.make_rules.specs.Paths.{ArePathsOf, paths_with}
-use Rattle.make_rules.specs.Rule.{IsReadByMake, all_paths, call, missing_paths, needed_paths, rule_line}
+use Rattle.make_rules.specs.Rule.{IsReadByMake, all_paths, call, missing_paths, needed_paths, rule_line, targets_text}
 use Rattle.make_rules.specs.declared.rule.Paths.{Paths}
-use Rattle.make_rules.specs.declared.rule.RuleWords.{RuleWords}
 use Rattle.make_rules.proofs.SignLemmas.{AllInCall, AllPlain, arguments_signs, ends_plainly, path_signs, prerequisite_signs}
 
 and_true : (x y : Bool) → (x && y) ≡ true → (x ≡ true) × (y ≡ true)
@@ -143,21 +143,32 @@ after_named : (m : ℕ) (p : Path) (s : List Sign) → after m (map Named p ++ s
 after_named m [] s = refl
 after_named m (b ∷ bs) s = after_named m bs s
 
-before_blanks : (ps : List Path) (s : List Sign) → before 35 (after_blanks ps ++ s) ≡ after_blanks ps ++ before 35 s
-before_blanks [] s = refl
-before_blanks (p ∷ ps) s =
-    ap (λ t. Mark 32 ∷ t) (ap (before 35) (append_assoc (map Named p) (after_blanks ps) s) ∙ before_named 35 p (after_blanks ps ++ s)
-    ∙ ap (λ t. map Named p ++ t) (before_blanks ps s) ∙ sym (append_assoc (map Named p) (after_blanks ps) (before 35 s)))
+after_all : (ps : List Path) (s : List Sign) → after 58 (after_blanks ps ++ s) ≡ after 58 s
+after_all [] s = refl
+after_all (p ∷ ps) s = ap (after 58) (append_assoc (map Named p) (after_blanks ps) s) ∙ after_named 58 p (after_blanks ps ++ s) ∙ after_all ps s
 
-before_between : (ps : List Path) → before 35 (between_blanks ps) ≡ between_blanks ps
-before_between [] = refl
-before_between (p ∷ ps) =
-    before_named 35 p (after_blanks ps)
-    ∙ ap (λ t. map Named p ++ t) (ap (before 35) (sym (append-nil (after_blanks ps))) ∙ before_blanks ps [] ∙ append-nil (after_blanks ps))
+after_between : (ps : List Path) (s : List Sign) → after 58 (between_blanks ps ++ s) ≡ after 58 s
+after_between [] s = refl
+after_between (p ∷ ps) s = ap (after 58) (append_assoc (map Named p) (after_blanks ps) s) ∙ after_named 58 p (after_blanks ps ++ s) ∙ after_all ps s
+
+module _ (m : ℕ) (other : eqb 32 m ≡ false) where
+  before_blanks : (ps : List Path) (s : List Sign) → before m (after_blanks ps ++ s) ≡ after_blanks ps ++ before m s
+  before_blanks [] s = refl
+  before_blanks (p ∷ ps) s =
+      rw other (ap (λ t. Mark 32 ∷ t) (ap (before m) (append_assoc (map Named p) (after_blanks ps) s) ∙ before_named m p (after_blanks ps ++ s)
+      ∙ ap (λ t. map Named p ++ t) (before_blanks ps s) ∙ sym (append_assoc (map Named p) (after_blanks ps) (before m s))))
+
+  before_between : (ps : List Path) (s : List Sign) → before m (between_blanks ps ++ s) ≡ between_blanks ps ++ before m s
+  before_between [] s = refl
+  before_between (p ∷ ps) s =
+      ap (before m) (append_assoc (map Named p) (after_blanks ps) s) ∙ before_named m p (after_blanks ps ++ s)
+      ∙ ap (λ t. map Named p ++ t) (before_blanks ps s) ∙ sym (append_assoc (map Named p) (after_blanks ps) (before m s))
 
 before_tail : (exists : Path → Bool) (ps : List Path) → before 35 (tail exists ps) ≡ tail exists ps
 before_tail exists [] = refl
-before_tail exists (p ∷ ps) = ap (λ t. Mark 32 ∷ t) (before_between (filter exists (p ∷ ps)))
+before_tail exists (p ∷ ps) =
+    let found = between_blanks (filter exists (p ∷ ps)) in
+    ap (λ t. Mark 32 ∷ t) (ap (before 35) (sym (append-nil found)) ∙ before_between 35 refl (filter exists (p ∷ ps)) [] ∙ append-nil found)
 
 -- ---- the line
 
@@ -168,34 +179,44 @@ call_signs exists (p ∷ ps) h named =
     ∙ append-nil (value_of exists (names [] (map Named (codes "wildcard") ++ after_blanks (p ∷ ps))))
     ∙ ap (value_of exists) (names_named [] (codes "wildcard") (after_blanks (p ∷ ps)) ∙ names_after (codes "wildcard") (p ∷ ps) named))
 
-module _ (exists : Path → Bool) (target : Path) (needs missing : List Path) (of_target : is_carried target ≡ true) (of_needs : list_all is_carried needs ≡ true)
-    (of_missing : list_all is_carried missing ≡ true) (fit : list_all fits_call missing ≡ true) where
-  line_signs : signs_of exists (rule_line target needs missing) ≡ map Named target ++ Mark 58 ∷ (after_blanks needs ++ tail exists missing)
-  line_signs =
-      let plain = plain_path target of_target in
-      let rest = flat_map prerequisite needs ++ call missing in
-      let parts = append_assoc (escaped target ++ codes ":") (flat_map prerequisite needs) (call missing) ∙ append_assoc (escaped target) (codes ":") rest in
-      let all = ap (signs exists (Backslashes 0)) parts ∙ path_signs exists 0 target (58 ∷ rest) plain.plain plain.ends
-      ∙ ap (λ t. map Named target ++ Mark 58 ∷ t) (prerequisite_signs exists needs (call missing) (all_plain exists needs of_needs)
-      ∙ ap (λ t. after_blanks needs ++ t) (call_signs exists missing (all_in_call exists missing fit) (all_named missing of_missing))) in
-      ap (before 35) all ∙ before_named 35 target (Mark 58 ∷ (after_blanks needs ++ tail exists missing))
-      ∙ ap (λ t. map Named target ++ Mark 58 ∷ t) (before_blanks needs (tail exists missing) ∙ ap (λ t. after_blanks needs ++ t) (before_tail exists missing))
+target_signs : (exists : Path → Bool) (targets : List Path) (rest : List ℕ) → list_all is_carried targets ≡ true
+    → signs exists (Backslashes 0) (targets_text targets ++ rest) ≡ between_blanks targets ++ signs exists (Backslashes 0) rest
+target_signs exists [] rest h = refl
+target_signs exists (t ∷ ts) rest h =
+    let both = and_true (is_carried t) (list_all is_carried ts) h in
+    let plain = plain_path t both.0 in
+    ap (signs exists (Backslashes 0)) (append_assoc (escaped t) (flat_map prerequisite ts) rest)
+    ∙ path_signs exists 0 t (flat_map prerequisite ts ++ rest) plain.plain plain.ends
+    ∙ ap (λ s. map Named t ++ s) (prerequisite_signs exists ts rest (all_plain exists ts both.1))
+    ∙ sym (append_assoc (map Named t) (after_blanks ts) (signs exists (Backslashes 0) rest))
 
-  pub reads_line : ReadsRule exists (rule_line target needs missing) (target ∷ []) (needs ++ filter exists missing)
+module _ (exists : Path → Bool) (targets needs missing : List Path) (of_targets : list_all is_carried targets ≡ true) (of_needs : list_all is_carried needs ≡ true)
+    (of_missing : list_all is_carried missing ≡ true) (fit : list_all fits_call missing ≡ true) where
+  line_signs : signs_of exists (rule_line targets needs missing) ≡ between_blanks targets ++ Mark 58 ∷ (after_blanks needs ++ tail exists missing)
+  line_signs =
+      let rest = flat_map prerequisite needs ++ call missing in
+      let parts = append_assoc (targets_text targets ++ codes ":") (flat_map prerequisite needs) (call missing) ∙ append_assoc (targets_text targets) (codes ":") rest in
+      let all = ap (signs exists (Backslashes 0)) parts ∙ target_signs exists targets (58 ∷ rest) of_targets
+      ∙ ap (λ t. between_blanks targets ++ Mark 58 ∷ t) (prerequisite_signs exists needs (call missing) (all_plain exists needs of_needs)
+      ∙ ap (λ t. after_blanks needs ++ t) (call_signs exists missing (all_in_call exists missing fit) (all_named missing of_missing))) in
+      ap (before 35) all ∙ before_between 35 refl targets (Mark 58 ∷ (after_blanks needs ++ tail exists missing))
+      ∙ ap (λ t. between_blanks targets ++ Mark 58 ∷ t) (before_blanks 35 refl needs (tail exists missing) ∙ ap (λ t. after_blanks needs ++ t) (before_tail exists missing))
+
+  pub reads_line : ReadsRule exists (rule_line targets needs missing) targets (needs ++ filter exists missing)
   reads_line = record {
     targets_are = ap (λ s. names [] (before 58 s)) line_signs
-        ∙ ap (names []) (before_named 58 target (Mark 58 ∷ (after_blanks needs ++ tail exists missing))) ∙ names_named [] target []
-        ∙ with_named target [] (plain_path target of_target).named;
+        ∙ ap (names []) (before_between 58 refl targets (Mark 58 ∷ (after_blanks needs ++ tail exists missing)) ∙ append-nil (between_blanks targets))
+        ∙ names_between [] targets (all_named targets of_targets);
     prerequisites_are = ap (λ s. names [] (after 58 s)) line_signs
-        ∙ ap (names []) (after_named 58 target (Mark 58 ∷ (after_blanks needs ++ tail exists missing)))
+        ∙ ap (names []) (after_between targets (Mark 58 ∷ (after_blanks needs ++ tail exists missing)))
         ∙ names_then [] needs (tail exists missing) (filter exists missing) (all_named needs of_needs) (names_tail exists missing (all_named missing of_missing));
   }
 
 -- ---- the paths in a call
 
-in_call_fits : (target path : Path) → list_all fits_call (path_in_call target path) ≡ true
-in_call_fits target path = elim (cases_Bool (fits_call path)) [
-  | inl e ↦ elim (cases_Bool (is_target target path)) [
+in_call_fits : (targets : List Path) (path : Path) → list_all fits_call (path_in_call targets path) ≡ true
+in_call_fits targets path = elim (cases_Bool (fits_call path)) [
+  | inl e ↦ elim (cases_Bool (is_target targets path)) [
     | inl f ↦ rw (e, f) refl
     | inr f ↦ rw (e, f) (rw e refl)
   ]
@@ -205,39 +226,39 @@ in_call_fits target path = elim (cases_Bool (fits_call path)) [
 both_fit : (xs ys : List Path) → list_all fits_call xs ≡ true → list_all fits_call ys ≡ true → list_all fits_call (xs ++ ys) ≡ true
 both_fit xs ys e f = list_all-append fits_call xs ys ∙ rw (e, f) refl
 
-paths_fit : (target : Path) (drive : Option DriveFolder) (key : Key) → list_all fits_call (paths_in_call target drive key) ≡ true
-paths_fit target None key = refl
-paths_fit target (Some d) key =
+paths_fit : (targets : List Path) (drive : Option DriveFolder) (key : Key) → list_all fits_call (paths_in_call targets drive key) ≡ true
+paths_fit targets None key = refl
+paths_fit targets (Some d) key =
     let upper = path_text d.folder.now (folder_name key) in
     let lower = path_text d.folder.now (map to_ascii_lowercase (folder_name key)) in
-    both_fit (path_in_call target upper) (path_in_call target lower) (in_call_fits target upper) (in_call_fits target lower)
+    both_fit (path_in_call targets upper) (path_in_call targets lower) (in_call_fits targets upper) (in_call_fits targets lower)
 
-part_fits : (target : Path) (host : Host) (drives : List (Option DriveFolder)) (key : Key) → list_all fits_call (in_call_part target host drives key) ≡ true
-part_fits target host drives key = elim (cases_Bool (is_absent host key)) [
-  | inl e ↦ rw e (paths_fit target (drive_of drives key) key)
+part_fits : (targets : List Path) (host : Host) (drives : List (Option DriveFolder)) (key : Key) → list_all fits_call (in_call_part targets host drives key) ≡ true
+part_fits targets host drives key = elim (cases_Bool (is_absent host key)) [
+  | inl e ↦ rw e (paths_fit targets (drive_of drives key) key)
   | inr e ↦ rw e refl
 ]
 
-pub all_fit : (target : Path) (host : Host) (drives : List (Option DriveFolder)) (keys : List Key) → list_all fits_call (flat_map (in_call_part target host drives) keys) ≡ true
-all_fit target host drives [] = refl
-all_fit target host drives (k ∷ ks) =
-    both_fit (in_call_part target host drives k) (flat_map (in_call_part target host drives) ks) (part_fits target host drives k) (all_fit target host drives ks)
+pub all_fit : (targets : List Path) (host : Host) (drives : List (Option DriveFolder)) (keys : List Key) → list_all fits_call (flat_map (in_call_part targets host drives) keys) ≡ true
+all_fit targets host drives [] = refl
+all_fit targets host drives (k ∷ ks) =
+    both_fit (in_call_part targets host drives k) (flat_map (in_call_part targets host drives) ks) (part_fits targets host drives k) (all_fit targets host drives ks)
 
 -- ---- the rule
 
-module _ (w : RuleWords) (drives : List (Option DriveFolder)) (s : Session) (t : FirstLooksView) where
-  of_all : list_all is_carried (all_paths w drives s t) ≡ true → IsReadByMake w drives s t
+module _ (targets : List Path) (w : SessionWords) (drives : List (Option DriveFolder)) (s : Session) (t : FirstLooksView) where
+  of_all : list_all is_carried (all_paths targets w drives s t) ≡ true → IsReadByMake targets w drives s t
   of_all carried =
-      let needs = needed_paths w drives s t in
-      let missing = missing_paths w drives s t in
-      let target = and_true (is_carried w.target.now) (list_all is_carried (needs ++ missing)) carried in
-      let both = and_true (list_all is_carried needs) (list_all is_carried missing) (sym (list_all-append is_carried needs missing) ∙ target.1) in
+      let needs = needed_paths targets w drives s t in
+      let missing = missing_paths targets drives s t in
+      let one = and_true (list_all is_carried (targets ++ needs)) (list_all is_carried missing) (sym (list_all-append is_carried (targets ++ needs) missing) ∙ carried) in
+      let two = and_true (list_all is_carried targets) (list_all is_carried needs) (sym (list_all-append is_carried targets needs) ∙ one.0) in
       record {
         carried = carried;
-        first = λ exists. reads_line exists w.target.now needs missing target.0 both.0 both.1 (all_fit w.target.now s.files drives (keys t.files.has));
-        others = λ exists path h. reads_line exists path [] [] h refl refl refl;
+        first = λ exists. reads_line exists targets needs missing two.0 two.1 one.1 (all_fit targets s.files drives (keys t.files.has));
+        others = λ exists path h. reads_line exists (path ∷ []) [] [] (ap (λ b. b && true) h) refl refl refl;
       }
 
-  pub read_by_make : (paths : Paths) → ArePathsOf w drives s t paths → list_all is_carried (paths_with w.target.now paths) ≡ true → IsReadByMake w drives s t
+  pub read_by_make : (paths : Paths) → ArePathsOf targets w drives s t paths → list_all is_carried (paths_with targets paths) ≡ true → IsReadByMake targets w drives s t
   read_by_make paths are h =
       of_all (rw (are.program, are.others, are.missing) at h)

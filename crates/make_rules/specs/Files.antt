@@ -1,7 +1,7 @@
 -- The host files on which a run depends, as paths. (This project's profile.)
 use Rattle.std.specs.Prelude.{ℕ, ◌∷◌, ◌++◌, ◌||◌, ◌&&◌, not, Bool, if◌then◌else◌, is_some, List, [], map, get_or, slice_index, Option, Some, None, String, string_bytes, codes, bytes_eq}
 use Rattle.std.specs.Char.{to_ascii_lowercase}
-use Rattle.std.specs.List.{flat_map}
+use Rattle.std.specs.List.{flat_map, list_any}
 use Rattle.std.specs.FinMap.{contains_key, get, keys}
 use Rattle.filenames.specs.Drives.{drive_number}
 use Rattle.filenames.specs.Names.{Key, display_text, is_sayable}
@@ -60,42 +60,45 @@ all_folders asked drives = flat_map (drive_folder asked) drives
 abbrev pub is_absent : Host → Key → Bool
 is_absent host key = is_sayable key && not (contains_key host key)
 
--- Whether make takes a path for the target.
-abbrev pub is_target : Path → Path → Bool
-is_target target path = bytes_eq (without_dot path) (without_dot target)
+-- Whether make takes a path for one of the targets.
+abbrev pub is_target : List Path → Path → Bool
+is_target targets path = list_any (λ target. bytes_eq (without_dot path) (without_dot target)) targets
 
--- A path that a call of make can have, unless make takes it for the target.
-abbrev pub path_in_call : Path → Path → List Path
-path_in_call target path = if fits_call path && not (is_target target path) then path ∷ [] else []
+abbrev pub is_other : List Path → Path → Bool
+is_other targets path = not (is_target targets path)
+
+-- A path that a call of make can have, unless make takes it for a target.
+abbrev pub path_in_call : List Path → Path → List Path
+path_in_call targets path = if fits_call path && is_other targets path then path ∷ [] else []
 
 -- The paths that a file would have in the folder of its drive, by its name in upper and in lower case.
-abbrev pub paths_in_call : Path → Option DriveFolder → Key → List Path
-paths_in_call target None key = []
-paths_in_call target (Some d) key =
-    path_in_call target (path_text d.folder.now (folder_name key)) ++ path_in_call target (path_text d.folder.now (map to_ascii_lowercase (folder_name key)))
+abbrev pub paths_in_call : List Path → Option DriveFolder → Key → List Path
+paths_in_call targets None key = []
+paths_in_call targets (Some d) key =
+    path_in_call targets (path_text d.folder.now (folder_name key)) ++ path_in_call targets (path_text d.folder.now (map to_ascii_lowercase (folder_name key)))
 
 -- The folder in which a file would be new, if no call of make can have the file's path.
-abbrev pub folder_unless_in_call : Path → Path → Path → List Path
-folder_unless_in_call target folder path = if fits_call path || is_target target path then [] else folder_path folder ∷ []
+abbrev pub folder_unless_in_call : List Path → Path → Path → List Path
+folder_unless_in_call targets folder path = if fits_call path || is_target targets path then [] else folder_path folder ∷ []
 
-abbrev pub folder_of_absent : Path → Option DriveFolder → Key → List Path
-folder_of_absent target None key = []
-folder_of_absent target (Some d) key = folder_unless_in_call target d.folder.now (path_text d.folder.now (folder_name key))
+abbrev pub folder_of_absent : List Path → Option DriveFolder → Key → List Path
+folder_of_absent targets None key = []
+folder_of_absent targets (Some d) key = folder_unless_in_call targets d.folder.now (path_text d.folder.now (folder_name key))
 
 abbrev pub drive_of : List (Option DriveFolder) → Key → Option DriveFolder
 drive_of drives key = get_or drives (slice_index key 0) None
 
-abbrev pub in_call_part : Path → Host → List (Option DriveFolder) → Key → List Path
-in_call_part target host drives key = if is_absent host key then paths_in_call target (drive_of drives key) key else []
+abbrev pub in_call_part : List Path → Host → List (Option DriveFolder) → Key → List Path
+in_call_part targets host drives key = if is_absent host key then paths_in_call targets (drive_of drives key) key else []
 
-abbrev pub absent_folder_part : Path → Host → List (Option DriveFolder) → Key → List Path
-absent_folder_part target host drives key = if is_absent host key then folder_of_absent target (drive_of drives key) key else []
+abbrev pub absent_folder_part : List Path → Host → List (Option DriveFolder) → Key → List Path
+absent_folder_part targets host drives key = if is_absent host key then folder_of_absent targets (drive_of drives key) key else []
 
-abbrev pub all_in_call : Path → Host → FileSteps → List (Option DriveFolder) → List Path
-all_in_call target host asked drives = flat_map (in_call_part target host drives) (keys asked.has)
+abbrev pub all_in_call : List Path → Host → FileSteps → List (Option DriveFolder) → List Path
+all_in_call targets host asked drives = flat_map (in_call_part targets host drives) (keys asked.has)
 
-abbrev pub all_absent_folders : Path → Host → FileSteps → List (Option DriveFolder) → List Path
-all_absent_folders target host asked drives = flat_map (absent_folder_part target host drives) (keys asked.has)
+abbrev pub all_absent_folders : List Path → Host → FileSteps → List (Option DriveFolder) → List Path
+all_absent_folders targets host asked drives = flat_map (absent_folder_part targets host drives) (keys asked.has)
 
 -- The path that a file would have in the folder of its drive, or its name if the drive has no folder.
 abbrev pub absent_path : Option DriveFolder → Key → Path

@@ -6,3 +6,5 @@ pub mod Files
 pub mod Rule
 pub mod Faults
 pub mod Paths
+pub mod RunRules
+pub mod RefusedPaths

@@ -2,6 +2,7 @@
 use Rattle.std.specs.Prelude.{◌≡◌, ℕ, Bool, true, List, [], ◌∷◌, ◌++◌, filter, Option, Some, None, codes}
 use Rattle.std.specs.Borrow.{Bor}
 use Rattle.std.specs.List.{flat_map, list_all}
+use Rattle.command_words.specs.declared.words.SessionWords.{SessionWords}
 use Rattle.first_looks.specs.FirstLooks.{FirstLooksView}
 use Rattle.folders.specs.FileSystem.{Path}
 use Rattle.machine.specs.Cause.{Cause}
@@ -13,10 +14,9 @@ use Rattle.dependencies.specs.declared.ranges.Rows.TheVariants.{Joined}
 use Rattle.report_lines.specs.FirstLines.{cause_text, line}
 use Rattle.make_rules.specs.Carried.{is_carried}
 use Rattle.make_rules.specs.Escapes.{argument, escaped, prerequisite}
-use Rattle.make_rules.specs.Files.{absent_lines, all_absent_folders, all_files, all_folders, all_in_call}
+use Rattle.make_rules.specs.Files.{absent_lines, all_absent_folders, all_files, all_folders, all_in_call, is_other}
 use Rattle.make_rules.specs.Reading.{ReadsRule}
 use Rattle.make_rules.specs.declared.drives.DriveFolder.{DriveFolder}
-use Rattle.make_rules.specs.declared.rule.RuleWords.{RuleWords}
 
 -- ---- what a target depends on
 
@@ -26,27 +26,27 @@ path_if_asked [] path = []
 path_if_asked (r ∷ rs) None = []
 path_if_asked (r ∷ rs) (Some path) = path.now ∷ []
 
--- The program, if a cell from 0100H on was asked for.
-abbrev pub program_part : RuleWords → FirstLooksView → List Path
-program_part w t = path_if_asked (rows_from Joined t.cells 256) (Some w.program)
+-- The program, if a cell from 0100H on was asked for. No target depends on itself.
+abbrev pub program_part : List Path → SessionWords → FirstLooksView → List Path
+program_part targets w t = filter (is_other targets) (path_if_asked (rows_from Joined t.cells 256) (Some w.program))
 
--- The script, if one of its offsets was asked for, the files and the folders.
-abbrev pub other_paths : RuleWords → List (Option DriveFolder) → Session → FirstLooksView → List Path
-other_paths w drives s t =
-    path_if_asked (rows_from Joined t.offsets 0) w.console ++ all_files t.files drives ++ all_folders t.files drives
-    ++ all_absent_folders w.target.now s.files t.files drives
+-- The script, if one of its offsets was asked for, the files and the folders, without the targets.
+abbrev pub other_paths : List Path → SessionWords → List (Option DriveFolder) → Session → FirstLooksView → List Path
+other_paths targets w drives s t = filter (is_other targets)
+    (path_if_asked (rows_from Joined t.offsets 0) w.console ++ all_files t.files drives ++ all_folders t.files drives
+    ++ all_absent_folders targets s.files t.files drives)
 
 -- All paths that are there.
-abbrev pub needed_paths : RuleWords → List (Option DriveFolder) → Session → FirstLooksView → List Path
-needed_paths w drives s t = program_part w t ++ other_paths w drives s t
+abbrev pub needed_paths : List Path → SessionWords → List (Option DriveFolder) → Session → FirstLooksView → List Path
+needed_paths targets w drives s t = program_part targets w t ++ other_paths targets w drives s t
 
 -- The paths of files that are not there.
-abbrev pub missing_paths : RuleWords → List (Option DriveFolder) → Session → FirstLooksView → List Path
-missing_paths w drives s t = all_in_call w.target.now s.files t.files drives
+abbrev pub missing_paths : List Path → List (Option DriveFolder) → Session → FirstLooksView → List Path
+missing_paths targets drives s t = all_in_call targets s.files t.files drives
 
--- The target and all of these.
-abbrev pub all_paths : RuleWords → List (Option DriveFolder) → Session → FirstLooksView → List Path
-all_paths w drives s t = w.target.now ∷ needed_paths w drives s t ++ missing_paths w drives s t
+-- The targets and all of these.
+abbrev pub all_paths : List Path → SessionWords → List (Option DriveFolder) → Session → FirstLooksView → List Path
+all_paths targets w drives s t = targets ++ needed_paths targets w drives s t ++ missing_paths targets drives s t
 
 -- ---- the text
 
@@ -55,13 +55,18 @@ abbrev pub call : List Path → List ℕ
 call [] = []
 call (path ∷ paths) = codes " $(wildcard" ++ flat_map argument (path ∷ paths) ++ codes ")"
 
--- A target with what it depends on.
-abbrev pub rule_line : Path → List Path → List Path → List ℕ
-rule_line target paths in_call = escaped target ++ codes ":" ++ flat_map prerequisite paths ++ call in_call
+-- Targets, with a blank between two of them.
+abbrev pub targets_text : List Path → List ℕ
+targets_text [] = []
+targets_text (target ∷ targets) = escaped target ++ flat_map prerequisite targets
+
+-- Targets with what they depend on.
+abbrev pub rule_line : List Path → List Path → List Path → List ℕ
+rule_line targets paths in_call = targets_text targets ++ codes ":" ++ flat_map prerequisite paths ++ call in_call
 
 -- A path as a target that depends on nothing, so that make goes on without the file.
 abbrev pub empty_rule : Path → List ℕ
-empty_rule path = line (rule_line path [] [])
+empty_rule path = line (rule_line (path ∷ []) [] [])
 
 -- A comment about a stop other than WarmBoot.
 abbrev pub stop_comment : Cause → List ℕ
@@ -69,17 +74,17 @@ stop_comment WarmBoot = []
 stop_comment cause = line (codes "# stop " ++ cause_text cause)
 
 -- The rule, each path but the program's as a target, and comments about files that are not there and about the stop.
-abbrev pub rule_text : RuleWords → List (Option DriveFolder) → Session → FirstLooksView → Cause → List ℕ
-rule_text w drives s t cause =
-    line (rule_line w.target.now (needed_paths w drives s t) (missing_paths w drives s t)) ++ flat_map empty_rule (other_paths w drives s t)
+abbrev pub rule_text : List Path → SessionWords → List (Option DriveFolder) → Session → FirstLooksView → Cause → List ℕ
+rule_text targets w drives s t cause =
+    line (rule_line targets (needed_paths targets w drives s t) (missing_paths targets drives s t)) ++ flat_map empty_rule (other_paths targets w drives s t)
     ++ absent_lines s.files t.files drives ++ stop_comment cause
 
 -- ---- how make reads it
 
--- Each path can be in a rule; and whichever files exist, make reads the first line as the target with exactly the paths that are there, and
+-- Each path can be in a rule; and whichever files exist, make reads the first line as the targets with exactly the paths that are there, and
 -- those of the others that exist by then; and each other rule as a path alone.
-pub record IsReadByMake (w : RuleWords) (drives : List (Option DriveFolder)) (s : Session) (t : FirstLooksView) : Type 0 where
-  pub carried : list_all is_carried (all_paths w drives s t) ≡ true
-  pub first : (exists : Path → Bool) → ReadsRule exists (rule_line w.target.now (needed_paths w drives s t) (missing_paths w drives s t))
-      (w.target.now ∷ []) (needed_paths w drives s t ++ filter exists (missing_paths w drives s t))
-  pub others : (exists : Path → Bool) (path : Path) → is_carried path ≡ true → ReadsRule exists (rule_line path [] []) (path ∷ []) []
+pub record IsReadByMake (targets : List Path) (w : SessionWords) (drives : List (Option DriveFolder)) (s : Session) (t : FirstLooksView) : Type 0 where
+  pub carried : list_all is_carried (all_paths targets w drives s t) ≡ true
+  pub first : (exists : Path → Bool) → ReadsRule exists (rule_line targets (needed_paths targets w drives s t) (missing_paths targets drives s t))
+      targets (needed_paths targets w drives s t ++ filter exists (missing_paths targets drives s t))
+  pub others : (exists : Path → Bool) (path : Path) → is_carried path ≡ true → ReadsRule exists (rule_line (path ∷ []) [] []) (path ∷ []) []

@@ -3,16 +3,19 @@
 //! - `carried`, `escapes`: the paths that a rule can have, and how it has them
 //! - `drives`: the folders of the drives, with the names of their files
 //! - `files`, `missing`: the host files on which a run depends; the ones that are not there
-//! - `rule`: the rule
+//! - `rule`, `fault`: the rule; why there is none
+//! - `refused_paths`: paths among the words of a command line that a rule cannot have
 #![tactic(auto)]
 
 mod carried;
 mod drives;
 mod escapes;
+mod fault;
 mod files;
 mod missing;
+mod refused_paths;
 mod rule;
 
-pub use carried::is_carried;
-pub use drives::{DriveFolder, list_folders};
-pub use rule::{RuleFault, RuleWords, make_rule};
+pub use fault::RuleFault;
+pub use refused_paths::check_paths;
+pub use rule::rule_of_run;

@@ -10,19 +10,25 @@ use folders::{file_name, path_in};
 use hostfiles::{HostFiles, Key, Name};
 use std::alloc::{AllocError, Global};
 
-// Returns whether make takes a path for the target.
-fn is_target(path: &[u8], target: &str) -> bool
-    ensures { result ≡ texts.is_target target.now path.now }
+/// Returns whether make takes a path for one of the targets.
+pub fn is_target(path: &[u8], targets: &[String]) -> bool
+    ensures { result ≡ texts.is_target (map string_bytes targets.now) path.now }
 {
-    without_dot(path) == without_dot(target.as_bytes())
+    for target in targets {
+        if without_dot(path) == without_dot(target.as_bytes()) {
+            return true;
+        }
+    }
+    false
 }
 
-// Adds a path that a call of make can have, unless make takes it for the target.
-fn push_path(paths: &mut Vec<String>, target: &str, path: String) -> Result<(), AllocError>
+// Adds a path that a call of make can have, unless make takes it for a target.
+fn push_path(paths: &mut Vec<String>, targets: &[String], path: String) -> Result<(), AllocError>
     ensures { OnOk result (map string_bytes paths.new.items
-        ≡ map string_bytes paths.old.items ++ texts.path_in_call target.now (string_bytes path)) }
+        ≡ map string_bytes paths.old.items
+        ++ texts.path_in_call (map string_bytes targets.now) (string_bytes path)) }
 {
-    if fits_call(path.as_bytes()) && !is_target(path.as_bytes(), target) {
+    if fits_call(path.as_bytes()) && !is_target(path.as_bytes(), targets) {
         paths.push(path)?;
     }
     Ok(())
@@ -32,38 +38,40 @@ fn push_path(paths: &mut Vec<String>, target: &str, path: String) -> Result<(), 
 fn push_in_call(
     alloc: Global,
     paths: &mut Vec<String>,
-    target: &str,
+    targets: &[String],
     drive: &Option<DriveFolder<'_>>,
     name: &Name,
 ) -> Result<(), AllocError>
     ensures { OnOk result (map string_bytes paths.new.items
-        ≡ map string_bytes paths.old.items ++ texts.paths_in_call target.now drive.now name.now) }
+        ≡ map string_bytes paths.old.items
+        ++ texts.paths_in_call (map string_bytes targets.now) drive.now name.now) }
 {
     let Some(drive) = drive else {
         return Ok(());
     };
     let name = file_name(alloc, name)?;
-    push_path(paths, target, path_in(alloc, drive.folder, name.as_str())?)?;
+    push_path(paths, targets, path_in(alloc, drive.folder, name.as_str())?)?;
     let name = name.as_str().to_ascii_lowercase(alloc)?;
-    push_path(paths, target, path_in(alloc, drive.folder, name.as_str())?)
+    push_path(paths, targets, path_in(alloc, drive.folder, name.as_str())?)
 }
 
 // Adds the folder of a drive for a file that is not there, if a call of make cannot have the file's path.
 fn push_folder_of_absent(
     alloc: Global,
     paths: &mut Vec<String>,
-    target: &str,
+    targets: &[String],
     drive: &Option<DriveFolder<'_>>,
     name: &Name,
 ) -> Result<(), AllocError>
     ensures { OnOk result (map string_bytes paths.new.items
-        ≡ map string_bytes paths.old.items ++ texts.folder_of_absent target.now drive.now name.now) }
+        ≡ map string_bytes paths.old.items
+        ++ texts.folder_of_absent (map string_bytes targets.now) drive.now name.now) }
 {
     let Some(drive) = drive else {
         return Ok(());
     };
     let path = path_in(alloc, drive.folder, file_name(alloc, name)?.as_str())?;
-    if fits_call(path.as_bytes()) || is_target(path.as_bytes(), target) {
+    if fits_call(path.as_bytes()) || is_target(path.as_bytes(), targets) {
         return Ok(());
     }
     Ok(paths.push(path_in(alloc, drive.folder, "")?)?)
@@ -84,13 +92,14 @@ fn absent_name(host: &HostFiles, key: &Key) -> Option<Name>
 fn push_missing_file(
     alloc: Global,
     paths: &mut Vec<String>,
-    target: &str,
+    targets: &[String],
     host: &HostFiles,
     drives: &[Option<DriveFolder<'_>>; 4],
     key: &Key,
 ) -> Result<(), AllocError>
     ensures { OnOk result (map string_bytes paths.new.items
-        ≡ map string_bytes paths.old.items ++ texts.in_call_part target.now host.now drives.now key.now) }
+        ≡ map string_bytes paths.old.items
+        ++ texts.in_call_part (map string_bytes targets.now) host.now drives.now key.now) }
 {
     let Some(name) = absent_name(host, key) else {
         return Ok(());
@@ -98,7 +107,7 @@ fn push_missing_file(
     push_in_call(
         alloc,
         paths,
-        target,
+        targets,
         &drives[name.drive().number() as usize],
         &name,
     )
@@ -108,17 +117,18 @@ fn push_missing_file(
 pub fn push_missing_files(
     alloc: Global,
     paths: &mut Vec<String>,
-    target: &str,
+    targets: &[String],
     host: &HostFiles,
     asked: &FileSteps,
     drives: &[Option<DriveFolder<'_>>; 4],
 ) -> Result<(), AllocError>
     ensures { OnOk result (map string_bytes paths.new.items
-        ≡ map string_bytes paths.old.items ++ texts.all_in_call target.now host.now asked.now drives.now) }
+        ≡ map string_bytes paths.old.items
+        ++ texts.all_in_call (map string_bytes targets.now) host.now asked.now drives.now) }
 {
     let mut after: Option<Key> = None;
     while let Some(key) = asked.has.next_key(after) {
-        push_missing_file(alloc, paths, target, host, drives, &key)?;
+        push_missing_file(alloc, paths, targets, host, drives, &key)?;
         after = Some(key);
     }
     Ok(())
@@ -128,14 +138,14 @@ pub fn push_missing_files(
 fn push_absent_folder(
     alloc: Global,
     paths: &mut Vec<String>,
-    target: &str,
+    targets: &[String],
     host: &HostFiles,
     drives: &[Option<DriveFolder<'_>>; 4],
     key: &Key,
 ) -> Result<(), AllocError>
     ensures { OnOk result (map string_bytes paths.new.items
         ≡ map string_bytes paths.old.items
-        ++ texts.absent_folder_part target.now host.now drives.now key.now) }
+        ++ texts.absent_folder_part (map string_bytes targets.now) host.now drives.now key.now) }
 {
     let Some(name) = absent_name(host, key) else {
         return Ok(());
@@ -143,7 +153,7 @@ fn push_absent_folder(
     push_folder_of_absent(
         alloc,
         paths,
-        target,
+        targets,
         &drives[name.drive().number() as usize],
         &name,
     )
@@ -153,18 +163,18 @@ fn push_absent_folder(
 pub fn push_absent_folders(
     alloc: Global,
     paths: &mut Vec<String>,
-    target: &str,
+    targets: &[String],
     host: &HostFiles,
     asked: &FileSteps,
     drives: &[Option<DriveFolder<'_>>; 4],
 ) -> Result<(), AllocError>
     ensures { OnOk result (map string_bytes paths.new.items
         ≡ map string_bytes paths.old.items
-        ++ texts.all_absent_folders target.now host.now asked.now drives.now) }
+        ++ texts.all_absent_folders (map string_bytes targets.now) host.now asked.now drives.now) }
 {
     let mut after: Option<Key> = None;
     while let Some(key) = asked.has.next_key(after) {
-        push_absent_folder(alloc, paths, target, host, drives, &key)?;
+        push_absent_folder(alloc, paths, targets, host, drives, &key)?;
         after = Some(key);
     }
     Ok(())

@@ -1,63 +1,38 @@
 // The rule for make.
 
-ghost use Rattle.std.specs.Prelude.{◌≡◌, ◌++◌, IfErr, IfNone, IfOk, IfSome, OnOk, map, string_bytes, true, false};
+ghost use Rattle.std.specs.Prelude.{◌≡◌, ◌++◌, IfErr, IfNone, IfOk, IfSome, OnOk, filter, map, string_bytes, true, false};
 ghost use Rattle.std.specs.List.{Contains, flat_map, list_all};
+ghost use Rattle.dependencies.specs.Dependencies.{AreDependencies};
 ghost use Rattle.dependencies.specs.Ranges.{rows_from};
+ghost use Rattle.folders.specs.Failures.{KeepsFiles};
 ghost use Rattle.make_rules.specs.Carried.{is_carried};
 ghost use Rattle.make_rules.specs.Rule as texts;
 ghost use Rattle.report_lines.specs.FirstLines.{line};
-ghost use Rattle.make_rules.specs.Faults.{RefusesRule};
+ghost use Rattle.make_rules.specs.Faults.{RefusesRule, rule_paths};
+ghost use Rattle.make_rules.specs.Files.{is_other};
+ghost use Rattle.make_rules.specs.RunRules.{BreaksRule, IsRule};
 ghost use Rattle.make_rules.specs.Paths.{ArePathsOf, line_of, paths_with};
 
 use crate::carried::is_carried;
-use crate::drives::DriveFolder;
+use crate::drives::{DriveFolder, list_folders};
 use crate::escapes::{push_arguments, push_escaped, push_prerequisites};
+use crate::fault::RuleFault;
 use crate::files::{push_files, push_folders};
-use crate::missing::{push_absent_folders, push_absent_lines, push_missing_files};
-use dependencies::{Dependencies, Rows, StepTable, next_range};
-use first_looks::FirstLooks;
-use machine::{Cause, Session};
+use crate::missing::{is_target, push_absent_folders, push_absent_lines, push_missing_files};
+use command_words::SessionWords;
+use dependencies::{Rows, StepTable, next_range};
+use folders::FileSystem;
+use machine::{Cause, WholeRun};
 use report_lines::cause_words;
 use std::alloc::{AllocError, Global};
 
 /// The first cell of a program.
 const PROGRAM_START: usize = 256;
 
-/// The words of a rule.
-#[derive(Clone, Copy)]
-pub struct RuleWords<'a> {
-    /// The target.
-    pub target: &'a str,
-    /// The path of the program.
-    pub program: &'a str,
-    /// The path of the script, if there is one.
-    pub console: Option<&'a str>,
-}
-
-/// Why there is no rule.
-#[derive(Drop)]
-pub enum RuleFault {
-    /// A rule cannot have this path.
-    Path(String),
-    /// An allocation failed.
-    OutOfMemory,
-}
-
-impl From<AllocError> for RuleFault {
-    ghost use Rattle.std.specs.Prelude.{◌≡◌};
-    ghost use Rattle.make_rules.specs.declared.rule.RuleFault.TheVariants.{OutOfMemory};
-
-    ghost from_gives = { λ error fault. fault ≡ OutOfMemory };
-
-    fn from(_: AllocError) -> Self {
-        RuleFault::OutOfMemory
-    }
-}
-
-/// The paths on which a target depends.
+/// The paths on which the targets depend.
 #[derive(Drop)]
 struct Paths {
-    // The program, if the target depends on it.
+    // The program, if they depend on it.
     program: Vec<String>,
     // The script, the files and the folders.
     others: Vec<String>,
@@ -82,16 +57,27 @@ fn push_if_asked<T: StepTable>(
     Ok(())
 }
 
-// Returns the paths on which the target depends.
+// Removes the paths that make takes for one of the targets.
+fn remove_targets(paths: &mut Vec<String>, targets: &[String])
+    ensures { map string_bytes paths.new.items
+        ≡ filter (is_other (map string_bytes targets.now)) (map string_bytes paths.old.items) }
+{
+    paths.retain(|path| !is_target(path.as_bytes(), targets));
+}
+
+// Returns the paths on which the targets depend.
 fn paths_of(
     alloc: Global,
-    words: &RuleWords<'_>,
+    targets: &[String],
+    words: &SessionWords<'_>,
     drives: &[Option<DriveFolder<'_>>; 4],
-    session: &Session,
-    looks: &FirstLooks,
+    run: &WholeRun<'_>,
 ) -> Result<Paths, AllocError>
-    ensures { IfOk result (ArePathsOf words.now drives.now session.now looks.now) }
+    ensures { IfOk result (ArePathsOf (map string_bytes targets.now)
+        words.now drives.now run.now.session.now run.now.looks) }
 {
+    let (host, looks) = (run.session.files(), &run.looks);
+    let asked = looks.files();
     let mut program = Vec::new(alloc);
     push_if_asked(
         alloc,
@@ -100,14 +86,15 @@ fn paths_of(
         PROGRAM_START,
         Some(words.program),
     )?;
+    remove_targets(&mut program, targets);
     let mut others = Vec::new(alloc);
     push_if_asked(alloc, &mut others, looks.offsets(), 0, words.console)?;
-    push_files(alloc, &mut others, looks.files(), drives.as_slice())?;
-    push_folders(alloc, &mut others, looks.files(), drives.as_slice())?;
-    let (host, asked) = (session.files(), looks.files());
-    push_absent_folders(alloc, &mut others, words.target, host, asked, drives)?;
+    push_files(alloc, &mut others, asked, drives.as_slice())?;
+    push_folders(alloc, &mut others, asked, drives.as_slice())?;
+    push_absent_folders(alloc, &mut others, targets, host, asked, drives)?;
+    remove_targets(&mut others, targets);
     let mut missing = Vec::new(alloc);
-    push_missing_files(alloc, &mut missing, words.target, host, asked, drives)?;
+    push_missing_files(alloc, &mut missing, targets, host, asked, drives)?;
     Ok(Paths {
         program,
         others,
@@ -129,14 +116,16 @@ fn refused_among(paths: &[String]) -> Option<&str>
     None
 }
 
-// Returns a path that no rule can have, among the target and those on which it depends.
-fn refused_path<'a>(target: &'a str, paths: &'a Paths) -> Option<&'a str>
+// Returns a path that no rule can have, among the targets and those on which they depend.
+fn refused_path<'a>(targets: &'a [String], paths: &'a Paths) -> Option<&'a str>
     ensures some { IfSome result (λ path.
-        Contains (paths_with target.now paths.now) path.now × (is_carried path.now ≡ false)) }
-    ensures none { IfNone result (list_all is_carried (paths_with target.now paths.now) ≡ true) }
+        Contains (paths_with (map string_bytes targets.now) paths.now) path.now
+        × (is_carried path.now ≡ false)) }
+    ensures none { IfNone result
+        (list_all is_carried (paths_with (map string_bytes targets.now) paths.now) ≡ true) }
 {
-    if !is_carried(target.as_bytes()) {
-        return Some(target);
+    if let Some(path) = refused_among(targets) {
+        return Some(path);
     }
     if let Some(path) = refused_among(paths.program.as_slice()) {
         return Some(path);
@@ -159,11 +148,24 @@ fn push_call(text: &mut Vec<u8>, paths: &[String]) -> Result<(), AllocError>
     Ok(text.push(b')')?)
 }
 
-// Appends the target with the paths on which it depends.
-fn push_line(text: &mut Vec<u8>, target: &str, paths: &Paths) -> Result<(), AllocError>
-    ensures { OnOk result (text.new.items ≡ text.old.items ++ line (line_of target.now paths.now)) }
+// Appends targets, with a blank between two of them.
+fn push_targets(text: &mut Vec<u8>, targets: &[String]) -> Result<(), AllocError>
+    ensures { OnOk result (text.new.items
+        ≡ text.old.items ++ texts.targets_text (map string_bytes targets.now)) }
 {
-    push_escaped(text, target.as_bytes())?;
+    let Some(first) = targets.first() else {
+        return Ok(());
+    };
+    push_escaped(text, first.as_bytes())?;
+    push_prerequisites(text, &targets[1..])
+}
+
+// Appends the targets with the paths on which they depend.
+fn push_line(text: &mut Vec<u8>, targets: &[String], paths: &Paths) -> Result<(), AllocError>
+    ensures { OnOk result (text.new.items
+        ≡ text.old.items ++ line (line_of (map string_bytes targets.now) paths.now)) }
+{
+    push_targets(text, targets)?;
     text.push(b':')?;
     push_prerequisites(text, paths.program.as_slice())?;
     push_prerequisites(text, paths.others.as_slice())?;
@@ -209,28 +211,57 @@ fn push_stop_comment(text: &mut Vec<u8>, cause: Cause) -> Result<(), AllocError>
 /// # Errors
 ///
 /// Returns `Err` if a rule cannot have one of the paths, or an allocation fails.
-pub fn make_rule(
+fn make_rule(
     alloc: Global,
-    words: &RuleWords<'_>,
+    targets: &[String],
+    words: &SessionWords<'_>,
     drives: &[Option<DriveFolder<'_>>; 4],
-    session: &Session,
-    dependencies: &Dependencies,
+    run: &WholeRun<'_>,
 ) -> Result<Vec<u8>, RuleFault>
-    ensures text { IfOk result (λ text. text.items ≡ texts.rule_text
-        words.now drives.now session.now dependencies.now.looks dependencies.now.cause) }
-    ensures read { IfOk result (λ _.
-        texts.IsReadByMake words.now drives.now session.now dependencies.now.looks) }
-    ensures fault { IfErr result (RefusesRule words.now drives.now session.now dependencies.now.looks) }
+    ensures text { IfOk result (λ text. text.items ≡ texts.rule_text (map string_bytes targets.now)
+        words.now drives.now run.now.session.now run.now.looks run.now.cause) }
+    ensures read { IfOk result (λ _. texts.IsReadByMake (map string_bytes targets.now)
+        words.now drives.now run.now.session.now run.now.looks) }
+    ensures fault { IfErr result (RefusesRule (map string_bytes targets.now)
+        words.now drives.now run.now.session.now run.now.looks) }
 {
-    let looks = &dependencies.looks;
-    let paths = paths_of(alloc, words, drives, session, looks)?;
-    if let Some(path) = refused_path(words.target, &paths) {
-        return Err(RuleFault::Path(String::from_str(alloc, path)?));
+    let paths = paths_of(alloc, targets, words, drives, run)?;
+    if let Some(path) = refused_path(targets, &paths) {
+        return Err(RuleFault::RulePath(String::from_str(alloc, path)?));
     }
     let mut text = Vec::new(alloc);
-    push_line(&mut text, words.target, &paths)?;
+    push_line(&mut text, targets, &paths)?;
     push_empty_rules(&mut text, paths.others.as_slice())?;
-    push_absent_lines(alloc, &mut text, session.files(), looks.files(), drives)?;
-    push_stop_comment(&mut text, dependencies.cause)?;
+    push_absent_lines(
+        alloc,
+        &mut text,
+        run.session.files(),
+        run.looks.files(),
+        drives,
+    )?;
+    push_stop_comment(&mut text, run.cause)?;
     Ok(text)
+}
+
+/// Returns the rule for make with these targets and the files on which the run of a session depends, by their names in the folders,
+/// which are listed for it.
+///
+/// # Errors
+///
+/// Returns `Err` if a folder cannot be listed, a rule cannot have one of the paths, or an allocation fails.
+pub fn rule_of_run<S: FileSystem>(
+    system: &mut S,
+    targets: &[String],
+    words: &SessionWords<'_>,
+    run: &WholeRun<'_>,
+) -> Result<Vec<u8>, RuleFault>
+    requires { AreDependencies run.now.session.now run.now.looks run.now.steps run.now.cause }
+    ensures rule { IfOk result (λ text.
+        IsRule words.now (map string_bytes targets.now) (S.files system.old) run.now.session.now text.items) }
+    ensures fault { IfErr result
+        (BreaksRule words.now (map string_bytes targets.now) (S.files system.old) run.now.session.now) }
+    ensures unchanged { KeepsFiles rule_paths result (S.files system.old) (S.files system.new) }
+{
+    let drives = list_folders(system, &words.files)?;
+    make_rule(system.alloc(), targets, words, &drives, run)
 }

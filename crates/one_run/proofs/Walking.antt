@@ -27,7 +27,7 @@ module _ (folders : List (Option (Bor (List ℕ)))) (host : Host) (own : OwnFile
     pub some : (f : Failure) (last : Option FileBytes) → StopsAt (λ name. FailsToWrite folders name f) folders all_files now (there_above after) last
         → StopsAt (λ name. FailsToWrite folders name f) folders all_files before (written_keys host all_files) last
 
-  begin : there_above None ≡ written_keys host all_files
+  pub begin : there_above None ≡ written_keys host all_files
   begin = ap (filter (contains_key all_files)) (keys_above_none (changed_names host own) ∙ sym (changed_keys_laid host own))
 
   pub begins : (before : Option FileBytes) → WritesOn before None before
@@ -37,12 +37,12 @@ module _ (folders : List (Option (Bor (List ℕ)))) (host : Host) (own : OwnFile
   }
 
   -- The next key belongs to a file that is there.
-  there_next : (after : Option Key) (key : Key) → keys_above (changed_names host own) after ≡ key ∷ keys_above (changed_names host own) (Some key) → contains_key all_files key ≡ true
+  pub there_next : (after : Option Key) (key : Key) → keys_above (changed_names host own) after ≡ key ∷ keys_above (changed_names host own) (Some key) → contains_key all_files key ≡ true
       → there_above after ≡ key ∷ there_above (Some key)
   there_next after key split h = ap (filter (contains_key all_files)) split ∙ ap (λ b. cond b (key ∷ there_above (Some key)) (there_above (Some key))) h
 
   -- The next key belongs to a file that is gone.
-  gone_next : (after : Option Key) (key : Key) → keys_above (changed_names host own) after ≡ key ∷ keys_above (changed_names host own) (Some key) → contains_key all_files key ≡ false
+  pub gone_next : (after : Option Key) (key : Key) → keys_above (changed_names host own) after ≡ key ∷ keys_above (changed_names host own) (Some key) → contains_key all_files key ≡ false
       → there_above after ≡ there_above (Some key)
   gone_next after key split h = ap (filter (contains_key all_files)) split ∙ ap (λ b. cond b (key ∷ there_above (Some key)) (there_above (Some key))) h
 

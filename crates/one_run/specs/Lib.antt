@@ -1,3 +1,4 @@
 pub mod World
 pub mod Faults
 pub mod RawRun
+pub mod WrittenPaths

@@ -6,9 +6,9 @@ ghost use Rattle.folders.specs.Faults.{failure_paths};
 ghost use Rattle.hostfiles.specs.Files.{files};
 ghost use Rattle.machine.specs.PlainState.{plain_run};
 ghost use Rattle.report_lines.specs.ChangedLines.{gone_lines};
-ghost use Rattle.report_lines.specs.Streams.{WritesOrFails, WritesText};
+ghost use Rattle.report_lines.specs.Streams.{Output, WritesOrFails, WritesText, WritesWhole};
 ghost use Rattle.one_run.specs.Faults.{run_paths};
-ghost use Rattle.one_run.specs.RawRun.{BreaksRun, FailsToWriteAll, RunsOnce, WritesAll, stop_line, stop_status};
+ghost use Rattle.one_run.specs.RawRun.{BreaksRun, FailsToWriteAll, RunsOnce, WritesAll, WritesFiles, console_text, stop_line, stop_status};
 ghost use Rattle.one_run.specs.World.{world};
 
 use crate::fault::RunFault;
@@ -19,7 +19,7 @@ use report_lines::{Failed, FileFilter, Writer, cause_text, write_all, write_chan
 use std::alloc::{AllocError, Global};
 
 /// Returns the exit status for a run that stopped by this cause.
-fn stop_status(cause: Cause) -> u8
+pub fn stop_status(cause: Cause) -> u8
     ensures { result ≡ stop_status cause }
 {
     match cause {
@@ -92,7 +92,11 @@ fn write_stop_lines<E: Writer>(err: &mut E, line: &[u8], host: &HostFiles, journ
 
 /// Reports on standard error why the run stopped, and which of the changed files are gone. A failure of the writer is ignored. If
 /// an allocation fails, nothing is written.
-fn report_stop<E: Writer>(alloc: Global, run: &WholeRun<'_>, err: &mut E) -> Result<(), RunFault>
+pub fn report_stop<E: Writer>(
+    alloc: Global,
+    run: &WholeRun<'_>,
+    err: &mut E,
+) -> Result<(), RunFault>
     ensures told { OnOk result
         (WritesOrFails (E.output err.old) (E.output err.new)
         (stop_line (plain_run run.now.session.now).cause
@@ -105,6 +109,33 @@ fn report_stop<E: Writer>(alloc: Global, run: &WholeRun<'_>, err: &mut E) -> Res
     };
     write_stop_lines(err, stop.as_bytes(), run.session.files(), run.journal());
     Ok(())
+}
+
+/// Writes the console text of a run to `out`, and then each changed file that is there at the stop into the folder of its drive, if
+/// the drive has one.
+///
+/// # Errors
+///
+/// Returns `Err` if writing to `out` or a file fails, or an allocation.
+pub fn write_output<S: FileSystem, O: Writer>(
+    system: &mut S,
+    folders: &[Option<&str>; 4],
+    run: &WholeRun<'_>,
+    out: &mut O,
+) -> Result<(), RunFault>
+    ensures text { OnOk result
+        (WritesWhole (O.output out.old) (O.output out.new) (console_text run.now.session.now)) }
+    ensures files { OnOk result (WritesFiles folders.now run.now.session.now
+        (S.files system.old).bytes (S.files system.new).bytes) }
+    ensures fault { IfErr result (λ fault. (err : Output) → BreaksRun folders.now run.now.session.now
+        (world (S.files system.old) (O.output out.old) err)
+        (world (S.files system.new) (O.output out.new) err) fault) }
+    ensures failed { ReportsPaths run_paths result (S.files system.old) (S.files system.new) }
+{
+    let Ok(()) = write_all(out, run.text()) else {
+        return Err(RunFault::CannotWrite);
+    };
+    Ok(write_changed(system, folders, run.session.files(), run.journal())?)
 }
 
 /// Reports a run: its console text, its changed files, and its stop. Returns the exit status for the stop.
@@ -124,10 +155,7 @@ fn report_run<S: FileSystem, O: Writer, E: Writer>(
     ensures untold { OnErr result (err.new ≡ err.old) }
     ensures failed { ReportsPaths run_paths result (S.files system.old) (S.files system.new) }
 {
-    let Ok(()) = write_all(out, run.text()) else {
-        return Err(RunFault::CannotWrite);
-    };
-    write_changed(system, folders, run.session.files(), run.journal())?;
+    write_output(system, folders, run, out)?;
     report_stop(system.alloc(), run, err)?;
     Ok(stop_status(run.cause()))
 }

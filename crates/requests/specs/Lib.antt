@@ -1,2 +1,3 @@
 pub mod FaultReports
 pub mod Requests
+pub mod RuleFaults

@@ -4,6 +4,7 @@ ghost use Rattle.report_lines.specs.Streams.{WritesOrFails};
 
 use crate::tool::Tool;
 use loading::LoadFault;
+use make_rules::RuleFault;
 use one_run::RunFault;
 use report_lines::{Writer, write_all};
 use std::alloc::{AllocError, Global};
@@ -60,6 +61,21 @@ impl From<RunFault> for Fault<'_> {
             RunFault::CannotWrite => Fault::CannotWrite,
             RunFault::Folders(fault) => Fault::Folders(fault),
             RunFault::OutOfMemory => Fault::OutOfMemory,
+        }
+    }
+}
+
+impl From<RuleFault> for Fault<'_> {
+    ghost use Rattle.std.specs.Prelude.{◌≡◌};
+    ghost use Rattle.requests.specs.RuleFaults.{of_rule};
+
+    ghost from_gives = { λ rule fault. fault ≡ of_rule rule };
+
+    fn from(fault: RuleFault) -> Self {
+        match fault {
+            RuleFault::RulePath(path) => Fault::RulePath(path),
+            RuleFault::Folders(fault) => Fault::Folders(fault),
+            RuleFault::OutOfMemory => Fault::OutOfMemory,
         }
     }
 }

@@ -6,7 +6,7 @@ ghost use Rattle.requests.specs.Requests.{FailsToParse, IsRequestOf, WritesSomeT
 use crate::fault::Fault;
 use command_words::ErrorClass;
 use report_lines::{Writer, write_all};
-use std::alloc::AllocError;
+use std::alloc::{AllocError, Global};
 
 /// The request in words that are no usage error.
 #[derive(Drop)]
@@ -34,6 +34,16 @@ pub fn request_of_error<'a, W>(
         (ErrorClass::Information, Ok(text)) => Ok(Request::Information(text)),
         (ErrorClass::UsageError, Ok(text)) => Err(Fault::Usage(text)),
         _ => Err(Fault::OutOfMemory),
+    }
+}
+
+/// Returns the usage error of words that ask for two things of which one excludes the other, with this text.
+pub fn two_forms<'a>(alloc: Global, text: &str) -> Fault<'a>
+    ensures { FailsToParse (λ outcome. outcome ≡ ErrorClass.UsageError) result }
+{
+    match String::from_str(alloc, text) {
+        Ok(text) => Fault::Usage(text),
+        Err(_) => Fault::OutOfMemory,
     }
 }
 

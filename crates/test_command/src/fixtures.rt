@@ -42,6 +42,9 @@ pub enum Act<'a> {
     /// A call of the command with the words of this text, each with the folder's path in place of its first `@`; its runs execute
     /// this many steps.
     Count(&'a str, u64),
+    /// A file that is there, with this text, which has the folder's path in place of each `~`, and as a rule for make has it in place
+    /// of each `@`; or no file.
+    Find(&'a str, Option<&'a str>),
     /// A call of the command with a program, the folders of A to D, a script, and a file of edit lines that is not there; and the
     /// message.
     Load(&'a [&'a str; 6], &'a str),
@@ -212,6 +215,44 @@ fn put(rt: &HostRuntime, folder: &str, file: &str, bytes: &[u8]) -> Result<(), F
     Ok(())
 }
 
+// Returns a text with another in place of each of these characters.
+fn replaced(alloc: Global, text: &str, mark: char, by: &str) -> Result<String, AllocError> {
+    let mut whole = String::new(alloc);
+    let mut first = true;
+    for part in text.split(mark) {
+        if !first {
+            whole.push_str(by)?;
+        }
+        first = false;
+        whole.push_str(part)?;
+    }
+    Ok(whole)
+}
+
+// Returns a text with the folder's path in place of each `~`, and in place of each `@` as a rule for make has it.
+fn filled(alloc: Global, folder: &str, text: &str) -> Result<String, AllocError> {
+    let escaped = replaced(alloc, folder, ' ', "\\ ")?;
+    let text = replaced(alloc, text, '@', escaped.as_str())?;
+    replaced(alloc, text.as_str(), '~', folder)
+}
+
+// Checks that a file has this text, or that there is no file.
+fn find(rt: &HostRuntime, folder: &str, file: &str, wanted: Option<&str>) -> Result<(), Fail> {
+    let path = format!(in rt.alloc(); "{folder}/{file}")?;
+    let found = fs::read(rt, path.as_str());
+    let (Some(wanted), Ok(bytes)) = (wanted, &found) else {
+        if wanted.is_none() && found.is_err() {
+            return Ok(());
+        }
+        return Err(Fail::new(format_args!("{file}: not {wanted:?}")));
+    };
+    let text = filled(rt.alloc(), folder, wanted)?;
+    if bytes.as_slice() == text.as_bytes() {
+        return Ok(());
+    }
+    Err(Fail::new(format_args!("{file}: {bytes:?}, and not {wanted:?}")))
+}
+
 fn put_zeros(rt: &HostRuntime, folder: &str, file: &str, len: u64) -> Result<(), Fail> {
     let path = format!(in rt.alloc(); "{folder}/{file}")?;
     fs::create(rt, path.as_str())?.set_len(len)?;
@@ -224,6 +265,7 @@ fn execute(rt: &HostRuntime, folder: &str, act: Act<'_>) -> Result<(), Fail> {
         Act::PutZeros(file, len) => put_zeros(rt, folder, file, len),
         Act::Ask(words, wanted) => ask_in(rt, folder, words, wanted),
         Act::Count(words, wanted) => count_in(rt, folder, words, wanted),
+        Act::Find(file, text) => find(rt, folder, file, text),
         Act::Load(named, told) => load_in(rt, folder, named, told),
     }
 }

@@ -17,6 +17,7 @@ pub struct Fields<'a> {
     /// For the drives A to D.
     pub out: &'a [Option<&'a str>],
     pub edits: Option<&'a str>,
+    pub deps: Option<&'a str>,
     pub spacing: u64,
     pub slots: usize,
 }
@@ -44,6 +45,7 @@ pub const PROGRAM: Fields<'_> = Fields {
     limit: 1_000_000,
     out: &[None; 4],
     edits: None,
+    deps: None,
     spacing: 10_000,
     slots: 64,
 };
@@ -78,6 +80,7 @@ fn has_same_files(words: &Words<'_>, wanted: &Fields<'_>) -> bool {
         && are_same(&words.out, wanted.out)
         && words.console == wanted.console
         && words.edits == wanted.edits
+        && words.deps == wanted.deps
 }
 
 fn has_same_numbers(words: &Words<'_>, wanted: &Fields<'_>) -> bool {

@@ -42,6 +42,10 @@ const ROWS: &[Row<'_>] = &[
         &["--console=typed", "p.com", "--edits", "lines"],
         read!(console: Some("typed"), edits: Some("lines")),
     ),
+    (
+        &["--deps", "p.d", "p.com", "--out", "oa"],
+        read!(out: &[Some("oa"), None, None, None], deps: Some("p.d")),
+    ),
 ];
 
 #[test]

@@ -13,6 +13,7 @@ returns-clause-says c =
           (c.get_str.ensures ∙ first_value-rows f (codes "out")) (c.get_str-2.ensures ∙ first_value-rows f (codes "out-b"))
           (c.get_str-3.ensures ∙ first_value-rows f (codes "out-c")) (c.get_str-4.ensures ∙ first_value-rows f (codes "out-d"));
       edits = c.get_str-5.ensures ∙ first_value-rows f (codes "edits");
+      deps = c.get_str-6.ensures ∙ first_value-rows f (codes "deps");
       spacing = c.in_ok-number.ensures.said;
       slots = c.in_ok-number-2.ensures.said;
     }

@@ -6,7 +6,7 @@ use Rattle.cpmrun.proofs.command_line.metered_command.Goals as goal
 pub returns-in-Err-clause-ends : goal.returns-in-Err-clause-ends
 returns-in-Err-clause-ends g c = inr (record {
   fault = c.in-Err.fault;
-  comes = c.in-Err.ensures.fault;
+  comes = c.in-Err.ensures.fault (g.E.Writer.output c.args.err.now) (g.E.Writer.output c.report_fault.new.err);
   failed = c.in-Err.ensures.failed;
   telling = rw c.in-Err.ensures.untold at c.report_fault.ensures;
 })

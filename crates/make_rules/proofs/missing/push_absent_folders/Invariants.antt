@@ -6,8 +6,8 @@ use Rattle.make_rules.proofs.missing.push_absent_folders.Given as goal
 
 -- Some first parts are there, and those of the keys above the last one are left.
 abbrev pub invariant-loop-key : goal.invariant-loop-key
-invariant-loop-key l = map string_bytes l.paths.items ++ flat_map (absent_folder_part l.target l.host l.drives) (keys_above l.asked.has l.after)
-    ≡ map string_bytes l.initial.paths.items ++ all_absent_folders l.target l.host l.asked l.drives
+invariant-loop-key l = map string_bytes l.paths.items ++ flat_map (absent_folder_part (map string_bytes l.targets) l.host l.drives) (keys_above l.asked.has l.after)
+    ≡ map string_bytes l.initial.paths.items ++ all_absent_folders (map string_bytes l.targets) l.host l.asked l.drives
 
 abbrev pub decreases-loop-key : goal.decreases-loop-key
 decreases-loop-key l = length (keys_above l.asked.has l.after)

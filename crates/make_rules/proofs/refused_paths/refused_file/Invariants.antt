@@ -1,7 +1,7 @@
 use Rattle.std.proofs.Common.{◌≡◌, drop}
 use Rattle.std.specs.List.{list_any}
-use Rattle.dependency_command.specs.RefusedPaths.{is_refused}
-use Rattle.dependency_command.proofs.refused_paths.refused_file.Given as goal
+use Rattle.make_rules.specs.RefusedPaths.{is_refused}
+use Rattle.make_rules.proofs.refused_paths.refused_file.Given as goal
 
 -- A rule can have the first ones.
 abbrev pub invariant-loop-path : goal.invariant-loop-path

@@ -4,12 +4,12 @@ ghost use Rattle.std.specs.Prelude.{◌≡◌, Some, true, false, IfNone, IfOk, 
 ghost use Rattle.std.specs.List.{Contains, list_any};
 ghost use Rattle.make_rules.specs.Carried.{is_carried};
 ghost use Rattle.make_rules.specs.Files.{folder_path};
-ghost use Rattle.dependency_command.specs.RefusedPaths as texts;
+ghost use Rattle.make_rules.specs.RefusedPaths as texts;
 
-use command_words::DependencyWords;
+use crate::carried::is_carried;
+use crate::fault::RuleFault;
+use command_words::SessionWords;
 use folders::path_in;
-use make_rules::is_carried;
-use requests::Fault;
 use std::alloc::{AllocError, Global};
 
 // Returns whether a rule cannot have a path.
@@ -67,34 +67,38 @@ fn refused_folder<'a>(
 }
 
 // Returns the error for a path that a rule cannot have.
-fn refusal<'a>(alloc: Global, path: &str) -> Fault<'a>
+fn refusal(alloc: Global, path: &str) -> RuleFault
     ensures { texts.IsRefused path.now result }
 {
     match String::from_str(alloc, path) {
-        Ok(path) => Fault::RulePath(path),
-        Err(_) => Fault::OutOfMemory,
+        Ok(path) => RuleFault::RulePath(path),
+        Err(_) => RuleFault::OutOfMemory,
     }
 }
 
-/// Checks whether a rule for make can have the paths among the words, if they ask for one.
+/// Checks whether a rule for make can have the paths among the words: its target or its file, the program, the script, the folders of
+/// the host files, and the folders that are written.
 ///
 /// # Errors
 ///
 /// Returns `Err` with a path that it cannot have, or if an allocation fails.
-pub fn check_paths<'a>(alloc: Global, words: &DependencyWords<'_>) -> Result<(), Fault<'a>>
-    ensures allowed { IfOk result (λ _. texts.refuses_rule words.now ≡ false) }
-    ensures refused { IfErr result (texts.FailsPaths words.now) }
+pub fn check_paths(
+    alloc: Global,
+    words: &SessionWords<'_>,
+    path: &str,
+    written: &[Option<&str>],
+) -> Result<(), RuleFault>
+    ensures allowed { IfOk result (λ _. texts.refuses_rule words.now path.entry written.now ≡ false) }
+    ensures refused { IfErr result (texts.FailsPaths words.now path.entry written.now) }
 {
-    let session = &words.session;
-    if words.target.is_none() {
-        return Ok(());
-    }
-    if let Some(word) = refused_file(&[words.target, Some(session.program), session.console]) {
+    if let Some(word) = refused_file(&[Some(path), Some(words.program), words.console]) {
         return Err(refusal(alloc, word));
     }
-    match refused_folder(alloc, session.files.as_slice()) {
-        Ok(None) => Ok(()),
-        Ok(Some(word)) => Err(refusal(alloc, word)),
-        Err(_) => Err(Fault::OutOfMemory),
+    if let Some(word) = refused_folder(alloc, words.files.as_slice())? {
+        return Err(refusal(alloc, word));
+    }
+    match refused_folder(alloc, written)? {
+        Some(word) => Err(refusal(alloc, word)),
+        None => Ok(()),
     }
 }

@@ -1,0 +1,83 @@
+-- How a run ends after which a rule for make is written to a path. (This project's profile.)
+use Rattle.std.specs.Prelude.{◌≡◌, ℕ, ◌⊎◌, false, List, [], ◌∷◌, Option}
+use Rattle.std.specs.Borrow.{Bor}
+use Rattle.command_words.specs.RunLine.{session_words}
+use Rattle.command_words.specs.declared.words.Words.{Words}
+use Rattle.folders.specs.Faults.{FailsBy, IsWriteFault}
+use Rattle.folders.specs.FileSystem.{FileBytes, Path}
+use Rattle.folders.specs.OwnPaths.{LeavesAt, PutsAt}
+use Rattle.folders.specs.declared.fault.Failure.{Failure}
+use Rattle.machine.specs.Inputs.{Session}
+use Rattle.machine.specs.PlainState.{plain_run}
+use Rattle.make_rules.specs.RefusedPaths.{FailsPaths, refuses_rule}
+use Rattle.make_rules.specs.RunRules.{BreaksRule, IsRule}
+use Rattle.make_rules.specs.declared.fault.RuleFault.{RuleFault}
+use Rattle.one_run.specs.Faults.{fault_of}
+use Rattle.one_run.specs.RawRun.{BreaksRun, WritesFiles, console_text, stop_status, stop_text}
+use Rattle.one_run.specs.World.{World}
+use Rattle.one_run.specs.WrittenPaths.{written_paths}
+use Rattle.one_run.specs.declared.fault.RunFault.{RunFault}
+use Rattle.one_run.specs.declared.fault.RunFault.TheVariants.{OutOfMemory}
+use Rattle.report_lines.specs.Streams.{WritesOrFails, WritesWhole}
+use Rattle.requests.specs.FaultReports.{of_run}
+use Rattle.requests.specs.Requests.{FailsToLoadSession, WritesNothing}
+use Rattle.requests.specs.RuleFaults.{of_rule}
+use Rattle.requests.specs.declared.fault.Fault.{Fault}
+use Rattle.cpmrun.specs.Ends.{IsSessionOf}
+
+-- The targets: the files that are written, or the file of the rule if there are none.
+abbrev pub or_rule : Path → List Path → List Path
+or_rule path [] = path ∷ []
+or_rule path (target ∷ targets) = target ∷ targets
+
+abbrev pub targets_of : Words → Path → Session → List Path
+targets_of w path s = or_rule path (written_paths w.out s)
+
+-- The console text was written, and then the changed files, which left these files.
+pub record WritesRun (w : Words) (s : Session) (before after : World) (files : Option FileBytes) : Type 0 where
+  pub text : WritesWhole before.out after.out (console_text s)
+  pub changed : WritesFiles w.out s before.files.bytes files
+
+-- The same, and then the rule for make, which is made from the files as they were before.
+pub record WritesRule (w : Words) (path : Path) (s : Session) (before after : World) : Type 0 where
+  pub files : Option FileBytes
+  pub run : WritesRun w s before after files
+  pub rule : List ℕ
+  pub is : IsRule (session_words w) (targets_of w path s) before.files s rule
+  pub written : PutsAt path files after.files.bytes rule
+
+-- And then the stop was reported, with its status.
+pub record RunsRule (w : Words) (path : Path) (s : Session) (status : ℕ) (before after : World) : Type 0 where
+  pub status_is : status ≡ stop_status (plain_run s).cause
+  pub writes : WritesRule w path s before after
+  pub reported : WritesOrFails before.err after.err (stop_text s)
+
+-- The rule was not written after the run was, for this error.
+pub record LeavesRule (w : Words) (path : Path) (s : Session) (before after : World) (f : RunFault) : Type 0 where
+  pub files : Option FileBytes
+  pub run : WritesRun w s before after files
+  pub left : LeavesAt path files after.files.bytes
+  pub failure : Failure
+  pub is : f ≡ fault_of failure
+  pub fault : FailsBy (IsWriteFault path) failure
+
+-- What was written before an error: nothing if there is no rule, or else a part of the text and of the changed files, then the rule.
+abbrev pub BreaksRuleRun : Words → Path → Session → World → World → Fault → Type 0
+BreaksRuleRun w path s before after fault =
+    ((f : RuleFault) × (fault ≡ of_rule f) × BreaksRule (session_words w) (targets_of w path s) before.files s f × WritesNothing before after)
+    ⊎ ((f : RunFault) × (fault ≡ of_run f)
+    × (BreaksRun w.out s before after f ⊎ LeavesRule w path s before after f ⊎ ((f ≡ OutOfMemory) × WritesRule w path s before after)))
+
+-- The rule can have the paths of the words; the session was loaded and run, and the rule was written to this path.
+pub record RunsWithRule (w : Words) (path : Bor (List ℕ)) (status : ℕ) (before after : World) : Type 0 where
+  pub allowed : refuses_rule (session_words w) path w.out ≡ false
+  pub s : Session
+  pub of : IsSessionOf before w s
+  pub runs : RunsRule w path.now s status before after
+
+-- An error of such words: the rule cannot have one of the paths, or the session could not be loaded, or it is an error of its run.
+abbrev pub BreaksWithRule : Words → Bor (List ℕ) → World → World → Fault → Type 0
+BreaksWithRule w path before after fault =
+    ((f : RuleFault) × (fault ≡ of_rule f) × FailsPaths (session_words w) path w.out f × WritesNothing before after)
+    ⊎ ((refuses_rule (session_words w) path w.out ≡ false) × (FailsToLoadSession (session_words w) before after fault
+    ⊎ ((s : Session) × IsSessionOf before w s × BreaksRuleRun w path.now s before after fault)))

@@ -1,0 +1,38 @@
+use Rattle.std.proofs.Common.{◌≡◌, ◌≢◌, ◌∙◌, ◌<◌, ◌++◌, ◌∷◌, [], ℕ, List, None, IfOk, ap, append_assoc, codes, drop, get_or, length, lit<, refl, rules, string_bytes, subst, sym, take}
+use Rattle.std.proofs.lemmas.List.{take-append-drop}
+use Rattle.std.proofs.lemmas.Result.{IfOk-weaker}
+use Rattle.std.proofs.lemmas.Str.Pattern.{rfind_char}
+use Rattle.std.specs.Str.{NoCharPasses}
+use Rattle.std.specs.Str.Pattern.{RFindsChar, SplitsAroundMatch}
+use Rattle.std.specs.Prelude.{◌==◌}
+use Rattle.folders.specs.OwnPaths.{IsTemporaryOf}
+use Rattle.folders.proofs.folder_names.temporary_path.Goals as goal
+
+no_slash : (name : List ℕ) → NoCharPasses (λ d. d == 47) name → (i : ℕ) → i < length name → get_or name i 0 ≢ 47
+no_slash name none = rfind_char 47 name None none (lit< tt)
+
+-- The name is what comes after the last `/`.
+after_slash : (path folder name : List ℕ) → SplitsAroundMatch (RFindsChar 47) path folder name → IsTemporaryOf path (folder ++ codes "/." ++ name ++ codes ".new")
+unfolding lib.Utf8.encode
+after_slash path folder name h =
+    let (i, j, found, front, back, le, fits, rest) = h in
+    let whole : path ≡ folder ++ 47 ∷ name = sym (take-append-drop i path) ∙ ap (λ t. take i path ++ t) found.1.split ∙ (let rest : take i path ++ 47 ∷ drop j path ≡ folder ++ 47 ∷ name = cc in rest) in
+    record {
+      folder = folder ++ 47 ∷ [];
+      name = name;
+      path_is = whole ∙ sym (append_assoc folder (47 ∷ []) name);
+      temporary_is = append_assoc (folder ++ codes "/.") name (codes ".new") ∙ append_assoc folder (codes "/.") (name ++ codes ".new")
+          ∙ sym (append_assoc folder (47 ∷ []) (codes "." ++ name ++ codes ".new"));
+      without_slash = no_slash name (subst (NoCharPasses (λ d. d == 47)) (sym back) found.0);
+    }
+
+pub returns-in-Some : goal.returns-in-Some
+returns-in-Some c =
+    IfOk-weaker c.temporary_in.result _ _ (λ s e. subst (IsTemporaryOf c.args.path.now) (sym e)
+    (after_slash c.args.path.now c.in-Some.folder.now c.in-Some.name.now c.in-Some.ensures.cases)) c.temporary_in.ensures
+
+pub returns-in-None : goal.returns-in-None
+returns-in-None c =
+    let path = c.args.path.now in
+    let text : IfOk c.format.result (λ s. string_bytes s ≡ codes "." ++ path ++ codes ".new") = search rules in
+    IfOk-weaker c.format.result _ _ (λ s e. record { folder = []; name = path; path_is = refl; temporary_is = e; without_slash = no_slash path c.in-None.ensures.cases }) text

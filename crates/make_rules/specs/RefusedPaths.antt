@@ -1,0 +1,45 @@
+-- The paths among the words of a command line that a rule for make cannot have. (This project's profile.)
+use Rattle.std.specs.Prelude.{◌≡◌, ℕ, ◌⊎◌, ◌||◌, not, Bool, false, true, List, [], ◌∷◌, Option, Some, None, string_bytes}
+use Rattle.std.specs.Borrow.{Bor}
+use Rattle.std.specs.List.{Contains, list_any}
+use Rattle.command_words.specs.declared.words.SessionWords.{SessionWords}
+use Rattle.folders.specs.FileSystem.{Path}
+use Rattle.make_rules.specs.Carried.{is_carried}
+use Rattle.make_rules.specs.Files.{folder_path}
+use Rattle.make_rules.specs.declared.fault.RuleFault.{RuleFault}
+use Rattle.make_rules.specs.declared.fault.RuleFault.TheVariants.{RulePath, Folders, OutOfMemory}
+
+-- Whether a rule cannot have the path of a file, or a folder, if there is one.
+abbrev pub is_refused : Option (Bor (List ℕ)) → Bool
+is_refused None = false
+is_refused (Some path) = not (is_carried path.now)
+
+abbrev pub is_refused_folder : Option (Bor (List ℕ)) → Bool
+is_refused_folder None = false
+is_refused_folder (Some folder) = not (is_carried (folder_path folder.now))
+
+-- The target or the file of the rule, the program and the script.
+abbrev pub file_paths : SessionWords → Bor (List ℕ) → List (Option (Bor (List ℕ)))
+file_paths w path = Some path ∷ Some w.program ∷ w.console ∷ []
+
+-- Whether a rule cannot have one of these, or of the folders that are read and written.
+abbrev pub refuses_rule : SessionWords → Bor (List ℕ) → List (Option (Bor (List ℕ))) → Bool
+refuses_rule w path written =
+    list_any is_refused (file_paths w path) || list_any is_refused_folder w.files || list_any is_refused_folder written
+
+-- An error for a path: that a rule cannot have it, or that there is no memory for it.
+abbrev pub IsRefused : Path → RuleFault → Type 0
+IsRefused word (RulePath path) = string_bytes path ≡ word
+IsRefused word (Folders f) = ⊥
+IsRefused word OutOfMemory = Unit {0}
+
+-- An error for such a path.
+pub record IsRefusalOf (w : SessionWords) (path : Bor (List ℕ)) (written : List (Option (Bor (List ℕ)))) (fault : RuleFault) : Type 0 where
+  pub word : Bor (List ℕ)
+  pub refused : (Contains (file_paths w path) (Some word) × (is_carried word.now ≡ false))
+      ⊎ ((Contains w.files (Some word) ⊎ Contains written (Some word)) × (is_carried (folder_path word.now) ≡ false))
+  pub is : IsRefused word.now fault
+
+-- Why the paths are not allowed: one of them is refused, or an allocation failed.
+abbrev pub FailsPaths : SessionWords → Bor (List ℕ) → List (Option (Bor (List ℕ))) → RuleFault → Type 0
+FailsPaths w path written fault = ((refuses_rule w path written ≡ true) × IsRefusalOf w path written fault) ⊎ (fault ≡ OutOfMemory)

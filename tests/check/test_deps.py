@@ -1,0 +1,134 @@
+"""Runs the built program with `--deps`: the rule that it writes, which make reads, and each allocation and each system call failing in turn."""
+import os
+import subprocess
+from pathlib import Path
+
+from failures import FailureTest, Wanted
+from helpers import DEPENDENCIES_PROGRAM, HI, PROGRAM
+from test_dependencies import DependenciesTest
+
+WARM = b'stop WarmBoot\n'
+
+MAKE_TWO = bytes.fromhex('0E16 116C00 CD0500 0E16 115C00 CD0500 C9')
+"""Makes the file of the second word of its tail, and then that of the first: MVI C,22; LXI D,6CH; CALL 5; MVI C,22; LXI D,5CH; CALL 5; RET."""
+
+READ_AND_MAKE = bytes.fromhex('0E0F 115C00 CD0500 0E16 116C00 CD0500 C9')
+"""Opens the file of the first word of its tail, and makes that of the second: MVI C,15; LXI D,5CH; CALL 5; MVI C,22; LXI D,6CH; CALL 5; RET."""
+
+
+class Failures(FailureTest):
+    """A session that renames a host file, and writes it and a rule."""
+
+    def words_and_files(self) -> tuple[list[object], dict[str, bytes]]:
+        words, files = self.rename_words()
+        work = self.work
+        rule = (f'{work}/written/a/Y: {work}/rename.com {work}/host/x $(wildcard {work}/host/Y {work}/host/y)\n'
+                f'{work}/host/x:\n# not there: {work}/host/Y\n')
+        return [*words, '--deps', work / 'written/d/rule'], {**files, 'd/rule': rule.encode()}
+
+
+class Refusals(Failures):
+    library = 'refuse'
+
+    def test_each_allocation_fails(self) -> None:
+        words, files = self.words_and_files()
+        for older in None, b'o' * 1000:
+            self.each_in_turn(Wanted(b'', WARM + b'gone X\n', may_be_cut=False, files=files, older=older), *words)
+        for words in [HI, '--deps', 'a:'], [HI, '--edits', 'none', '--deps', 'none']:
+            self.each_in_turn(Wanted(b'', self.run_command(PROGRAM, *words).stderr, status=1, may_be_cut=False), *words)
+
+
+class Devices(Failures):
+    library = 'fail'
+
+    def each_call_fails(self) -> None:
+        words, files = self.words_and_files()
+        unread = words[0], f'{self.work}/host', f'{self.work}/host/x'
+        messages = (*(f'cannot read {path}' for path in unread), *(f'cannot write {self.work}/written/{name}' for name in files))
+        for older in None, b'o' * 1000:
+            self.each_in_turn(Wanted(b'', WARM + b'gone X\n', fault_status=1, messages=messages, may_pass=False, files=files, older=older), *words)
+
+    def test_each_call_fails(self) -> None:
+        self.environment = {'FAIL_CALLS': 'orwdsn'}
+        self.each_call_fails()
+
+    def test_each_read_or_write_of_one_byte_fails(self) -> None:
+        self.environment = {'FAIL_CALLS': 'rw', 'FAIL_PIECES': '1'}
+        self.each_call_fails()
+
+
+class DepsTest(DependenciesTest):
+    """Rules that are written with a product."""
+
+    def run_with_rule(self, *words: object) -> str:
+        done = self.run_command(PROGRAM, *words, '--deps', 'rule.d', cwd=self.work)
+        self.assertEqual((done.returncode, done.stdout, done.stderr), (0, b'', WARM))
+        return (self.work / 'rule.d').read_text()
+
+    def is_made(self, *targets: str) -> bool:
+        """Returns whether make has to make one of these targets of the rule, which get a recipe."""
+        head, _, rest = (self.work / 'rule.d').read_text().partition('\n')
+        (self.work / 'rule.mk').write_text(f'{head}\n\t@echo made\n{rest}')
+        env = {name: value for name, value in os.environ.items() if name not in ('MAKEFLAGS', 'MAKELEVEL', 'MFLAGS')}
+        done = subprocess.run(['make', '-q', '-f', 'rule.mk', *targets], cwd=self.work, env=env, capture_output=True)
+        self.assertEqual((done.stdout, done.stderr), (b'', b''))
+        self.assertLess(done.returncode, 2)
+        return done.returncode == 1
+
+    def touch(self, seconds: int, *paths: str) -> None:
+        for path in paths:
+            os.utime(self.work / path, (1_000_000_000 + seconds,) * 2)
+
+    def disk(self, **files: str) -> Path:
+        (self.work / 'disk').mkdir()
+        (self.work / 'made').mkdir()
+        for name, text in files.items():
+            (self.work / 'disk' / name).write_text(text)
+        return self.work / 'disk'
+
+    def test_what_changes_makes_again(self) -> None:
+        self.disk(one='1', two='2')
+        self.put('two.com', READ_AND_MAKE)
+        rule = self.run_with_rule('two.com', 'one out', '--files', 'disk', '--out', 'made')
+        self.assertEqual(rule, 'made/OUT: two.com disk/one $(wildcard disk/OUT disk/out)\ndisk/one:\n# not there: disk/OUT\n')
+        self.touch(1, 'two.com', 'disk/one', 'disk/two', 'made/OUT')
+        self.assertFalse(self.is_made('made/OUT'))
+        for path, is_needed in ('two.com', True), ('disk/one', True), ('disk/two', False):
+            self.touch(2, path)
+            self.assertEqual(self.is_made('made/OUT'), is_needed, path)
+            self.touch(1, path)
+        (self.work / 'disk/out').write_text('')
+        self.assertTrue(self.is_made('made/OUT'))
+
+    def test_each_target_is_made_again(self) -> None:
+        self.disk()
+        self.put('two.com', MAKE_TWO)
+        rule = self.run_with_rule('two.com', 'z a', '--out', 'made')
+        self.assertEqual(rule, 'made/A made/Z: two.com\n# not there: A\n# not there: Z\n')
+        self.touch(1, 'two.com', 'made/A', 'made/Z')
+        self.assertFalse(self.is_made('made/A', 'made/Z'))
+        self.touch(2, 'two.com', 'made/A')
+        self.assertFalse(self.is_made('made/A'))
+        self.assertTrue(self.is_made('made/Z'))
+
+    def test_no_target_depends_on_itself(self) -> None:
+        self.disk(ONE='1', OUT='old')
+        self.put('two.com', READ_AND_MAKE)
+        for file in 'ONE', 'ONE':
+            rule = self.run_with_rule('two.com', f'{file} new', '--files', 'disk', '--out', 'disk')
+            self.assertTrue(rule.startswith('disk/NEW: two.com disk/ONE'), rule)
+            self.assertNotIn('disk/NEW', rule.partition('\n')[0].partition(':')[2])
+        self.touch(1, 'two.com', 'disk/ONE', 'disk/NEW')
+        self.assertFalse(self.is_made('disk/NEW'))
+
+    def test_the_rule_is_the_one_of_cpmdeps(self) -> None:
+        self.disk(one='1', two='2')
+        self.put('two.com', READ_AND_MAKE)
+        self.put('typed', 'x')
+        for tail, limit, target in ('one out', 1000, 'made/OUT'), ('two gone', 1000, 'made/GONE'), ('one out', 3, 'rule.d'), ('', 1000, 'rule.d'):
+            words = ['two.com', tail, '--files', 'disk', '--console', 'typed', '--limit', limit]
+            wanted = self.run_command(DEPENDENCIES_PROGRAM, *words, '--make', target, cwd=self.work)
+            done = self.run_command(PROGRAM, *words, '--out', 'made', '--deps', 'rule.d', cwd=self.work)
+            with self.subTest(tail=tail, limit=limit):
+                self.assertEqual((done.stdout, done.stderr), (b'', wanted.stderr))
+                self.assertEqual((self.work / 'rule.d').read_bytes(), wanted.stdout)
