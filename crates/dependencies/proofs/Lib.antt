@@ -1,2 +1,2 @@
 pub mod DecideLemmas
-pub mod RangeLemmas
+pub mod RowLemmas

@@ -1,2 +1,2 @@
 pub mod Dependencies
-pub mod Ranges
+pub mod Rows

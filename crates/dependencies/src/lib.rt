@@ -1,14 +1,14 @@
 //! What the run of a session depends on: each question that it asks its session, with the first step that asks it.
 //!
 //! - `dependencies`: the run that notes them
-//! - `ranges`: indexes in a row that were asked for
+//! - `rows`: indexes in a row that were asked for
 //! - `laws`: the law that a session which answers these questions alike runs alike
 #![tactic(auto)]
 
 mod dependencies;
 mod laws;
-mod ranges;
+mod rows;
 
 pub use dependencies::{Dependencies, run_noting_looks};
 pub use laws::dependencies_decide;
-pub use ranges::{LookRange, Rows, StepTable, next_range};
+pub use rows::{Joining, Row, StepTable, next_row};

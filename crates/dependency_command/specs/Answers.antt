@@ -2,8 +2,8 @@
 use Rattle.std.specs.Prelude.{◌≡◌, ℕ, [], ◌∷◌, ◌⊎◌, if◌then◌else◌, List, MatchOption}
 use Rattle.command_words.specs.declared.words.DependencyWords.{DependencyWords}
 use Rattle.dependencies.specs.Dependencies.{AreDependencies}
-use Rattle.dependencies.specs.declared.ranges.Rows.{Rows}
-use Rattle.dependencies.specs.declared.ranges.Rows.TheVariants.{Joined, ByStep}
+use Rattle.dependencies.specs.declared.rows.Joining.{Joining}
+use Rattle.dependencies.specs.declared.rows.Joining.TheVariants.{Joined, ByStep}
 use Rattle.dependency_lines.specs.Listing.{listing, stop_line}
 use Rattle.first_looks.specs.FirstLooks.{FirstLooksView}
 use Rattle.folders.specs.FileSystem.{StoredFiles}
@@ -17,16 +17,16 @@ use Rattle.requests.specs.declared.fault.Fault.{Fault}
 use Rattle.requests.specs.declared.fault.Fault.TheVariants.{CannotWrite, OutOfMemory}
 
 -- Which neighbours the words put into one row.
-abbrev pub rows_of : DependencyWords → Rows
+abbrev pub rows_of : DependencyWords → Joining
 rows_of w = if w.by_step then ByStep else Joined
 
 -- The text lists what the whole run of the session asks for, and its stop.
-pub record IsListing (rows : Rows) (s : Session) (text : List ℕ) : Type 0 where
+pub record IsListing (joining : Joining) (s : Session) (text : List ℕ) : Type 0 where
   pub looks : FirstLooksView
   pub steps : ℕ
   pub cause : Cause
   pub are : AreDependencies s looks steps cause
-  pub is : text ≡ listing rows s looks cause
+  pub is : text ≡ listing joining s looks cause
 
 -- The text is the one that the words ask for, with these files.
 abbrev pub IsAnswer : DependencyWords → StoredFiles → Session → List ℕ → Type 0

@@ -15,7 +15,7 @@ ghost use Rattle.dependency_command.specs.AnswerEnds.{AllowsPaths, EndsByFault, 
 
 use crate::request::read_request;
 use command_words::{DependencyWords, SessionWords};
-use dependencies::{Dependencies, Rows, run_noting_looks};
+use dependencies::{Dependencies, Joining, run_noting_looks};
 use dependency_lines::{write_dependencies, write_stop};
 use folders::FileSystem;
 use loading::load;
@@ -26,13 +26,13 @@ use requests::{Fault, Request, Tool, print_information, report_fault};
 use std::alloc::{AllocError, Global};
 
 /// Returns which neighbours the words put into one row.
-fn rows(words: &DependencyWords<'_>) -> Rows
+fn joining(words: &DependencyWords<'_>) -> Joining
     ensures { result ≡ rows_of words.now }
 {
     if words.by_step {
-        Rows::ByStep
+        Joining::ByStep
     } else {
-        Rows::Joined
+        Joining::Joined
     }
 }
 
@@ -40,18 +40,18 @@ fn rows(words: &DependencyWords<'_>) -> Rows
 fn write_listing<'a, O: Writer>(
     alloc: Global,
     session: &Session,
-    rows: Rows,
+    joining: Joining,
     out: &mut O,
 ) -> Result<(), Fault<'a>>
     ensures done { OnOk result
-        (WritesAnswer (IsListing rows session.now) (O.output out.old) (O.output out.new)) }
+        (WritesAnswer (IsListing joining session.now) (O.output out.old) (O.output out.new)) }
     ensures fault { IfErr result
-        (BreaksAnswer (IsListing rows session.now) (λ f. ⊥) (O.output out.old) (O.output out.new)) }
+        (BreaksAnswer (IsListing joining session.now) (λ f. ⊥) (O.output out.old) (O.output out.new)) }
 {
     let Ok(dependencies) = Dependencies::of_run(alloc, session) else {
         return Err(Fault::OutOfMemory);
     };
-    match write_dependencies(out, rows, session, &dependencies) {
+    match write_dependencies(out, joining, session, &dependencies) {
         Ok(()) => Ok(()),
         Err(_) => Err(Fault::CannotWrite),
     }
@@ -144,7 +144,7 @@ fn write_answer<'a, S: FileSystem, O: Writer, E: Writer>(
 {
     match words.target {
         Some(target) => write_rule(system, session, &words.session, target, out, err),
-        None => write_listing(system.alloc(), session, rows(words), out),
+        None => write_listing(system.alloc(), session, joining(words), out),
     }
 }
 

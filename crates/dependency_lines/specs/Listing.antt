@@ -6,23 +6,23 @@ use Rattle.first_looks.specs.declared.file_steps.FileSteps.{FileSteps}
 use Rattle.machine.specs.Cause.{Cause}
 use Rattle.machine.specs.Inputs.{Session}
 use Rattle.report_lines.specs.FirstLines.{cause_text, line}
-use Rattle.dependencies.specs.Ranges.{rows_from}
-use Rattle.dependencies.specs.declared.ranges.LookRange.{LookRange}
-use Rattle.dependencies.specs.declared.ranges.Rows.{Rows}
-use Rattle.dependencies.specs.declared.ranges.Rows.TheVariants.{Joined}
+use Rattle.dependencies.specs.Rows.{rows_from}
+use Rattle.dependencies.specs.declared.rows.Row.{Row}
+use Rattle.dependencies.specs.declared.rows.Joining.{Joining}
+use Rattle.dependencies.specs.declared.rows.Joining.TheVariants.{Joined}
 use Rattle.dependency_lines.specs.Heads.{step_line}
 use Rattle.dependency_lines.specs.Places.{rows_text}
 use Rattle.dependency_lines.specs.Names.{lines_of_kind}
-use Rattle.dependency_lines.specs.declared.words.Place.TheVariants.{Cell, Number}
+use Rattle.dependency_lines.specs.declared.words.IndexFormat.TheVariants.{Cell, Number}
 use Rattle.dependency_lines.specs.declared.names.Kind.TheVariants.{There, Absent, Length, Records}
 
 -- The cells of page zero, which come from the command tail or are the same in every session, and the cells from 0100H on.
-abbrev pub memory_lines : Rows → FirstLooksView → List ℕ
-memory_lines rows t =
-    rows_text rows Cell (codes "page") (rows_from rows (take 256 t.cells) 0) ++ rows_text rows Cell (codes "program") (rows_from rows t.cells 256)
+abbrev pub memory_lines : Joining → FirstLooksView → List ℕ
+memory_lines joining t =
+    rows_text joining Cell (codes "page") (rows_from joining (take 256 t.cells) 0) ++ rows_text joining Cell (codes "program") (rows_from joining t.cells 256)
 
 -- The step of the first of some rows.
-abbrev pub step_of_first : List LookRange → Option ℕ
+abbrev pub step_of_first : List Row → Option ℕ
 step_of_first [] = None
 step_of_first (r ∷ rs) = Some r.step
 
@@ -31,16 +31,16 @@ abbrev pub first_row_step : FirstLooksView → ℕ → Option ℕ
 first_row_step t from = step_of_first (rows_from Joined t.offsets from)
 
 -- The offsets of the bytes of the script, and that there is no byte behind the last one.
-abbrev pub script_lines : Rows → Session → FirstLooksView → List ℕ
-script_lines rows s t =
-    rows_text rows Number (codes "script") (rows_from rows (take (length s.script) t.offsets) 0)
+abbrev pub script_lines : Joining → Session → FirstLooksView → List ℕ
+script_lines joining s t =
+    rows_text joining Number (codes "script") (rows_from joining (take (length s.script) t.offsets) 0)
     ++ step_line (codes "script end") (first_row_step t (length s.script))
 
 -- The files by their names.
-abbrev pub file_lines : Rows → Session → FirstLooksView → List ℕ
-file_lines rows s t =
-    lines_of_kind rows s.files t.files There ++ lines_of_kind rows s.files t.files Absent
-    ++ lines_of_kind rows s.files t.files Length ++ lines_of_kind rows s.files t.files Records
+abbrev pub file_lines : Joining → Session → FirstLooksView → List ℕ
+file_lines joining s t =
+    lines_of_kind joining s.files t.files There ++ lines_of_kind joining s.files t.files Absent
+    ++ lines_of_kind joining s.files t.files Length ++ lines_of_kind joining s.files t.files Records
 
 -- The directories of the drives A to D.
 abbrev pub directory_lines : FileSteps → List ℕ
@@ -53,9 +53,9 @@ abbrev pub stop_line : Cause → List ℕ
 stop_line cause = line (codes "stop " ++ cause_text cause)
 
 -- The lines of all that was asked for.
-abbrev pub asked_lines : Rows → Session → FirstLooksView → List ℕ
-asked_lines rows s t = memory_lines rows t ++ script_lines rows s t ++ file_lines rows s t ++ directory_lines t.files
+abbrev pub asked_lines : Joining → Session → FirstLooksView → List ℕ
+asked_lines joining s t = memory_lines joining t ++ script_lines joining s t ++ file_lines joining s t ++ directory_lines t.files
 
 -- These lines, and the line of the stop.
-abbrev pub listing : Rows → Session → FirstLooksView → Cause → List ℕ
-listing rows s t cause = asked_lines rows s t ++ stop_line cause
+abbrev pub listing : Joining → Session → FirstLooksView → Cause → List ℕ
+listing joining s t cause = asked_lines joining s t ++ stop_line cause

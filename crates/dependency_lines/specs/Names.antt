@@ -10,11 +10,11 @@ use Rattle.hostfiles.specs.Hosts.{Host}
 use Rattle.first_looks.specs.FirstSteps.{Steps}
 use Rattle.first_looks.specs.RecordSteps.{RecordNotes, steps_of}
 use Rattle.first_looks.specs.declared.file_steps.FileSteps.{FileSteps}
-use Rattle.dependencies.specs.Ranges.{rows_from}
-use Rattle.dependencies.specs.declared.ranges.Rows.{Rows}
+use Rattle.dependencies.specs.Rows.{rows_from}
+use Rattle.dependencies.specs.declared.rows.Joining.{Joining}
 use Rattle.dependency_lines.specs.Heads.{name_text, step_line}
 use Rattle.dependency_lines.specs.Places.{rows_text}
-use Rattle.dependency_lines.specs.declared.words.Place.TheVariants.{Number}
+use Rattle.dependency_lines.specs.declared.words.IndexFormat.TheVariants.{Number}
 use Rattle.dependency_lines.specs.declared.names.Kind.{Kind}
 use Rattle.dependency_lines.specs.declared.names.Kind.TheVariants.{There, Absent, Length, Records}
 
@@ -31,16 +31,16 @@ abbrev pub record_entries : Option Steps → List (Option ℕ)
 record_entries None = []
 record_entries (Some steps) = steps.entries
 
-abbrev pub record_lines : Rows → FileSteps → Key → List ℕ
-record_lines rows asked key =
-    rows_text rows Number (codes "record " ++ name_text key) (rows_from rows (record_entries (steps_of asked.records.files key)) 0)
+abbrev pub record_lines : Joining → FileSteps → Key → List ℕ
+record_lines joining asked key =
+    rows_text joining Number (codes "record " ++ name_text key) (rows_from joining (record_entries (steps_of asked.records.files key)) 0)
 
 -- The lines of one kind about a file.
-abbrev pub lines_of_name : Rows → Host → FileSteps → Kind → Key → List ℕ
-lines_of_name rows host asked There key = if contains_key host key then step_line (codes "file " ++ name_text key) (get asked.has key) else []
-lines_of_name rows host asked Absent key = if contains_key host key then [] else step_line (codes "none " ++ name_text key) (get asked.has key)
-lines_of_name rows host asked Length key = length_line (option_map length (get host key)) (get asked.lengths key) key
-lines_of_name rows host asked Records key = record_lines rows asked key
+abbrev pub lines_of_name : Joining → Host → FileSteps → Kind → Key → List ℕ
+lines_of_name joining host asked There key = if contains_key host key then step_line (codes "file " ++ name_text key) (get asked.has key) else []
+lines_of_name joining host asked Absent key = if contains_key host key then [] else step_line (codes "none " ++ name_text key) (get asked.has key)
+lines_of_name joining host asked Length key = length_line (option_map length (get host key)) (get asked.lengths key) key
+lines_of_name joining host asked Records key = record_lines joining asked key
 
 -- The steps of the records of each file that has one.
 abbrev pub record_steps : RecordNotes → FinMap (slice_cmp nat_cmp) Steps
@@ -60,5 +60,5 @@ is_asked asked Length key = contains_key asked.lengths key
 is_asked asked Records key = is_some (steps_of asked.records.files key)
 
 -- The lines of one kind.
-abbrev pub lines_of_kind : Rows → Host → FileSteps → Kind → List ℕ
-lines_of_kind rows host asked kind = concat (map (lines_of_name rows host asked kind) (asked_keys asked kind))
+abbrev pub lines_of_kind : Joining → Host → FileSteps → Kind → List ℕ
+lines_of_kind joining host asked kind = concat (map (lines_of_name joining host asked kind) (asked_keys asked kind))

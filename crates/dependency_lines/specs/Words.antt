@@ -2,22 +2,22 @@
 use Rattle.std.specs.Prelude.{ℕ, ◌-◌, ◌%◌, nat_lt, if◌then◌else◌, List, [], ◌++◌, codes}
 use Rattle.std.specs.Fmt.{decimal}
 use Rattle.report_lines.specs.FirstLines.{word_text, line}
-use Rattle.dependencies.specs.declared.ranges.LookRange.{LookRange}
-use Rattle.dependency_lines.specs.declared.words.Place.{Place}
-use Rattle.dependency_lines.specs.declared.words.Place.TheVariants.{Cell, Number}
+use Rattle.dependencies.specs.declared.rows.Row.{Row}
+use Rattle.dependency_lines.specs.declared.words.IndexFormat.{IndexFormat}
+use Rattle.dependency_lines.specs.declared.words.IndexFormat.TheVariants.{Cell, Number}
 
 -- The address of one of the 65,536 cells has four digits. Offsets and record numbers are decimal.
-abbrev pub place_text : Place → ℕ → List ℕ
+abbrev pub place_text : IndexFormat → ℕ → List ℕ
 place_text Cell k = word_text (k % 65536)
 place_text Number k = decimal k
 
 -- The last place of a row that has more than one.
-abbrev pub last_text : Place → LookRange → List ℕ
-last_text place r = if nat_lt r.first (r.end - 1) then codes "-" ++ place_text place (r.end - 1) else []
+abbrev pub last_text : IndexFormat → Row → List ℕ
+last_text format r = if nat_lt r.first (r.end - 1) then codes "-" ++ place_text format (r.end - 1) else []
 
 -- A row, after a blank: its first place, and its last one if it has more.
-abbrev pub row_text : Place → LookRange → List ℕ
-row_text place r = codes " " ++ place_text place r.first ++ last_text place r
+abbrev pub row_text : IndexFormat → Row → List ℕ
+row_text format r = codes " " ++ place_text format r.first ++ last_text format r
 
 -- The end of a line: the first step.
 abbrev pub step_end : ℕ → List ℕ

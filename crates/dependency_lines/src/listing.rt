@@ -9,9 +9,9 @@ ghost use Rattle.dependency_lines.specs.Listing as texts;
 use crate::heads::{Head, write_step_line};
 use crate::names::{Kind, write_kind};
 use crate::places::write_places;
-use crate::words::Place;
+use crate::words::IndexFormat;
 use arrayvec::ArrayString;
-use dependencies::{Dependencies, Rows, StepTable, next_range};
+use dependencies::{Dependencies, Joining, StepTable, next_row};
 use filenames::Drive;
 use first_looks::{FileSteps, FirstLooks};
 use machine::{Cause, Session};
@@ -48,48 +48,59 @@ impl<T: StepTable> StepTable for FirstIndexes<'_, T> {
 /// written.
 pub fn write_dependencies<W: Writer>(
     writer: &mut W,
-    rows: Rows,
+    joining: Joining,
     session: &Session,
     dependencies: &Dependencies,
 ) -> Result<(), Failed>
     ensures { WritesText (W.output writer.old) (W.output writer.new)
-        (texts.listing rows session.now dependencies.now.looks dependencies.now.cause) result }
+        (texts.listing joining session.now dependencies.now.looks dependencies.now.cause) result }
 {
-    write_asked(writer, rows, session, &dependencies.looks)?;
+    write_asked(writer, joining, session, &dependencies.looks)?;
     write_stop(writer, dependencies.cause)
 }
 
 // Writes the lines of all that was asked for.
 fn write_asked<W: Writer>(
     writer: &mut W,
-    rows: Rows,
+    joining: Joining,
     session: &Session,
     looks: &FirstLooks,
 ) -> Result<(), Failed>
     ensures { WritesText (W.output writer.old) (W.output writer.new)
-        (texts.asked_lines rows session.now looks.now) result }
+        (texts.asked_lines joining session.now looks.now) result }
 {
-    write_memory(writer, rows, looks)?;
-    write_script(writer, rows, session, looks)?;
-    write_files(writer, rows, session, looks)?;
+    write_memory(writer, joining, looks)?;
+    write_script(writer, joining, session, looks)?;
+    write_files(writer, joining, session, looks)?;
     write_directories(writer, looks.files())
 }
 
 // Writes the lines of page zero and of the program.
-fn write_memory<W: Writer>(writer: &mut W, rows: Rows, looks: &FirstLooks) -> Result<(), Failed>
+fn write_memory<W: Writer>(
+    writer: &mut W,
+    joining: Joining,
+    looks: &FirstLooks,
+) -> Result<(), Failed>
     ensures { WritesText (W.output writer.old) (W.output writer.new)
-        (texts.memory_lines rows looks.now) result }
+        (texts.memory_lines joining looks.now) result }
 {
     let page = FirstIndexes {
         table: looks.cells(),
         count: PROGRAM_START,
     };
-    write_places(writer, rows, Place::Cell, &Head::alone(b"page"), &page, 0)?;
+    write_places(
+        writer,
+        joining,
+        IndexFormat::Cell,
+        &Head::alone(b"page"),
+        &page,
+        0,
+    )?;
     let head = Head::alone(b"program");
     write_places(
         writer,
-        rows,
-        Place::Cell,
+        joining,
+        IndexFormat::Cell,
         &head,
         looks.cells(),
         PROGRAM_START,
@@ -99,12 +110,12 @@ fn write_memory<W: Writer>(writer: &mut W, rows: Rows, looks: &FirstLooks) -> Re
 // Writes the lines of the script and of its end.
 fn write_script<W: Writer>(
     writer: &mut W,
-    rows: Rows,
+    joining: Joining,
     session: &Session,
     looks: &FirstLooks,
 ) -> Result<(), Failed>
     ensures { WritesText (W.output writer.old) (W.output writer.new)
-        (texts.script_lines rows session.now looks.now) result }
+        (texts.script_lines joining session.now looks.now) result }
 {
     let length = session.script().len();
     let bytes = FirstIndexes {
@@ -113,8 +124,8 @@ fn write_script<W: Writer>(
     };
     write_places(
         writer,
-        rows,
-        Place::Number,
+        joining,
+        IndexFormat::Number,
         &Head::alone(b"script"),
         &bytes,
         0,
@@ -130,8 +141,8 @@ fn write_script<W: Writer>(
 fn first_step(looks: &FirstLooks, from: usize) -> Option<u64>
     ensures { result ≡ texts.first_row_step looks.now from }
 {
-    match next_range(looks.offsets(), Rows::Joined, from) {
-        Some(range) => Some(range.step),
+    match next_row(looks.offsets(), Joining::Joined, from) {
+        Some(row) => Some(row.step),
         None => None,
     }
 }
@@ -139,18 +150,18 @@ fn first_step(looks: &FirstLooks, from: usize) -> Option<u64>
 // Writes the lines of files by their names.
 fn write_files<W: Writer>(
     writer: &mut W,
-    rows: Rows,
+    joining: Joining,
     session: &Session,
     looks: &FirstLooks,
 ) -> Result<(), Failed>
     ensures { WritesText (W.output writer.old) (W.output writer.new)
-        (texts.file_lines rows session.now looks.now) result }
+        (texts.file_lines joining session.now looks.now) result }
 {
     let (host, asked) = (session.files(), looks.files());
-    write_kind(writer, rows, host, asked, Kind::There)?;
-    write_kind(writer, rows, host, asked, Kind::Absent)?;
-    write_kind(writer, rows, host, asked, Kind::Length)?;
-    write_kind(writer, rows, host, asked, Kind::Records)
+    write_kind(writer, joining, host, asked, Kind::There)?;
+    write_kind(writer, joining, host, asked, Kind::Absent)?;
+    write_kind(writer, joining, host, asked, Kind::Length)?;
+    write_kind(writer, joining, host, asked, Kind::Records)
 }
 
 // Writes the lines of the directories of the drives A to D.

@@ -8,9 +8,9 @@ ghost use Rattle.dependency_lines.specs.Names.{is_asked, lines_of_kind, lines_of
 
 use crate::heads::{Head, write_head, write_step_line};
 use crate::places::write_places;
-use crate::words::{Place, write_step};
+use crate::words::{IndexFormat, write_step};
 use arrayvec::ArrayString;
-use dependencies::Rows;
+use dependencies::Joining;
 use first_looks::FileSteps;
 use hostfiles::{HostFile, HostFiles, Key};
 use itoa::Buffer;
@@ -32,17 +32,17 @@ pub enum Kind {
 /// Writes the lines of one kind, in the order of the keys. If the writer fails, a prefix of them is written.
 pub fn write_kind<W: Writer>(
     writer: &mut W,
-    rows: Rows,
+    joining: Joining,
     host: &HostFiles,
     asked: &FileSteps,
     kind: Kind,
 ) -> Result<(), Failed>
     ensures { WritesText (W.output writer.old) (W.output writer.new)
-        (lines_of_kind rows host.now asked.now kind) result }
+        (lines_of_kind joining host.now asked.now kind) result }
 {
     let mut after: Option<Key> = None;
     while let Some(key) = next_key(asked, kind, after) {
-        write_name(writer, rows, host, asked, kind, &key)?;
+        write_name(writer, joining, host, asked, kind, &key)?;
         after = Some(key);
     }
     Ok(())
@@ -65,14 +65,14 @@ fn next_key(asked: &FileSteps, kind: Kind, after: Option<Key>) -> Option<Key>
 // Writes the lines of one kind about a file.
 fn write_name<W: Writer>(
     writer: &mut W,
-    rows: Rows,
+    joining: Joining,
     host: &HostFiles,
     asked: &FileSteps,
     kind: Kind,
     key: &Key,
 ) -> Result<(), Failed>
     ensures { WritesText (W.output writer.old) (W.output writer.new)
-        (lines_of_name rows host.now asked.now kind key.now) result }
+        (lines_of_name joining host.now asked.now kind key.now) result }
 {
     match kind {
         Kind::There if host.has(key) => {
@@ -91,7 +91,7 @@ fn write_name<W: Writer>(
         }
         Kind::There | Kind::Absent => Ok(()),
         Kind::Length => write_length(writer, host.file(key), asked.lengths.get(key).copied(), key),
-        Kind::Records => write_records(writer, rows, asked, key),
+        Kind::Records => write_records(writer, joining, asked, key),
     }
 }
 
@@ -139,20 +139,20 @@ fn write_count<W: Writer>(writer: &mut W, file: Option<&HostFile>) -> Result<(),
 // Writes the lines of the records of a file.
 fn write_records<W: Writer>(
     writer: &mut W,
-    rows: Rows,
+    joining: Joining,
     asked: &FileSteps,
     key: &Key,
 ) -> Result<(), Failed>
     ensures { WritesText (W.output writer.old) (W.output writer.new)
-        (texts.record_lines rows asked.now key.now) result }
+        (texts.record_lines joining asked.now key.now) result }
 {
     let Some(steps) = asked.records.file(key) else {
         return Ok(());
     };
     write_places(
         writer,
-        rows,
-        Place::Number,
+        joining,
+        IndexFormat::Number,
         &Head::about(b"record ", key),
         steps,
         0,

@@ -6,13 +6,13 @@ ghost use Rattle.report_lines.specs.Streams.{WritesText};
 ghost use Rattle.dependency_lines.specs.Words as texts;
 
 use arrayvec::ArrayString;
-use dependencies::LookRange;
+use dependencies::Row;
 use itoa::Buffer;
 use report_lines::{Failed, Writer, push_word, write_all};
 
 /// How a place is printed.
 #[derive(Clone, Copy)]
-pub enum Place {
+pub enum IndexFormat {
     /// The address of a cell, as four hexadecimal digits.
     Cell,
     /// An offset of the script or the number of a record, in decimal.
@@ -20,28 +20,28 @@ pub enum Place {
 }
 
 // Appends a place.
-fn push_place(text: &mut ArrayString<128>, place: Place, index: usize)
+fn push_place(text: &mut ArrayString<128>, format: IndexFormat, index: usize)
     requires { array_string_len text.old ≤ 64 }
-    ensures place { text.new.bytes ≡ text.old.bytes ++ texts.place_text place index }
+    ensures format { text.new.bytes ≡ text.old.bytes ++ texts.place_text format index }
     ensures len { array_string_len text.new ≤ array_string_len text.old + 20 }
 {
-    match place {
-        Place::Cell => push_word(text, (index % 65_536) as u16),
-        Place::Number => text.push_str(Buffer::new().format(index)),
+    match format {
+        IndexFormat::Cell => push_word(text, (index % 65_536) as u16),
+        IndexFormat::Number => text.push_str(Buffer::new().format(index)),
     }
 }
 
 // Returns a row, after a blank: its first place, and its last one if it has more.
-fn row_text(place: Place, range: LookRange) -> ArrayString<128>
-    ensures { result.bytes ≡ texts.row_text place range }
+fn row_text(format: IndexFormat, row: Row) -> ArrayString<128>
+    ensures { result.bytes ≡ texts.row_text format row }
 {
     let mut text = ArrayString::new();
     text.push_str(" ");
-    push_place(&mut text, place, range.first);
-    let last = range.end.saturating_sub(1);
-    if range.first < last {
+    push_place(&mut text, format, row.first);
+    let last = row.end.saturating_sub(1);
+    if row.first < last {
         text.push_str("-");
-        push_place(&mut text, place, last);
+        push_place(&mut text, format, last);
     }
     text
 }
@@ -58,10 +58,10 @@ fn step_end(step: u64) -> ArrayString<64>
 }
 
 /// Writes a row, after a blank: its first place, and its last one if it has more. If the writer fails, a prefix of this is written.
-pub fn write_row<W: Writer>(writer: &mut W, place: Place, range: LookRange) -> Result<(), Failed>
-    ensures { WritesText (W.output writer.old) (W.output writer.new) (texts.row_text place range) result }
+pub fn write_row<W: Writer>(writer: &mut W, format: IndexFormat, row: Row) -> Result<(), Failed>
+    ensures { WritesText (W.output writer.old) (W.output writer.new) (texts.row_text format row) result }
 {
-    write_all(writer, row_text(place, range).as_bytes())
+    write_all(writer, row_text(format, row).as_bytes())
 }
 
 /// Writes the end of a line: the first step, with the line's end. If the writer fails, a prefix of this is written.

@@ -8,9 +8,9 @@ use Rattle.folders.specs.FileSystem.{Path}
 use Rattle.machine.specs.Cause.{Cause}
 use Rattle.machine.specs.Cause.TheVariants.{WarmBoot}
 use Rattle.machine.specs.Inputs.{Session}
-use Rattle.dependencies.specs.Ranges.{rows_from}
-use Rattle.dependencies.specs.declared.ranges.LookRange.{LookRange}
-use Rattle.dependencies.specs.declared.ranges.Rows.TheVariants.{Joined}
+use Rattle.dependencies.specs.Rows.{rows_from}
+use Rattle.dependencies.specs.declared.rows.Row.{Row}
+use Rattle.dependencies.specs.declared.rows.Joining.TheVariants.{Joined}
 use Rattle.report_lines.specs.FirstLines.{cause_text, line}
 use Rattle.make_rules.specs.Carried.{is_carried}
 use Rattle.make_rules.specs.Escapes.{argument, escaped, prerequisite}
@@ -21,7 +21,7 @@ use Rattle.make_rules.specs.declared.drives.DriveFolder.{DriveFolder}
 -- ---- what a target depends on
 
 -- A path, if there are rows of places of its file that were asked for.
-abbrev pub path_if_asked : List LookRange → Option (Bor (List ℕ)) → List Path
+abbrev pub path_if_asked : List Row → Option (Bor (List ℕ)) → List Path
 path_if_asked [] path = []
 path_if_asked (r ∷ rs) None = []
 path_if_asked (r ∷ rs) (Some path) = path.now ∷ []

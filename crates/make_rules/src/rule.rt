@@ -3,7 +3,7 @@
 ghost use Rattle.std.specs.Prelude.{◌≡◌, ◌++◌, IfErr, IfNone, IfOk, IfSome, OnOk, filter, map, string_bytes, true, false};
 ghost use Rattle.std.specs.List.{Contains, flat_map, list_all};
 ghost use Rattle.dependencies.specs.Dependencies.{AreDependencies};
-ghost use Rattle.dependencies.specs.Ranges.{rows_from};
+ghost use Rattle.dependencies.specs.Rows.{rows_from};
 ghost use Rattle.folders.specs.Failures.{KeepsFiles};
 ghost use Rattle.make_rules.specs.Carried.{is_carried};
 ghost use Rattle.make_rules.specs.Rule as texts;
@@ -20,7 +20,7 @@ use crate::fault::RuleFault;
 use crate::files::{push_files, push_folders};
 use crate::missing::{is_target, push_absent_folders, push_absent_lines, push_missing_files};
 use command_words::SessionWords;
-use dependencies::{Rows, StepTable, next_range};
+use dependencies::{Joining, StepTable, next_row};
 use folders::FileSystem;
 use machine::{Cause, WholeRun};
 use report_lines::cause_words;
@@ -49,9 +49,9 @@ fn push_if_asked<T: StepTable>(
     path: Option<&str>,
 ) -> Result<(), AllocError>
     ensures { OnOk result (map string_bytes paths.new.items ≡ map string_bytes paths.old.items
-        ++ texts.path_if_asked (rows_from Rows.Joined (T.steps table.now) from) path.entry) }
+        ++ texts.path_if_asked (rows_from Joining.Joined (T.steps table.now) from) path.entry) }
 {
-    if let (Some(_), Some(path)) = (next_range(table, Rows::Joined, from), path) {
+    if let (Some(_), Some(path)) = (next_row(table, Joining::Joined, from), path) {
         paths.push(String::from_str(alloc, path)?)?;
     }
     Ok(())

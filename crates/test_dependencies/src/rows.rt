@@ -1,6 +1,6 @@
 // Indexes in a row that were asked for.
 
-use dependencies::{Dependencies, Rows, next_range};
+use dependencies::{Dependencies, Joining, next_row};
 use std::alloc::Global;
 use std::test::Fail;
 use test_sessions::{Difference, Given, Trouble, given, name_failure, program, session_of};
@@ -24,13 +24,13 @@ const BY_STEP: &[Row] = &[
     (0x0200, 0x0202, 1),
 ];
 
-fn rows_are_found(alloc: Global, rows: Rows, wanted: &[Row]) -> Result<(), Trouble> {
+fn rows_are_found(alloc: Global, joining: Joining, wanted: &[Row]) -> Result<(), Trouble> {
     let session = session_of(alloc, &JUMPS)?;
     let dependencies = Dependencies::of_run(alloc, &session)?;
     let cells = dependencies.looks.cells();
     let mut from = 0;
     for (index, (first, end, step)) in wanted.iter().enumerate() {
-        let Some(row) = next_range(cells, rows, from) else {
+        let Some(row) = next_row(cells, joining, from) else {
             return Err(Trouble::Differs(index + 1, Difference::Left));
         };
         if row.first != *first || row.end != *end || row.step != *step {
@@ -38,7 +38,7 @@ fn rows_are_found(alloc: Global, rows: Rows, wanted: &[Row]) -> Result<(), Troub
         }
         from = row.end;
     }
-    match next_range(cells, rows, from) {
+    match next_row(cells, joining, from) {
         None => Ok(()),
         Some(_) => Err(Trouble::Differs(wanted.len() + 1, Difference::Left)),
     }
@@ -46,12 +46,12 @@ fn rows_are_found(alloc: Global, rows: Rows, wanted: &[Row]) -> Result<(), Troub
 
 #[test]
 fn neighbours_are_one_range(rt: HostRuntime) -> Result<(), Fail> {
-    let found = rows_are_found(rt.alloc(), Rows::Joined, JOINED);
+    let found = rows_are_found(rt.alloc(), Joining::Joined, JOINED);
     name_failure("neighbours", found)
 }
 
 #[test]
 fn neighbours_of_one_step_are_one_range(rt: HostRuntime) -> Result<(), Fail> {
-    let found = rows_are_found(rt.alloc(), Rows::ByStep, BY_STEP);
+    let found = rows_are_found(rt.alloc(), Joining::ByStep, BY_STEP);
     name_failure("neighbours of one step", found)
 }

@@ -8,7 +8,7 @@ returns-clause-fault g c =
     inl (
       refl,
       (
-        listing c.args.rows c.args.session.now d.looks d.cause,
+        listing c.args.joining c.args.session.now d.looks d.cause,
         record { looks = d.looks; steps = d.steps; cause = d.cause; are = c.in-Ok.ensures; is = refl },
         c.in-Err.ensures,
       ),

@@ -9,7 +9,7 @@ use Rattle.dependency_lines.proofs.names.write_kind.Goals as goal
 
 pub loop-key-init : goal.loop-key-init
 loop-key-init g c =
-    let line = lines_of_name c.args.rows c.args.host.now c.args.asked.now c.args.kind in
+    let line = lines_of_name c.args.joining c.args.host.now c.args.asked.now c.args.kind in
     record { text = []; written = whole_nil _; left = ap (λ keys. concat (map line keys)) (asked_above_none c.args.asked.now c.args.kind) }
 
 pub loop-key-smaller : goal.loop-key-smaller
@@ -19,7 +19,7 @@ pub loop-key-preserved : goal.loop-key-preserved
 loop-key-preserved g c =
     let i = c.loop-key.invariant in
     let key = c.in-Some.key in
-    let line = lines_of_name c.args.rows c.args.host.now c.args.asked.now c.args.kind in
+    let line = lines_of_name c.args.joining c.args.host.now c.args.asked.now c.args.kind in
     record {
       text = i.text ++ line key;
       written = whole_then i.text (line key) i.written c.in_ok-write_name.ensures;
@@ -30,7 +30,7 @@ pub returns-in_err-write_name : goal.returns-in_err-write_name
 returns-in_err-write_name g c =
     let i = c.loop-key.invariant in
     let key = c.in-Some.key in
-    let line = lines_of_name c.args.rows c.args.host.now c.args.asked.now c.args.kind in
+    let line = lines_of_name c.args.joining c.args.host.now c.args.asked.now c.args.kind in
     let rest = concat (map line (asked_above c.args.asked.now c.args.kind (Some key))) in
     writes_same _ _ ((i.text ++ line key) ++ rest) _ c.from_residual.result
     (parts_next line i.text _ _ key _ (asked_next c.args.asked.now c.args.kind c.loop-key.after key c.in-Some.ensures) i.left)
@@ -39,4 +39,4 @@ returns-in_err-write_name g c =
 pub returns : goal.returns
 returns g c =
     let i = c.loop-key.invariant in
-    subst (WritesWhole _ _) (parts_end (lines_of_name c.args.rows c.args.host.now c.args.asked.now c.args.kind) i.text _ _ (asked_end c.args.asked.now c.args.kind c.loop-key.after c.in_default.ensures) i.left) i.written
+    subst (WritesWhole _ _) (parts_end (lines_of_name c.args.joining c.args.host.now c.args.asked.now c.args.kind) i.text _ _ (asked_end c.args.asked.now c.args.kind c.loop-key.after c.in_default.ensures) i.left) i.written

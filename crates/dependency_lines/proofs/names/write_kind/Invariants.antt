@@ -10,7 +10,7 @@ abbrev pub invariant-loop-key : goal.invariant-loop-key
 invariant-loop-key g l = record {
   text : List ℕ;
   written : WritesWhole (g.W.Writer.output l.initial.writer) (g.W.Writer.output l.writer) text;
-  left : text ++ concat (map (lines_of_name l.rows l.host l.asked l.kind) (asked_above l.asked l.kind l.after)) ≡ lines_of_kind l.rows l.host l.asked l.kind;
+  left : text ++ concat (map (lines_of_name l.joining l.host l.asked l.kind) (asked_above l.asked l.kind l.after)) ≡ lines_of_kind l.joining l.host l.asked l.kind;
 }
 
 abbrev pub decreases-loop-key : goal.decreases-loop-key

@@ -1,8 +1,8 @@
 use Rattle.std.proofs.Common.{◌≡◌, ◌-◌, ◌++◌, ℕ, List, length, map}
 use Rattle.std.specs.List.{concat}
 use Rattle.report_lines.specs.Streams.{WritesWhole}
-use Rattle.dependencies.specs.Ranges.{rows_from}
-use Rattle.dependencies.specs.declared.ranges.Rows.TheVariants.{ByStep}
+use Rattle.dependencies.specs.Rows.{rows_from}
+use Rattle.dependencies.specs.declared.rows.Joining.TheVariants.{ByStep}
 use Rattle.dependency_lines.specs.Heads.{head_text}
 use Rattle.dependency_lines.specs.Places.{row_line}
 use Rattle.dependency_lines.proofs.places.write_each.Given as goal
@@ -12,8 +12,8 @@ abbrev pub invariant-loop-range : goal.invariant-loop-range
 invariant-loop-range g l = record {
   text : List ℕ;
   written : WritesWhole (g.W.Writer.output l.initial.writer) (g.W.Writer.output l.writer) text;
-  left : text ++ concat (map (row_line l.place (head_text l.head)) (rows_from ByStep (g.T.StepTable.steps l.table) l.from))
-      ≡ concat (map (row_line l.place (head_text l.head)) (rows_from ByStep (g.T.StepTable.steps l.table) l.initial.from));
+  left : text ++ concat (map (row_line l.format (head_text l.head)) (rows_from ByStep (g.T.StepTable.steps l.table) l.from))
+      ≡ concat (map (row_line l.format (head_text l.head)) (rows_from ByStep (g.T.StepTable.steps l.table) l.initial.from));
 }
 
 abbrev pub decreases-loop-range : goal.decreases-loop-range

@@ -1,8 +1,8 @@
 use Rattle.std.proofs.Common.{[], ◌++◌, ap, sym, refl, subst, ◌∙◌, map}
 use Rattle.std.specs.List.{concat}
-use Rattle.dependencies.specs.Ranges.{rows_from}
-use Rattle.dependencies.specs.declared.ranges.Rows.TheVariants.{Joined}
-use Rattle.dependencies.proofs.RangeLemmas.{earlier_is_min}
+use Rattle.dependencies.specs.Rows.{rows_from}
+use Rattle.dependencies.specs.declared.rows.Joining.TheVariants.{Joined}
+use Rattle.dependencies.proofs.RowLemmas.{earlier_is_min}
 use Rattle.report_lines.proofs.WrittenPieces.{part_more, part_then, whole_nil, whole_then, writes_part, writes_same}
 use Rattle.report_lines.specs.Streams.{WritesWhole}
 use Rattle.dependency_lines.specs.Places.{earliest}
@@ -16,29 +16,29 @@ loop-range-init g c = record { text = []; written = whole_nil _; left = refl; le
 pub loop-range-preserved : goal.loop-range-preserved
 loop-range-preserved g c =
     let i = c.loop-range.invariant in
-    let r = c.in-Some.range in
+    let r = c.in-Some.row in
     let rest = rows_from Joined (g.T.StepTable.steps c.args.table.now) r.end in
     let split = c.in-Some.ensures.some.first in
     record {
-      text = i.text ++ row_text c.args.place r;
-      written = whole_then i.text (row_text c.args.place r) i.written c.in_ok-write_row.ensures;
-      left = parts_next (row_text c.args.place) i.text _ _ r rest split i.left;
+      text = i.text ++ row_text c.args.format r;
+      written = whole_then i.text (row_text c.args.format r) i.written c.in_ok-write_row.ensures;
+      left = parts_next (row_text c.args.format) i.text _ _ r rest split i.left;
       least = ap (λ step. earliest step rest) (earlier_is_min c.loop-range.step r.step c.min-step.result c.min-step.ensures) ∙ ap (earliest c.loop-range.step) (sym split) ∙ i.least;
     }
 
 pub returns-in_err-write_row-clause-rows : goal.returns-in_err-write_row-clause-rows
 returns-in_err-write_row-clause-rows g c =
     let i = c.loop-range.invariant in
-    let r = c.in-Some.range in
-    let rest = concat (map (row_text c.args.place) (rows_from Joined (g.T.StepTable.steps c.args.table.now) r.end)) in
-    let row = row_text c.args.place r in
-    writes_same _ _ ((i.text ++ row) ++ rest) _ c.from_residual.result (parts_next (row_text c.args.place) i.text _ _ r _ c.in-Some.ensures.some.first i.left)
+    let r = c.in-Some.row in
+    let rest = concat (map (row_text c.args.format) (rows_from Joined (g.T.StepTable.steps c.args.table.now) r.end)) in
+    let row = row_text c.args.format r in
+    writes_same _ _ ((i.text ++ row) ++ rest) _ c.from_residual.result (parts_next (row_text c.args.format) i.text _ _ r _ c.in-Some.ensures.some.first i.left)
     (writes_part ((i.text ++ row) ++ rest) c.from_residual.result c.from_residual.ensures.0 (part_more (i.text ++ row) rest (part_then i.text row i.written c.in_err-write_row.ensures)))
 
 pub returns-clause-rows : goal.returns-clause-rows
 returns-clause-rows g c =
     let i = c.loop-range.invariant in
-    subst (WritesWhole _ _) (parts_end (row_text c.args.place) i.text _ _ c.in_default.ensures.none i.left) i.written
+    subst (WritesWhole _ _) (parts_end (row_text c.args.format) i.text _ _ c.in_default.ensures.none i.left) i.written
 
 pub returns-clause-least : goal.returns-clause-least
 returns-clause-least g c = ap (earliest c.loop-range.step) (sym c.in_default.ensures.none) ∙ c.loop-range.invariant.least

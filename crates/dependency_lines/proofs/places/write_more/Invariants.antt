@@ -1,8 +1,8 @@
 use Rattle.std.proofs.Common.{◌≡◌, ◌-◌, ◌++◌, ℕ, List, length, map}
 use Rattle.std.specs.List.{concat}
 use Rattle.report_lines.specs.Streams.{WritesWhole}
-use Rattle.dependencies.specs.Ranges.{rows_from}
-use Rattle.dependencies.specs.declared.ranges.Rows.TheVariants.{Joined}
+use Rattle.dependencies.specs.Rows.{rows_from}
+use Rattle.dependencies.specs.declared.rows.Joining.TheVariants.{Joined}
 use Rattle.dependency_lines.specs.Places.{earliest}
 use Rattle.dependency_lines.specs.Words.{row_text}
 use Rattle.dependency_lines.proofs.places.write_more.Given as goal
@@ -12,8 +12,8 @@ abbrev pub invariant-loop-range : goal.invariant-loop-range
 invariant-loop-range g l = record {
   text : List ℕ;
   written : WritesWhole (g.W.Writer.output l.initial.writer) (g.W.Writer.output l.writer) text;
-  left : text ++ concat (map (row_text l.place) (rows_from Joined (g.T.StepTable.steps l.table) l.from))
-      ≡ concat (map (row_text l.place) (rows_from Joined (g.T.StepTable.steps l.table) l.fn.first.end));
+  left : text ++ concat (map (row_text l.format) (rows_from Joined (g.T.StepTable.steps l.table) l.from))
+      ≡ concat (map (row_text l.format) (rows_from Joined (g.T.StepTable.steps l.table) l.fn.first.end));
   least : earliest l.step (rows_from Joined (g.T.StepTable.steps l.table) l.from)
       ≡ earliest l.fn.first.step (rows_from Joined (g.T.StepTable.steps l.table) l.fn.first.end);
 }

@@ -1,6 +1,6 @@
 use Rattle.std.proofs.Common.{◌++◌, Some, ap, ap₂, filter, map, string_bytes, ◌∙◌}
-use Rattle.dependencies.specs.Ranges.{rows_from}
-use Rattle.dependencies.specs.declared.ranges.Rows.TheVariants.{Joined}
+use Rattle.dependencies.specs.Rows.{rows_from}
+use Rattle.dependencies.specs.declared.rows.Joining.TheVariants.{Joined}
 use Rattle.make_rules.specs.Files.{all_absent_folders, all_files, all_folders, all_in_call, is_other}
 use Rattle.make_rules.specs.Rule.{path_if_asked}
 use Rattle.make_rules.proofs.rule.paths_of.Goals as goal

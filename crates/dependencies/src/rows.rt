@@ -2,13 +2,13 @@
 
 ghost use Rattle.std.specs.Prelude.{◌≡◌, ◌<◌, [], Some, IfSome, IfNone, length};
 ghost use Rattle.first_looks.specs.FirstSteps.{step_in};
-ghost use Rattle.dependencies.specs.Ranges.{IsFirstRow, joins, rows_from};
+ghost use Rattle.dependencies.specs.Rows.{IsFirstRow, joins, rows_from};
 
 use first_looks::{FirstSteps, SequentialSteps};
 
 /// Indexes in a row that were asked for.
 #[derive(Clone, Copy)]
-pub struct LookRange {
+pub struct Row {
     /// The first index.
     pub first: usize,
     /// The index behind the last one.
@@ -19,21 +19,21 @@ pub struct LookRange {
 
 /// Which neighbours belong to one row.
 #[derive(Clone, Copy, Debug, PartialEq, Eq)]
-pub enum Rows {
+pub enum Joining {
     /// All of them.
     Joined,
     /// Those that the same step asked for first.
     ByStep,
 }
 
-impl Rows {
+impl Joining {
     // Returns whether neighbours with these steps belong to one row.
     fn join(self, first: u64, second: u64) -> bool
         ensures { result ≡ joins self first second }
     {
         match self {
-            Rows::Joined => true,
-            Rows::ByStep => first == second,
+            Joining::Joined => true,
+            Joining::ByStep => first == second,
         }
     }
 }
@@ -78,15 +78,15 @@ impl StepTable for SequentialSteps {
 }
 
 /// Returns the first row of the indexes from `from` on; `None` if no index from `from` on was asked for.
-pub fn next_range<T: StepTable>(table: &T, rows: Rows, from: usize) -> Option<LookRange>
-    ensures some { IfSome result (λ r. IsFirstRow rows (T.steps table.now) from r) }
-    ensures none { IfNone result (rows_from rows (T.steps table.now) from ≡ []) }
+pub fn next_row<T: StepTable>(table: &T, joining: Joining, from: usize) -> Option<Row>
+    ensures some { IfSome result (λ r. IsFirstRow joining (T.steps table.now) from r) }
+    ensures none { IfNone result (rows_from joining (T.steps table.now) from ≡ []) }
 {
     let end = table.end();
     let mut first = from;
     while first < end {
         if let Some(step) = table.step_at(first) {
-            return Some(range_from(table, rows, first, step, end));
+            return Some(row_from(table, joining, first, step, end));
         }
         first += 1;
     }
@@ -94,25 +94,25 @@ pub fn next_range<T: StepTable>(table: &T, rows: Rows, from: usize) -> Option<Lo
 }
 
 // Returns the row that begins with this index, which `step` asked for first.
-fn range_from<T: StepTable>(table: &T, rows: Rows, first: usize, step: u64, end: usize) -> LookRange
+fn row_from<T: StepTable>(table: &T, joining: Joining, first: usize, step: u64, end: usize) -> Row
     requires end { end ≡ length (T.steps table.now) }
     requires first { first < end }
     requires there { step_in (T.steps table.now) first ≡ Some step }
-    ensures { IsFirstRow rows (T.steps table.now) first result }
+    ensures { IsFirstRow joining (T.steps table.now) first result }
 {
-    let mut range = LookRange {
+    let mut row = Row {
         first,
         end: first + 1,
         step,
     };
-    while range.end < end {
-        match table.step_at(range.end) {
-            Some(step) if rows.join(range.step, step) => {
-                range.end += 1;
-                range.step = range.step.min(step);
+    while row.end < end {
+        match table.step_at(row.end) {
+            Some(step) if joining.join(row.step, step) => {
+                row.end += 1;
+                row.step = row.step.min(step);
             }
-            _ => return range,
+            _ => return row,
         }
     }
-    range
+    row
 }
