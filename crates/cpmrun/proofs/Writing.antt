@@ -20,30 +20,30 @@ all_read (Some all) None bytes c e = absurd c
 all_read (Some all) (Some rest) bytes c e = c ∙ ap (λ r. bytes ++ r) e ∙ append-nil bytes
 
 -- What a replay by this runner does, by its result.
-abbrev pub EndsBy : RunnerView → RunnerView → ℕ → Option (List ℕ) → Option (List ℕ) → Output → Output → Result Ending ReplayFault → Type 0
-EndsBy first now steps a left before after r = (bytes : List ℕ) × (done : List (List ℕ)) × (next : List (List ℕ)) × Consumes a left bytes × AreLines left bytes done next
-    × EndsReplay left bytes done next (replay_view first.session before) (replay_view now.session after) r × HasEffects first 0 done next now steps r
+abbrev pub EndsBy : RunnerView → ℕ → RunnerView → ℕ → Option (List ℕ) → Option (List ℕ) → Output → Output → Result Ending ReplayFault → Type 0
+EndsBy first begun now steps a left before after r = (bytes : List ℕ) × (done : List (List ℕ)) × (next : List (List ℕ)) × Consumes a left bytes × AreLines left bytes done next
+    × EndsReplay left bytes done next (replay_view first.session before) (replay_view now.session after) r × HasEffects first begun done next now steps r
 
--- A replay that ended wrote its text.
-pub writes_replay : (first now : RunnerView) (steps : ℕ) (a left : Option (List ℕ)) (before after : Output) (r : Result Ending ReplayFault)
-    → EndsBy first now steps a left before after r → OnOk r (WritesReplayBy a first before after steps)
-writes_replay first now steps a left before after (Ok e) (bytes, done, next, consumed, lines, (end, are, wrote), effects) = record {
+-- A replay that ended wrote its text, by the runner that it was given.
+pub writes_replay : (given first now : RunnerView) (begun steps : ℕ) (a left : Option (List ℕ)) (before after : Output) (r : Result Ending ReplayFault)
+    → first ≡ given → begun ≡ 0 → EndsBy first begun now steps a left before after r → OnOk r (WritesReplayBy a given before after steps)
+writes_replay given first now begun steps a left before after (Ok e) same none (bytes, done, next, consumed, lines, (end, are, wrote), effects) = record {
   last = now;
   bytes = bytes;
   text = wrote.text;
   count = e.lines;
   whole = all_read a left bytes consumed end;
   written = wrote.written;
-  replayed = rw are wrote.replays;
-  effects = rw are effects;
+  replayed = rw (← same, are) wrote.replays;
+  effects = rw (← same, ← none, are) effects;
 }
-writes_replay first now steps a left before after (Err f) h = tt
+writes_replay given first now begun steps a left before after (Err f) same none h = tt
 
-pub breaks_replay : (first now : RunnerView) (steps : ℕ) (a left : Option (List ℕ)) (before after : Output) (r : Result Ending ReplayFault)
-    → EndsBy first now steps a left before after r → IfErr r (λ f. BreaksOffWith f a first.session before after)
-breaks_replay first now steps a left before after (Ok e) h = tt
-breaks_replay first now steps a left before after (Err f) (bytes, done, next, consumed, lines, faults, effects) =
-    record { left = left; last = now.session; bytes = bytes; done = done; next = next; read = consumed; lines = lines; leaves = faults }
+pub breaks_replay : (given first now : RunnerView) (begun steps : ℕ) (a left : Option (List ℕ)) (before after : Output) (r : Result Ending ReplayFault)
+    → first ≡ given → EndsBy first begun now steps a left before after r → IfErr r (λ f. BreaksOffWith f a given.session before after)
+breaks_replay given first now begun steps a left before after (Ok e) same h = tt
+breaks_replay given first now begun steps a left before after (Err f) same (bytes, done, next, consumed, lines, faults, effects) =
+    rw (← same) (record { left = left; last = now.session; bytes = bytes; done = done; next = next; read = consumed; lines = lines; leaves = faults })
 
 -- The bytes of a reader are the bytes of the file that it was opened for, if these are known.
 pub of_file : (files : Option FileBytes) (path : Path) (left : Option (List ℕ)) → Opens files path left → (text_at files path ≡ left) ⊎ (text_at files path ≡ None)
