@@ -48,8 +48,8 @@ fn take_piece<W: Writer>(
     piece: &[u8],
 ) -> Result<(), ReplayFault>
     requires { meter.old ≤ STEP_LIMIT * buffer.old.lines }
-    ensures takes { OnOk result (Takes buffer.old.lines (replay_state runner.old meter.old (W.output writer.old))
-        buffer.old.line.items piece.now
+    ensures takes { OnOk result (Takes buffer.old.lines
+        (replay_state runner.old meter.old (W.output writer.old)) buffer.old.line.items piece.now
         buffer.new.lines (replay_state runner.new meter.new (W.output writer.new)) buffer.new.line.items) }
     ensures breaks { IfErr result (Breaks buffer.old.lines
         (replay_state runner.old meter.old (W.output writer.old)) buffer.old.line.items piece.now
