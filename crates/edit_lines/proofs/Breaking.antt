@@ -250,6 +250,22 @@ all_ends start last done executed a left taken held cut short end consumed new m
       effects_of 0 start new all whole,
     )
 
+-- The next part of a line makes it too long.
+pub breaks_long : {n m : ℕ} {old last : ReplayState} {line held taken bytes : List ℕ} (rest : List ℕ) → Takes n old line taken m last held → taken ++ rest ≡ bytes
+    → (part : List ℕ) → first_piece 10 rest ≡ part → length held ≤ LINE_LIMIT → LINE_LIMIT < length held + length part
+    → (f : ReplayFault) → f ≡ LineTooLong (m + 1) → Breaks n old line bytes last f
+breaks_long {m = m} {last = last} {held = held} {taken = taken} rest takes split part first short long f is = rw is (record {
+  m = m;
+  last = last;
+  held = held;
+  taken = taken;
+  rest = rest;
+  split = split;
+  takes = takes;
+  short = short;
+  fails = (refl, refl, rw first long);
+})
+
 -- A line that ends and fails.
 pub ends_there : (n : ℕ) (line rest : List ℕ) (old new : ReplayState) (f : ReplayFault) → ExecutesLine {U = Unit {0}} (n + 1) line old new (Err f)
     → FailsAt n line (10 ∷ rest) old new f

@@ -45,14 +45,10 @@ effects_of n s t [] none = no_effect
 effects_of n s t (l ∷ ls) (more short h rest) = more_effects h.0 h.2 h.3.0 (effects_of (n + 1) _ t ls rest)
 
 -- A last line without an end is executed if it is not empty.
-pub last_executed : (n : ℕ) (s t : ReplayState) (line : List ℕ) → 0 < length line → length line ≤ LINE_LIMIT
-    → ExecutesLine {U = Unit {0}} (n + 1) line s t (Ok tt) → Executes n s (unless_empty line) t
-last_executed n s t [] some short h = absurd (omega arith)
-last_executed n s t (b ∷ line) some short h = more short h none
-
-pub last_count : (n m : ℕ) (line : List ℕ) → 0 < length line → m ≡ n + 1 → m ≡ n + length (unless_empty line)
-last_count n m [] some e = absurd (omega arith)
-last_count n m (b ∷ line) some e = e
+pub last_executed : (n m : ℕ) (s t : ReplayState) (line : List ℕ) → 0 < length line → length line ≤ LINE_LIMIT → m ≡ n + 1
+    → ExecutesLine {U = Unit {0}} (n + 1) line s t (Ok tt) → (m ≡ n + length (unless_empty line)) × Executes n s (unless_empty line) t
+last_executed n m s t [] some short e h = absurd (omega arith)
+last_executed n m s t (b ∷ line) some short e h = (e, more short h none)
 
 -- ---- one more line
 

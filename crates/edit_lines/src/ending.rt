@@ -24,7 +24,8 @@ pub enum ReplayFault {
     /// The writer failed. Some first lines were executed, and a prefix of their replies written.
     #[error("the replies could not be written")]
     Write,
-    /// An allocation failed at a line that may need one. The lines before it were executed, and exactly their replies written.
+    /// An allocation failed: before anything was read, or at a line that may need one. The lines before it were executed, and exactly
+    /// their replies written.
     #[error("out of memory")]
     OutOfMemory,
 }

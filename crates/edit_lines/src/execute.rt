@@ -35,7 +35,8 @@ fn execute_edit<W: Writer>(
     writer: &mut W,
 ) -> Result<(), ReplayFault>
     ensures { (meter : ℕ) → ExecutesCommand (Command.Edit edit)
-        (replay_state runner.old meter (W.output writer.old)) (replay_state runner.new meter (W.output writer.new)) result }
+        (replay_state runner.old meter (W.output writer.old))
+        (replay_state runner.new meter (W.output writer.new)) result }
 {
     match runner.edit(edit) {
         Ok(()) => write_reply(writer, b"ok\n"),
@@ -51,7 +52,8 @@ fn drop_oldest<W: Writer>(
     writer: &mut W,
 ) -> Result<(), ReplayFault>
     ensures { (meter : ℕ) → ExecutesCommand (Command.DropOldest count)
-        (replay_state runner.old meter (W.output writer.old)) (replay_state runner.new meter (W.output writer.new)) result }
+        (replay_state runner.old meter (W.output writer.old))
+        (replay_state runner.new meter (W.output writer.new)) result }
 {
     runner.drop_oldest(count);
     write_reply(writer, b"ok\n")

@@ -26,7 +26,8 @@ fn end_line<W: Writer>(
 ) -> Result<(), ReplayFault>
     requires { meter.old ≤ STEP_LIMIT * buffer.old.lines }
     ensures does { ExecutesLine (buffer.old.lines + 1) buffer.old.line.items
-        (replay_state runner.old meter.old (W.output writer.old)) (replay_state runner.new meter.new (W.output writer.new)) result }
+        (replay_state runner.old meter.old (W.output writer.old))
+        (replay_state runner.new meter.new (W.output writer.new)) result }
     ensures next { OnOk result ((buffer.new.lines ≡ buffer.old.lines + 1) × (buffer.new.line.items ≡ [])) }
     ensures meter { OnOk result (meter.new ≤ STEP_LIMIT * buffer.new.lines) }
 {
@@ -47,10 +48,12 @@ fn take_piece<W: Writer>(
     piece: &[u8],
 ) -> Result<(), ReplayFault>
     requires { meter.old ≤ STEP_LIMIT * buffer.old.lines }
-    ensures takes { OnOk result (Takes buffer.old.lines (replay_state runner.old meter.old (W.output writer.old)) buffer.old.line.items
-        piece.now buffer.new.lines (replay_state runner.new meter.new (W.output writer.new)) buffer.new.line.items) }
-    ensures breaks { IfErr result (Breaks buffer.old.lines (replay_state runner.old meter.old (W.output writer.old)) buffer.old.line.items
-        piece.now (replay_state runner.new meter.new (W.output writer.new))) }
+    ensures takes { OnOk result (Takes buffer.old.lines
+        (replay_state runner.old meter.old (W.output writer.old)) buffer.old.line.items piece.now
+        buffer.new.lines (replay_state runner.new meter.new (W.output writer.new)) buffer.new.line.items) }
+    ensures breaks { IfErr result (Breaks buffer.old.lines
+        (replay_state runner.old meter.old (W.output writer.old)) buffer.old.line.items piece.now
+        (replay_state runner.new meter.new (W.output writer.new))) }
     ensures meter { OnOk result (meter.new ≤ STEP_LIMIT * buffer.new.lines) }
     ensures on { OnOk result (65537 * buffer.old.lines + vec_len buffer.old.line + length piece.now
         ≤ 65537 * buffer.new.lines + vec_len buffer.new.line) }
@@ -74,11 +77,13 @@ fn finish<W: Writer>(
     writer: &mut W,
 ) -> Result<(), ReplayFault>
     requires { meter.old ≤ STEP_LIMIT * buffer.old.lines }
-    ensures ok { OnOk result (Executes buffer.old.lines (replay_state runner.old meter.old (W.output writer.old))
+    ensures ok { OnOk result (
+        (buffer.new.lines ≡ buffer.old.lines + length (unless_empty buffer.old.line.items))
+        × Executes buffer.old.lines (replay_state runner.old meter.old (W.output writer.old))
         (unless_empty buffer.old.line.items) (replay_state runner.new meter.new (W.output writer.new))) }
-    ensures lines { OnOk result (buffer.new.lines ≡ buffer.old.lines + length (unless_empty buffer.old.line.items)) }
     ensures err { IfErr result (λ fault. (0 < length buffer.old.line.items)
-        × ExecutesLine (buffer.old.lines + 1) buffer.old.line.items (replay_state runner.old meter.old (W.output writer.old))
+        × ExecutesLine (buffer.old.lines + 1) buffer.old.line.items
+        (replay_state runner.old meter.old (W.output writer.old))
         (replay_state runner.new meter.new (W.output writer.new)) result) }
 {
     if buffer.line.is_empty() {
@@ -120,7 +125,8 @@ pub fn replay<R: Reader, W: Writer>(
     ensures ends { (bytes : List ℕ) × (done : List (List ℕ)) × (next : List (List ℕ))
         × Consumes (R.input reader.old).left (R.input reader.new).left bytes
         × AreLines (R.input reader.new).left bytes done next
-        × EndsReplay (R.input reader.new).left bytes done next (replay_view runner.old.session (W.output writer.old))
+        × EndsReplay (R.input reader.new).left bytes done next
+        (replay_view runner.old.session (W.output writer.old))
         (replay_view runner.new.session (W.output writer.new)) result
         × HasEffects runner.old meter.old done next runner.new meter.new result }
     ensures read { result ≡ Err ReplayFault.Read

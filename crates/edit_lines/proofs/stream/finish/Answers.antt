@@ -1,6 +1,6 @@
 use Rattle.std.proofs.Common.{◌≡◌, ◌<◌, List, [], ◌∷◌, ℕ, length, arith, rules}
 use Rattle.edit_lines.specs.Progress.{none}
-use Rattle.edit_lines.proofs.Stepping.{last_executed, last_count}
+use Rattle.edit_lines.proofs.Stepping.{last_executed}
 use Rattle.edit_lines.proofs.stream.finish.Goals as goal
 
 empty_list : (l : List ℕ) → length l ≡ 0 → l ≡ []
@@ -9,22 +9,11 @@ empty_list (b ∷ l) h = absurd (omega arith)
 
 pub returns-then-is_empty-clause-ok : goal.returns-then-is_empty-clause-ok
 returns-then-is_empty-clause-ok g c =
-    let none_left : length c.args.buffer.now.line.items ≡ 0 = search rules in
-    rw (empty_list _ none_left) none
-
-pub returns-then-is_empty-clause-lines : goal.returns-then-is_empty-clause-lines
-returns-then-is_empty-clause-lines g c =
-    let none_left : length c.args.buffer.now.line.items ≡ 0 = search rules in
-    rw (empty_list _ none_left) (omega arith)
+    let no_byte : length c.args.buffer.now.line.items ≡ 0 = search rules in
+    rw (empty_list _ no_byte) (omega arith, none)
 
 pub returns-clause-ok : goal.returns-clause-ok
 returns-clause-ok g c =
     let b = c.args.buffer.now in
     let some : 0 < length b.line.items = search rules in
-    last_executed _ _ _ b.line.items some (omega (arith, b.short, b.line.ok.0)) c.in_ok-end_line.ensures.does
-
-pub returns-clause-lines : goal.returns-clause-lines
-returns-clause-lines g c =
-    let b = c.args.buffer.now in
-    let some : 0 < length b.line.items = search rules in
-    last_count _ _ b.line.items some c.in_ok-end_line.ensures.next.0
+    last_executed _ _ _ _ b.line.items some (omega (arith, b.short, b.line.ok.0)) c.in_ok-end_line.ensures.next.0 c.in_ok-end_line.ensures.does

@@ -88,5 +88,5 @@ returns-then-count-eq0-clause-ends g c =
     let last = replay_state c.loop-count.runner c.loop-count.meter (g.W.Writer.output c.loop-count.writer) in
     all_ends _ last t.done t.executed (g.R.Reader.input c.args.reader.now).left (g.R.Reader.input c.read.new.self).left i.bytes b.line.items
     (t.cut [] [] refl) (omega (arith, b.short, b.line.ok.0)) (read.1 c.if-count-eq0.true (search rules))
-    (no_more_bytes _ _ _ i.bytes _ _ c.if-count-eq0.true i.consumed read.0) new b.lines (omega (arith, t.counted)) c.in_ok-finish.ensures.ok
-    _ c.in_ok-finish.ensures.lines
+    (no_more_bytes _ _ _ i.bytes _ _ c.if-count-eq0.true i.consumed read.0) new b.lines (omega (arith, t.counted)) c.in_ok-finish.ensures.ok.1
+    _ c.in_ok-finish.ensures.ok.0

@@ -2,7 +2,7 @@ use Rattle.std.proofs.Common.{◌≡◌, ◌+◌, ◌++◌, ◌∷◌, [], lengt
 use Rattle.std.proofs.lemmas.Result.{err_from_is_err_and}
 use Rattle.edit_lines.specs.Pieces.{first_piece}
 use Rattle.edit_lines.specs.Progress.{replay_state}
-use Rattle.edit_lines.proofs.Breaking.{ends_there}
+use Rattle.edit_lines.proofs.Breaking.{breaks_long, ends_there}
 use Rattle.edit_lines.proofs.Cutting.{all_after, found_front, found_nowhere, found_pieces, found_split}
 use Rattle.edit_lines.proofs.Stepping.{Takes-trans, line_taken, nothing_taken, part_taken}
 use Rattle.edit_lines.proofs.stream.take_piece.Goals as goal
@@ -61,17 +61,7 @@ returns-in_err-push_part-clause-breaks g c =
     let first : first_piece 10 rest ≡ take at rest = cc in
     let h = c.in_err-push_part.ensures.err in
     let e = err_from_is_err_and c.from_residual.result c.from_residual.ensures.1 in
-    rw (e.1, e.2, h.0) (record {
-      m = b.lines;
-      last = replay_state c.loop-at.runner c.loop-at.meter (g.W.Writer.output c.loop-at.writer);
-      held = b.line.items;
-      taken = i.taken;
-      rest = rest;
-      split = i.split;
-      takes = i.takes;
-      short = omega (arith, b.short, b.line.ok.0);
-      fails = (refl, refl, rw first h.1);
-    })
+    rw (e.1, e.2) (breaks_long rest i.takes i.split (take at rest) first (omega (arith, b.short, b.line.ok.0)) h.1 _ h.0)
 
 pub returns-in_err-end_line-clause-breaks : goal.returns-in_err-end_line-clause-breaks
 returns-in_err-end_line-clause-breaks g c =
@@ -109,17 +99,7 @@ returns-in_err-push_part-2-clause-breaks g c =
     let first : first_piece 10 rest ≡ rest = cc in
     let h = c.in_err-push_part-2.ensures.err in
     let e = err_from_is_err_and c.from_residual-in_err-push_part-2.result c.from_residual-in_err-push_part-2.ensures.1 in
-    rw (e.1, e.2, h.0) (record {
-      m = b.lines;
-      last = replay_state c.loop-at.runner c.loop-at.meter (g.W.Writer.output c.loop-at.writer);
-      held = b.line.items;
-      taken = i.taken;
-      rest = rest;
-      split = i.split;
-      takes = i.takes;
-      short = omega (arith, b.short, b.line.ok.0);
-      fails = (refl, refl, rw first h.1);
-    })
+    rw (e.1, e.2) (breaks_long rest i.takes i.split rest first (omega (arith, b.short, b.line.ok.0)) h.1 _ h.0)
 
 pub returns-clause-takes : goal.returns-clause-takes
 returns-clause-takes g c =
