@@ -12,8 +12,11 @@ WARM = b'stop WarmBoot\n'
 MAKE_TWO = bytes.fromhex('0E16 116C00 CD0500 0E16 115C00 CD0500 C9')
 """Makes the file of the second word of its tail, and then that of the first: MVI C,22; LXI D,6CH; CALL 5; MVI C,22; LXI D,5CH; CALL 5; RET."""
 
-READ_AND_MAKE = bytes.fromhex('0E0F 115C00 CD0500 0E16 116C00 CD0500 C9')
-"""Opens the file of the first word of its tail, and makes that of the second: MVI C,15; LXI D,5CH; CALL 5; MVI C,22; LXI D,6CH; CALL 5; RET."""
+MAKE_AND_OPEN = bytes.fromhex('0E16 116C00 CD0500 0E0F 115C00 CD0500 C9')
+"""Makes the file of the second word of its tail, and opens that of the first: MVI C,22; LXI D,6CH; CALL 5; MVI C,15; LXI D,5CH; CALL 5; RET."""
+
+WRITE_AND_SEARCH = bytes.fromhex('0E13 115C00 CD0500 0E16 115C00 CD0500 0E15 115C00 CD0500 0E11 115C00 CD0500 C9')
+"""Deletes the file of its tail, makes it, writes the record at 80H, which has the tail, and searches it: calls 19, 22, 21 and 17; RET."""
 
 
 class Failures(FailureTest):
@@ -88,7 +91,7 @@ class DepsTest(DependenciesTest):
 
     def test_what_changes_makes_again(self) -> None:
         self.disk(one='1', two='2')
-        self.put('two.com', READ_AND_MAKE)
+        self.put('two.com', MAKE_AND_OPEN)
         rule = self.run_with_rule('two.com', 'one out', '--files', 'disk', '--out', 'made')
         self.assertEqual(rule, 'made/OUT: two.com disk/one $(wildcard disk/OUT disk/out)\ndisk/one:\n# not there: disk/OUT\n')
         self.touch(1, 'two.com', 'disk/one', 'disk/two', 'made/OUT')
@@ -112,18 +115,18 @@ class DepsTest(DependenciesTest):
         self.assertTrue(self.is_made('made/Z'))
 
     def test_no_target_depends_on_itself(self) -> None:
-        self.disk(ONE='1', OUT='old')
-        self.put('two.com', READ_AND_MAKE)
-        for file in 'ONE', 'ONE':
-            rule = self.run_with_rule('two.com', f'{file} new', '--files', 'disk', '--out', 'disk')
-            self.assertTrue(rule.startswith('disk/NEW: two.com disk/ONE'), rule)
-            self.assertNotIn('disk/NEW', rule.partition('\n')[0].partition(':')[2])
-        self.touch(1, 'two.com', 'disk/ONE', 'disk/NEW')
+        self.disk(ONE='1')
+        self.put('write.com', WRITE_AND_SEARCH)
+        for tail, found in ('new first', {'ONE'}), ('new second', {'ONE', 'NEW'}):
+            self.assertEqual({path.name for path in (self.work / 'disk').iterdir()}, found)
+            rule = self.run_with_rule('write.com', tail, '--files', 'disk', '--out', 'disk')
+            self.assertEqual(rule.partition('\n')[0].split(' $')[0], 'disk/NEW: write.com disk/ONE disk/')
+        self.touch(1, 'write.com', 'disk/ONE', 'disk', 'disk/NEW')
         self.assertFalse(self.is_made('disk/NEW'))
 
     def test_the_rule_is_the_one_of_cpmdeps(self) -> None:
         self.disk(one='1', two='2')
-        self.put('two.com', READ_AND_MAKE)
+        self.put('two.com', MAKE_AND_OPEN)
         self.put('typed', 'x')
         for tail, limit, target in ('one out', 1000, 'made/OUT'), ('two gone', 1000, 'made/GONE'), ('one out', 3, 'rule.d'), ('', 1000, 'rule.d'):
             words = ['two.com', tail, '--files', 'disk', '--console', 'typed', '--limit', limit]

@@ -7,8 +7,7 @@ use std::test::Fail;
 use test_sessions::program;
 
 // Makes the file that the second word of the tail names, and then that of the first one.
-const MAKE: &[u8] =
-    &program![MVI C,22; LXI D,0x006C; CALL 5; MVI C,22; LXI D,0x005C; CALL 5; RET;];
+const MAKE: &[u8] = &program![MVI C,22; LXI D,0x006C; CALL 5; MVI C,22; LXI D,0x005C; CALL 5; RET;];
 
 // Makes the file that the first word of the tail names, and prints `Hi`.
 const HI_MADE: &[u8] = &program![
@@ -34,7 +33,9 @@ const TARGETS: &[Act<'_>] = &[
 const SAME_FOLDER: &[Act<'_>] = &[
     Put("m.com", HI_MADE),
     Ask(
-        &["@/m.com", "x.txt", "--files", "@", "--out", "@", "--deps", "@/.d"],
+        &[
+            "@/m.com", "x.txt", "--files", "@", "--out", "@", "--deps", "@/.d",
+        ],
         Answer(0, "Hi", "stop WarmBoot\n"),
     ),
     Find("X.TXT", Some("")),
@@ -96,7 +97,10 @@ const REFUSED: &[Act<'_>] = &[
         &["@/none", "--out-d", "o=", "--deps", "@/d"],
         Answer(1, "", "cpmrun: a rule for make cannot have the path o=\n"),
     ),
-    Ask(&["@/none", "--out-d", "o="], Answer(1, "", "cpmrun: cannot read @/none\n")),
+    Ask(
+        &["@/none", "--out-d", "o="],
+        Answer(1, "", "cpmrun: cannot read @/none\n"),
+    ),
 ];
 
 // What was written before an error stays, and nothing is written after it.
@@ -113,7 +117,10 @@ const ERRORS: &[Act<'_>] = &[
         Parts(1, &["Hi"], &["cpmrun: cannot write ", "/none/X.TXT"]),
     ),
     Find("d", Some("old")),
-    Ask(&["@/m.com", "y.txt", "--out", "@", "--deps", "@/d"], NoRoom(1)),
+    Ask(
+        &["@/m.com", "y.txt", "--out", "@", "--deps", "@/d"],
+        NoRoom(1),
+    ),
     Find("Y.TXT", None),
     Find("d", Some("old")),
     Ask(
