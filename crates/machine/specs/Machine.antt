@@ -123,10 +123,14 @@ is_looked_at looked (Cell a) = is_among a looked.cells
 is_looked_at looked (Script k) = is_within looked.offsets k
 is_looked_at looked (OfHost a) = is_looked looked.files a
 
+-- No question was asked of the host files.
+abbrev pub HasNoHostQuestions : AllLooks → Type 0
+HasNoHostQuestions looked = (a : Ask) → is_looked_at looked (OfHost a) ≡ false
+
 -- Neither a script offset was looked at, nor the host files.
 pub record HasNoQuestions (looked : AllLooks) : Type 0 where
   pub offsets : (k : ℕ) → is_looked_at looked (Script k) ≡ false
-  pub files : (a : Ask) → is_looked_at looked (OfHost a) ≡ false
+  pub files : HasNoHostQuestions looked
 
 -- Nothing was looked at.
 pub record HasNoLooks (looked : AllLooks) : Type 0 where

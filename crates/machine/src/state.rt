@@ -2,7 +2,7 @@ ghost use Rattle.std.specs.Prelude.{◌≡◌, ◌<◌, ◌≤◌, ℕ, true, fa
 ghost use Rattle.hostfiles.specs.FileLooks.{is_looked};
 ghost use Rattle.hostfiles.specs.declared.looks.Ask.{Ask};
 ghost use Rattle.first_looks.specs.FirstLooks.{NotesLooks, SameBelow};
-ghost use Rattle.machine.specs.Machine.{start, HasNoLooks, HasNoQuestions, is_looked_at, looks_from};
+ghost use Rattle.machine.specs.Machine.{start, HasNoHostQuestions, HasNoLooks, HasNoQuestions, is_looked_at, looks_from};
 ghost use Rattle.machine.specs.TakesQuestion.{TakesQuestion};
 ghost use Rattle.machine.specs.Bound.{IsBound};
 
@@ -202,5 +202,19 @@ impl State {
     {
         self.changes.forget_looks();
         self.desk.forget_looks();
+    }
+
+    /// Forgets the questions to the host files. Everything else is unchanged. Allocates nothing.
+    #[inline(always)]
+    pub(crate) fn forget_host_questions(&mut self)
+        ensures state { self.new.state ≡ self.old.state }
+        ensures none { HasNoHostQuestions self.new.looked }
+        ensures beneath { self.new.beneath ≡ self.old.beneath }
+    {
+        // This is the usual case, and it writes nothing.
+        if self.changes.asks_nothing() {
+            return;
+        }
+        self.changes.forget_looks();
     }
 }

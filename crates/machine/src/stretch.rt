@@ -5,7 +5,7 @@ ghost use Rattle.i8080.specs.Instruction.{instruction};
 ghost use Rattle.i8080.specs.Performs.{Performs};
 ghost use Rattle.pagemem.specs.Overlay.{beneath_of, is_ready_at};
 ghost use Rattle.machine.specs.Bound.{IsBound};
-ghost use Rattle.machine.specs.Machine.{session_answers, after, HasNoQuestions, IsReached};
+ghost use Rattle.machine.specs.Machine.{session_answers, after, HasNoHostQuestions, IsReached};
 ghost use Rattle.machine.specs.Session.{image_of};
 ghost use Rattle.machine.specs.Stops.{stop_of_instruction};
 ghost use Rattle.machine.specs.TakesStep.{memory_over_image, TakesStep};
@@ -150,8 +150,8 @@ pub fn run_from(
     (n, Ok(None))
 }
 
-/// Executes steps from step `from` on up to step `end`, or to a stop, whose cause it returns. It forgets the script offsets and the
-/// questions to the host files that each step looked at, so it need not end there. Returns the step that was reached, also at `Err`.
+/// Executes steps from step `from` on up to step `end`, or to a stop, whose cause it returns. It forgets the
+/// questions to the host files that each step asked, so it need not end there. Returns the step that was reached, also at `Err`.
 ///
 /// # Errors
 ///
@@ -167,8 +167,8 @@ pub(crate) fn run_forgetting(
     requires at { after (session_answers session.now) from ≡ Some state.old.state }
     requires bound { IsBound session.now state.old }
     ensures runs { RunsForgetting session.now from end result.0 result.1 state.new.state }
-    ensures forgets { HasNoQuestions state.old.looked
-        → IfOk result.1 (λ stop. IfNone stop (HasNoQuestions state.new.looked)) }
+    ensures forgets { HasNoHostQuestions state.old.looked
+        → IfOk result.1 (λ stop. IfNone stop (HasNoHostQuestions state.new.looked)) }
     ensures bound { IsBound session.now state.new }
 {
     let mut n = from;
@@ -183,7 +183,7 @@ pub(crate) fn run_forgetting(
             Err(error) => return (n, Err(error)),
         }
         n += 1;
-        state.forget_questions();
+        state.forget_host_questions();
     }
     (n, Ok(None))
 }

@@ -51,7 +51,8 @@ fn serve(
     call(regs, &mut view, &mut table, desk, session.script())
 }
 
-// Does the same, and makes each cell that it reads known.
+// Does the same, and makes each cell that it reads known. It is inlined, because most steps in the system area are calls of a run.
+#[inline(always)]
 fn serve_learning(
     regs: &mut Regs,
     overlay: &mut Overlay,

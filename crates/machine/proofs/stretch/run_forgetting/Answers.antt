@@ -26,9 +26,9 @@ loop-n-preserved c =
     let low : c.args.from ≤ c.loop-n.n = c.loop-n.invariant.low in
     let next = steps_on c.args.session.now c.args.from c.args.end (c.loop-n.n + c.run_quietly-n.result) (omega (arith, low)) c.run_quietly-n.new.state c.take_step.new.state (c.run_quietly-n.ensures.runs.at c.args.session.now c.loop-n.invariant.bound c.loop-n.n c.loop-n.invariant.at) (rw c.in-Ok-None.field-0-is at c.in-Ok-None.ensures.step) in
     record {
-      at = next ∙ ap (λ (st : PartialState). Some st) (sym c.forget_questions.ensures.state);
+      at = next ∙ ap (λ (st : PartialState). Some st) (sym c.forget_host_questions.ensures.state);
       low = omega (arith, low);
       high = (let within = c.run_quietly-n.ensures.within in let apart = c.if-n-end.false in omega (arith, within, apart, c.loop-n.invariant.high));
-      forgot = λ _. c.forget_questions.ensures.none;
-      bound = still_bound c.args.session.now c.take_step.new.state c.forget_questions.new.self c.forget_questions.ensures.beneath (c.take_step.ensures.bound refl);
+      forgot = λ _. c.forget_host_questions.ensures.none;
+      bound = still_bound c.args.session.now c.take_step.new.state c.forget_host_questions.new.self c.forget_host_questions.ensures.beneath (c.take_step.ensures.bound refl);
     }

@@ -1,5 +1,5 @@
 use Rattle.std.proofs.Common.{◌≡◌, ◌-◌, ◌≤◌, Some}
-use Rattle.machine.specs.Machine.{session_answers, after, HasNoQuestions}
+use Rattle.machine.specs.Machine.{session_answers, after, HasNoHostQuestions}
 use Rattle.machine.specs.Bound.{IsBound}
 use Rattle.machine.proofs.stretch.run_forgetting.Given as goal
 
@@ -8,7 +8,7 @@ invariant-loop-n l = record {
   at : after (session_answers l.session) l.n ≡ Some l.state.state;
   low : l.from ≤ l.n;
   high : l.n ≤ l.end;
-  forgot : HasNoQuestions l.initial.state.looked → HasNoQuestions l.state.looked;
+  forgot : HasNoHostQuestions l.initial.state.looked → HasNoHostQuestions l.state.looked;
   bound : IsBound l.session l.state;
 }
 
