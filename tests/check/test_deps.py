@@ -129,7 +129,7 @@ class DepsTest(DependenciesTest):
         self.put('two.com', MAKE_AND_OPEN)
         self.put('typed', 'x')
         for tail, limit, target in ('one out', 1000, 'made/OUT'), ('two gone', 1000, 'made/GONE'), ('one out', 3, 'rule.d'), ('', 1000, 'rule.d'):
-            words = ['two.com', tail, '--files', 'disk', '--console', 'typed', '--limit', limit]
+            words = ['two.com', tail, '--files', 'disk', '--console', 'typed', '--limit', str(limit)]
             wanted = self.run_command(DEPENDENCIES_PROGRAM, *words, '--make', target, cwd=self.work)
             done = self.run_command(PROGRAM, *words, '--out', 'made', '--deps', 'rule.d', cwd=self.work)
             with self.subTest(tail=tail, limit=limit):
