@@ -22,7 +22,7 @@ all_read (Some all) (Some rest) bytes c e = c ∙ ap (λ r. bytes ++ r) e ∙ ap
 -- What a replay by this runner does, by its result.
 abbrev pub EndsBy : RunnerView → ℕ → RunnerView → ℕ → Option (List ℕ) → Option (List ℕ) → Output → Output → Result Ending ReplayFault → Type 0
 EndsBy first begun now steps a left before after r = (bytes : List ℕ) × (done : List (List ℕ)) × (next : List (List ℕ)) × Consumes a left bytes × AreLines left bytes done next
-    × EndsReplay left bytes done next (replay_view first.session before) (replay_view now.session after) r × HasEffects first begun done next now steps r
+    × EndsReplay left bytes done next (replay_view first.session before) (replay_view now.session after) r × HasEffects first begun bytes done now steps r
 
 -- A replay that ended wrote its text, by the runner that it was given.
 pub writes_replay : (given first now : RunnerView) (begun steps : ℕ) (a left : Option (List ℕ)) (before after : Output) (r : Result Ending ReplayFault)

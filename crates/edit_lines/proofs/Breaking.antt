@@ -26,7 +26,7 @@ view_of s = replay_view s.runner.session s.output
 -- What a replay from this state leaves, by its result; `a` was left of the reader at first, and `left` at last.
 abbrev pub Ended : ReplayState → Option (List ℕ) → Option (List ℕ) → ReplayState → Result Ending ReplayFault → Type 0
 Ended start a left new r = (bytes : List ℕ) × (done : List (List ℕ)) × (next : List (List ℕ)) × Consumes a left bytes × AreLines left bytes done next
-    × EndsReplay left bytes done next (view_of start) (view_of new) r × HasEffects start.runner start.meter done next new.runner new.meter r
+    × EndsReplay left bytes done next (view_of start) (view_of new) r × HasEffects start.runner start.meter bytes done new.runner new.meter r
 
 is_rest : (left : Option (List ℕ)) → IfSome left (λ all. all ≡ unwrap_or left [])
 is_rest None = tt
@@ -150,7 +150,7 @@ module _ (start last : ReplayState) (done : List (List ℕ)) (executed : Execute
           before = last.runner;
           metered = last.meter;
           effects = effects_of 0 start last done executed;
-          is_run = (line, after, refl, subst (λ c. EditLine line c) cut_short.0 h.2);
+          is_run = (line, read, subst (λ c. EditLine line c) cut_short.0 h.2);
           part = cut_short.1;
         })
       ],

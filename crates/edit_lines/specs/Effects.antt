@@ -1,5 +1,5 @@
 -- What the lines of an edit text do, one after the other, to a runner and its checkpoints and to the meter. (This project's own.)
-use Rattle.std.specs.Prelude.{◌≡◌, ℕ, ◌+◌, ◌⊎◌, List, [], ◌∷◌, Result, Ok, Err}
+use Rattle.std.specs.Prelude.{◌≡◌, ℕ, ◌+◌, ◌⊎◌, List, [], ◌∷◌, ◌++◌, Result, Ok, Err}
 use Rattle.machine.specs.Inputs.{Session}
 use Rattle.machine.specs.Machine.{session_answers}
 use Rattle.machine.specs.PlainState.{plain_run}
@@ -10,6 +10,7 @@ use Rattle.edit_lines.specs.declared.line.Command.TheVariants.{Edit, Run, DropOl
 use Rattle.edit_lines.specs.declared.ending.ReplayFault.{ReplayFault}
 use Rattle.edit_lines.specs.declared.ending.ReplayFault.TheVariants.{OutOfMemory}
 use Rattle.edit_lines.specs.EditLine.{EditLine}
+use Rattle.edit_lines.specs.Faults.{AreRead}
 
 -- An edit that is applied leaves exactly the checkpoints that it does not touch; an edit that is refused changes nothing.
 abbrev pub EditEffect : Result Session ℕ → RunnerView → RunnerView → Type 0
@@ -39,10 +40,6 @@ pub data Effects : RunnerView → ℕ → List (List ℕ) → RunnerView → ℕ
   more : {r s t : RunnerView} {k m n : ℕ} {l : List ℕ} {ls : List (List ℕ)} (c : Command) → EditLine l c
       → Effect c r k s m → Effects s m ls t n → Effects r k (l ∷ ls) t n
 
--- The runner and the meter are unchanged.
-abbrev pub IsUnchanged : RunnerView → ℕ → RunnerView → ℕ → Type 0
-IsUnchanged old meter new metered = (new ≡ old) × (metered ≡ meter)
-
 -- A run that runs out of memory on its way: the meter counts the steps from where it begins up to some step, and some due
 -- checkpoints were made.
 pub record RunCutShort (old : RunnerView) (meter : ℕ) (new : RunnerView) (metered : ℕ) : Type 0 where
@@ -52,16 +49,16 @@ pub record RunCutShort (old : RunnerView) (meter : ℕ) (new : RunnerView) (mete
   pub reran : AddsDueTo old new old.session.limit
   pub counted : RestartsCount old new old.session.limit
 
--- These lines had their effects, and then the run of the next line was cut short.
-pub record EffectsCutShort (first : RunnerView) (begun : ℕ) (done next : List (List ℕ)) (now : RunnerView) (meter : ℕ) : Type 0 where
+-- These first lines of the bytes had their effects, and then the run of the next line was cut short.
+pub record EffectsCutShort (first : RunnerView) (begun : ℕ) (bytes : List ℕ) (done : List (List ℕ)) (now : RunnerView) (meter : ℕ) : Type 0 where
   pub before : RunnerView
   pub metered : ℕ
   pub effects : Effects first begun done before metered
-  pub is_run : (line : List ℕ) × (others : List (List ℕ)) × (next ≡ line ∷ others) × EditLine line Run
+  pub is_run : (line : List ℕ) × AreRead bytes (done ++ line ∷ []) × EditLine line Run
   pub part : RunCutShort before metered now meter
 
--- What a replay did, by its result, if `done` are the lines that it executed and `next` the lines after them: each line had its effect. If
--- an allocation failed, the run of the next line may have been cut short.
-abbrev pub HasEffects : {T : Type 0} → RunnerView → ℕ → List (List ℕ) → List (List ℕ) → RunnerView → ℕ → Result T ReplayFault → Type 0
-HasEffects first begun done next now meter (Err OutOfMemory) = Effects first begun done now meter ⊎ EffectsCutShort first begun done next now meter
-HasEffects first begun done next now meter result = Effects first begun done now meter
+-- What a replay did, by its result, if it read these bytes and executed these lines: each line had its effect. If an allocation failed, the
+-- run of the next line may have been cut short.
+abbrev pub HasEffects : {T : Type 0} → RunnerView → ℕ → List ℕ → List (List ℕ) → RunnerView → ℕ → Result T ReplayFault → Type 0
+HasEffects first begun bytes done now meter (Err OutOfMemory) = Effects first begun done now meter ⊎ EffectsCutShort first begun bytes done now meter
+HasEffects first begun bytes done now meter result = Effects first begun done now meter

@@ -128,7 +128,7 @@ pub fn replay<R: Reader, W: Writer>(
         × EndsReplay (R.input reader.new).left bytes done next
         (replay_view runner.old.session (W.output writer.old))
         (replay_view runner.new.session (W.output writer.new)) result
-        × HasEffects runner.old meter.old done next runner.new meter.new result }
+        × HasEffects runner.old meter.old bytes done runner.new meter.new result }
     ensures read { result ≡ Err ReplayFault.Read
         → (R.input reader.old).failures < (R.input reader.new).failures }
 {
