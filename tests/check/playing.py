@@ -338,7 +338,7 @@ class CallPlay(Play):
                 self.ask_line(report, f'{word} {rest}')
 
     def play(self) -> None:
-        """Runs the program of all acts up to each act that is followed by lines, and to its end."""
+        """Runs the program of all acts up to each call, and to its end."""
         points: list[tuple[Report, list[tuple[str, str]]]] = []
         calls = self.case.calls
         for number, call in enumerate(calls):
@@ -349,13 +349,13 @@ class CallPlay(Play):
                 self.stop(call.rest, after)
             else:
                 self.act(call.verb, call.rest)
-                points.append((self.report('Limit'), call.wanted))
+                if call.verb == 'call' or call.wanted or call is calls[-1]:
+                    points.append((self.report('Limit'), call.wanted))
         last = self.report('Halt')
         self.begin(replace(self.limited(), limit=0), ['ok'])
         for report, wanted in points:
-            if wanted:
-                self.set_limit(report.steps)
-                self.finish(report, wanted)
+            self.set_limit(report.steps)
+            self.finish(report, wanted)
         self.set_limit(LIMIT)
         self.finish(last, points[-1][1])
         if last.steps <= SHORT:
