@@ -52,3 +52,10 @@ fn refused_options_have_their_messages(rt: HostRuntime) -> Result<(), Fail> {
     }
     Ok(())
 }
+
+#[test]
+fn out_of_memory_has_its_numbers(rt: HostRuntime) -> Result<(), Fail> {
+    assert!(rt; OptionsError::OutOfMemory.number() == 3);
+    assert!(rt; EditError::OutOfMemory.number() == 8);
+    Ok(())
+}
