@@ -2,13 +2,12 @@
 
 ghost use Rattle.std.specs.Prelude.{None, vec_len, ◌≤◌};
 
-use edit_lines::{Failed, Over, Reader, ReplayFault, Writer, replay};
+use edit_lines::{Failed, Reader, ReplayFault, Writer, replay};
 use machine::Meter;
 use replay::Runner;
 use std::alloc::Global;
 use trails::Trail;
-use test_sessions::worked::PRINTS;
-use test_sessions::{Given, Trouble, make};
+use test_sessions::{Given, PRINTS, Trouble, make};
 
 /// A replay of an edit text over a program, and the expected result.
 #[derive(Clone, Copy)]
@@ -99,18 +98,4 @@ pub fn replays(alloc: Global, wanted: &Replay<'_>) -> Result<bool, Trouble> {
     };
     let mut runner = make(alloc, &given)?;
     Ok(replays_over(alloc, &mut runner, wanted))
-}
-
-fn takes_steps_over(alloc: Global, runner: &mut Runner, text: &[u8], steps: u64) -> bool {
-    let mut meter = Meter::new();
-    let mut reader = Over::new(text);
-    let mut writer = Over::new(Vec::new(alloc));
-    let answer = replay(alloc, runner, &mut meter, &mut reader, &mut writer);
-    answer.is_ok() && meter.count() == steps
-}
-
-/// Returns whether a replay of an edit text over the program that prints `Hi` ends without an error, after this many steps.
-pub fn takes_steps(alloc: Global, text: &[u8], steps: u64) -> Result<bool, Trouble> {
-    let mut runner = make(alloc, &PRINTS)?;
-    Ok(takes_steps_over(alloc, &mut runner, text, steps))
 }

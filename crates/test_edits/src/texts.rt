@@ -1,29 +1,16 @@
-// Edit texts and their replies, and failures of readers and writers in mid-stream.
+// Failures of readers and writers in mid-stream, and the replies to long texts.
 
 ghost use Rattle.std.specs.Prelude.{vec_len};
 
-use crate::replaying::{Replay, replays, takes_steps};
+use crate::replaying::{Replay, replays};
 use edit_lines::ReplayFault;
 use std::alloc::{AllocError, Global};
 use std::process::Abort;
 use std::test::Fail;
-use test_sessions::program;
-use test_sessions::worked::PRINTS;
+use test_sessions::{PRINTS, program};
 
 const REPORT: &[u8] =
     b"stop WarmBoot\nsteps 7\nregs A=00 F=02 B=00 C=09 D=01 E=09 H=00 L=00 SP=FE00 PC=FF03\ntext 4869\nend\n";
-
-const AT_LIMIT: &[u8] =
-    b"ok\nstop Limit\nsteps 7\nregs A=00 F=02 B=00 C=09 D=01 E=09 H=00 L=00 SP=FE00 PC=FF03\ntext 4869\nend\n";
-
-const OTHER_TEXT: &[u8] =
-    b"ok\nstop WarmBoot\nsteps 7\nregs A=00 F=02 B=00 C=09 D=01 E=09 H=00 L=00 SP=FE00 PC=FF03\ntext 486f\nend\n";
-
-const NO_DOLLAR: &[u8] =
-    b"ok\nstop NoDollar\nsteps 4\nregs A=00 F=02 B=00 C=09 D=01 E=09 H=00 L=00 SP=FDFC PC=FE06\ntext -\nend\n";
-
-const FORGETFUL: &[u8] =
-    b"ok\nstop WarmBoot\nsteps 7\nregs A=00 F=02 B=00 C=09 D=01 E=09 H=00 L=00 SP=FE00 PC=FF03\ntext 4869\nend\nok\n";
 
 // Returns a replay of an edit text over the program that prints `Hi`, read and written to its end.
 fn whole<'a>(text: &'a [u8], replies: &'a [u8], answer: Result<u64, ReplayFault>) -> Replay<'a> {
@@ -41,60 +28,6 @@ fn whole<'a>(text: &'a [u8], replies: &'a [u8], answer: Result<u64, ReplayFault>
 fn replayed(rt: &impl Abort, alloc: Global, replay: &Replay<'_>) -> Result<(), Fail> {
     let (text, longest) = (replay.text, replay.longest);
     assert!(rt; replays(alloc, replay)?, "{text:?} by {longest}");
-    Ok(())
-}
-
-// Each row is an edit text, its replies, and the number of its lines or the error.
-const TEXTS: [(&[u8], &[u8], Result<u64, ReplayFault>); 12] = [
-    (b"run\n", REPORT, Ok(1)),
-    (b"", b"", Ok(0)),
-    (b"limit 7\nrun", AT_LIMIT, Ok(2)),
-    (b"poke 010A 6F\nrun\n", OTHER_TEXT, Ok(2)),
-    (b"poke 010B 21\nrun\n", NO_DOLLAR, Ok(2)),
-    (
-        b"poke 0200 00\nlimit 4000000001\n",
-        b"refused 6\nrefused 7\n",
-        Ok(2),
-    ),
-    (
-        b"limit 5\nbogus\nrun\n",
-        b"ok\n",
-        Err(ReplayFault::Malformed(2)),
-    ),
-    (b"drop 1\nrun\ndrop 9999999999\n", FORGETFUL, Ok(3)),
-    (b"drop\n", b"", Err(ReplayFault::Malformed(1))),
-    (b"limit 5\n\n", b"ok\n", Err(ReplayFault::Malformed(2))),
-    (b"poke  010A 6F\n", b"", Err(ReplayFault::Malformed(1))),
-    (b"poke 0010A 6F\n", b"", Err(ReplayFault::Malformed(1))),
-];
-
-#[test]
-fn edit_texts_have_their_replies(rt: HostRuntime) -> Result<(), Fail> {
-    for (text, replies, answer) in TEXTS {
-        for longest in [1, 5, 4096] {
-            let replay = Replay {
-                longest,
-                ..whole(text, replies, answer)
-            };
-            replayed(&rt, rt.alloc(), &replay)?;
-        }
-    }
-    Ok(())
-}
-
-// Edit texts, and the number of steps that their replays execute.
-const AGAIN: [(&[u8], u64); 4] = [
-    (b"run\npoke 010A 6F\nrun\n", 10),
-    (b"run\nrun\n", 7),
-    (b"run\ndrop 1\nrun\n", 7),
-    (b"run\ndrop 2\nrun\n", 14),
-];
-
-#[test]
-fn a_replay_runs_again_what_an_edit_touches(rt: HostRuntime) -> Result<(), Fail> {
-    for (text, steps) in AGAIN {
-        assert!(rt; takes_steps(rt.alloc(), text, steps)?, "{text:?}");
-    }
     Ok(())
 }
 
@@ -135,13 +68,6 @@ fn each_fault_has_its_text(rt: HostRuntime) -> Result<(), Fail> {
         assert!(rt; text.as_str() == wanted, "{fault:?} is {text}");
     }
     Ok(())
-}
-
-#[test]
-fn a_line_may_be_too_long(rt: HostRuntime) -> Result<(), Fail> {
-    let text = vec![in rt.alloc(); b'a'; 65_537]?;
-    let replay = whole(text.as_slice(), b"", Err(ReplayFault::LineTooLong(1)));
-    replayed(&rt, rt.alloc(), &replay)
 }
 
 // The bytes before the string of the program that prints `Hi`, and the lines before the digits of its report.

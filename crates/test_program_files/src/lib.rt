@@ -8,6 +8,7 @@
 //! - `entries`, `searches`: tests of the directory's entries, and of searches that continue while files change
 //! - `changes`, `changed`: tests of the files after a run, of copies of its changes, and of its questions; of which files it
 //!   changed
+//! - `desk`: tests of what a desk prints, and of calls that stop
 #![tactic(auto)]
 
 #[cfg(test)]
@@ -16,6 +17,8 @@ mod changed;
 mod changes;
 #[cfg(test)]
 mod deletions;
+#[cfg(test)]
+mod desk;
 #[cfg(test)]
 mod entries;
 #[cfg(test)]

@@ -1,5 +1,6 @@
 // The parts of a session.
 
+use crate::{given, program};
 use replay::Options;
 
 /// A host file: its name and its bytes.
@@ -41,3 +42,7 @@ macro_rules! given {
     ($($part:ident: $value:expr),+) => { $crate::given!($crate::EMPTY, $($part: $value),+) };
     ($others:expr, $($part:ident: $value:expr),+) => { $crate::Given { $($part: $value,)+ ..$others } };
 }
+
+/// The program that prints `Hi` by call 9 and returns.
+pub const PRINTS: Given<'_> =
+    given!(program: &program![MVI C,9; LXI D,0x0109; CALL 5; RET; DB b'H',b'i',b'$';]);

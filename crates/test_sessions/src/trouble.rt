@@ -1,28 +1,19 @@
 // Why a session is given up.
 
 use std::alloc::AllocError;
+use std::test::Fail;
 
 /// What differs from the expected result.
 #[derive(Clone, Copy, PartialEq, Eq, Debug)]
 pub enum Difference {
-    /// A run executed more or fewer steps than expected.
-    Count,
     /// A run ended by another cause.
     Cause,
     /// A run ended after another number of steps.
     Steps,
-    /// A run ended with other registers.
-    Registers,
-    /// A run printed another text.
-    Text,
-    /// A run left other cells or files.
+    /// There are more or fewer rows.
     Left,
-    /// An edit had another result.
+    /// A question has another answer.
     Answer,
-    /// Other checkpoints are kept.
-    Checkpoints,
-    /// It is another session.
-    Session,
 }
 
 /// Why a session is given up.
@@ -32,14 +23,20 @@ pub enum Trouble {
     OutOfMemory,
     /// A name, a host file, a session or its options are refused.
     Refused,
-    /// A host file is there although memory for it ran out.
-    RefusedFileThere,
-    /// The number of an act, counted from 1, and what differs after it.
+    /// The number of a question, counted from 1, or 0 for the run, and what differs.
     Differs(usize, Difference),
 }
 
 impl From<AllocError> for Trouble {
     fn from(_error: AllocError) -> Trouble {
         Trouble::OutOfMemory
+    }
+}
+
+/// Returns the outcome of a case, with the name of the case in an error.
+pub fn name_failure(name: &str, outcome: Result<(), Trouble>) -> Result<(), Fail> {
+    match outcome {
+        Ok(()) => Ok(()),
+        Err(trouble) => Err(Fail::new(format_args!("{name}: {trouble:?}"))),
     }
 }

@@ -1,7 +1,8 @@
 // `machine` and `replay`: sessions, steps, and a runner with its reports.
 
 use machine::{
-    Bytes, Cause, Desk, HostFiles, Meter, Name, Regs, Session, SessionError, Spot, State, step,
+    Bytes, Cause, Desk, HostFiles, Meter, Name, Regs, Session, SessionError, Spot, State,
+    plain_machine_is_laid, step,
 };
 use replay::{Edit, EditError, Options, OptionsError, Report, Runner, prefix_dependence};
 use std::alloc::{AllocError, Global};
@@ -35,6 +36,7 @@ pub fn steps(alloc: Global, session: &Session) -> Result<Option<Cause>, AllocErr
 
 /// Makes a runner.
 pub fn runner(alloc: Global, session: Session) -> Result<Runner, OptionsError> {
+    plain_machine_is_laid();
     prefix_dependence();
     Runner::new(
         alloc,

@@ -1,0 +1,74 @@
+"""Plays the cases of tests/cases/command: the built program with the words of a command line, in a folder of its own; its status and what it writes."""
+import shlex
+from pathlib import Path
+
+from assembler import assemble
+from cases import FOLDER, common_programs, parse_bytes, rows_of, sections_of
+from helpers import PROGRAM, ProgramTest
+
+
+class Wanted:
+    """What is expected of a command: its status, its two outputs, and texts that these contain."""
+
+    def __init__(self, words: list[str]) -> None:
+        self.words = words
+        self.status = 0
+        self.texts = {'|': b'', '!': b''}
+        self.parts: dict[str, list[bytes]] = {'|': [], '!': []}
+
+    def read(self, line: str) -> None:
+        word, _, rest = line.partition(' ')
+        if word == 'status':
+            self.status = int(rest)
+        elif word == 'out':
+            self.texts['|'] += parse_bytes(rest)
+        elif word in self.texts:
+            self.texts[word] += rest.encode() + b'\n'
+        else:
+            self.parts[word.removesuffix('~')].append(rest.encode())
+
+    def is_met(self, mark: str, text: bytes) -> bool:
+        parts = self.parts[mark]
+        return all(part in text for part in parts) if parts else text == self.texts[mark]
+
+
+class CommandCasesTest(ProgramTest):
+
+    def test_cases(self) -> None:
+        paths = sorted((FOLDER / 'command').glob('*.txt'))
+        self.assertTrue(paths)
+        for path in paths:
+            for section in sections_of(path)[1:]:
+                for lines in rows_of(section):
+                    with self.subTest(case=f'{path.name}: {lines[0][3:]}'):
+                        self.remove_work()
+                        self.work.mkdir()
+                        self.play(lines[1:])
+
+    def play(self, lines: list[str]) -> None:
+        commands: list[Wanted] = []
+        for line in lines:
+            word, _, rest = line.partition(' ')
+            if word == '$':
+                commands.append(Wanted(shlex.split(rest)))
+            elif commands:
+                commands[-1].read(line)
+            else:
+                self.prepare(word, *rest.partition(' ')[::2])
+        for wanted in commands:
+            done = self.run_command(PROGRAM, *wanted.words, cwd=self.work)
+            self.assertEqual(done.returncode, wanted.status, (wanted.words, done.stderr))
+            self.assertTrue(wanted.is_met('|', done.stdout) and wanted.is_met('!', done.stderr), (wanted.words, done.stdout, done.stderr))
+
+    def prepare(self, verb: str, name: str, rest: str) -> None:
+        """Makes a program, a file, a sparse file of zeros, or a folder."""
+        path: Path = self.work / name
+        if verb == 'code':
+            path.write_bytes(assemble(common_programs()[rest[8:]] if rest.startswith('program ') else [rest]))
+        elif verb == 'put':
+            path.write_bytes(parse_bytes(rest))
+        elif verb == 'zeros':
+            with path.open('wb') as file:
+                file.truncate(int(rest))
+        else:
+            path.mkdir()
