@@ -84,8 +84,8 @@ fn write_each<W: Writer, T: StepTable>(
     from: usize,
 ) -> Result<(), Failed>
     ensures { WritesText (W.output writer.old) (W.output writer.new)
-        (concat (map (row_line format (head_text head.now)) (rows_from Joining.ByStep (T.steps table.now) from)))
-        result }
+        (concat (map (row_line format (head_text head.now))
+        (rows_from Joining.ByStep (T.steps table.now) from))) result }
 {
     let mut from = from;
     while let Some(row) = next_row(table, Joining::ByStep, from) {

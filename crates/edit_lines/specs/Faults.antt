@@ -48,7 +48,7 @@ pub record WritesLastInPart (old : ReplayView) (lines : List (List ℕ)) (new : 
   pub replays : Replays old.session lines (whole.text ++ reply) new.session (Finished (length lines))
   pub part : WritesPart between.output new.output reply
 
--- Nothing was read, or the line after those that were executed may need memory.
+-- Nothing was read, or the line after the executed ones may need memory.
 abbrev pub MayAllocate : List ℕ → List (List ℕ) → Session → Type 0
 MayAllocate bytes done s =
     (bytes ≡ [])
