@@ -59,7 +59,7 @@ fn write_more<W: Writer, T: StepTable>(
     table: &T,
     first: Row,
 ) -> Result<u64, Failed>
-    ensures joining { WritesText (W.output writer.old) (W.output writer.new)
+    ensures rows { WritesText (W.output writer.old) (W.output writer.new)
         (concat (map (texts.row_text format) (rows_from Joining.Joined (T.steps table.now) (first.end))))
         result }
     ensures least { IfOk result (λ step. step

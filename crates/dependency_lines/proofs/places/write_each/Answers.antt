@@ -9,12 +9,12 @@ use Rattle.dependency_lines.specs.Places.{row_line}
 use Rattle.dependency_lines.proofs.Lines.{parts_next, parts_end}
 use Rattle.dependency_lines.proofs.places.write_each.Goals as goal
 
-pub loop-range-init : goal.loop-range-init
-loop-range-init g c = record { text = []; written = whole_nil _; left = refl }
+pub loop-row-init : goal.loop-row-init
+loop-row-init g c = record { text = []; written = whole_nil _; left = refl }
 
-pub loop-range-preserved : goal.loop-range-preserved
-loop-range-preserved g c =
-    let i = c.loop-range.invariant in
+pub loop-row-preserved : goal.loop-row-preserved
+loop-row-preserved g c =
+    let i = c.loop-row.invariant in
     let line = row_line c.args.format (head_text c.args.head.now) in
     record {
       text = i.text ++ line c.in-Some.row;
@@ -24,7 +24,7 @@ loop-range-preserved g c =
 
 pub returns-in_err-write_row_line : goal.returns-in_err-write_row_line
 returns-in_err-write_row_line g c =
-    let i = c.loop-range.invariant in
+    let i = c.loop-row.invariant in
     let line = row_line c.args.format (head_text c.args.head.now) in
     let row = line c.in-Some.row in
     let rest = concat (map line (rows_from ByStep (g.T.StepTable.steps c.args.table.now) c.in-Some.row.end)) in
@@ -33,5 +33,5 @@ returns-in_err-write_row_line g c =
 
 pub returns : goal.returns
 returns g c =
-    let i = c.loop-range.invariant in
+    let i = c.loop-row.invariant in
     subst (WritesWhole _ _) (parts_end (row_line c.args.format (head_text c.args.head.now)) i.text _ _ c.in_default.ensures.none i.left) i.written

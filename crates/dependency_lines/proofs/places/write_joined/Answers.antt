@@ -45,7 +45,7 @@ returns-in_err-step g c =
     let same = ap (joined_line c.args.format head) (sym c.in-Some.ensures.some.first) in
     writes_same _ _ (((head ++ row) ++ more) ++ end) _ c.from_residual-in_err-step.result same
     (writes_part (((head ++ row) ++ more) ++ end) c.from_residual-in_err-step.result c.from_residual-in_err-step.ensures.0
-    (part_more ((head ++ row) ++ more) end (part_then (head ++ row) more (whole_then head row c.in_ok-write_head.ensures c.in_ok-write_row.ensures) c.in_err-step.ensures.joining)))
+    (part_more ((head ++ row) ++ more) end (part_then (head ++ row) more (whole_then head row c.in_ok-write_head.ensures c.in_ok-write_row.ensures) c.in_err-step.ensures.rows)))
 
 pub returns : goal.returns
 returns g c =
@@ -58,4 +58,4 @@ returns g c =
     let same = ap (joined_line c.args.format head) (sym c.in-Some.ensures.some.first) in
     writes_same _ _ (((head ++ row) ++ more) ++ step_end c.in_ok-step.step) _ c.write_step.result (ap (λ n. ((head ++ row) ++ more) ++ step_end n) c.in_ok-step.ensures.least ∙ same)
     (writes_then _ ((head ++ row) ++ more) (step_end c.in_ok-step.step) c.write_step.result
-    (whole_then (head ++ row) more (whole_then head row c.in_ok-write_head.ensures c.in_ok-write_row.ensures) c.in_ok-step.ensures.joining) c.write_step.ensures)
+    (whole_then (head ++ row) more (whole_then head row c.in_ok-write_head.ensures c.in_ok-write_row.ensures) c.in_ok-step.ensures.rows) c.write_step.ensures)

@@ -10,12 +10,12 @@ use Rattle.dependency_lines.specs.Words.{row_text}
 use Rattle.dependency_lines.proofs.Lines.{parts_next, parts_end}
 use Rattle.dependency_lines.proofs.places.write_more.Goals as goal
 
-pub loop-range-init : goal.loop-range-init
-loop-range-init g c = record { text = []; written = whole_nil _; left = refl; least = refl }
+pub loop-row-init : goal.loop-row-init
+loop-row-init g c = record { text = []; written = whole_nil _; left = refl; least = refl }
 
-pub loop-range-preserved : goal.loop-range-preserved
-loop-range-preserved g c =
-    let i = c.loop-range.invariant in
+pub loop-row-preserved : goal.loop-row-preserved
+loop-row-preserved g c =
+    let i = c.loop-row.invariant in
     let r = c.in-Some.row in
     let rest = rows_from Joined (g.T.StepTable.steps c.args.table.now) r.end in
     let split = c.in-Some.ensures.some.first in
@@ -23,12 +23,12 @@ loop-range-preserved g c =
       text = i.text ++ row_text c.args.format r;
       written = whole_then i.text (row_text c.args.format r) i.written c.in_ok-write_row.ensures;
       left = parts_next (row_text c.args.format) i.text _ _ r rest split i.left;
-      least = ap (λ step. earliest step rest) (earlier_is_min c.loop-range.step r.step c.min-step.result c.min-step.ensures) ∙ ap (earliest c.loop-range.step) (sym split) ∙ i.least;
+      least = ap (λ step. earliest step rest) (earlier_is_min c.loop-row.step r.step c.min-step.result c.min-step.ensures) ∙ ap (earliest c.loop-row.step) (sym split) ∙ i.least;
     }
 
 pub returns-in_err-write_row-clause-rows : goal.returns-in_err-write_row-clause-rows
 returns-in_err-write_row-clause-rows g c =
-    let i = c.loop-range.invariant in
+    let i = c.loop-row.invariant in
     let r = c.in-Some.row in
     let rest = concat (map (row_text c.args.format) (rows_from Joined (g.T.StepTable.steps c.args.table.now) r.end)) in
     let row = row_text c.args.format r in
@@ -37,8 +37,8 @@ returns-in_err-write_row-clause-rows g c =
 
 pub returns-clause-rows : goal.returns-clause-rows
 returns-clause-rows g c =
-    let i = c.loop-range.invariant in
+    let i = c.loop-row.invariant in
     subst (WritesWhole _ _) (parts_end (row_text c.args.format) i.text _ _ c.in_default.ensures.none i.left) i.written
 
 pub returns-clause-least : goal.returns-clause-least
-returns-clause-least g c = ap (earliest c.loop-range.step) (sym c.in_default.ensures.none) ∙ c.loop-range.invariant.least
+returns-clause-least g c = ap (earliest c.loop-row.step) (sym c.in_default.ensures.none) ∙ c.loop-row.invariant.least

@@ -8,8 +8,8 @@ use Rattle.dependency_lines.specs.Words.{row_text}
 use Rattle.dependency_lines.proofs.places.write_more.Given as goal
 
 -- Some rows are written, with this least step, and the others are left.
-abbrev pub invariant-loop-range : goal.invariant-loop-range
-invariant-loop-range g l = record {
+abbrev pub invariant-loop-row : goal.invariant-loop-row
+invariant-loop-row g l = record {
   text : List ℕ;
   written : WritesWhole (g.W.Writer.output l.initial.writer) (g.W.Writer.output l.writer) text;
   left : text ++ concat (map (row_text l.format) (rows_from Joined (g.T.StepTable.steps l.table) l.from))
@@ -18,5 +18,5 @@ invariant-loop-range g l = record {
       ≡ earliest l.fn.first.step (rows_from Joined (g.T.StepTable.steps l.table) l.fn.first.end);
 }
 
-abbrev pub decreases-loop-range : goal.decreases-loop-range
-decreases-loop-range g l = length (g.T.StepTable.steps l.table) - l.from
+abbrev pub decreases-loop-row : goal.decreases-loop-row
+decreases-loop-row g l = length (g.T.StepTable.steps l.table) - l.from
