@@ -85,7 +85,7 @@ fn report_with_rule<'a, S: FileSystem, O: Writer, E: Writer>(
     out: &mut O,
     err: &mut E,
 ) -> Result<u8, Fault<'a>>
-    requires noted { AreDependencies run.now.session.now run.now.looks run.now.steps run.now.cause }
+    requires { AreDependencies run.now.session.now run.now.looks run.now.steps run.now.cause }
     ensures done { IfOk result (λ status. RunsRule words.now path.now run.now.session.now status
         (world (S.files system.old) (O.output out.old) (E.output err.old))
         (world (S.files system.new) (O.output out.new) (E.output err.new))) }
@@ -112,7 +112,7 @@ pub fn run_with_rule<'a, S: FileSystem, O: Writer, E: Writer>(
     out: &mut O,
     err: &mut E,
 ) -> Result<u8, Fault<'a>>
-    requires meter { meter.old ≤ 2 ^ 63 }
+    requires { meter.old ≤ 2 ^ 63 }
     ensures done { IfOk result (λ status. RunsWithRule words.now path.entry status
         (world (S.files system.old) (O.output out.old) (E.output err.old))
         (world (S.files system.new) (O.output out.new) (E.output err.new))) }

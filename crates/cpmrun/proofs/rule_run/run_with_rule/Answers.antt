@@ -24,8 +24,8 @@ returns-in_default-clause-fault g c =
       inr (c.in_ok-session.session, rw c.session-2.ensures at c.in_ok-session.ensures.session, inl (rule.OutOfMemory, refl, tt, (refl, c.in_ok-session.ensures.unchanged.bytes))),
     )
 
-pub report_with_rule-requires-clause-noted : goal.report_with_rule-requires-clause-noted
-report_with_rule-requires-clause-noted g c = rw c.in-Ok.ensures.session c.in-Ok.ensures.looks
+pub report_with_rule-requires : goal.report_with_rule-requires
+report_with_rule-requires g c = rw c.in-Ok.ensures.session c.in-Ok.ensures.looks
 
 pub returns-clause-done : goal.returns-clause-done
 returns-clause-done g c =
