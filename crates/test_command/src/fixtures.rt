@@ -1,6 +1,6 @@
 // Acts in the folder of a test, and the results of the command for words there.
 
-ghost use Rattle.std.specs.Prelude.{None};
+ghost use Rattle.std.specs.Prelude.{None, length};
 
 use cpmrun::{Failed, Over, SystemFiles, Writer, command, metered_command};
 use machine::Meter;

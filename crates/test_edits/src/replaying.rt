@@ -1,6 +1,6 @@
 // Replays of edit texts, with readers and writers that may fail.
 
-ghost use Rattle.std.specs.Prelude.{None, vec_len, ◌≤◌};
+ghost use Rattle.std.specs.Prelude.{None, vec_len, ◌≤◌, length};
 
 use edit_lines::{Failed, Reader, ReplayFault, Writer, replay};
 use machine::Meter;
