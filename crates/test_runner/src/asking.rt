@@ -3,7 +3,7 @@
 use crate::telling::write_bytes;
 use crate::trouble::Trouble;
 use crate::words::{address, name, number};
-use dependencies::{Dependencies, Rows};
+use dependencies::{Dependencies, Joining};
 use dependency_lines::write_dependencies;
 use edit_lines::Over;
 use machine::{Meter, Name, Session};
@@ -77,7 +77,7 @@ fn tell_dependencies(
     rt: &impl Print,
     alloc: Global,
     session: &Session,
-    rows: Rows,
+    rows: Joining,
 ) -> Result<(), Trouble> {
     let dependencies = Dependencies::of_run(alloc, session)?;
     let mut writer = Over::new(io::writer(rt));
@@ -133,10 +133,10 @@ pub fn ask(
     match words {
         [what] if *what == "session" => tell_session(rt, runner.session()),
         [what] if *what == "dependencies" => {
-            tell_dependencies(rt, alloc, runner.session(), Rows::Joined)
+            tell_dependencies(rt, alloc, runner.session(), Joining::Joined)
         }
         [what, _] if *what == "dependencies" => {
-            tell_dependencies(rt, alloc, runner.session(), Rows::ByStep)
+            tell_dependencies(rt, alloc, runner.session(), Joining::ByStep)
         }
         _ => tell_run(rt, alloc, runner, words),
     }
