@@ -16,9 +16,13 @@ pub const HI: &[u8] = &program![MVI C,9; LXI D,0x0109; CALL 5; RET; DB b'H',b'i'
 /// A program that takes a byte of the console by call 1 and returns.
 pub const TAKE: &[u8] = &program![MVI C,1; CALL 5; RET;];
 
-/// The expected result of the command with an output that fails.
+/// The expected result of the command: its status, and the texts of standard output and standard error.
 #[derive(Clone, Copy, Debug)]
-pub enum Wanted {
+pub enum Wanted<'a> {
+    /// These texts, the second with the folder's path in place of its first `@`.
+    Answer(u8, &'a str, &'a str),
+    /// Texts that contain these parts, or empty texts if there are no parts.
+    Parts(u8, &'a [&'a str], &'a [&'a str]),
     /// A standard output that takes this many bytes and then fails, which is reported.
     NoRoom(usize),
     /// A standard error that takes this many bytes and then fails, which is ignored.
@@ -31,7 +35,7 @@ pub enum Act<'a> {
     /// A file with these bytes.
     Put(&'a str, &'a [u8]),
     /// A call of the command with these words, each with the folder's path in place of its first `@`.
-    Ask(&'a [&'a str], Wanted),
+    Ask(&'a [&'a str], Wanted<'a>),
     /// A call of the command with the words of this text, each with the folder's path in place of its first `@`; its runs execute
     /// this many steps.
     Count(&'a str, u64),
@@ -80,28 +84,58 @@ fn owned(alloc: Global, folder: &str, words: &[&str]) -> Result<Vec<String>, All
     Ok(list)
 }
 
+// Returns whether a text is this one, with the folder's path in place of its first `@`.
+fn is_in_folder(text: &str, folder: &str, wanted: &str) -> bool {
+    let Some((before, after)) = wanted.split_once('@') else {
+        return text == wanted;
+    };
+    match text.strip_prefix(before) {
+        Some(rest) => rest.strip_prefix(folder) == Some(after),
+        None => false,
+    }
+}
+
+// Returns whether a text contains each of these parts, and is empty if there are none.
+fn holds(text: &str, parts: &[&str]) -> bool {
+    for part in parts {
+        if !text.contains(*part) {
+            return false;
+        }
+    }
+    text.is_empty() == parts.is_empty()
+}
+
 // The result of the command: its status, and the texts of standard output and standard error.
 type Told<'a> = (u8, &'a [u8], &'a [u8]);
 
-fn is_wanted((status, _, err): Told<'_>, wanted: Wanted) -> bool {
+fn is_wanted(folder: &str, told: Told<'_>, wanted: Wanted<'_>) -> bool {
+    let (status, out, err) = told;
+    let (Ok(out), Ok(err)) = (str::from_utf8(out), str::from_utf8(err)) else {
+        return false;
+    };
     match wanted {
-        Wanted::NoRoom(_) => {
-            status == 1 && err == b"cpmrun: cannot write standard output\n".as_slice()
+        Wanted::Answer(code, text, fault) => {
+            status == code && out == text && is_in_folder(err, folder, fault)
         }
+        Wanted::Parts(code, texts, faults) => {
+            status == code && holds(out, texts) && holds(err, faults)
+        }
+        Wanted::NoRoom(_) => status == 1 && err == "cpmrun: cannot write standard output\n",
         Wanted::Untold(_, code) => status == code,
     }
 }
 
 // Returns the room of standard output and of standard error.
-fn rooms(wanted: Wanted) -> (usize, usize) {
+fn rooms(wanted: Wanted<'_>) -> (usize, usize) {
     match wanted {
         Wanted::NoRoom(room) => (room, usize::MAX),
         Wanted::Untold(room, _) => (usize::MAX, room),
+        _ => (usize::MAX, usize::MAX),
     }
 }
 
 // Calls the command, and compares its result.
-fn ask(rt: &HostRuntime, words: &[String], wanted: Wanted) -> Result<(), Fail> {
+fn ask(rt: &HostRuntime, folder: &str, words: &[String], wanted: Wanted<'_>) -> Result<(), Fail> {
     let (out_room, err_room) = rooms(wanted);
     let mut out = Screen {
         text: Vec::new(rt.alloc()),
@@ -115,15 +149,15 @@ fn ask(rt: &HostRuntime, words: &[String], wanted: Wanted) -> Result<(), Fail> {
     };
     let status = command(&mut SystemFiles::new(rt), words, &mut out, &mut err);
     let told = (status, out.text.as_slice(), err.text.as_slice());
-    if is_wanted(told, wanted) {
+    if is_wanted(folder, told, wanted) {
         return Ok(());
     }
     Err(Fail::new(format_args!("{words:?}: {told:?}, and not {wanted:?}")))
 }
 
-fn ask_in(rt: &HostRuntime, folder: &str, words: &[&str], wanted: Wanted) -> Result<(), Fail> {
+fn ask_in(rt: &HostRuntime, folder: &str, words: &[&str], wanted: Wanted<'_>) -> Result<(), Fail> {
     let words = owned(rt.alloc(), folder, words)?;
-    ask(rt, words.as_slice(), wanted)
+    ask(rt, folder, words.as_slice(), wanted)
 }
 
 // Checks how many steps the runs of the command execute with these words, and that it ends with status 0.
