@@ -53,7 +53,7 @@ run_effect old meter new metered run is session options ticked made =
       counted = subst (λ (k : ℕ). RestartsCount old new k) steps made.2;
     }
 
--- The effect of a line, from that of its command.
+-- The effect of a line, from the effect of its command.
 pub executes_line : (n : ℕ) (line : List ℕ) (c : Command) (old new : ReplayState) (r : Result (Unit {0}) ReplayFault)
     → n ≤ LINES_LIMIT → EditLine line c → ExecutesCommand c old new r → ExecutesLine n line old new r
 executes_line n line c old new (Err (Malformed k)) few is h = absurd h

@@ -6,7 +6,7 @@ use crate::fixtures::{Act, HI, TAKE, play};
 use std::test::Fail;
 use test_sessions::program;
 
-// Makes the file that the second word of the tail names, and then that of the first one.
+// Makes the file that the second word of the tail names, and then the one that the first word names.
 const MAKE: &[u8] = &program![MVI C,22; LXI D,0x006C; CALL 5; MVI C,22; LXI D,0x005C; CALL 5; RET;];
 
 // Makes the file that the first word of the tail names, and prints `Hi`.
