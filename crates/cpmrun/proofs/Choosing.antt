@@ -7,12 +7,12 @@ use Rattle.replay.specs.RunnerView.{with_no_checkpoint}
 use Rattle.folders.specs.FileSystem.{text_at}
 use Rattle.requests.specs.declared.fault.Fault.{Fault}
 use Rattle.cpmrun.specs.AreWords.{AreWords}
-use Rattle.one_run.specs.RawRun.{BreaksRun, RunsOnce}
+use Rattle.one_run.specs.RunsOnce.{BreaksRun, RunsOnce}
 use Rattle.one_run.specs.declared.fault.RunFault.{RunFault}
 use Rattle.one_run.specs.declared.fault.RunFault.TheVariants as run
 use Rattle.folders.specs.FileSystem.{StoredFiles}
 use Rattle.one_run.specs.World.{World, world}
-use Rattle.report_lines.specs.Streams.{Output}
+use Rattle.streams.specs.Streams.{Output}
 use Rattle.std.specs.Prelude.{MatchOption}
 use Rattle.requests.specs.FaultReports.{file_paths, of_load, of_run}
 use Rattle.command_words.specs.RunLine.{session_words}

@@ -5,7 +5,7 @@ use Rattle.std.specs.Borrow.{Bor}
 use Rattle.command_words.specs.declared.words.Words.{Words}
 use Rattle.replay.specs.RunnerView.{RunnerView}
 use Rattle.one_run.specs.World.{World}
-use Rattle.report_lines.specs.Streams.{Output}
+use Rattle.streams.specs.Streams.{Output}
 use Rattle.cpmrun.specs.Ends.{EndsWithoutFault, WritesReplay}
 use Rattle.cpmrun.specs.MeteredEnds.{MeteredEnds, WritesReplayBy}
 

@@ -1,6 +1,5 @@
 -- What a replay wrote, and what it read.
-use Rattle.std.proofs.Common.{◌≡◌, ◌<◌, arith, ℕ, List, [], ◌∷◌, ◌++◌, take, append-nil, refl, sym, ap, subst, ◌∙◌, ◌⊎◌, inl, inr, Option, Some, None, Result, Ok, Err, IfErr, IfSome, OnOk}
-use Rattle.std.proofs.lemmas.List.{take_all}
+use Rattle.std.proofs.Common.{◌≡◌, ℕ, List, ◌++◌, take, append-nil, refl, sym, ap, subst, ◌∙◌, ◌⊎◌, inl, inr, Option, Some, None, Result, Ok, Err, IfErr, IfSome, OnOk}
 use Rattle.std.specs.Io.KnownBytes.{Consumes, IsAtEnd}
 use Rattle.machine.specs.Inputs.{Session}
 use Rattle.edit_lines.specs.declared.ending.Ending.{Ending}
@@ -8,7 +7,7 @@ use Rattle.edit_lines.specs.declared.ending.ReplayFault.{ReplayFault}
 use Rattle.edit_lines.specs.Effects.{HasEffects}
 use Rattle.edit_lines.specs.Faults.{AreLines, EndsReplay, replay_view}
 use Rattle.replay.specs.RunnerView.{RunnerView}
-use Rattle.report_lines.specs.Streams.{Output}
+use Rattle.streams.specs.Streams.{Output}
 use Rattle.folders.specs.FileSystem.{Path, FileBytes, Opens, text_at}
 use Rattle.cpmrun.specs.Ends.{BreaksOffWith}
 use Rattle.cpmrun.specs.MeteredEnds.{WritesReplayBy}
@@ -64,9 +63,3 @@ breaks_file files path left f s before after o b = elim (of_file files path left
   | inl e ↦ subst (λ source. BreaksOffWith f source s before after) (sym e) b
   | inr e ↦ subst (λ source. BreaksOffWith f source s before after) (sym e) (record { left = b.left; last = b.last; bytes = b.bytes; done = b.done; next = b.next; read = tt; lines = b.lines; leaves = b.leaves })
 ]
-
--- A reader that had not failed failed, and that was noted.
-pub one_failed : (begun ended : ℕ) (path : Path) (before middle after : List Path) → begun ≡ 0 → begun < ended → middle ≡ before → after ≡ take ended (path ∷ []) ++ middle
-    → after ≡ path ∷ before
-one_failed begun ended path before middle after none more same added =
-    added ∙ ap (λ paths. paths ++ middle) (take_all ended (path ∷ []) (omega (arith, none, more))) ∙ ap (λ paths. path ∷ paths) same

@@ -10,14 +10,14 @@ use Rattle.machine.specs.Inputs.{Session}
 use Rattle.edit_lines.specs.declared.ending.ReplayFault.{ReplayFault}
 use Rattle.edit_lines.specs.declared.ending.ReplayFault.TheVariants as replay_fault
 use Rattle.requests.specs.declared.fault.Fault.{Fault}
-use Rattle.requests.specs.declared.fault.Fault.TheVariants.{Usage, NotText, CannotRead, CannotWrite, Folders, Refused, Malformed, TooLong, RulePath, OutOfMemory}
+use Rattle.requests.specs.declared.fault.Fault.TheVariants.{CannotRead, CannotWrite, Malformed, TooLong, OutOfMemory}
 use Rattle.requests.specs.declared.tool.Tool.TheVariants.{Cpmrun}
 use Rattle.requests.specs.Requests.{FailsToInform, FailsToLoadSession, FailsToParse, WritesNothing}
 use Rattle.cpmrun.specs.AreWords.{AreWords, HasFaultClass}
 use Rattle.loading.specs.Loading.{IsLoadedFrom}
-use Rattle.one_run.specs.RawRun.{BreaksRun, RunsOnce}
+use Rattle.one_run.specs.RunsOnce.{BreaksRun, RunsOnce}
 use Rattle.one_run.specs.World.{World}
-use Rattle.report_lines.specs.Streams.{Output, WritesWhole}
+use Rattle.streams.specs.Streams.{Output, WritesWhole}
 use Rattle.one_run.specs.declared.fault.RunFault.{RunFault}
 use Rattle.folders.specs.FileSystem.{text_at}
 use Rattle.edit_lines.specs.Pieces.{lines_of}
@@ -49,16 +49,12 @@ pub record BreaksOffWith (f : ReplayFault) (source : Option (List ℕ)) (first :
 
 -- What an error that broke off the replay of the edit lines of this path leaves; the file has these bytes if they are known.
 abbrev pub BreaksReplay : List ℕ → Option (List ℕ) → Session → Output → Output → Fault → Type 0
-BreaksReplay path source s old new (Usage text) = ⊥
-BreaksReplay path source s old new NotText = ⊥
 BreaksReplay path source s old new (CannotRead p) = (p.now ≡ path) × ((new ≡ old) ⊎ BreaksOffWith replay_fault.Read source s old new)
 BreaksReplay path source s old new CannotWrite = BreaksOffWith replay_fault.Write source s old new
-BreaksReplay path source s old new (Folders f) = ⊥
-BreaksReplay path source s old new (Refused n) = ⊥
 BreaksReplay path source s old new (Malformed k) = BreaksOffWith (replay_fault.Malformed k) source s old new
 BreaksReplay path source s old new (TooLong k) = BreaksOffWith (replay_fault.LineTooLong k) source s old new
-BreaksReplay path source s old new (RulePath p) = ⊥
 BreaksReplay path source s old new OutOfMemory = (new ≡ old) ⊎ BreaksOffWith replay_fault.OutOfMemory source s old new
+BreaksReplay path source s old new fault = ⊥
 
 -- The session that the words describe, loaded from these files and folders.
 abbrev pub IsSessionOf : World → Words → Session → Type 0

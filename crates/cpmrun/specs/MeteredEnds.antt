@@ -10,7 +10,7 @@ use Rattle.edit_lines.specs.Pieces.{lines_of}
 use Rattle.edit_lines.specs.Replay.{Finished, Replays}
 use Rattle.cpmrun.specs.Ends.{EndsBy}
 use Rattle.one_run.specs.World.{World}
-use Rattle.report_lines.specs.Streams.{Output, WritesWhole}
+use Rattle.streams.specs.Streams.{Output, WritesWhole}
 
 -- The options for checkpoints in the words.
 abbrev pub options_of : Words → Options

@@ -13,12 +13,11 @@ use Rattle.make_rules.specs.RefusedPaths.{FailsPaths, refuses_rule}
 use Rattle.make_rules.specs.RunRules.{BreaksRule, IsRule}
 use Rattle.make_rules.specs.declared.fault.RuleFault.{RuleFault}
 use Rattle.one_run.specs.Faults.{fault_of}
-use Rattle.one_run.specs.RawRun.{BreaksRun, WritesFiles, console_text, stop_status, stop_text}
+use Rattle.one_run.specs.RunsOnce.{BreaksRun, WritesFiles, console_text, stop_status, stop_text}
 use Rattle.one_run.specs.World.{World}
 use Rattle.one_run.specs.WrittenPaths.{written_paths}
 use Rattle.one_run.specs.declared.fault.RunFault.{RunFault}
-use Rattle.one_run.specs.declared.fault.RunFault.TheVariants.{OutOfMemory}
-use Rattle.report_lines.specs.Streams.{WritesOrFails, WritesWhole}
+use Rattle.streams.specs.Streams.{WritesOrFails, WritesWhole}
 use Rattle.requests.specs.FaultReports.{of_run}
 use Rattle.requests.specs.Requests.{FailsToLoadSession, WritesNothing}
 use Rattle.requests.specs.RuleFaults.{of_rule}
@@ -66,7 +65,7 @@ abbrev pub BreaksRuleRun : Words → Path → Session → World → World → Fa
 BreaksRuleRun w path s before after fault =
     ((f : RuleFault) × (fault ≡ of_rule f) × BreaksRule (session_words w) (targets_of w path s) before.files s f × WritesNothing before after)
     ⊎ ((f : RunFault) × (fault ≡ of_run f)
-    × (BreaksRun w.out s before after f ⊎ LeavesRule w path s before after f ⊎ ((f ≡ OutOfMemory) × WritesRule w path s before after)))
+    × (BreaksRun w.out s before after f ⊎ LeavesRule w path s before after f))
 
 -- The rule can have the paths of the words; the session was loaded and run, and the rule was written to this path.
 pub record RunsWithRule (w : Words) (path : Bor (List ℕ)) (status : ℕ) (before after : World) : Type 0 where

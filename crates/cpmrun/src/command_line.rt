@@ -10,11 +10,9 @@ ghost use Rattle.cpmrun.specs.Ends.{BreaksOffWith, BreaksReplay, EndsWithoutFaul
 ghost use Rattle.cpmrun.specs.RuleEnds.{BreaksWithRule, RunsWithRule};
 ghost use Rattle.cpmrun.specs.MeteredEnds.{MeteredEnds, WritesReplayBy, options_of};
 ghost use Rattle.one_run.specs.World.{world};
-ghost use Rattle.report_lines.specs.Streams.{Output};
+ghost use Rattle.streams.specs.Streams.{Output};
 ghost use Rattle.folders.specs.FileSystem.{text_at};
 
-use crate::edit_file::EditFile;
-use crate::fault::report_fault;
 use crate::request::read_request;
 use crate::rule_run::run_with_rule;
 use command_words::Words;
@@ -24,7 +22,7 @@ use loading::{load, open};
 use machine::{Meter, Session};
 use one_run::run_once;
 use replay::{Options, Runner};
-use requests::{Fault, Request, print_information};
+use requests::{Fault, Request, Tool, print_information, report_fault};
 use std::alloc::Global;
 
 /// Returns the options for checkpoints in the words.
@@ -79,14 +77,13 @@ fn replay_file<'a, S: FileSystem, O: Writer>(
         (O.output out.old) (O.output out.new)) }
     ensures unchanged { KeepsFiles file_paths result (S.files system.old) (S.files system.new) }
 {
-    let input = open(system, path)?;
-    let mut edits = EditFile { input };
+    let mut edits = open(system, path)?;
     match replay_session(system.alloc(), session, options, meter, &mut edits, out) {
         Ok(_) => Ok(()),
         Err(ReplayFault::Malformed(line)) => Err(Fault::Malformed(line)),
         Err(ReplayFault::LineTooLong(line)) => Err(Fault::TooLong(line)),
         Err(ReplayFault::Read) => {
-            system.note_failed_reads(path, &edits.input);
+            system.note_failed_read(path, &edits);
             Err(Fault::CannotRead(path))
         }
         Err(ReplayFault::Write) => Err(Fault::CannotWrite),
@@ -109,7 +106,7 @@ fn run<'a, S: FileSystem, O: Writer, E: Writer>(
     ensures fault { IfErr result (λ fault. (old new : Output) → FaultOf BreaksWithRule
         (map string_bytes words.entry.now) (world (S.files system.old) (O.output out.old) old)
         (world (S.files system.new) (O.output out.new) new) fault) }
-    ensures untold { OnErr result (err.new ≡ err.old) }
+    ensures unreported { OnErr result (err.new ≡ err.old) }
     ensures failed { ReportsPaths file_paths result (S.files system.old) (S.files system.new) }
 {
     let words = match read_request(system.alloc(), words)? {
@@ -120,11 +117,11 @@ fn run<'a, S: FileSystem, O: Writer, E: Writer>(
         }
     };
     if let Some(path) = words.deps {
-        return run_with_rule(system, &words, path, meter, out, err);
+        return run_with_rule(system, &words, path, out, err);
     }
     let session = load(system, &words.session())?;
     let Some(path) = words.edits else {
-        return Ok(run_once(system, &words.out, session, meter, out, err)?);
+        return Ok(run_once(system, &words.out, session, out, err)?);
     };
     replay_file(system, path, session, options(&words), meter, out)?;
     Ok(0)
@@ -149,7 +146,7 @@ pub fn metered_command<S: FileSystem, O: Writer, E: Writer>(
 {
     match run(system, words, meter, out, err) {
         Ok(status) => status,
-        Err(fault) => report_fault(system.alloc(), fault, err),
+        Err(fault) => report_fault(system.alloc(), Tool::Cpmrun, fault, err),
     }
 }
 

@@ -2,12 +2,10 @@
 //!
 //! - `request`: the request in the words of the command line
 //! - `rule_run`: one run, after which a rule for make is written
-//! - `command_line`, `edit_file`, `fault`: the command; the file of its edit lines as a reader; the report of its errors
+//! - `command_line`: the command
 #![tactic(auto)]
 
 mod command_line;
-mod edit_file;
-mod fault;
 mod request;
 mod rule_run;
 
@@ -16,7 +14,5 @@ pub use command_words::{Words, read_words};
 pub use edit_lines::{
     Command, Ending, Failed, Over, Reader, ReplayFault, Writer, parse_line, refused_line, replay,
 };
-pub use fault::report_fault;
 pub use folders::{FileSystem, SystemFiles};
-pub use report_lines::cause_text;
-pub use requests::Fault;
+pub use requests::{Fault, Tool, report_fault};

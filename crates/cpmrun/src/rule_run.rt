@@ -1,6 +1,6 @@
 // One run of a session, after which a rule for make is written.
 
-ghost use Rattle.std.specs.Prelude.{◌≡◌, ◌^◌, ◌<◌, ◌≤◌, IfErr, IfOk, OnErr, OnOk, map, string_bytes};
+ghost use Rattle.std.specs.Prelude.{◌≡◌, ◌<◌, IfErr, IfOk, OnErr, OnOk, map, string_bytes};
 ghost use Rattle.command_words.specs.RunLine.{session_words};
 ghost use Rattle.dependencies.specs.Dependencies.{AreDependencies};
 ghost use Rattle.folders.specs.Failures.{KeepsFiles, ReportsPaths};
@@ -11,7 +11,7 @@ ghost use Rattle.make_rules.specs.Faults.{rule_paths};
 ghost use Rattle.make_rules.specs.RunRules.{BreaksRule, IsRule};
 ghost use Rattle.one_run.specs.Faults.{fault_of, run_paths};
 ghost use Rattle.one_run.specs.World.{world};
-ghost use Rattle.report_lines.specs.Streams.{Output};
+ghost use Rattle.streams.specs.Streams.{Output};
 ghost use Rattle.requests.specs.FaultReports.{file_paths};
 ghost use Rattle.cpmrun.specs.RuleEnds.{BreaksRuleRun, BreaksWithRule, RunsRule, RunsWithRule, or_rule, targets_of};
 
@@ -19,7 +19,7 @@ use command_words::Words;
 use dependencies::run_noting_looks;
 use folders::{FileSystem, write_path};
 use loading::load;
-use machine::{Meter, WholeRun};
+use machine::WholeRun;
 use make_rules::{RuleFault, check_paths, rule_of_run};
 use one_run::{RunFault, report_stop, stop_status, write_output, written_paths};
 use report_lines::Writer;
@@ -92,13 +92,13 @@ fn report_with_rule<'a, S: FileSystem, O: Writer, E: Writer>(
     ensures fault { IfErr result (λ fault. (old new : Output) → BreaksRuleRun
         words.now path.now run.now.session.now (world (S.files system.old) (O.output out.old) old)
         (world (S.files system.new) (O.output out.new) new) fault) }
-    ensures untold { OnErr result (err.new ≡ err.old) }
+    ensures unreported { OnErr result (err.new ≡ err.old) }
     ensures failed { ReportsPaths file_paths result (S.files system.old) (S.files system.new) }
 {
     let rule = rule_for(system, words, path, run)?;
     write_output(system, &words.out, run, out)?;
     write_rule(system, path, &rule)?;
-    report_stop(system.alloc(), run, err)?;
+    report_stop(run, err);
     Ok(stop_status(run.cause()))
 }
 
@@ -108,23 +108,21 @@ pub fn run_with_rule<'a, S: FileSystem, O: Writer, E: Writer>(
     system: &mut S,
     words: &Words<'a>,
     path: &'a str,
-    meter: &mut Meter,
     out: &mut O,
     err: &mut E,
 ) -> Result<u8, Fault<'a>>
-    requires { meter.old ≤ 2 ^ 63 }
     ensures done { IfOk result (λ status. RunsWithRule words.now path.entry status
         (world (S.files system.old) (O.output out.old) (E.output err.old))
         (world (S.files system.new) (O.output out.new) (E.output err.new))) }
     ensures fault { IfErr result (λ fault. (old new : Output) → BreaksWithRule words.now path.entry
         (world (S.files system.old) (O.output out.old) old)
         (world (S.files system.new) (O.output out.new) new) fault) }
-    ensures untold { OnErr result (err.new ≡ err.old) }
+    ensures unreported { OnErr result (err.new ≡ err.old) }
     ensures failed { ReportsPaths file_paths result (S.files system.old) (S.files system.new) }
 {
     check_paths(system.alloc(), &words.session(), path, words.out.as_slice())?;
     let session = load(system, &words.session())?;
-    let Ok(run) = run_noting_looks(system.alloc(), &session, meter) else {
+    let Ok(run) = run_noting_looks(system.alloc(), &session) else {
         return Err(Fault::OutOfMemory);
     };
     report_with_rule(system, words, path, &run, out, err)

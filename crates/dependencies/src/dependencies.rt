@@ -1,8 +1,8 @@
-ghost use Rattle.std.specs.Prelude.{◌≡◌, ◌≤◌, ◌^◌, IfOk};
+ghost use Rattle.std.specs.Prelude.{◌≡◌, IfOk};
 ghost use Rattle.dependencies.specs.Dependencies.{AreDependencies};
 
 use first_looks::FirstLooks;
-use machine::{Cause, Meter, Noting, Run, Session, WholeRun};
+use machine::{Cause, Noting, Run, Session, WholeRun};
 use std::alloc::{AllocError, Global};
 
 /// What the run of a session depends on, and how it ends.
@@ -25,7 +25,7 @@ impl Dependencies {
     pub fn of_run(alloc: Global, session: &Session) -> Result<Dependencies, AllocError>
         ensures { IfOk result (λ d. AreDependencies session.now d.looks d.steps d.cause) }
     {
-        let whole = run_noting_looks(alloc, session, &mut Meter::new())?;
+        let whole = run_noting_looks(alloc, session)?;
         Ok(Dependencies {
             looks: whole.looks,
             steps: whole.steps,
@@ -34,7 +34,7 @@ impl Dependencies {
     }
 }
 
-/// Runs a session to its limit or to a stop, and notes each question that it asks. The meter counts the steps.
+/// Runs a session to its limit or to a stop, and notes each question that it asks.
 ///
 /// # Errors
 ///
@@ -42,12 +42,10 @@ impl Dependencies {
 pub fn run_noting_looks<'s>(
     alloc: Global,
     session: &'s Session,
-    meter: &mut Meter,
 ) -> Result<WholeRun<'s>, AllocError>
-    requires { meter.old ≤ 2 ^ 63 }
     ensures session { IfOk result (λ run. run.session.now ≡ session.now) }
     ensures looks { IfOk result (λ run. AreDependencies session.now run.looks run.steps run.cause) }
 {
     let run = Run::start(alloc, session, Noting::Looks)?;
-    run.finish(meter)
+    run.finish()
 }

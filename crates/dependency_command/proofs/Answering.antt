@@ -8,7 +8,7 @@ use Rattle.loading.specs.Loading.{FailsToLoad, IsLoadedFrom}
 use Rattle.loading.specs.declared.fault.LoadFault.{LoadFault}
 use Rattle.make_rules.specs.declared.fault.RuleFault.{RuleFault}
 use Rattle.one_run.specs.World.{world}
-use Rattle.report_lines.specs.Streams.{Output}
+use Rattle.streams.specs.Streams.{Output}
 use Rattle.folders.specs.Failures.{KeepsFiles}
 use Rattle.requests.specs.FaultReports.{file_paths, of_load}
 use Rattle.requests.specs.RuleFaults.{of_rule}

@@ -10,7 +10,7 @@ use Rattle.machine.specs.Inputs.{Session}
 use Rattle.make_rules.specs.RefusedPaths.{FailsPaths, refuses_rule}
 use Rattle.make_rules.specs.declared.fault.RuleFault.{RuleFault}
 use Rattle.one_run.specs.World.{World}
-use Rattle.report_lines.specs.Streams.{WritesWhole}
+use Rattle.streams.specs.Streams.{WritesWhole}
 use Rattle.requests.specs.FaultReports.{EndsWithFault}
 use Rattle.requests.specs.Requests.{FailsToInform, FailsToLoadSession, FailsToParse, WritesNothing}
 use Rattle.requests.specs.RuleFaults.{of_rule}

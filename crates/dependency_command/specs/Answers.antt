@@ -4,14 +4,15 @@ use Rattle.command_words.specs.declared.words.DependencyWords.{DependencyWords}
 use Rattle.dependencies.specs.Dependencies.{AreDependencies}
 use Rattle.dependencies.specs.declared.rows.Joining.{Joining}
 use Rattle.dependencies.specs.declared.rows.Joining.TheVariants.{Joined, ByStep}
-use Rattle.dependency_lines.specs.Listing.{listing, stop_line}
+use Rattle.dependency_lines.specs.Listing.{listing}
+use Rattle.report_lines.specs.FirstLines.{stop_line}
 use Rattle.first_looks.specs.FirstLooks.{FirstLooksView}
 use Rattle.folders.specs.FileSystem.{StoredFiles}
 use Rattle.machine.specs.Cause.{Cause}
 use Rattle.machine.specs.Inputs.{Session}
 use Rattle.make_rules.specs.RunRules.{BreaksRule, IsRule}
 use Rattle.make_rules.specs.declared.fault.RuleFault.{RuleFault}
-use Rattle.report_lines.specs.Streams.{Output, WritesOrFails, WritesPart, WritesWhole}
+use Rattle.streams.specs.Streams.{Output, WritesOrFails, WritesPart, WritesWhole}
 use Rattle.requests.specs.RuleFaults.{of_rule}
 use Rattle.requests.specs.declared.fault.Fault.{Fault}
 use Rattle.requests.specs.declared.fault.Fault.TheVariants.{CannotWrite, OutOfMemory}

@@ -4,8 +4,8 @@ ghost use Rattle.std.specs.Prelude.{◌≡◌, ◌⊎◌, ◌∷◌, [], IfErr, 
 ghost use Rattle.folders.specs.Failures.{KeepsFiles};
 ghost use Rattle.one_run.specs.World.{world};
 ghost use Rattle.dependencies.specs.Dependencies.{AreDependencies};
-ghost use Rattle.dependency_lines.specs.Listing.{stop_line};
-ghost use Rattle.report_lines.specs.Streams.{Output, WritesOrFails};
+ghost use Rattle.report_lines.specs.FirstLines.{stop_line};
+ghost use Rattle.streams.specs.Streams.{Output, WritesOrFails};
 ghost use Rattle.requests.specs.FaultReports.{file_paths};
 ghost use Rattle.make_rules.specs.Faults.{rule_paths};
 ghost use Rattle.make_rules.specs.RunRules.{BreaksRule, IsRule};
@@ -16,12 +16,12 @@ ghost use Rattle.dependency_command.specs.AnswerEnds.{AllowsPaths, EndsByFault, 
 use crate::request::read_request;
 use command_words::{DependencyWords, SessionWords};
 use dependencies::{Dependencies, Joining, run_noting_looks};
-use dependency_lines::{write_dependencies, write_stop};
+use dependency_lines::write_dependencies;
 use folders::FileSystem;
 use loading::load;
-use machine::{Cause, Meter, Session, WholeRun};
+use machine::{Cause, Session, WholeRun};
 use make_rules::{RuleFault, check_paths, rule_of_run};
-use report_lines::{Writer, write_all};
+use report_lines::{Writer, stop_line, write_all};
 use requests::{Fault, Request, Tool, print_information, report_fault};
 use std::alloc::{AllocError, Global};
 
@@ -104,7 +104,7 @@ fn write_rule<'a, S: FileSystem, O: Writer, E: Writer>(
     ensures unreported { OnErr result (err.new ≡ err.old) }
     ensures unchanged { KeepsFiles file_paths result (S.files system.old) (S.files system.new) }
 {
-    let Ok(run) = run_noting_looks(system.alloc(), session, &mut Meter::new()) else {
+    let Ok(run) = run_noting_looks(system.alloc(), session) else {
         return Err(Fault::OutOfMemory);
     };
     let text = rule_for(system, target, words, &run)?;
@@ -121,7 +121,7 @@ fn write_rule<'a, S: FileSystem, O: Writer, E: Writer>(
 fn report_stop<E: Writer>(err: &mut E, cause: Cause)
     ensures { WritesOrFails (E.output err.old) (E.output err.new) (stop_line cause) }
 {
-    let _ = write_stop(err, cause);
+    let _ = write_all(err, stop_line(cause).as_bytes());
 }
 
 /// Runs a session, and writes what the run asked for as the words ask for it.

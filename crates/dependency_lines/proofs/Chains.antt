@@ -1,7 +1,7 @@
 -- Four texts, one after the other.
 use Rattle.std.proofs.Common.{◌≡◌, ℕ, List, ◌++◌, IsErr, Result}
-use Rattle.report_lines.specs.Streams.{Output, WritesPart, WritesText, WritesWhole}
-use Rattle.report_lines.proofs.WrittenPieces.{part_more, part_then, whole_then, writes_part, writes_same, writes_then}
+use Rattle.streams.specs.Streams.{Output, WritesPart, WritesText, WritesWhole}
+use Rattle.streams.proofs.WrittenPieces.{part_more, part_then, whole_then, writes_part, writes_same, writes_then}
 
 -- The chain of four texts.
 abbrev pub chain : List ℕ → List ℕ → List ℕ → List ℕ → List ℕ

@@ -5,7 +5,7 @@ use Rattle.first_looks.specs.FirstLooks.{FirstLooksView}
 use Rattle.first_looks.specs.declared.file_steps.FileSteps.{FileSteps}
 use Rattle.machine.specs.Cause.{Cause}
 use Rattle.machine.specs.Inputs.{Session}
-use Rattle.report_lines.specs.FirstLines.{cause_text, line}
+use Rattle.report_lines.specs.FirstLines.{stop_line}
 use Rattle.dependencies.specs.Rows.{rows_from}
 use Rattle.dependencies.specs.declared.rows.Row.{Row}
 use Rattle.dependencies.specs.declared.rows.Joining.{Joining}
@@ -47,10 +47,6 @@ abbrev pub directory_lines : FileSteps → List ℕ
 directory_lines asked =
     step_line (codes "directory A") (step_of_drive asked.directories 0) ++ step_line (codes "directory B") (step_of_drive asked.directories 1)
     ++ step_line (codes "directory C") (step_of_drive asked.directories 2) ++ step_line (codes "directory D") (step_of_drive asked.directories 3)
-
--- The cause by which the run ended.
-abbrev pub stop_line : Cause → List ℕ
-stop_line cause = line (codes "stop " ++ cause_text cause)
 
 -- The lines of all that was asked for.
 abbrev pub asked_lines : Joining → Session → FirstLooksView → List ℕ

@@ -2,7 +2,7 @@
 
 ghost use Rattle.std.specs.Prelude.{◌≡◌, ◌++◌, false};
 ghost use Rattle.filenames.specs.Names.{is_sayable};
-ghost use Rattle.report_lines.specs.Streams.{WritesText};
+ghost use Rattle.streams.specs.Streams.{WritesText};
 ghost use Rattle.dependency_lines.specs.Heads.{head_text, name_text, step_line};
 
 use crate::words::write_step;

@@ -11,4 +11,4 @@ mod names;
 mod places;
 mod words;
 
-pub use listing::{write_dependencies, write_stop};
+pub use listing::write_dependencies;

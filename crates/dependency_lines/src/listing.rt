@@ -2,7 +2,7 @@
 
 ghost use Rattle.std.specs.Prelude.{◌≡◌, ◌+◌, ◌++◌, ◌∷◌, [], codes, length, take, Option, ℕ, List};
 ghost use Rattle.report_lines.specs.FirstLines as first_lines;
-ghost use Rattle.report_lines.specs.Streams.{WritesText};
+ghost use Rattle.streams.specs.Streams.{WritesText};
 ghost use Rattle.filenames.specs.Drives.{drive_number};
 ghost use Rattle.dependency_lines.specs.Listing as texts;
 
@@ -10,15 +10,11 @@ use crate::heads::{Head, write_step_line};
 use crate::names::{Kind, write_kind};
 use crate::places::write_places;
 use crate::words::IndexFormat;
-use arrayvec::ArrayString;
 use dependencies::{Dependencies, Joining, StepTable, next_row};
 use filenames::Drive;
 use first_looks::{FileSteps, FirstLooks};
-use machine::{Cause, Session};
-use report_lines::{Failed, Writer, cause_words, write_all};
-
-/// The first cell of a program.
-const PROGRAM_START: usize = 256;
+use machine::{PROGRAM_START, Session};
+use report_lines::{Failed, Writer, stop_line, write_all};
 
 // The first indexes of a table.
 #[derive(Drop)]
@@ -56,7 +52,7 @@ pub fn write_dependencies<W: Writer>(
         (texts.listing joining session.now dependencies.now.looks dependencies.now.cause) result }
 {
     write_asked(writer, joining, session, &dependencies.looks)?;
-    write_stop(writer, dependencies.cause)
+    write_all(writer, stop_line(dependencies.cause).as_bytes())
 }
 
 // Writes the lines of all that was asked for.
@@ -173,15 +169,4 @@ fn write_directories<W: Writer>(writer: &mut W, asked: &FileSteps) -> Result<(),
     write_step_line(writer, &Head::alone(b"directory B"), asked.directories[1])?;
     write_step_line(writer, &Head::alone(b"directory C"), asked.directories[2])?;
     write_step_line(writer, &Head::alone(b"directory D"), asked.directories[3])
-}
-
-/// Writes the line of the stop.
-pub fn write_stop<W: Writer>(writer: &mut W, cause: Cause) -> Result<(), Failed>
-    ensures { WritesText (W.output writer.old) (W.output writer.new) (texts.stop_line cause) result }
-{
-    let mut text = ArrayString::<128>::new();
-    text.push_str("stop ");
-    text.push_str(cause_words(cause).as_str());
-    text.push_str("\n");
-    write_all(writer, text.as_bytes())
 }

@@ -2,7 +2,7 @@
 
 ghost use Rattle.std.specs.Prelude.{◌≡◌, length, option_copied, option_map};
 ghost use Rattle.keymaps.specs.Order.{IsLeastAbove};
-ghost use Rattle.report_lines.specs.Streams.{WritesText};
+ghost use Rattle.streams.specs.Streams.{WritesText};
 ghost use Rattle.dependency_lines.specs.Names as texts;
 ghost use Rattle.dependency_lines.specs.Names.{is_asked, lines_of_kind, lines_of_name};
 

@@ -2,7 +2,7 @@
 
 ghost use Rattle.std.specs.Prelude.{◌≡◌, IfOk, map};
 ghost use Rattle.std.specs.List.{concat};
-ghost use Rattle.report_lines.specs.Streams.{WritesText};
+ghost use Rattle.streams.specs.Streams.{WritesText};
 ghost use Rattle.dependencies.specs.Rows.{rows_from};
 ghost use Rattle.dependency_lines.specs.Heads.{head_text};
 ghost use Rattle.dependency_lines.specs.Places.{earliest, joined_line, row_line, rows_text};

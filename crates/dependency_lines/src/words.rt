@@ -2,7 +2,7 @@
 
 ghost use Rattle.std.specs.Prelude.{◌≡◌, ◌+◌, ◌≤◌, ◌++◌};
 ghost use Rattle.arrayvec.specs.ArrayString.{array_string_len};
-ghost use Rattle.report_lines.specs.Streams.{WritesText};
+ghost use Rattle.streams.specs.Streams.{WritesText};
 ghost use Rattle.dependency_lines.specs.Words as texts;
 
 use arrayvec::ArrayString;

@@ -15,7 +15,7 @@ use Rattle.edit_lines.specs.Faults.{AreLines, AreRead, EndsReplay, Faults, Repla
 use Rattle.edit_lines.specs.Pieces.{first_piece, other_pieces, pieces, without_empty_last, unless_empty, lines_of, past_lines}
 use Rattle.edit_lines.specs.Progress.{Breaks, Executes, ExecutesLine, FailsAt, ReplayState, Takes}
 use Rattle.edit_lines.specs.Replay.{EndsAt, Finished, MalformedAt, ReplayEnd, TooLongAt, none, reply}
-use Rattle.report_lines.proofs.WrittenPieces.{whole_nil}
+use Rattle.streams.proofs.WrittenPieces.{whole_nil}
 use Rattle.edit_lines.proofs.Cutting.{first_piece-longer, lines_of-append, lines_of-pieces, one_line, past_lines-pieces, past_more_lines}
 use Rattle.edit_lines.proofs.Executing.{session_after_effect, session_left}
 use Rattle.edit_lines.proofs.Stepping.{Effects-snoc, Executes-append, ExecutesLines-snoc, Takes-trans, concat-snoc, effects_of, few_lines, replies_to}
@@ -44,7 +44,7 @@ nothing_done left view = (
   (
     record {
       text = [];
-      replays = record { done = []; left = []; replies = []; cut = refl; few = omega arith; carried = none; written = refl; ends = (refl, refl) };
+      replays = record { done = []; left = []; replies = []; cut = refl; few = omega arith; executed = none; written = refl; ends = (refl, refl) };
       written = whole_nil view.output;
     },
     inl refl,
@@ -61,19 +61,19 @@ module _ (start last : ReplayState) (done : List (List ℕ)) (executed : Execute
   -- The executed lines, if the replay of these lines and others has this end.
   writes_to : (lines next : List (List ℕ)) → lines ≡ done ++ next → (end : ReplayEnd) → EndsAt (length done) next end
       → WritesReplies (view_of start) lines (view_of last) end
-  writes_to lines next is end ends = let told = replies_to 0 start last done executed in record {
-    text = concat told.0;
+  writes_to lines next is end ends = let replied = replies_to 0 start last done executed in record {
+    text = concat replied.0;
     replays = record {
       done = done;
       left = next;
-      replies = told.0;
+      replies = replied.0;
       cut = is;
       few = let few = few_lines 0 start last done executed (omega arith) in omega (arith, few);
-      carried = told.1;
+      executed = replied.1;
       written = refl;
       ends = ends;
     };
-    written = told.2;
+    written = replied.2;
   }
 
   pub writes_all : WritesReplies (view_of start) done (view_of last) (Finished (length done))
@@ -109,7 +109,7 @@ module _ (start last : ReplayState) (done : List (List ℕ)) (executed : Execute
       effects_of 0 start last done executed,
     )
     line_fails Write h =
-        let told = replies_to 0 start last done executed in
+        let replied = replies_to 0 start last done executed in
         let all = done ++ line ∷ [] in
         let count : length all ≡ length done + 1 = omega (arith, length-append done (line ∷ [])) in (
           bytes,
@@ -126,11 +126,11 @@ module _ (start last : ReplayState) (done : List (List ℕ)) (executed : Execute
             replays = record {
               done = all;
               left = [];
-              replies = told.0 ++ reply last.runner.session h.0 ∷ [];
+              replies = replied.0 ++ reply last.runner.session h.0 ∷ [];
               cut = sym (append-nil all);
               few = omega (arith, count, h.1);
-              carried = rw (session_after_effect h.0 _ _ _ _ h.3.0) (ExecutesLines-snoc line h.0 told.1 short h.2);
-              written = sym (concat-snoc told.0 (reply last.runner.session h.0));
+              executed = rw (session_after_effect h.0 _ _ _ _ h.3.0) (ExecutesLines-snoc line h.0 replied.1 short h.2);
+              written = sym (concat-snoc replied.0 (reply last.runner.session h.0));
               ends = (refl, refl);
             };
             part = h.3.1;

@@ -1,6 +1,6 @@
 -- The effects of a command and of a line.
 use Rattle.std.proofs.Common.{◌≡◌, ℕ, ◌+◌, ◌≤◌, ◌⊎◌, List, ap, subst, inl, inr, Result, Ok, Err}
-use Rattle.report_lines.specs.Streams.{WritesPart, WritesWhole}
+use Rattle.streams.specs.Streams.{WritesPart, WritesWhole}
 use Rattle.machine.specs.Inputs.{Session}
 use Rattle.machine.specs.PlainState.{PlainRun, plain_run}
 use Rattle.replay.specs.Edits.{edited}

@@ -4,5 +4,5 @@ pub mod Stepping
 pub mod Breaking
 pub mod Grammar
 pub mod Once
-pub mod SaidNames
+pub mod ValidNames
 pub mod Reporting

@@ -56,5 +56,5 @@ pub one_replay_lem : (first : Session) (lines : List (List ℕ)) (text other_tex
     → (text ≡ other_text) × (last ≡ other_last) × (end ≡ other_end)
 one_replay_lem first lines text other_text last other_last end other_end p q =
     let all = carried_once first last other_last p.done q.done p.replies q.replies 0 (length p.done) (length q.done) p.left q.left end other_end
-    p.carried q.carried (sym p.cut ∙ q.cut) (omega arith) (omega arith) p.few q.few p.ends q.ends in
+    p.executed q.executed (sym p.cut ∙ q.cut) (omega arith) (omega arith) p.few q.few p.ends q.ends in
     (p.written ∙ ap concat all.0 ∙ sym q.written, all.1, all.2)

@@ -3,8 +3,8 @@ use Rattle.std.proofs.Common.{◌≡◌, ℕ, ◌+◌, ◌<◌, ◌≤◌, List,
 use Rattle.std.proofs.lemmas.List.{append-nil}
 use Rattle.std.proofs.lemmas.List.Folds.{concat-append}
 use Rattle.std.specs.List.{concat}
-use Rattle.report_lines.specs.Streams.{WritesWhole}
-use Rattle.report_lines.proofs.WrittenPieces.{whole_nil, whole_then}
+use Rattle.streams.specs.Streams.{WritesWhole}
+use Rattle.streams.proofs.WrittenPieces.{whole_nil, whole_then}
 use Rattle.machine.specs.Inputs.{Session}
 use Rattle.replay.specs.RunnerView.{RunnerView}
 use Rattle.edit_lines.specs.declared.line.Command.{Command}

@@ -1,7 +1,7 @@
 -- What holds at the end of a replay, by its result. (This project's own.)
 use Rattle.std.specs.Prelude.{◌*◌, ◌≡◌, ℕ, ◌+◌, ◌<◌, ◌≤◌, ◌⊎◌, List, ◌∷◌, [], ◌++◌, length, Option, IfSome, Result, Ok, Err}
 use Rattle.std.specs.Io.KnownBytes.{IsAtEnd}
-use Rattle.report_lines.specs.Streams.{Output, WritesPart, WritesWhole}
+use Rattle.streams.specs.Streams.{Output, WritesPart, WritesWhole}
 use Rattle.machine.specs.Inputs.{Session}
 use Rattle.edit_lines.specs.declared.ending.Ending.{Ending}
 use Rattle.edit_lines.specs.declared.ending.ReplayFault.{ReplayFault}

@@ -1,6 +1,6 @@
 -- How far a replay has come, and the result of each of its parts. (This project's own.)
 use Rattle.std.specs.Prelude.{◌≡◌, ℕ, ◌+◌, ◌<◌, ◌≤◌, ◌⊎◌, List, [], ◌∷◌, ◌++◌, length, Result, Ok, Err}
-use Rattle.report_lines.specs.Streams.{Output, WritesPart, WritesWhole}
+use Rattle.streams.specs.Streams.{Output, WritesPart, WritesWhole}
 use Rattle.replay.specs.RunnerView.{RunnerView}
 use Rattle.edit_lines.specs.declared.line.Command.{Command}
 use Rattle.edit_lines.specs.declared.line.Command.TheVariants.{Run}

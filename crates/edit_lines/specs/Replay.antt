@@ -65,6 +65,6 @@ pub record Replays (first : Session) (lines : List (List ℕ)) (text : List ℕ)
   pub replies : List (List ℕ)
   pub cut : lines ≡ done ++ left
   pub few : length done ≤ LINES_LIMIT
-  pub carried : ExecutesLines first done replies last
+  pub executed : ExecutesLines first done replies last
   pub written : text ≡ concat replies
   pub ends : EndsAt (length done) left end

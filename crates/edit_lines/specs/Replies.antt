@@ -1,6 +1,6 @@
 -- How much of a reply was written. (This project's own.)
 use Rattle.std.specs.Prelude.{◌≡◌, List, ℕ, Result, Ok, Err}
-use Rattle.report_lines.specs.Streams.{Output, WritesPart, WritesWhole}
+use Rattle.streams.specs.Streams.{Output, WritesPart, WritesWhole}
 use Rattle.edit_lines.specs.declared.ending.ReplayFault.{ReplayFault}
 use Rattle.edit_lines.specs.declared.ending.ReplayFault.TheVariants.{Write}
 

@@ -3,7 +3,7 @@ ghost use Rattle.replay.specs.Report.{run_of, session_of};
 ghost use Rattle.edit_lines.specs.Progress.{ExecutesCommand, ExecutesLine, replay_state};
 ghost use Rattle.edit_lines.specs.Reports.{report_text};
 ghost use Rattle.edit_lines.specs.Replies.{Replies};
-ghost use Rattle.report_lines.specs.Streams.{WritesText};
+ghost use Rattle.streams.specs.Streams.{WritesText};
 
 use crate::ending::ReplayFault;
 use crate::limits::LINES_LIMIT;

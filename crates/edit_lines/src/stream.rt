@@ -18,7 +18,6 @@ use std::alloc::Global;
 
 /// Executes the line that was read, and begins the next one.
 fn end_line<W: Writer>(
-    alloc: Global,
     buffer: &mut LineBuffer,
     runner: &mut Runner,
     meter: &mut Meter,
@@ -32,6 +31,7 @@ fn end_line<W: Writer>(
     ensures meter { OnOk result (meter.new ≤ STEP_LIMIT * buffer.new.lines) }
 {
     let line = buffer.line.as_slice();
+    let alloc = *buffer.line.allocator();
     execute_line(alloc, line, buffer.lines + 1, runner, meter, writer)?;
     buffer.lines += 1;
     buffer.line.clear();
@@ -40,7 +40,6 @@ fn end_line<W: Writer>(
 
 /// Takes a piece of the text, and executes each line that ends in it.
 fn take_piece<W: Writer>(
-    alloc: Global,
     buffer: &mut LineBuffer,
     runner: &mut Runner,
     meter: &mut Meter,
@@ -61,7 +60,7 @@ fn take_piece<W: Writer>(
     let mut rest = piece;
     while let Some(at) = memchr(b'\n', rest) {
         buffer.push_part(&rest[..at])?;
-        end_line(alloc, buffer, runner, meter, writer)?;
+        end_line(buffer, runner, meter, writer)?;
         rest = &rest[at + 1..];
     }
     buffer.push_part(rest)?;
@@ -70,7 +69,6 @@ fn take_piece<W: Writer>(
 
 /// Executes the last line, if it has no 0AH.
 fn finish<W: Writer>(
-    alloc: Global,
     buffer: &mut LineBuffer,
     runner: &mut Runner,
     meter: &mut Meter,
@@ -89,7 +87,7 @@ fn finish<W: Writer>(
     if buffer.line.is_empty() {
         return Ok(());
     }
-    end_line(alloc, buffer, runner, meter, writer)?;
+    end_line(buffer, runner, meter, writer)?;
     Ok(())
 }
 
@@ -139,12 +137,12 @@ pub fn replay<R: Reader, W: Writer>(
             return Err(ReplayFault::Read);
         };
         if count == 0 {
-            finish(alloc, &mut buffer, runner, meter, writer)?;
+            finish(&mut buffer, runner, meter, writer)?;
             return Ok(Ending {
                 lines: buffer.lines,
             });
         }
-        take_piece(alloc, &mut buffer, runner, meter, writer, &piece[..count])?;
+        take_piece(&mut buffer, runner, meter, writer, &piece[..count])?;
     }
 }
 

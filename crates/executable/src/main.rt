@@ -1,7 +1,7 @@
 //! Runs a CP/M 2.2 program, or replays edit lines over its session.
 #![tactic(auto)]
 
-use cpmrun::{Fault, Over, SystemFiles, command, report_fault};
+use cpmrun::{Fault, Over, SystemFiles, Tool, command, report_fault};
 use std::env;
 use std::io::ErrorKind;
 use std::process::ExitCode;
@@ -14,12 +14,14 @@ fn main(rt: HostRuntime) -> ExitCode {
     let args = match env::args(&rt) {
         Ok(args) => args,
         Err(error) if error.kind() == ErrorKind::OutOfMemory => {
-            return ExitCode::from(report_fault(alloc, Fault::OutOfMemory, &mut err));
+            return ExitCode::from(report_fault(alloc, Tool::Cpmrun, Fault::OutOfMemory, &mut err));
         }
-        Err(_) => return ExitCode::from(report_fault(alloc, Fault::NotText, &mut err)),
+        Err(_) => {
+            return ExitCode::from(report_fault(alloc, Tool::Cpmrun, Fault::NotText, &mut err));
+        }
     };
     let Ok(words) = args.skip(1).collect::<Vec<String>>(alloc) else {
-        return ExitCode::from(report_fault(alloc, Fault::OutOfMemory, &mut err));
+        return ExitCode::from(report_fault(alloc, Tool::Cpmrun, Fault::OutOfMemory, &mut err));
     };
     let mut system = SystemFiles::new(&rt);
     ExitCode::from(command(&mut system, words.as_slice(), &mut out, &mut err))

@@ -24,8 +24,7 @@ FailsBy Such OutOfMemory = Unit {0}
 abbrev pub fault_paths : Fault → List Path
 fault_paths (CannotRead path) = string_bytes path ∷ []
 fault_paths (CannotWrite path) = string_bytes path ∷ []
-fault_paths (TwoFiles name) = []
-fault_paths (Refused name n) = []
+fault_paths fault = []
 
 abbrev pub failure_paths : Failure → List Path
 failure_paths (AtFault fault) = fault_paths fault
@@ -34,13 +33,9 @@ failure_paths OutOfMemory = []
 -- The file or folder of this path could not be read.
 abbrev pub IsReadFault : List ℕ → Fault → Type 0
 IsReadFault path (CannotRead p) = string_bytes p ≡ path
-IsReadFault path (CannotWrite p) = ⊥
-IsReadFault path (TwoFiles name) = ⊥
-IsReadFault path (Refused name n) = ⊥
+IsReadFault path fault = ⊥
 
 -- The file of this path could not be written.
 abbrev pub IsWriteFault : List ℕ → Fault → Type 0
-IsWriteFault path (CannotRead p) = ⊥
 IsWriteFault path (CannotWrite p) = string_bytes p ≡ path
-IsWriteFault path (TwoFiles name) = ⊥
-IsWriteFault path (Refused name n) = ⊥
+IsWriteFault path fault = ⊥

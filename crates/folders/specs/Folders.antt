@@ -13,7 +13,7 @@ use Rattle.folders.specs.Faults.{FailsBy, IsReadFault, IsWriteFault}
 use Rattle.folders.specs.FileSystem.{Path, FileBytes, StoredFiles, ChangesAt, PutsInPlace, ReadsFile}
 use Rattle.folders.specs.Listings.{AreDuplicates, IsHostFile}
 use Rattle.folders.specs.declared.fault.Fault.{Fault}
-use Rattle.folders.specs.declared.fault.Fault.TheVariants.{CannotRead, CannotWrite, TwoFiles, Refused}
+use Rattle.folders.specs.declared.fault.Fault.TheVariants.{CannotRead, TwoFiles, Refused}
 use Rattle.folders.specs.declared.fault.Failure.{Failure}
 use Rattle.folders.specs.declared.fault.Failure.TheVariants.{AtFault, OutOfMemory}
 
@@ -51,9 +51,8 @@ RefusesFile files path host name n = (bytes : List ℕ) × ReadsFile files path 
 -- Why the file of a path is not read and set under a name among these host files.
 abbrev pub FailsFile : Option FileBytes → Path → Host → Key → Fault → Type 0
 FailsFile files path host name (CannotRead p) = string_bytes p ≡ path
-FailsFile files path host name (CannotWrite p) = ⊥
-FailsFile files path host name (TwoFiles other) = ⊥
 FailsFile files path host name (Refused other n) = (other ≡ name) × RefusesFile files path host name n
+FailsFile files path host name f = ⊥
 
 -- The files of a listing with lesser keys were read among these host files, and the next one is not.
 pub record FailsListed {Z : Type 0} (files : Option FileBytes) (folder : Path) (listed : FinMap (slice_cmp nat_cmp) (String Z)) (host : Host) (fault : Fault) : Type 0 where
@@ -80,10 +79,8 @@ pub record FailsNext (files : Option FileBytes) (names : List Path) (drive : ℕ
 
 -- Two of the names in the folder of a drive belong to one host file.
 abbrev pub FailsTwice : Option FileBytes → List Path → ℕ → Path → Fault → Type 0
-FailsTwice files names drive folder (CannotRead p) = ⊥
-FailsTwice files names drive folder (CannotWrite p) = ⊥
 FailsTwice files names drive folder (TwoFiles name) = (slice_index name 0 ≡ drive) × IfSome files (λ stored. AreDuplicates stored drive folder names name)
-FailsTwice files names drive folder (Refused name n) = ⊥
+FailsTwice files names drive folder f = ⊥
 
 -- What is at a valid name in the folder of a drive cannot be read.
 abbrev pub IsEntryFault : ℕ → Path → Path → Fault → Type 0

@@ -1,8 +1,8 @@
 // The files of a machine, by their paths.
 
-ghost use Rattle.std.specs.Prelude.{◌≡◌, ◌↔◌, IsTrue, ◌≤◌, ◌<◌, ◌+◌, ◌∷◌, ◌++◌, ℕ, List, [], Option, Some, None, IfOk, OnOk, OnErr, IfSome, length, map, string_bytes, take};
+ghost use Rattle.std.specs.Prelude.{◌≡◌, ◌<◌, ◌∷◌, ℕ, List, [], None, IfOk, OnOk, OnErr, IfSome, map, string_bytes};
 ghost use Rattle.std.specs.FinMap.{contains_key, insert};
-ghost use Rattle.std.specs.Io.KnownBytes.{Appends, ReadConsumes};
+ghost use Rattle.std.specs.Io.KnownBytes.{Appends};
 ghost use Rattle.folders.specs.Failures.{AddsPaths, KeepsFiles, ReportsPaths, io_paths};
 ghost use Rattle.folders.specs.FileSystem.{Becomes, ChangesAt, Opens, ReadsFile, StoredFiles, files_after_rename};
 
@@ -12,7 +12,7 @@ use std::io::{BufWriter, ErrorKind, Read, Write};
 use std::os::unix::fs::OpenOptionsExt;
 use std::rt::Files;
 use std::{fs, io};
-use trails::Trail;
+use streams::{Over, Reader, Trail};
 
 /// Bytes that can be written, such as the bytes of a file that is kept in parts.
 pub trait Contents {
@@ -24,29 +24,12 @@ pub trait Contents {
         ensures { OnOk result (Appends (W.contents writer.old) (W.contents writer.new) (bytes self.now)) };
 }
 
-/// An open file that is read. A contract sees the bytes that are left, if the file reports them, and a count of failures.
-pub trait InputFile {
-    /// The bytes that are left, if the file reports them.
-    ghost left: { Self → Option (List ℕ) };
-
-    /// The number of failures so far.
-    ghost failures: { Self → ℕ };
-
-    /// Reads the next bytes to the front of the piece and returns their count. A count of 0 for a piece that is not empty is the
-    /// end. An error reads no byte and adds one failure.
-    fn read(&mut self, piece: &mut [u8]) -> io::Result<usize>
-        ensures count { IfOk result (λ n. n ≤ length piece.new) }
-        ensures bytes { ReadConsumes (left self.old) (left self.new) result piece.new }
-        ensures ok { OnOk result (failures self.new ≡ failures self.old) }
-        ensures err { OnErr result (failures self.new ≡ failures self.old + 1) };
-}
-
 /// Files by their paths. A contract sees the bytes of each regular file, if the file system reports them (an operating system's
 /// does not), and the paths at which it failed: an error adds the path of its call, unless an allocation failed. Different paths are
 /// different files.
 pub trait FileSystem {
     /// An open file that is read.
-    type Input: InputFile + Drop;
+    type Input: Reader + Drop;
 
     /// What it stores, if that is known, and the paths at which it failed.
     ghost files: { Self → StoredFiles };
@@ -57,16 +40,16 @@ pub trait FileSystem {
     /// Opens a file to read it piece by piece.
     fn open(&mut self, path: &str) -> io::Result<Self::Input>
         ensures opens { IfOk result
-            (λ input. Opens (files self.old).bytes path.now (Self.Input.left input)) }
-        ensures unfailed { IfOk result (λ input. Self.Input.failures input ≡ 0) }
+            (λ input. Opens (files self.old).bytes path.now (Self.Input.input input).left) }
+        ensures unfailed { IfOk result (λ input. (Self.Input.input input).failures ≡ 0) }
         ensures unchanged { KeepsFiles (io_paths path.now) result (files self.old) (files self.new) };
 
-    /// Adds the path by which this open file was opened, if a read of it failed.
-    fn note_failed_reads(&mut self, path: &str, input: &Self::Input)
+    /// Adds the path by which an open file was opened, of which a read failed.
+    fn note_failed_read(&mut self, path: &str, input: &Self::Input)
+        requires { 0 < (Self.Input.input input.now).failures }
         ensures bytes { (files self.new).bytes ≡ (files self.old).bytes }
         ensures names { (files self.new).names ≡ (files self.old).names }
-        ensures failed { (files self.new).failed
-            ≡ take (Self.Input.failures input.now) (path.now ∷ []) ++ (files self.old).failed };
+        ensures failed { (files self.new).failed ≡ path.now ∷ (files self.old).failed };
 
     /// Reads a file: all of its bytes, or its first `most` if it has more.
     fn read(&mut self, path: &str, most: u64) -> io::Result<Vec<u8>>
@@ -128,32 +111,6 @@ fn read_first<T: Read + Drop>(alloc: Global, source: T, most: u64) -> io::Result
     let mut bytes = Vec::new(alloc);
     source.take(most).read_to_end(&mut bytes)?;
     Ok(bytes)
-}
-
-/// An open file of the operating system, with a count of its failures.
-#[derive(Drop)]
-pub struct SystemFile<T> {
-    inner: T,
-    failed: bool,
-    failures: Trail,
-    ghost counted: { IsTrue failed ↔ (0 < length failures.paths) },
-}
-
-impl<T: Read> InputFile for SystemFile<T> {
-    ghost left = { λ file. T.remaining file.inner };
-
-    ghost failures = { λ file. length file.failures.paths };
-
-    fn read(&mut self, piece: &mut [u8]) -> io::Result<usize> {
-        match self.inner.read(piece) {
-            Ok(count) => Ok(count),
-            Err(error) => {
-                self.failed = true;
-                self.failures = self.failures.and("");
-                Err(error)
-            }
-        }
-    }
 }
 
 /// The files of the operating system. A contract knows only the paths at which they failed.
@@ -233,7 +190,7 @@ impl<R: Files + AllocGlobal + Clone + Drop> SystemFiles<'_, R> {
 }
 
 impl<R: Files + AllocGlobal + Clone + Drop> FileSystem for SystemFiles<'_, R> {
-    type Input = SystemFile<R::File>;
+    type Input = Over<R::File>;
 
     ghost files = { λ system. record { bytes = None; names = λ _. []; failed = system.failed.paths } };
 
@@ -241,22 +198,16 @@ impl<R: Files + AllocGlobal + Clone + Drop> FileSystem for SystemFiles<'_, R> {
         self.rt.alloc()
     }
 
-    fn open(&mut self, path: &str) -> io::Result<SystemFile<R::File>> {
+    fn open(&mut self, path: &str) -> io::Result<Over<R::File>> {
         let opened = fs::open(self.rt, path);
         match self.note(path, opened) {
-            Ok(inner) => Ok(SystemFile {
-                inner,
-                failed: false,
-                failures: Trail::new(),
-            }),
+            Ok(file) => Ok(Over::new(file)),
             Err(error) => Err(error),
         }
     }
 
-    fn note_failed_reads(&mut self, path: &str, input: &SystemFile<R::File>) {
-        if input.failed {
-            self.failed = self.failed.and(path);
-        }
+    fn note_failed_read(&mut self, path: &str, _input: &Over<R::File>) {
+        self.failed = self.failed.and(path);
     }
 
     fn read(&mut self, path: &str, most: u64) -> io::Result<Vec<u8>> {

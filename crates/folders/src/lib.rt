@@ -13,7 +13,7 @@ mod reading;
 mod writing;
 
 pub use fault::{Failure, Fault, read_failure};
-pub use file_system::{Contents, FileSystem, InputFile, SystemFile, SystemFiles};
+pub use file_system::{Contents, FileSystem, SystemFiles};
 pub use folder_names::{file_name, name_in_folder, path_in, temporary_name};
 pub use listing::Listing;
 pub use reading::{list, read_folder, read_folders};

@@ -1,8 +1,8 @@
 // What a run did to files, and its questions to the host files.
 
-ghost use Rattle.std.specs.Prelude.{◌≡◌, true, false, IfOk, IfSome, IfNone};
+ghost use Rattle.std.specs.Prelude.{◌≡◌, IfOk};
 ghost use Rattle.std.specs.FinMap as finmap;
-ghost use Rattle.hostfiles.specs.FileLooks.{no_looks, is_looked, asks_nothing, without_ask, IsUnasked};
+ghost use Rattle.hostfiles.specs.FileLooks.{no_looks, is_looked};
 
 use crate::journal::Journal;
 use crate::looks::{Ask, FileLooks};
@@ -44,31 +44,5 @@ impl Changes {
         ensures { result ≡ is_looked self.now.looks ask.now }
     {
         self.looks.looked(ask)
-    }
-
-    /// Returns whether no question was asked.
-    pub fn asks_nothing(&self) -> bool
-        ensures value { result ≡ asks_nothing self.now.looks }
-        ensures none { result ≡ true → IsUnasked self.now.looks }
-    {
-        self.looks.is_empty()
-    }
-
-    /// Removes all questions. Allocates nothing.
-    pub fn forget_looks(&mut self)
-        ensures looks { self.new.looks ≡ no_looks }
-        ensures stays { self.new.journal ≡ self.old.journal }
-    {
-        self.looks.clear();
-    }
-
-    /// Removes and returns one of the questions, or `None` if there are none. Allocates nothing.
-    pub fn take_look(&mut self) -> Option<Ask>
-        ensures there { IfSome result (λ q. is_looked self.old.looks q ≡ true) }
-        ensures some { IfSome result (λ q. self.new.looks ≡ without_ask q self.old.looks) }
-        ensures none { IfNone result ((self.new.looks ≡ self.old.looks) × IsUnasked self.old.looks) }
-        ensures stays { self.new.journal ≡ self.old.journal }
-    {
-        self.looks.take()
     }
 }

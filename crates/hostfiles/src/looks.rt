@@ -62,6 +62,14 @@ impl FileLooks {
 
     /// Returns whether no question was asked.
     pub fn is_empty(&self) -> bool
+        ensures value { result ≡ asks_nothing self.now }
+        ensures none { result ≡ true → IsUnasked self.now }
+    {
+        self.has_no_entry()
+    }
+
+    // Returns whether all four parts are empty.
+    fn has_no_entry(&self) -> bool
         ensures { result ≡ asks_nothing self.now }
     {
         self.has.len() == 0

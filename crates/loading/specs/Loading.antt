@@ -45,17 +45,14 @@ pub record IsSessionRefusal (stored : StoredFiles) (w : SessionWords) (n : ℕ) 
 -- The result is this session or this refusal.
 abbrev pub MadeOrRefused : Result Session ℕ → Result Session LoadFault → Type 0
 MadeOrRefused wanted (Ok s) = wanted ≡ Ok s
-MadeOrRefused wanted (Err (CannotRead p)) = ⊥
-MadeOrRefused wanted (Err (Folders f)) = ⊥
 MadeOrRefused wanted (Err (Refused n)) = wanted ≡ Err n
-MadeOrRefused wanted (Err OutOfMemory) = ⊥
+MadeOrRefused wanted (Err f) = ⊥
 
 -- Why the file of this path cannot be read.
 abbrev pub IsReadFaultOf : List ℕ → LoadFault → Type 0
 IsReadFaultOf path (CannotRead p) = p.now ≡ path
-IsReadFaultOf path (Folders f) = ⊥
-IsReadFaultOf path (Refused n) = ⊥
 IsReadFaultOf path OutOfMemory = Unit {0}
+IsReadFaultOf path f = ⊥
 
 -- The same, if there is a path.
 abbrev pub IsReadFaultIfAny : Option (List ℕ) → LoadFault → Type 0

@@ -4,11 +4,10 @@ ghost use Rattle.machine.specs.FirstLooks.{NotesSeenStep};
 ghost use Rattle.machine.specs.Machine.{HasNoQuestions, looks_from, cold_run, session_answers};
 ghost use Rattle.machine.specs.Runs.{GoesOn, EndsBy, NotesWholeRun, StopsBelow, asked_by, seen_by};
 
-use crate::meter::Meter;
 use crate::noting::Noting;
 use crate::session::{STEP_LIMIT, Session};
 use crate::state::State;
-use crate::stretch::{run_forgetting, run_from};
+use crate::stretch::{run_forgetting, run_to_look};
 use crate::whole_run::WholeRun;
 use console_calls::Cause;
 use first_looks::FirstLooks;
@@ -76,17 +75,15 @@ impl<'s> Run<'s> {
     /// # Errors
     ///
     /// `Err` means out of memory. The run is then at the step that it reached, and notes nothing any more.
-    pub fn advance(&mut self, end: u64, meter: &mut Meter) -> Result<Option<Cause>, AllocError>
-        requires order { (self.old.step ≤ end) × (end ≤ STEP_LIMIT) }
-        requires room { meter.old + (end - self.old.step) < 2 ^ 64 }
+    pub fn advance(&mut self, end: u64) -> Result<Option<Cause>, AllocError>
+        requires { (self.old.step ≤ end) × (end ≤ STEP_LIMIT) }
         ensures goes { GoesOn self.old self.new end }
-        ensures ticks { meter.new + self.old.step ≡ meter.old + self.new.step }
         ensures ends { IfOk result (λ stop. EndsBy self.new end stop) }
         ensures noted { self.old.seen ≡ Some self.old.step
             → IfOk result (λ stop. self.new.seen ≡ Some (asked_by self.new.step stop)) }
     {
         while self.step() < end {
-            if let Some(cause) = self.advance_once(end, meter)? {
+            if let Some(cause) = self.advance_once(end)? {
                 return Ok(Some(cause));
             }
         }
@@ -94,11 +91,9 @@ impl<'s> Run<'s> {
     }
 
     // Runs up to step `end`, to a stop, or, if it notes looks, to a step that looks at something new.
-    fn advance_once(&mut self, end: u64, meter: &mut Meter) -> Result<Option<Cause>, AllocError>
-        requires order { (self.old.step < end) × (end ≤ STEP_LIMIT) }
-        requires room { meter.old + (end - self.old.step) < 2 ^ 64 }
+    fn advance_once(&mut self, end: u64) -> Result<Option<Cause>, AllocError>
+        requires { (self.old.step < end) × (end ≤ STEP_LIMIT) }
         ensures goes { GoesOn self.old self.new end }
-        ensures ticks { meter.new + self.old.step ≡ meter.old + self.new.step }
         ensures moves { IfOk result (λ stop. IfNone stop (self.old.step < self.new.step)) }
         ensures stops { IfOk result (λ stop. IfSome stop
             (StopsBelow (session_answers self.new.session) end self.new.step)) }
@@ -106,9 +101,9 @@ impl<'s> Run<'s> {
             → IfOk result (λ stop. self.new.seen ≡ Some (asked_by self.new.step stop)) }
     {
         if self.notes_next() {
-            return self.advance_noting(end, meter);
+            return self.advance_noting(end);
         }
-        self.advance_forgetting(end, meter)
+        self.advance_forgetting(end)
     }
 
     // Returns whether the run notes looks, and the next step is the first one whose looks are not noted.
@@ -122,15 +117,9 @@ impl<'s> Run<'s> {
     }
 
     // Runs up to step `end` or to a stop, and notes nothing from then on.
-    fn advance_forgetting(
-        &mut self,
-        end: u64,
-        meter: &mut Meter,
-    ) -> Result<Option<Cause>, AllocError>
-        requires order { (self.old.step < end) × (end ≤ STEP_LIMIT) }
-        requires room { meter.old + (end - self.old.step) < 2 ^ 64 }
+    fn advance_forgetting(&mut self, end: u64) -> Result<Option<Cause>, AllocError>
+        requires { (self.old.step < end) × (end ≤ STEP_LIMIT) }
         ensures goes { GoesOn self.old self.new end }
-        ensures ticks { meter.new + self.old.step ≡ meter.old + self.new.step }
         ensures moves { IfOk result (λ stop. IfNone stop (self.old.step < self.new.step)) }
         ensures stops { IfOk result (λ stop. IfSome stop
             (StopsBelow (session_answers self.new.session) end self.new.step)) }
@@ -139,17 +128,14 @@ impl<'s> Run<'s> {
         self.noting = Noting::Nothing;
         let (reached, ended) = run_forgetting(&mut self.state, self.session, from, end);
         self.step = reached;
-        meter.tick_by(reached - from);
         ended
     }
 
     // Runs up to step `end`, to a step that looks at something new, or to a stop, and notes the looks.
-    fn advance_noting(&mut self, end: u64, meter: &mut Meter) -> Result<Option<Cause>, AllocError>
+    fn advance_noting(&mut self, end: u64) -> Result<Option<Cause>, AllocError>
         requires order { (self.old.step < end) × (end ≤ STEP_LIMIT) }
-        requires room { meter.old + (end - self.old.step) < 2 ^ 64 }
         requires next { self.old.seen ≡ Some self.old.step }
         ensures goes { GoesOn self.old self.new end }
-        ensures ticks { meter.new + self.old.step ≡ meter.old + self.new.step }
         ensures moves { IfOk result (λ stop. IfNone stop (self.old.step < self.new.step)) }
         ensures stops { IfOk result (λ stop. IfSome stop
             (StopsBelow (session_answers self.new.session) end self.new.step)) }
@@ -158,7 +144,7 @@ impl<'s> Run<'s> {
         let from = self.step;
         let cells = self.state.look_count();
         self.noting = Noting::Nothing;
-        let (reached, ended) = run_from(&mut self.state, self.session, meter, from, end);
+        let (reached, ended) = run_to_look(&mut self.state, self.session, from, end);
         self.step = reached;
         let stop = ended?;
         let asking = last_asking(reached, stop);
@@ -172,20 +158,16 @@ impl<'s> Run<'s> {
     /// # Errors
     ///
     /// `Err` means out of memory.
-    pub fn finish(mut self, meter: &mut Meter) -> Result<WholeRun<'s>, AllocError>
-        requires within { self.step ≤ self.session.limit }
-        requires room { meter.old ≤ 2 ^ 63 }
+    pub fn finish(mut self) -> Result<WholeRun<'s>, AllocError>
+        requires { self.step ≤ self.session.limit }
         ensures session { IfOk result (λ w. w.session.now ≡ self.entry.session) }
         ensures cold { IfOk result (λ w. cold_run self.entry.session
             ≡ record { state = w.state.state; steps = w.steps; cause = w.cause }) }
         ensures looks { self.entry.seen ≡ Some self.entry.step
             → IfOk result (λ w. NotesWholeRun self.entry.session w.looks w.steps) }
-        ensures ticks { IfOk result (λ w. meter.new + self.entry.step ≡ meter.old + w.steps) }
-        ensures metered { (meter.old ≤ meter.new)
-            × (meter.new + self.entry.step ≤ meter.old + self.entry.session.limit) }
     {
         let limit = self.session.limit();
-        let stop = self.advance(limit, meter)?;
+        let stop = self.advance(limit)?;
         let Run {
             session,
             state,

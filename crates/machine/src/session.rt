@@ -13,7 +13,10 @@ use std::alloc::AllocError;
 use std::marker::Model;
 use thiserror::Error;
 
-/// The maximum length of a program, in bytes. A program begins at 0100H, so it ends below 0FD00H; the system area begins
+/// The address at which a program begins. [Interface Guide 1979, the transient program area]
+pub const PROGRAM_START: usize = 0x0100;
+
+/// The maximum length of a program, in bytes. A program begins at `PROGRAM_START`, so it ends below 0FD00H; the system area begins
 /// at 0FE00H.
 pub const PROGRAM_LIMIT: usize = 64_512;
 

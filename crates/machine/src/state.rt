@@ -132,7 +132,7 @@ impl State {
         // The start of the offsets is compared last and by itself: one load of both numbers would wait until both are stored.
         self.look_count() == cells
             && self.script_looks().has_end_of(offsets)
-            && self.changes.asks_nothing()
+            && self.changes.looks.is_empty()
             && self.script_looks().has_start_of(offsets)
     }
 
@@ -153,10 +153,10 @@ impl State {
             return Some(Question::Script(offset as usize));
         }
         // This is the usual case, and it moves no question.
-        if self.changes.asks_nothing() {
+        if self.changes.looks.is_empty() {
             return None;
         }
-        match self.changes.take_look() {
+        match self.changes.looks.take() {
             Some(ask) => Some(Question::Host(ask)),
             None => None,
         }
@@ -200,7 +200,7 @@ impl State {
         ensures none { HasNoQuestions self.new.looked }
         ensures beneath { self.new.beneath ≡ self.old.beneath }
     {
-        self.changes.forget_looks();
+        self.changes.looks.clear();
         self.desk.forget_looks();
     }
 
@@ -212,9 +212,9 @@ impl State {
         ensures beneath { self.new.beneath ≡ self.old.beneath }
     {
         // This is the usual case, and it writes nothing.
-        if self.changes.asks_nothing() {
+        if self.changes.looks.is_empty() {
             return;
         }
-        self.changes.forget_looks();
+        self.changes.looks.clear();
     }
 }

@@ -110,6 +110,41 @@ fn take_step(
 /// `Err` means out of memory. It leaves the state that was reached, with the earlier looks and some of the looks of the
 /// step that failed.
 #[inline(never)]
+pub(crate) fn run_to_look(
+    state: &mut State,
+    session: &Session,
+    from: u64,
+    end: u64,
+) -> (u64, Result<Option<Cause>, AllocError>)
+    requires order { from < end }
+    requires at { after (session_answers session.now) from ≡ Some state.old.state }
+    requires bound { IsBound session.now state.old }
+    ensures runs { RunsStretch session.now from end state.old.looked result.0 result.1 state.new }
+    ensures progress { IfOk result.1 (λ stop. IfNone stop (from < result.0)) }
+    ensures bound { IsBound session.now state.new }
+{
+    let cells = state.look_count();
+    let offsets = state.script_looks();
+    let mut n = from;
+    while n < end {
+        n += run_quietly(state, end - n);
+        if n == end {
+            return (n, Ok(None));
+        }
+        match take_step(state, session, true) {
+            Ok(None) => {}
+            Ok(Some(cause)) => return (n, Ok(Some(cause))),
+            Err(error) => return (n, Err(error)),
+        }
+        n += 1;
+        if !state.looks_at_no_more(cells, offsets) {
+            return (n, Ok(None));
+        }
+    }
+    (n, Ok(None))
+}
+
+/// Does the same as `run_to_look`. The meter counts the steps, also at `Err`.
 pub fn run_from(
     state: &mut State,
     session: &Session,
@@ -126,28 +161,9 @@ pub fn run_from(
     ensures progress { IfOk result.1 (λ stop. IfNone stop (from < result.0)) }
     ensures bound { IsBound session.now state.new }
 {
-    let cells = state.look_count();
-    let offsets = state.script_looks();
-    let mut n = from;
-    while n < end {
-        let count = run_quietly(state, end - n);
-        meter.tick_by(count);
-        n += count;
-        if n == end {
-            return (n, Ok(None));
-        }
-        match take_step(state, session, true) {
-            Ok(None) => {}
-            Ok(Some(cause)) => return (n, Ok(Some(cause))),
-            Err(error) => return (n, Err(error)),
-        }
-        meter.tick();
-        n += 1;
-        if !state.looks_at_no_more(cells, offsets) {
-            return (n, Ok(None));
-        }
-    }
-    (n, Ok(None))
+    let (reached, ended) = run_to_look(state, session, from, end);
+    meter.tick_by(reached - from);
+    (reached, ended)
 }
 
 /// Executes steps from step `from` on up to step `end`, or to a stop, whose cause it returns. It forgets the

@@ -1,5 +1,5 @@
 -- The folders of the drives, with the names of their files. (This project's profile.)
-use Rattle.std.specs.Prelude.{◌≡◌, ℕ, ◌⊎◌, ◌<◌, List, Option, Some, None, get_or, option_map}
+use Rattle.std.specs.Prelude.{◌≡◌, ℕ, ◌⊎◌, ◌<◌, List, Option, Some, None, get_or}
 use Rattle.filenames.specs.Drives.{drive_number}
 use Rattle.folders.specs.FileSystem.{FileBytes, Path, StoredFiles}
 use Rattle.folders.specs.declared.fault.Fault.{Fault}
@@ -23,10 +23,6 @@ ListsDrive stored names drive (Some folder) (Some found) = HasNames stored names
 -- The same for each of the four drives.
 abbrev pub ListsDrives : FileBytes → (Path → List Path) → List (Option (Bor (List ℕ))) → List (Option DriveFolder) → Type 0
 ListsDrives stored names folders found = (drive : ℕ) → drive < 4 → ListsDrive stored names drive (folder_of folders drive) (get_or found drive None)
-
--- The text of a path, if there is one.
-abbrev pub text_of : Option (Bor (List ℕ)) → Option Path
-text_of = option_map (λ s. s.now)
 
 -- Why the folder of a drive is not listed, if it has one.
 abbrev pub FailsToList : StoredFiles → ℕ → Option Path → Fault → Type 0

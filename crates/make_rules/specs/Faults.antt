@@ -21,9 +21,8 @@ fault_of failure.OutOfMemory = OutOfMemory
 
 -- The path at which the file system failed, if an error reports that a folder could not be listed.
 abbrev pub rule_paths : RuleFault → List Path
-rule_paths (RulePath path) = []
 rule_paths (Folders f) = fault_paths f
-rule_paths OutOfMemory = []
+rule_paths fault = []
 
 -- A rule cannot have one of the paths, or an allocation failed.
 abbrev pub RefusesRule : List Path → SessionWords → List (Option DriveFolder) → Session → FirstLooksView → RuleFault → Type 0

@@ -11,7 +11,7 @@ use Rattle.machine.specs.Inputs.{Session}
 use Rattle.dependencies.specs.Rows.{rows_from}
 use Rattle.dependencies.specs.declared.rows.Row.{Row}
 use Rattle.dependencies.specs.declared.rows.Joining.TheVariants.{Joined}
-use Rattle.report_lines.specs.FirstLines.{cause_text, line}
+use Rattle.report_lines.specs.FirstLines.{line, stop_line}
 use Rattle.make_rules.specs.Carried.{is_carried}
 use Rattle.make_rules.specs.Escapes.{argument, escaped, prerequisite}
 use Rattle.make_rules.specs.Files.{absent_lines, all_absent_folders, all_files, all_folders, all_in_call, is_other}
@@ -71,7 +71,7 @@ empty_rule path = line (rule_line (path ∷ []) [] [])
 -- A comment about a stop other than WarmBoot.
 abbrev pub stop_comment : Cause → List ℕ
 stop_comment WarmBoot = []
-stop_comment cause = line (codes "# stop " ++ cause_text cause)
+stop_comment cause = codes "# " ++ stop_line cause
 
 -- The rule, each path but the program's as a target, and comments about files that are not there and about the stop.
 abbrev pub rule_text : List Path → SessionWords → List (Option DriveFolder) → Session → FirstLooksView → Cause → List ℕ

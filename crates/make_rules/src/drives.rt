@@ -4,7 +4,8 @@ ghost use Rattle.std.specs.Prelude.{◌≡◌, IfOk, IfErr, IfSome};
 ghost use Rattle.filenames.specs.Drives.{drive_number};
 ghost use Rattle.folders.specs.Failures.{KeepsFiles};
 ghost use Rattle.folders.specs.Faults.{FailsBy, failure_paths};
-ghost use Rattle.make_rules.specs.Drives.{FailsToList, FailsToListAny, ListsDrive, ListsDrives, text_of};
+ghost use Rattle.command_words.specs.CommandLine.{text_of};
+ghost use Rattle.make_rules.specs.Drives.{FailsToList, FailsToListAny, ListsDrive, ListsDrives};
 
 use filenames::Drive;
 use folders::{Failure, FileSystem, Listing, list};

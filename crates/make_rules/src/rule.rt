@@ -22,12 +22,9 @@ use crate::missing::{is_target, push_absent_folders, push_absent_lines, push_mis
 use command_words::SessionWords;
 use dependencies::{Joining, StepTable, next_row};
 use folders::FileSystem;
-use machine::{Cause, WholeRun};
-use report_lines::cause_words;
+use machine::{Cause, PROGRAM_START, WholeRun};
+use report_lines::stop_line;
 use std::alloc::{AllocError, Global};
-
-/// The first cell of a program.
-const PROGRAM_START: usize = 256;
 
 /// The paths on which the targets depend.
 #[derive(Drop)]
@@ -199,9 +196,8 @@ fn push_stop_comment(text: &mut Vec<u8>, cause: Cause) -> Result<(), AllocError>
     if let Cause::WarmBoot = cause {
         return Ok(());
     }
-    text.extend_from_slice(b"# stop ")?;
-    text.extend_from_slice(cause_words(cause).as_bytes())?;
-    Ok(text.push(b'\n')?)
+    text.extend_from_slice(b"# ")?;
+    Ok(text.extend_from_slice(stop_line(cause).as_bytes())?)
 }
 
 /// Returns the rule for make with the files on which a run depends. After it comes each of these but the program as a target that

@@ -11,7 +11,7 @@ use Rattle.machine.proofs.ChangedFileLemmas.{changed_keys_laid}
 use Rattle.folders.specs.FileSystem.{FileBytes}
 use Rattle.folders.specs.Folders.{FailsToWrite, LeavesIn, WritesInto}
 use Rattle.folders.specs.declared.fault.Failure.{Failure}
-use Rattle.one_run.specs.RawRun.{StopsAt, WritesEach, bytes_in, drive_folder, written_keys}
+use Rattle.one_run.specs.RunsOnce.{StopsAt, WritesEach, bytes_in, drive_folder, written_keys}
 
 module _ (folders : List (Option (Bor (List ℕ)))) (host : Host) (own : OwnFiles) where
   abbrev all_files : Files

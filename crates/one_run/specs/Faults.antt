@@ -5,7 +5,7 @@ use Rattle.folders.specs.FileSystem.{Path}
 use Rattle.folders.specs.declared.fault.Failure.{Failure}
 use Rattle.folders.specs.declared.fault.Failure.TheVariants as failure
 use Rattle.one_run.specs.declared.fault.RunFault.{RunFault}
-use Rattle.one_run.specs.declared.fault.RunFault.TheVariants.{CannotWrite, Folders, OutOfMemory}
+use Rattle.one_run.specs.declared.fault.RunFault.TheVariants.{Folders, OutOfMemory}
 
 -- The error of a run for a failure of the folders.
 abbrev pub fault_of : Failure → RunFault
@@ -14,6 +14,5 @@ fault_of failure.OutOfMemory = OutOfMemory
 
 -- The path at which the file system failed, if an error reports that a changed file could not be written.
 abbrev pub run_paths : RunFault → List Path
-run_paths CannotWrite = []
 run_paths (Folders f) = fault_paths f
-run_paths OutOfMemory = []
+run_paths fault = []

@@ -1,4 +1,4 @@
 pub mod World
 pub mod Faults
-pub mod RawRun
+pub mod RunsOnce
 pub mod WrittenPaths

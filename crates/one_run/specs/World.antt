@@ -1,6 +1,6 @@
 -- What the program acts on, as a contract sees it. (This project's own.)
 use Rattle.folders.specs.FileSystem.{StoredFiles}
-use Rattle.report_lines.specs.Streams.{Output}
+use Rattle.streams.specs.Streams.{Output}
 
 -- The files, standard output and standard error.
 pub record World : Type 0 where

@@ -9,7 +9,7 @@ use Rattle.hostfiles.specs.Names.{Key}
 use Rattle.machine.specs.Inputs.{Session}
 use Rattle.machine.specs.PlainFiles.{Files}
 use Rattle.machine.specs.PlainState.{plain_run}
-use Rattle.one_run.specs.RawRun.{drive_folder, written_keys}
+use Rattle.one_run.specs.RunsOnce.{drive_folder, written_keys}
 
 -- The path of a file in a folder, if there is one.
 abbrev pub path_within : Option Path → Key → List Path

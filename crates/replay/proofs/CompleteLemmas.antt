@@ -3,7 +3,7 @@ use Rattle.std.proofs.Common.{◌≡◌, ℕ, ◌+◌, ◌*◌, ◌/◌, ◌%◌
 use Rattle.std.proofs.lemmas.Bool.{cases_lt}
 use Rattle.circular_buffer.specs.Buffer.{Buffer}
 use Rattle.replay.specs.declared.ring.Checkpoint.{Checkpoint}
-use Rattle.replay.specs.Ring.{Each, IsDue, AddsAll, PushesIfAbove, SomeStep, SomeBy, ring_with}
+use Rattle.replay.specs.Ring.{Each, IsDue, AddsAll, PushesIfAbove, SomeStep, ring_with}
 use Rattle.replay.proofs.RingLemmas.{Adding, relast_adding, push_made, left_out, kept_same}
 
 -- No multiple of the spacing is between n and the next multiple.
@@ -14,12 +14,12 @@ no_multiple n s k above below whole =
     let low : k / s * s ≤ n / s * s = mul-le-mul_right s (omega arith) in
     omega (arith, parts, whole, low, above, div-mul-le_self n s)
 
-some_more : (xs ys : List Checkpoint) (n : ℕ) → SomeBy (λ c. c.step) xs n → SomeBy (λ c. c.step) (xs ++ ys) n
+some_more : (xs ys : List Checkpoint) (n : ℕ) → SomeStep xs n → SomeStep (xs ++ ys) n
 some_more [] ys n h = absurd h
 some_more (x ∷ xs) ys n (inl e) = inl e
 some_more (x ∷ xs) ys n (inr h) = inr (some_more xs ys n h)
 
-some_last : (xs : List Checkpoint) (c : Checkpoint) → SomeBy (λ c. c.step) (xs ++ c ∷ []) c.step
+some_last : (xs : List Checkpoint) (c : Checkpoint) → SomeStep (xs ++ c ∷ []) c.step
 some_last [] c = inl refl
 some_last (x ∷ xs) c = inr (some_last xs c)
 
@@ -35,7 +35,7 @@ under m k xs (inr h) p b = some_under m k xs h b
 -- In the middle of a run, whose newest checkpoint is at `newest`, each due step so far has its checkpoint.
 pub record AddingAll (old new : List Checkpoint) (slots from upto last spacing newest : ℕ) : Type 0 where
   pub adding : Adding old new slots from upto last spacing newest
-  pub complete : (k : ℕ) → IsDue old from upto last spacing k → SomeBy (λ c. c.step) adding.adds.made k
+  pub complete : (k : ℕ) → IsDue old from upto last spacing k → SomeStep adding.adds.made k
 
 pub all_made : (old new : List Checkpoint) (slots from upto last spacing newest : ℕ) → AddingAll old new slots from upto last spacing newest → upto ≡ last
     → AddsAll old new slots from upto upto spacing
@@ -71,7 +71,7 @@ module _ (old : List Checkpoint) (from last spacing newest n : ℕ) (ring next :
     (room : ring.capacity ≡ slots) (low : n ≤ c.step) (mark : (c.step % spacing ≡ 0) ⊎ (c.step ≡ last))
     (between : (k : ℕ) → n < k → k < c.step → (k % spacing ≡ 0) ⊎ (k ≡ last) → ⊥)
     (g : AddingAll old ring.items slots from n last spacing newest) where
-  before : (k : ℕ) → IsDue old from c.step last spacing k → k ≤ n → SomeBy (λ c. c.step) g.adding.adds.made k
+  before : (k : ℕ) → IsDue old from c.step last spacing k → k ≤ n → SomeStep g.adding.adds.made k
   before k h b = g.complete k (record { reached = (h.reached.0, b); above = h.above; marked = h.marked })
 
   here : (k : ℕ) → IsDue old from c.step last spacing k → n < k → k ≡ c.step
@@ -85,7 +85,7 @@ module _ (old : List Checkpoint) (from last spacing newest n : ℕ) (ring next :
   all_pushed above e = rw (e, room) (record {
     adding = push_made old from last spacing newest n ring c slots g.adding low above mark;
     complete = λ k h. elim (cases_lt n k) [
-      | inl l ↦ subst (SomeBy (λ c. c.step) (g.adding.adds.made ++ c ∷ [])) (sym (here k h l)) (some_last g.adding.adds.made c)
+      | inl l ↦ subst (SomeStep (g.adding.adds.made ++ c ∷ [])) (sym (here k h l)) (some_last g.adding.adds.made c)
       | inr l ↦ some_more g.adding.adds.made (c ∷ []) k (before k h l)
     ];
   })

@@ -7,8 +7,8 @@ pub mod PokeLemmas
 pub mod SpliceLemmas
 pub mod RunnerLemmas
 pub mod OutcomeLemmas
-pub mod KeepingLemmas
+pub mod ValidLemmas
 pub mod StepsLemmas
 pub mod CompleteLemmas
-pub mod RefusalLemmas
+pub mod FailureCounts
 pub mod FileTouch

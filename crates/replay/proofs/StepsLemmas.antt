@@ -3,7 +3,7 @@ use Rattle.std.proofs.Common.{◌≡◌, ℕ, ◌-◌, ◌<◌, List, [], ◌∷
 use Rattle.std.proofs.lemmas.List.{map-append, length-map, drop-map}
 use Rattle.circular_buffer.specs.Buffer.{keep_last}
 use Rattle.replay.specs.declared.ring.Checkpoint.{Checkpoint as KeptCheckpoint}
-use Rattle.replay.specs.Ring.{Rising, RisingBy, IsDue, IsDueBy, Each, Adds, AddsBy, AddsAll, AddsAllBy, SomeBy, steps, start_by, start_step}
+use Rattle.replay.specs.Ring.{Rising, RisingBy, IsDue, IsDueBy, Each, Adds, AddsBy, AddsAll, AddsAllBy, SomeBy, SomeStep, steps, start_by, start_step}
 use Rattle.replay.specs.RunnerView.{Checkpoint, checkpoint_with_text}
 use Rattle.replay.proofs.RingLemmas.{Each-weaken}
 use Rattle.replay.proofs.TouchLemmas.{each_map}
@@ -20,7 +20,7 @@ each_back : {X Y : Type 0} (h : X → Y) (P : Y → Type 0) (xs : List X) → Ea
 each_back h P [] e = tt
 each_back h P (x ∷ xs) e = (e.0, each_back h P xs e.1)
 
-some_steps : (xs : List KeptCheckpoint) (n : ℕ) → SomeBy (λ c. c.step) xs n → SomeBy (λ k. k) (steps xs) n
+some_steps : (xs : List KeptCheckpoint) (n : ℕ) → SomeStep xs n → SomeBy (λ k. k) (steps xs) n
 some_steps [] n h = h
 some_steps (x ∷ xs) n (inl e) = inl e
 some_steps (x ∷ xs) n (inr h) = inr (some_steps xs n h)

@@ -31,7 +31,5 @@ IsAllowed s (Limit n) = n ≤ STEP_LIMIT
 -- The changes that may run out of memory: a splice that makes the script longer, and a file that is set.
 abbrev pub ChangeAllocates : Change → Type 0
 ChangeAllocates (Splice at removed bytes) = removed < length bytes
-ChangeAllocates (Poke at bytes) = ⊥
 ChangeAllocates (SetFile name file) = Unit {0}
-ChangeAllocates (RemoveFile name) = ⊥
-ChangeAllocates (Limit n) = ⊥
+ChangeAllocates change = ⊥

@@ -2,7 +2,7 @@
 use Rattle.std.specs.Prelude.{◌≡◌, ℕ, Result, Ok, Err}
 use Rattle.machine.specs.Inputs.{Session}
 use Rattle.replay.specs.declared.edit.Edit.{Edit}
-use Rattle.replay.specs.declared.edit.Edit.TheVariants.{Insert, Replace, Remove, Poke, SetFile, RemoveFile, SetLimit}
+use Rattle.replay.specs.declared.edit.Edit.TheVariants.{Insert, SetFile}
 use Rattle.replay.specs.declared.edit.EditError.{EditError}
 use Rattle.replay.specs.declared.edit.EditError.TheVariants.{PastEnd, ScriptTooLong, NoSuchFile, FileTooLong, TooManyFiles, OutsideProgram, LimitTooLarge, OutOfMemory}
 
@@ -29,9 +29,5 @@ AnswersEdit wanted (Err e) after = Refuses wanted e
 -- The edits that may run out of memory: insertions and files that are set.
 abbrev pub EditAllocates : Edit → Type 0
 EditAllocates (Insert at bytes) = Unit {0}
-EditAllocates (Replace at bytes) = ⊥
-EditAllocates (Remove at count) = ⊥
-EditAllocates (Poke at bytes) = ⊥
 EditAllocates (SetFile name bytes) = Unit {0}
-EditAllocates (RemoveFile name) = ⊥
-EditAllocates (SetLimit n) = ⊥
+EditAllocates edit = ⊥

@@ -81,8 +81,7 @@ start_step = start_by (λ c. c.step)
 
 -- Some checkpoint is at this step.
 abbrev pub SomeStep : List Checkpoint → ℕ → Type 0
-SomeStep [] n = ⊥
-SomeStep (c ∷ cs) n = (c.step ≡ n) ⊎ SomeStep cs n
+SomeStep = SomeBy (λ c. c.step)
 
 -- The greatest of the steps, or 0.
 pub record IsNewest (newest : ℕ) (ring : List Checkpoint) : Type 0 where

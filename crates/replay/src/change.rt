@@ -13,11 +13,8 @@ use crate::edit::{Edit, EditError};
 use crate::touch::{file_touch, poke_touch, splice_touch};
 use first_looks::FirstLooks;
 use hostfiles::host::FILE_LIMIT;
-use machine::{Bytes, HostFile, Name, SCRIPT_LIMIT, STEP_LIMIT, Session};
+use machine::{Bytes, HostFile, Name, PROGRAM_START, SCRIPT_LIMIT, STEP_LIMIT, Session};
 use std::alloc::{AllocError, Global};
-
-/// The address of a program's first byte.
-const PROGRAM_START: usize = 0x0100;
 
 /// A change that an accepted edit makes to the session.
 #[derive(Drop)]

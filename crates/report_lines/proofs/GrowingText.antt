@@ -1,5 +1,5 @@
 -- A text that grows at its end, and the first lines of a report.
-use Rattle.std.proofs.Common.{◌≡◌, ℕ, List, [], ◌∷◌, ◌++◌, codes, ap, sym, ◌∙◌, append_assoc}
+use Rattle.std.proofs.Common.{◌≡◌, ℕ, List, [], ◌∷◌, ◌++◌, codes, ap, ◌∙◌, append_assoc}
 
 -- One more text is appended.
 pub one_behind : (before after text more : List ℕ) → before ≡ text → after ≡ before ++ more → after ≡ text ++ more
@@ -12,15 +12,12 @@ named_behind first before after texts name value e f =
     f ∙ ap (λ (t : List ℕ). (t ++ name) ++ value) e
     ∙ ap (λ (t : List ℕ). t ++ value) (append_assoc first texts name) ∙ append_assoc first (texts ++ name) value
 
--- The lines of the cause, the steps and the registers.
-pub three_lines : (cause steps regs : List ℕ)
-    → (((((codes "stop " ++ cause) ++ codes "\nsteps ") ++ steps) ++ codes "\n") ++ regs) ++ codes "\n"
-    ≡ (((codes "stop " ++ cause) ++ 10 ∷ []) ++ ((codes "steps " ++ steps) ++ 10 ∷ [])) ++ (regs ++ 10 ∷ [])
-three_lines cause steps regs =
-    let stop = codes "stop " ++ cause in
-    let counted = (codes "steps " ++ steps) ++ 10 ∷ [] in
-    append_assoc (((stop ++ codes "\nsteps ") ++ steps) ++ codes "\n") regs (10 ∷ [])
+-- The line of the steps and that of the registers behind another text.
+pub two_lines : (first steps regs : List ℕ)
+    → ((((first ++ codes "steps ") ++ steps) ++ codes "\n") ++ regs) ++ codes "\n"
+    ≡ (first ++ ((codes "steps " ++ steps) ++ 10 ∷ [])) ++ (regs ++ 10 ∷ [])
+two_lines first steps regs =
+    append_assoc (((first ++ codes "steps ") ++ steps) ++ codes "\n") regs (10 ∷ [])
     ∙ ap (λ (t : List ℕ). t ++ (regs ++ 10 ∷ []))
-    (ap (λ (t : List ℕ). t ++ 10 ∷ []) (append_assoc stop (codes "\nsteps ") steps)
-    ∙ append_assoc stop (codes "\nsteps " ++ steps) (10 ∷ [])
-    ∙ sym (append_assoc stop (10 ∷ []) counted))
+    (ap (λ (t : List ℕ). t ++ 10 ∷ []) (append_assoc first (codes "steps ") steps)
+    ∙ append_assoc first (codes "steps " ++ steps) (10 ∷ []))

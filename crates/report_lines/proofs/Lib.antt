@@ -1,3 +1,2 @@
-mod Parts
-pub mod WrittenPieces
+pub mod ReportPieces
 mod GrowingText

@@ -35,6 +35,10 @@ cause_text NoDollar = codes "NoDollar"
 cause_text (Unsupported number) = codes "Unsupported " ++ decimal number
 cause_text (BadDrive number) = codes "BadDrive " ++ decimal number
 
+-- The line that says why a run stopped.
+abbrev pub stop_line : Cause → List ℕ
+stop_line cause = line (codes "stop " ++ cause_text cause)
+
 -- Each register after its name, with F for the flag byte.
 abbrev pub regs_text : Regs → List ℕ
 regs_text r =
@@ -46,7 +50,7 @@ regs_text r =
 
 -- Why a run stopped, after how many steps, and with which registers.
 abbrev pub report_head : Cause → ℕ → Regs → List ℕ
-report_head cause steps regs = line (codes "stop " ++ cause_text cause) ++ line (codes "steps " ++ decimal steps) ++ line (regs_text regs)
+report_head cause steps regs = stop_line cause ++ line (codes "steps " ++ decimal steps) ++ line (regs_text regs)
 
 -- The line of the console text.
 abbrev pub text_line : List ℕ → List ℕ

@@ -5,13 +5,13 @@ ghost use Rattle.filenames.specs.Names.{display_text};
 ghost use Rattle.hostfiles.specs.Files.{files};
 ghost use Rattle.hostfiles.specs.FileView.{view_contents};
 ghost use Rattle.report_lines.specs.ChangedLines.{records_text, changed_line, gone_line, line_of_file, lines_of_files};
-ghost use Rattle.report_lines.specs.Streams.{WritesText};
+ghost use Rattle.streams.specs.Streams.{WritesText};
 
 use crate::hex_writer::write_hex;
-use crate::streams::{Failed, Writer, write_all};
 use arrayvec::ArrayVec;
 use filenames::Pieces;
 use hostfiles::{ChangedFile, FileView, HostFiles, Journal, Name, next_changed};
+use streams::{Failed, Writer, write_all};
 
 /// Which changed files are reported.
 #[derive(Clone, Copy, Debug, PartialEq, Eq)]

@@ -1,18 +1,17 @@
 // The first lines of a report, and the line of its console text.
 
-ghost use Rattle.std.specs.Prelude.{◌≡◌, ◌+◌, ◌<◌, ◌≤◌, ◌++◌, IfOk, length, slice_index, string_bytes};
+ghost use Rattle.std.specs.Prelude.{◌≡◌, ◌+◌, ◌<◌, ◌≤◌, ◌++◌, length, slice_index};
 ghost use Rattle.arrayvec.specs.ArrayString.{array_string_len};
 ghost use Rattle.hex.specs.Hex.{upper_digits};
 ghost use Rattle.report_lines.specs.FirstLines as texts;
 ghost use Rattle.report_lines.specs.FirstLines.{byte_text, word_text, regs_text, text_line};
-ghost use Rattle.report_lines.specs.Streams.{WritesText};
+ghost use Rattle.streams.specs.Streams.{WritesText};
 
 use crate::hex_writer::write_hex;
-use crate::streams::{Failed, Writer, write_all};
 use arrayvec::ArrayString;
 use itoa::Buffer;
 use machine::{Cause, Regs};
-use std::alloc::{AllocError, Global};
+use streams::{Failed, Writer, write_all};
 
 /// Returns a digit in upper case.
 fn digit(value: u8) -> char
@@ -43,8 +42,9 @@ pub fn push_word<const N: usize>(text: &mut ArrayString<N>, value: u16)
     push_byte(text, (value % 256) as u8);
 }
 
-/// Returns the name of a cause with its value, as a report has it.
-pub fn cause_words(cause: Cause) -> ArrayString<64>
+// Returns the name of a cause with its value, as a report has it: a byte or an address in upper-case hexadecimal digits, the number
+// of a call or a drive in decimal.
+fn cause_words(cause: Cause) -> ArrayString<64>
     ensures { result.bytes ≡ texts.cause_text cause }
 {
     let mut text = ArrayString::new();
@@ -74,16 +74,15 @@ pub fn cause_words(cause: Cause) -> ArrayString<64>
     text
 }
 
-/// Returns the name of a cause with its value, as a report has it: a byte or an address in upper-case hexadecimal digits, the number
-/// of a call or a drive in decimal.
-///
-/// # Errors
-///
-/// The allocation of the string failed.
-pub fn cause_text(alloc: Global, cause: Cause) -> Result<String, AllocError>
-    ensures { IfOk result (λ s. string_bytes s ≡ texts.cause_text cause) }
+/// Returns the line that says why a run stopped, with its line end.
+pub fn stop_line(cause: Cause) -> ArrayString<80>
+    ensures { result.bytes ≡ texts.stop_line cause }
 {
-    String::from_str(alloc, cause_words(cause).as_str())
+    let mut text = ArrayString::new();
+    text.push_str("stop ");
+    text.push_str(cause_words(cause).as_str());
+    text.push_str("\n");
+    text
 }
 
 /// Appends a name and the two digits of a byte.
@@ -129,9 +128,8 @@ pub fn report_head(cause: Cause, steps: u64, regs: Regs) -> ArrayString<256>
     ensures { result.bytes ≡ texts.report_head cause steps regs }
 {
     let mut text = ArrayString::new();
-    text.push_str("stop ");
-    text.push_str(cause_words(cause).as_str());
-    text.push_str("\nsteps ");
+    text.push_str(stop_line(cause).as_str());
+    text.push_str("steps ");
     text.push_str(Buffer::new().format(steps));
     text.push_str("\n");
     push_regs(&mut text, regs);

@@ -2,9 +2,9 @@
 
 ghost use Rattle.std.specs.Prelude.{◌≤◌, length};
 ghost use Rattle.hex.specs.Hex.{encode_lower};
-ghost use Rattle.report_lines.specs.Streams.{WritesText};
+ghost use Rattle.streams.specs.Streams.{WritesText};
 
-use crate::streams::{Failed, Writer, write_all};
+use streams::{Failed, Writer, write_all};
 
 /// The bytes of a chunk.
 const CHUNK_BYTES: usize = 2048;

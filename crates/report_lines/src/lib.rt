@@ -1,6 +1,5 @@
 //! The lines of a report, written in pieces to any writer. No memory is allocated.
 //!
-//! - `streams`: `Reader` and `Writer`, whose failures are counted
 //! - `first_lines`: the lines of the stop, the steps and the registers, and the line of the console text
 //! - `changed_lines`, `hex_writer`: the lines of the changed files; bytes written as hexadecimal digits
 #![tactic(auto)]
@@ -8,9 +7,8 @@
 mod changed_lines;
 mod first_lines;
 mod hex_writer;
-mod streams;
 
 pub use changed_lines::{FileFilter, write_changed_files, write_head};
-pub use first_lines::{cause_text, cause_words, push_word, report_head, write_text};
+pub use first_lines::{push_word, report_head, stop_line, write_text};
 pub use hex_writer::write_hex;
 pub use streams::{Failed, Over, Reader, Writer, write_all};

@@ -1,6 +1,6 @@
 -- The statuses of errors.
 use Rattle.std.proofs.Common.{◌≡◌, ◌∙◌, ℕ, inl, inr, sym}
-use Rattle.report_lines.specs.Streams.{Output}
+use Rattle.streams.specs.Streams.{Output}
 use Rattle.requests.specs.FaultReports.{ReportsFaultOrMemory, status_of}
 use Rattle.requests.specs.declared.tool.Tool.{Tool}
 use Rattle.requests.specs.declared.fault.Fault.{Fault}

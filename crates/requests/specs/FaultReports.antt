@@ -13,7 +13,7 @@ use Rattle.requests.specs.declared.tool.Tool.{Tool}
 use Rattle.requests.specs.declared.tool.Tool.TheVariants.{Cpmrun, Cpmdeps}
 use Rattle.one_run.specs.World.{World}
 use Rattle.report_lines.specs.FirstLines.{line}
-use Rattle.report_lines.specs.Streams.{Output, WritesOrFails}
+use Rattle.streams.specs.Streams.{Output, WritesOrFails}
 
 -- The program's error for an error of loading, and for an error of the run.
 abbrev pub of_load : LoadFault → Fault
@@ -29,29 +29,16 @@ of_run run.OutOfMemory = OutOfMemory
 
 -- The path at which the file system failed, if an error reports that a file or a folder could not be read or written.
 abbrev pub file_paths : Fault → List Path
-file_paths (Usage text) = []
-file_paths NotText = []
 file_paths (CannotRead path) = path.now ∷ []
-file_paths CannotWrite = []
 file_paths (Folders f) = fault_paths f
-file_paths (Refused n) = []
-file_paths (Malformed k) = []
-file_paths (TooLong k) = []
-file_paths (RulePath path) = []
-file_paths OutOfMemory = []
+file_paths fault = []
 
 -- The exit status of an error.
 abbrev pub status_of : Fault → ℕ
-status_of (Usage text) = 1
-status_of NotText = 1
-status_of (CannotRead path) = 1
-status_of CannotWrite = 1
-status_of (Folders f) = 1
-status_of (Refused n) = 1
 status_of (Malformed k) = 2
 status_of (TooLong k) = 2
-status_of (RulePath path) = 1
 status_of OutOfMemory = 12
+status_of fault = 1
 
 -- The name of a program, as its messages begin with it.
 abbrev pub name_of : Tool → List ℕ
@@ -84,16 +71,13 @@ ReportsFault tool f status before after = (status ≡ status_of f) × WritesOrFa
 
 -- The message has a path, a name or a number put into it, and so needs memory.
 abbrev pub NamesAValue : Fault → Type 0
-NamesAValue (Usage text) = ⊥
-NamesAValue NotText = ⊥
 NamesAValue (CannotRead path) = Unit {0}
-NamesAValue CannotWrite = ⊥
 NamesAValue (Folders f) = Unit {0}
 NamesAValue (Refused n) = Unit {0}
 NamesAValue (Malformed k) = Unit {0}
 NamesAValue (TooLong k) = Unit {0}
 NamesAValue (RulePath path) = Unit {0}
-NamesAValue OutOfMemory = ⊥
+NamesAValue fault = ⊥
 
 -- The error was reported, or out of memory if there was no memory to put a value into its message.
 abbrev pub ReportsFaultOrMemory : Tool → Fault → ℕ → Output → Output → Type 0
@@ -106,4 +90,4 @@ pub record EndsWithFault (tool : Tool) (Comes : Fault → Type 0) (status : ℕ)
   pub fault : Fault
   pub comes : Comes fault
   pub failed : after.files.failed ≡ file_paths fault ++ before.files.failed
-  pub telling : ReportsFaultOrMemory tool fault status before.err after.err
+  pub reported : ReportsFaultOrMemory tool fault status before.err after.err

@@ -6,12 +6,12 @@ use Rattle.command_words.specs.declared.error_classes.ErrorClass.TheVariants as 
 use Rattle.loading.specs.Loading.{FailsToLoad}
 use Rattle.loading.specs.declared.fault.LoadFault.{LoadFault}
 use Rattle.one_run.specs.World.{World}
-use Rattle.report_lines.specs.Streams.{Output, WritesPart, WritesText}
+use Rattle.streams.specs.Streams.{Output, WritesPart, WritesText}
 use Rattle.requests.specs.FaultReports.{of_load}
 use Rattle.requests.specs.declared.request.Request.{Request}
 use Rattle.requests.specs.declared.request.Request.TheVariants.{Session, Information}
 use Rattle.requests.specs.declared.fault.Fault.{Fault}
-use Rattle.requests.specs.declared.fault.Fault.TheVariants.{Usage, NotText, CannotRead, CannotWrite, Folders, Refused, Malformed, TooLong, RulePath, OutOfMemory}
+use Rattle.requests.specs.declared.fault.Fault.TheVariants.{Usage, CannotWrite, OutOfMemory}
 
 -- The request: a session, or help or the version. `Are` holds for the words of the session, and `Has` for the classes of the errors
 -- that the words can have.
@@ -22,15 +22,8 @@ IsRequestOf Are Has (Information text) = Has outcome.Information
 -- Why words have no request: they are a usage error, or an allocation failed.
 abbrev pub FailsToParse : (ErrorClass → Type 0) → Fault → Type 0
 FailsToParse Has (Usage text) = Has outcome.UsageError
-FailsToParse Has NotText = ⊥
-FailsToParse Has (CannotRead path) = ⊥
-FailsToParse Has CannotWrite = ⊥
-FailsToParse Has (Folders f) = ⊥
-FailsToParse Has (Refused n) = ⊥
-FailsToParse Has (Malformed k) = ⊥
-FailsToParse Has (TooLong k) = ⊥
-FailsToParse Has (RulePath path) = ⊥
 FailsToParse Has OutOfMemory = Unit {0}
+FailsToParse Has fault = ⊥
 
 -- Some text, as help or the version, was written, or a prefix of it if the result is an error.
 abbrev pub WritesSomeText : {T E : Type 0} → Output → Output → Result T E → Type 0

@@ -1,6 +1,6 @@
 ghost use Rattle.std.specs.Prelude.{◌≡◌, IfOk, IfSome, IfNone, string_bytes};
 ghost use Rattle.requests.specs.FaultReports.{ReportsFaultOrMemory};
-ghost use Rattle.report_lines.specs.Streams.{WritesOrFails};
+ghost use Rattle.streams.specs.Streams.{WritesOrFails};
 
 use crate::tool::Tool;
 use loading::LoadFault;

@@ -8,7 +8,7 @@ use std::alloc::{AllocError, Global};
 use std::test::Fail;
 use std::{fs, process};
 use test_sessions::program;
-use trails::Trail;
+use streams::Trail;
 
 /// A program that prints `Hi` by call 9 and returns.
 pub const HI: &[u8] = &program![MVI C,9; LXI D,0x0109; CALL 5; RET; DB b'H',b'i',b'$';];

@@ -7,7 +7,7 @@ use machine::Meter;
 use replay::Runner;
 use std::alloc::Global;
 use test_sessions::{Given, PRINTS, Trouble, make};
-use trails::Trail;
+use streams::Trail;
 
 /// A replay of an edit text over a program, and the expected result.
 #[derive(Clone, Copy)]

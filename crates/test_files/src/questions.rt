@@ -14,11 +14,11 @@ pub fn are_asked(changes: &Changes, asks: &[Ask]) -> Result<bool, AllocError> {
 // Returns whether these were asked, and exactly as many can be taken out of a copy.
 fn are_taken(changes: &Changes, left: &mut Changes, asks: &[Ask]) -> bool {
     for ask in asks {
-        if !changes.looked(ask) || left.take_look().is_none() {
+        if !changes.looked(ask) || left.looks.take().is_none() {
             return false;
         }
     }
-    left.take_look().is_none()
+    left.looks.take().is_none()
 }
 
 /// Takes out `count` questions, and returns the sum of their digits.
@@ -32,7 +32,7 @@ pub fn sum_taken(changes: &mut Changes, count: u32) -> u32 {
 
 // Takes out a question, and returns its digit.
 fn next_taken(changes: &mut Changes) -> u32 {
-    match changes.take_look() {
+    match changes.looks.take() {
         Some(ask) => digit(!changes.looked(&ask), places(&ask)),
         None => 0,
     }

@@ -8,7 +8,7 @@ returns-in-Err-clause-ends g c = inr (record {
   fault = c.in-Err.fault;
   comes = c.in-Err.ensures.fault (g.E.Writer.output c.args.err.now) (g.E.Writer.output c.report_fault.new.err);
   failed = c.in-Err.ensures.failed;
-  telling = rw c.in-Err.ensures.untold at c.report_fault.ensures;
+  reported = rw c.in-Err.ensures.unreported at c.report_fault.ensures;
 })
 
 pub returns-in-Err-clause-done : goal.returns-in-Err-clause-done

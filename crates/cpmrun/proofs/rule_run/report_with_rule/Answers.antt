@@ -1,7 +1,7 @@
 use Rattle.std.proofs.Common.{◌∙◌, ap, inl, inr, refl}
 use Rattle.std.proofs.lemmas.Result.{err_from_is_err_and}
 use Rattle.folders.proofs.FilesLemmas.{same_files}
-use Rattle.one_run.specs.RawRun.{stop_status}
+use Rattle.one_run.specs.RunsOnce.{stop_status}
 use Rattle.cpmrun.proofs.Choosing.{any_err}
 use Rattle.cpmrun.proofs.rule_run.report_with_rule.Goals as goal
 
@@ -30,33 +30,14 @@ returns-in_err-write_rule-clause-fault g c =
     rw (left.1, left.2) (λ old new. inr (
       c.in_err-write_rule.field-0.0,
       refl,
-      inr (inl (record {
+      inr (record {
         files = (g.S.FileSystem.files c.write_output.new.system).bytes;
         run = record { text = c.in_ok-write_output.ensures.text; changed = rw same at c.in_ok-write_output.ensures.files };
         left = c.in_err-write_rule.ensures.left;
         failure = failure;
         is = is;
         fault = fault;
-      })),
-    ))
-
-pub returns-in_err-report_stop-clause-fault : goal.returns-in_err-report_stop-clause-fault
-returns-in_err-report_stop-clause-fault g c =
-    let left = err_from_is_err_and c.from_residual-in_err-report_stop.result c.from_residual-in_err-report_stop.ensures.1 in
-    let same = same_files c.in_ok-rule.ensures.unchanged in
-    rw (left.1, left.2) (λ old new. inr (
-      c.in_err-report_stop.field-0.0,
-      refl,
-      inr (inr (
-        c.in_err-report_stop.ensures.memory,
-        record {
-          files = (g.S.FileSystem.files c.write_output.new.system).bytes;
-          run = record { text = c.in_ok-write_output.ensures.text; changed = rw same at c.in_ok-write_output.ensures.files };
-          rule = c.in_ok-rule.rule.items;
-          is = c.in_ok-rule.ensures.rule;
-          written = c.in_ok-write_rule.ensures.written;
-        },
-      )),
+      }),
     ))
 
 pub returns-clause-done : goal.returns-clause-done
@@ -71,5 +52,5 @@ returns-clause-done g c =
         is = c.in_ok-rule.ensures.rule;
         written = c.in_ok-write_rule.ensures.written;
       };
-      reported = c.in_ok-report_stop.ensures.told;
+      reported = c.report_stop.ensures;
     }

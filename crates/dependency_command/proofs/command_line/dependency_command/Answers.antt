@@ -12,5 +12,5 @@ returns-in-Err-clause-ends g c = inr (record {
   fault = c.in-Err.fault;
   comes = c.in-Err.ensures.fault (g.E.Writer.output c.args.err.now);
   failed = c.in-Err.ensures.unchanged.failed;
-  telling = rw c.in-Err.ensures.unreported at c.report_fault.ensures;
+  reported = rw c.in-Err.ensures.unreported at c.report_fault.ensures;
 })

@@ -1,6 +1,6 @@
 use Rattle.std.proofs.Common.{◌++◌, codes}
 use Rattle.hex.specs.Hex.{encode_lower}
-use Rattle.report_lines.proofs.WrittenPieces.{whole_then, part_then, part_more, writes_part, writes_then, writes_same}
+use Rattle.streams.proofs.WrittenPieces.{whole_then, part_then, part_more, writes_part, writes_then, writes_same}
 use Rattle.dependency_lines.proofs.HeadLemmas.{no_name}
 use Rattle.dependency_lines.proofs.heads.write_key.Goals as goal
 

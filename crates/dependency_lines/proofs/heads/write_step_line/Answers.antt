@@ -1,5 +1,5 @@
 use Rattle.std.proofs.Common.{◌++◌, ap, sym}
-use Rattle.report_lines.proofs.WrittenPieces.{part_more, writes_part, writes_same, writes_then}
+use Rattle.streams.proofs.WrittenPieces.{part_more, writes_part, writes_same, writes_then}
 use Rattle.dependency_lines.specs.Heads.{head_text, step_line}
 use Rattle.dependency_lines.specs.Words.{step_end}
 use Rattle.dependency_lines.proofs.heads.write_step_line.Goals as goal

@@ -1,6 +1,7 @@
 use Rattle.std.proofs.Common.{◌++◌}
-use Rattle.report_lines.proofs.WrittenPieces.{part_more, writes_part, writes_then}
-use Rattle.dependency_lines.specs.Listing.{asked_lines, stop_line}
+use Rattle.streams.proofs.WrittenPieces.{part_more, writes_part, writes_then}
+use Rattle.report_lines.specs.FirstLines.{stop_line}
+use Rattle.dependency_lines.specs.Listing.{asked_lines}
 use Rattle.dependency_lines.proofs.listing.write_dependencies.Goals as goal
 
 pub returns-in_err-write_asked : goal.returns-in_err-write_asked
@@ -11,5 +12,5 @@ returns-in_err-write_asked g c =
 
 pub returns : goal.returns
 returns g c =
-    writes_then _ (asked_lines c.args.joining c.args.session.now c.args.dependencies.now.looks) (stop_line c.args.dependencies.now.cause) c.write_stop.result
-    c.in_ok-write_asked.ensures c.write_stop.ensures
+    writes_then _ (asked_lines c.args.joining c.args.session.now c.args.dependencies.now.looks) (stop_line c.args.dependencies.now.cause) c.write_all.result
+    c.in_ok-write_asked.ensures (rw (c.as_bytes.ensures.value, c.stop_line.ensures) at c.write_all.ensures)

@@ -1,6 +1,6 @@
 use Rattle.std.proofs.Common.{◌++◌, ap, ap₂, codes, length, take, ◌∙◌}
 use Rattle.dependencies.specs.Rows.{rows_from}
-use Rattle.report_lines.proofs.WrittenPieces.{part_more, writes_part, writes_same, writes_then}
+use Rattle.streams.proofs.WrittenPieces.{part_more, writes_part, writes_same, writes_then}
 use Rattle.dependency_lines.specs.Heads.{head_text, step_line}
 use Rattle.dependency_lines.specs.Listing.{first_row_step}
 use Rattle.dependency_lines.specs.Places.{rows_text}

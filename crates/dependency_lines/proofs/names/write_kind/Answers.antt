@@ -1,7 +1,7 @@
 use Rattle.std.proofs.Common.{[], ◌++◌, Some, ap, arith, length, map, subst}
 use Rattle.std.specs.List.{concat}
-use Rattle.report_lines.specs.Streams.{WritesWhole}
-use Rattle.report_lines.proofs.WrittenPieces.{part_more, part_then, whole_nil, whole_then, writes_part, writes_same}
+use Rattle.streams.specs.Streams.{WritesWhole}
+use Rattle.streams.proofs.WrittenPieces.{part_more, part_then, whole_nil, whole_then, writes_part, writes_same}
 use Rattle.dependency_lines.specs.Names.{lines_of_name}
 use Rattle.dependency_lines.proofs.KeyLemmas.{asked_above, asked_above_none, asked_end, asked_next}
 use Rattle.dependency_lines.proofs.Lines.{parts_end, parts_next}

@@ -1,6 +1,6 @@
 use Rattle.std.proofs.Common.{◌≡◌, ◌++◌, ℕ, List, length, map}
 use Rattle.std.specs.List.{concat}
-use Rattle.report_lines.specs.Streams.{WritesWhole}
+use Rattle.streams.specs.Streams.{WritesWhole}
 use Rattle.dependency_lines.specs.Names.{lines_of_kind, lines_of_name}
 use Rattle.dependency_lines.proofs.KeyLemmas.{asked_above}
 use Rattle.dependency_lines.proofs.names.write_kind.Given as goal

@@ -1,5 +1,5 @@
 use Rattle.std.proofs.Common.{◌++◌, ap, codes, length, option_copied, option_map, sym, ◌∙◌}
-use Rattle.report_lines.proofs.WrittenPieces.{part_more, part_then, whole_then, writes_part, writes_same, writes_then}
+use Rattle.streams.proofs.WrittenPieces.{part_more, part_then, whole_then, writes_part, writes_same, writes_then}
 use Rattle.dependency_lines.specs.Heads.{head_text, name_text, step_line}
 use Rattle.dependency_lines.specs.Names.{count_text}
 use Rattle.dependency_lines.specs.Words.{step_end}

@@ -1,6 +1,6 @@
 use Rattle.std.proofs.Common.{◌≡◌, ◌-◌, ◌++◌, ℕ, List, length, map}
 use Rattle.std.specs.List.{concat}
-use Rattle.report_lines.specs.Streams.{WritesWhole}
+use Rattle.streams.specs.Streams.{WritesWhole}
 use Rattle.dependencies.specs.Rows.{rows_from}
 use Rattle.dependencies.specs.declared.rows.Joining.TheVariants.{ByStep}
 use Rattle.dependency_lines.specs.Heads.{head_text}

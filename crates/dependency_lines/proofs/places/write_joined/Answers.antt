@@ -2,7 +2,7 @@ use Rattle.std.proofs.Common.{◌++◌, ap, map, sym, ◌∙◌}
 use Rattle.std.specs.List.{concat}
 use Rattle.dependencies.specs.Rows.{rows_from}
 use Rattle.dependencies.specs.declared.rows.Joining.TheVariants.{Joined}
-use Rattle.report_lines.proofs.WrittenPieces.{part_more, part_then, whole_then, writes_part, writes_same, writes_then}
+use Rattle.streams.proofs.WrittenPieces.{part_more, part_then, whole_then, writes_part, writes_same, writes_then}
 use Rattle.dependency_lines.specs.Heads.{head_text}
 use Rattle.dependency_lines.specs.Places.{earliest, joined_line}
 use Rattle.dependency_lines.specs.Words.{row_text, step_end}

@@ -3,8 +3,8 @@ use Rattle.std.specs.List.{concat}
 use Rattle.dependencies.specs.Rows.{rows_from}
 use Rattle.dependencies.specs.declared.rows.Joining.TheVariants.{Joined}
 use Rattle.dependencies.proofs.RowLemmas.{earlier_is_min}
-use Rattle.report_lines.proofs.WrittenPieces.{part_more, part_then, whole_nil, whole_then, writes_part, writes_same}
-use Rattle.report_lines.specs.Streams.{WritesWhole}
+use Rattle.streams.proofs.WrittenPieces.{part_more, part_then, whole_nil, whole_then, writes_part, writes_same}
+use Rattle.streams.specs.Streams.{WritesWhole}
 use Rattle.dependency_lines.specs.Places.{earliest}
 use Rattle.dependency_lines.specs.Words.{row_text}
 use Rattle.dependency_lines.proofs.Lines.{parts_next, parts_end}

@@ -1,5 +1,5 @@
 use Rattle.std.proofs.Common.{◌++◌}
-use Rattle.report_lines.proofs.WrittenPieces.{part_more, part_then, whole_then, writes_part, writes_then}
+use Rattle.streams.proofs.WrittenPieces.{part_more, part_then, whole_then, writes_part, writes_then}
 use Rattle.dependency_lines.specs.Heads.{head_text}
 use Rattle.dependency_lines.specs.Words.{row_text, step_end}
 use Rattle.dependency_lines.proofs.places.write_row_line.Goals as goal

@@ -5,7 +5,7 @@ use Rattle.replay.specs.Report.{run_of, session_of}
 use Rattle.report_lines.specs.FirstLines.{line, text_line}
 use Rattle.edit_lines.specs.Reports.{report_text}
 use Rattle.report_lines.specs.ChangedLines.{changed_lines}
-use Rattle.report_lines.proofs.WrittenPieces.{whole_then, part_then, part_more, writes_part, writes_then, writes_same}
+use Rattle.streams.proofs.WrittenPieces.{whole_then, part_then, part_more, writes_part, writes_then, writes_same}
 use Rattle.edit_lines.proofs.Reporting.{report_is}
 use Rattle.edit_lines.proofs.execute.write_report.Goals as goal
 

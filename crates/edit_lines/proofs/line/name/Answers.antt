@@ -1,4 +1,4 @@
-use Rattle.edit_lines.proofs.SaidNames.{said_text}
+use Rattle.edit_lines.proofs.ValidNames.{said_text}
 use Rattle.edit_lines.proofs.line.name.Goals as goal
 
 pub returns-in_default : goal.returns-in_default

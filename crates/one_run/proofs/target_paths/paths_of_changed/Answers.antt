@@ -7,7 +7,7 @@ use Rattle.hostfiles.specs.Hosts.{Key, Host}
 use Rattle.hostfiles.proofs.ChangedWalk.{changed_next, changed_none}
 use Rattle.hostfiles.specs.FileView.{view_own}
 use Rattle.machine.proofs.ChangedFileLemmas.{there_laid}
-use Rattle.report_lines.proofs.WrittenPieces.{fewer_keys}
+use Rattle.report_lines.proofs.ReportPieces.{fewer_keys}
 use Rattle.one_run.specs.WrittenPaths.{written_path}
 use Rattle.one_run.proofs.Walking.{begin, gone_next, there_above, there_next}
 use Rattle.one_run.proofs.target_paths.paths_of_changed.Goals as goal

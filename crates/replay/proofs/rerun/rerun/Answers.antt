@@ -7,9 +7,9 @@ use Rattle.replay.specs.Resuming.{AddsDue}
 use Rattle.replay.specs.Ring.{start_step}
 use Rattle.replay.proofs.StartLemmas.{start_within, start_reached}
 use Rattle.machine.proofs.NoteLemmas.{none_looked}
-use Rattle.replay.proofs.KeepingLemmas.{stands_valid, Left, left}
+use Rattle.replay.proofs.ValidLemmas.{stands_valid, Left, left}
 use Rattle.replay.proofs.OutcomeLemmas.{match_err}
-use Rattle.replay.proofs.RefusalLemmas.{counts_none}
+use Rattle.replay.proofs.FailureCounts.{counts_none}
 use Rattle.replay.proofs.rerun.rerun.Goals as goal
 
 pub returns-in_err-from-clause-broken_off : goal.returns-in_err-from-clause-broken_off

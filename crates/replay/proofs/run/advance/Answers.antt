@@ -11,7 +11,7 @@ use Rattle.machine.specs.FirstLooks.{IsFirstLooks}
 use Rattle.machine.proofs.StretchNotes.{stretch_kept, passed}
 use Rattle.machine.proofs.JoinedStretches.{still_bound}
 use Rattle.replay.proofs.OutcomeLemmas.{match_err}
-use Rattle.replay.proofs.RefusalLemmas.{none_counted, once_on, once_at_stop}
+use Rattle.replay.proofs.FailureCounts.{none_counted, once_on, once_at_stop}
 use Rattle.replay.proofs.run.advance.Goals as goal
 
 lt_apart : (n m : ℕ) → n ≤ m → (n ≡ m → ⊥) → n < m

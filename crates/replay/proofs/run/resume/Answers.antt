@@ -2,12 +2,12 @@ use Rattle.std.proofs.Common.{inl, inr, arith, subst, ℕ, refl, ◌∙◌, ◌�
 use Rattle.machine.specs.StateView.{StateView}
 use Rattle.machine.specs.Machine.{session_answers, after}
 use Rattle.replay.specs.Ring.{Adds, AddsAll}
-use Rattle.replay.proofs.KeepingLemmas.{new_valid}
+use Rattle.replay.proofs.ValidLemmas.{new_valid}
 use Rattle.replay.proofs.RingLemmas.{Each-weaken, widen_to, relast_adding, kept_adds, kept_capacity, kept_each, kept_known, kept_same, begins_below, none_made, adds_rising}
 use Rattle.replay.proofs.CompleteLemmas.{all_made, none_left_out, relast_all, all_on}
 use Rattle.machine.proofs.ColdLemmas.{cold_stop, cold_limit}
 use Rattle.replay.proofs.OutcomeLemmas.{if_err, match_err}
-use Rattle.replay.proofs.RefusalLemmas.{counts_at_start, counts_on, counts_at_end, counted_above, counts_cut_short}
+use Rattle.replay.proofs.FailureCounts.{counts_at_start, counts_on, counts_at_end, counted_above, counts_cut_short}
 use Rattle.replay.proofs.run.resume.Goals as goal
 
 pub loop-n-init : goal.loop-n-init

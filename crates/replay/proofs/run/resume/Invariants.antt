@@ -6,7 +6,7 @@ use Rattle.machine.specs.FirstLooks.{AllNoted, IsFirstLooks}
 use Rattle.replay.specs.Ring.{Each, IsValid}
 use Rattle.replay.proofs.RingLemmas.{Adding}
 use Rattle.replay.proofs.CompleteLemmas.{AddingAll}
-use Rattle.replay.proofs.RefusalLemmas.{CountsSoFar}
+use Rattle.replay.proofs.FailureCounts.{CountsSoFar}
 use Rattle.replay.proofs.run.resume.Given as goal
 
 abbrev pub invariant-loop-n : goal.invariant-loop-n

@@ -2,7 +2,8 @@ use Rattle.std.proofs.Common.{◌++◌, ◌∷◌, [], codes, unwrap_or}
 use Rattle.filenames.specs.Names.{display_text}
 use Rattle.hostfiles.specs.FileView.{view_contents}
 use Rattle.report_lines.specs.ChangedLines.{records_text, changed_line}
-use Rattle.report_lines.proofs.WrittenPieces.{whole_then, part_then, part_more, writes_part, writes_then, writes_same, gone, there, gone_line, file_line}
+use Rattle.streams.proofs.WrittenPieces.{whole_then, part_then, part_more, writes_part, writes_then, writes_same}
+use Rattle.report_lines.proofs.ReportPieces.{gone, there, gone_line, file_line}
 use Rattle.report_lines.proofs.changed_lines.write_changed.Goals as goal
 
 pub returns-in_err-write_head : goal.returns-in_err-write_head

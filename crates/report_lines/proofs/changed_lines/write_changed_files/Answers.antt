@@ -2,8 +2,9 @@ use Rattle.std.proofs.Common.{◌++◌, ◌∙◌, [], Some, ap, subst}
 use Rattle.hostfiles.proofs.ChangedWalk.{changed_next, changed_none}
 use Rattle.hostfiles.specs.Files.{files}
 use Rattle.report_lines.specs.ChangedLines.{line_of_file, lines_of_files}
-use Rattle.report_lines.specs.Streams.{WritesPart, WritesWhole}
-use Rattle.report_lines.proofs.WrittenPieces.{whole_nil, whole_then, part_then, part_more, writes_part, writes_same, same_contents, own_line, lines_laid, parts_above, parts_begin, parts_next, parts_end, fewer_keys}
+use Rattle.streams.specs.Streams.{WritesPart, WritesWhole}
+use Rattle.streams.proofs.WrittenPieces.{whole_nil, whole_then, part_then, part_more, writes_part, writes_same}
+use Rattle.report_lines.proofs.ReportPieces.{same_contents, own_line, lines_laid, parts_above, parts_begin, parts_next, parts_end, fewer_keys}
 use Rattle.report_lines.proofs.changed_lines.write_changed_files.Goals as goal
 
 pub loop-changed-init : goal.loop-changed-init

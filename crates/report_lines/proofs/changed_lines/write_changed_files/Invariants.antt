@@ -1,9 +1,9 @@
 use Rattle.std.proofs.Common.{◌≡◌, ◌++◌, ℕ, List, length, map}
 use Rattle.std.specs.List.{concat}
-use Rattle.report_lines.specs.Streams.{WritesWhole}
+use Rattle.streams.specs.Streams.{WritesWhole}
 use Rattle.hostfiles.specs.Changed.{changed_names}
 use Rattle.hostfiles.proofs.ChangedWalk.{keys_above}
-use Rattle.report_lines.proofs.WrittenPieces.{all_parts, own_line}
+use Rattle.report_lines.proofs.ReportPieces.{all_parts, own_line}
 use Rattle.report_lines.proofs.changed_lines.write_changed_files.Given as goal
 
 -- Some first lines are written, and the names above the last one are left.

@@ -1,4 +1,4 @@
-use Rattle.report_lines.proofs.WrittenPieces.{writes_then, writes_part, part_more}
+use Rattle.streams.proofs.WrittenPieces.{writes_then, writes_part, part_more}
 use Rattle.report_lines.proofs.changed_lines.write_head.Goals as goal
 
 pub returns-in_err-write_all : goal.returns-in_err-write_all

@@ -1,6 +1,7 @@
 use Rattle.std.proofs.Common.{◌++◌, refl}
 use Rattle.filenames.specs.Names.{display_text}
-use Rattle.report_lines.proofs.WrittenPieces.{whole_then, name_of_pieces, writes_then, writes_part, writes_same, part_then, part_more}
+use Rattle.streams.proofs.WrittenPieces.{whole_then, writes_then, writes_part, writes_same, part_then, part_more}
+use Rattle.report_lines.proofs.ReportPieces.{name_of_pieces}
 use Rattle.report_lines.proofs.changed_lines.write_name.Goals as goal
 
 pub returns-in_err-write_all : goal.returns-in_err-write_all

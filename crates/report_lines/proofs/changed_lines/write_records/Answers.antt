@@ -4,7 +4,8 @@ use Rattle.hex.specs.Hex.{encode_lower}
 use Rattle.hostfiles.specs.FileView.{view_contents}
 use Rattle.hostfiles.proofs.ContentsLemmas.{record_here, no_record}
 use Rattle.report_lines.specs.ChangedLines.{records_text}
-use Rattle.report_lines.proofs.WrittenPieces.{whole_nil, whole_then, part_then, part_more, writes_part, writes_then, writes_same, no_bytes, encode-append, one_record_more, first_digits, last_digits}
+use Rattle.streams.proofs.WrittenPieces.{whole_nil, whole_then, part_then, part_more, writes_part, writes_then, writes_same}
+use Rattle.report_lines.proofs.ReportPieces.{no_bytes, encode-append, one_record_more, first_digits, last_digits}
 use Rattle.report_lines.proofs.changed_lines.write_records.Goals.{then-remaining_capacity-lt128+in_ok-write_hex, else-remaining_capacity-lt128}
 use Rattle.report_lines.proofs.changed_lines.write_records.Goals as goal
 

@@ -1,6 +1,6 @@
 use Rattle.std.proofs.Common.{◌≡◌, ◌++◌, ℕ, List, [], take, unwrap_or}
 use Rattle.std.specs.List.{concat}
-use Rattle.report_lines.specs.Streams.{WritesWhole}
+use Rattle.streams.specs.Streams.{WritesWhole}
 use Rattle.hex.specs.Hex.{encode_lower}
 use Rattle.hostfiles.specs.FileView.{view_contents}
 use Rattle.report_lines.proofs.changed_lines.write_records.Given as goal

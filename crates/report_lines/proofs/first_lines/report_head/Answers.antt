@@ -1,25 +1,22 @@
-use Rattle.std.proofs.Common.{ℕ, List, ◌++◌, codes, ap, ◌∙◌}
+use Rattle.std.proofs.Common.{ℕ, List, ◌++◌, ap, ◌∙◌}
 use Rattle.std.specs.Fmt.{decimal}
-use Rattle.report_lines.specs.FirstLines.{cause_text, regs_text}
-use Rattle.report_lines.proofs.GrowingText.{one_behind, three_lines}
+use Rattle.report_lines.specs.FirstLines.{regs_text, stop_line}
+use Rattle.report_lines.proofs.GrowingText.{one_behind, two_lines}
 use Rattle.report_lines.proofs.first_lines.report_head.Goals as goal
 
 pub returns : goal.returns
 returns c =
-    let words = c.push_str-2.ensures.bytes
-    ∙ ap (λ (t : List ℕ). c.push_str.new.self.bytes ++ t) (c.as_str.ensures.value ∙ c.cause_words.ensures) in
-    let steps = c.push_str-4.ensures.bytes
-    ∙ ap (λ (t : List ℕ). c.push_str-3.new.self.bytes ++ t) c.format.ensures.text in
-    let regs = c.push_regs.ensures.regs in
+    let stop = c.push_str.ensures.bytes
+    ∙ ap (λ (t : List ℕ). t ++ c.as_str.result.now) c.new-text.ensures ∙ c.as_str.ensures.value ∙ c.stop_line.ensures in
+    let steps = c.push_str-3.ensures.bytes
+    ∙ ap (λ (t : List ℕ). c.push_str-2.new.self.bytes ++ t) c.format.ensures.text in
     one_behind _ _ _ _
     (one_behind _ _ _ _
     (one_behind _ _ _ _
     (one_behind _ _ _ _
-    (one_behind _ _ _ _
-    (one_behind _ _ (codes "stop ") _ (c.push_str.ensures.bytes ∙ ap (λ (t : List ℕ). t ++ codes "stop ") c.new-text.ensures) words)
-    c.push_str-3.ensures.bytes)
+    (one_behind _ _ _ _ stop c.push_str-2.ensures.bytes)
     steps)
-    c.push_str-5.ensures.bytes)
-    regs)
-    c.push_str-6.ensures.bytes
-    ∙ three_lines (cause_text c.args.cause) (decimal c.args.steps) (regs_text c.args.regs)
+    c.push_str-4.ensures.bytes)
+    c.push_regs.ensures.regs)
+    c.push_str-5.ensures.bytes
+    ∙ two_lines (stop_line c.args.cause) (decimal c.args.steps) (regs_text c.args.regs)

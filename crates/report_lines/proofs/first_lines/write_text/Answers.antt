@@ -1,7 +1,8 @@
 use Rattle.std.proofs.Common.{◌≡◌, ◌++◌, ◌∷◌, [], length, codes, rules}
 use Rattle.hex.specs.Hex.{encode_lower}
 use Rattle.report_lines.specs.FirstLines.{hex_text, text_line}
-use Rattle.report_lines.proofs.WrittenPieces.{whole_then, part_then, part_more, writes_part, writes_then, writes_same, no_text, some_text}
+use Rattle.streams.proofs.WrittenPieces.{whole_then, part_then, part_more, writes_part, writes_then, writes_same}
+use Rattle.report_lines.proofs.ReportPieces.{no_text, some_text}
 use Rattle.report_lines.proofs.first_lines.write_text.Goals as goal
 
 pub returns-in_err-write_all : goal.returns-in_err-write_all

@@ -1,6 +1,7 @@
 use Rattle.std.proofs.Common.{◌≡◌, ℕ, List, ◌++◌, [], ◌∙◌, ap, refl, sym, append_assoc}
 use Rattle.hex.specs.Hex.{encode_lower}
-use Rattle.report_lines.proofs.WrittenPieces.{whole_nil, whole_then, part_then, part_more, writes_part, writes_same, encode-append, no_bytes}
+use Rattle.streams.proofs.WrittenPieces.{whole_nil, whole_then, part_then, part_more, writes_part, writes_same}
+use Rattle.report_lines.proofs.ReportPieces.{encode-append, no_bytes}
 use Rattle.report_lines.proofs.hex_writer.write_hex.Goals as goal
 
 -- The digits of three parts.

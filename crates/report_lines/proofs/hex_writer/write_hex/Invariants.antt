@@ -1,5 +1,5 @@
 use Rattle.std.proofs.Common.{◌≡◌, ◌++◌, ℕ, List, length}
-use Rattle.report_lines.specs.Streams.{WritesWhole}
+use Rattle.streams.specs.Streams.{WritesWhole}
 use Rattle.hex.specs.Hex.{encode_lower}
 use Rattle.report_lines.proofs.hex_writer.write_hex.Given as goal
 

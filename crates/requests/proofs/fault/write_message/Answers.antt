@@ -1,4 +1,4 @@
-use Rattle.report_lines.proofs.WrittenPieces.{writes_or_fails}
+use Rattle.streams.proofs.WrittenPieces.{writes_or_fails}
 use Rattle.requests.proofs.fault.write_message.Goals as goal
 
 pub returns : goal.returns

@@ -1,9 +1,0 @@
-use Rattle.report_lines.proofs.WrittenPieces.{part_more, writes_part, writes_then}
-use Rattle.one_run.proofs.raw_run.write_lines.Goals as goal
-
-pub returns-in_err-write_all : goal.returns-in_err-write_all
-returns-in_err-write_all g c =
-    writes_part _ c.from_residual.result c.from_residual.ensures.0 (part_more _ _ c.in_err-write_all.ensures)
-
-pub returns : goal.returns
-returns g c = writes_then _ _ _ c.write_changed_files.result c.in_ok-write_all.ensures c.write_changed_files.ensures

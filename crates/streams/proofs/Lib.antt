@@ -1,0 +1,3 @@
+pub mod Walks
+mod Parts
+pub mod WrittenPieces

@@ -1,0 +1,118 @@
+ghost use Rattle.std.specs.Prelude.{◌≡◌, ◌+◌, ◌<◌, ◌≤◌, length, IfOk, OnOk, OnErr};
+ghost use Rattle.std.specs.Io.KnownBytes.{ReadConsumes, WriteAppends};
+ghost use Rattle.streams.specs.Streams.{Input, Output, WritesText};
+
+use crate::trail::Trail;
+use std::io;
+
+/// The failure of a reader or a writer. The cause is not recorded.
+#[derive(Clone, Copy, Debug, PartialEq, Eq)]
+pub struct Failed;
+
+/// A source of bytes. A contract sees the bytes that are left, if the reader reports them, and a count of failures.
+pub trait Reader {
+    /// What is left, if the reader reports that, and how often it failed.
+    ghost input: { Self → Input };
+
+    /// Reads bytes to the front of the piece and returns their count. A count of 0 for a piece that is not empty is the end.
+    ///
+    /// # Errors
+    ///
+    /// The reader failed: no byte was read, and the count of failures is one higher.
+    fn read(&mut self, piece: &mut [u8]) -> Result<usize, Failed>
+        ensures count { IfOk result (λ n. n ≤ length piece.new) }
+        ensures bytes { ReadConsumes (input self.old).left (input self.new).left result piece.new }
+        ensures ok { OnOk result ((input self.new).failures ≡ (input self.old).failures) }
+        ensures err { OnErr result ((input self.new).failures ≡ (input self.old).failures + 1) };
+}
+
+/// A sink for bytes. A contract sees the bytes that it holds, if the writer reports them, and a count of failures.
+pub trait Writer {
+    /// What it holds, if it reports that, and how often it failed.
+    ghost output: { Self → Output };
+
+    /// Writes a prefix of the piece, at least one byte of a piece that is not empty, and returns its length.
+    ///
+    /// # Errors
+    ///
+    /// The writer failed: no byte was written, and the count of failures is one higher.
+    fn write(&mut self, piece: &[u8]) -> Result<usize, Failed>
+        ensures count { IfOk result (λ n. n ≤ length piece.now) }
+        ensures some { IfOk result (λ n. 0 < length piece.now → 0 < n) }
+        ensures bytes { WriteAppends (output self.old).holds (output self.new).holds result piece.now }
+        ensures ok { OnOk result ((output self.new).failures ≡ (output self.old).failures) }
+        ensures err { OnErr result ((output self.new).failures ≡ (output self.old).failures + 1) };
+}
+
+/// A reader or writer of the standard library with a count of its failures. A write that takes no byte of a piece that is not empty is a
+/// failure.
+#[derive(Drop)]
+pub struct Over<T> {
+    inner: T,
+    failures: Trail,
+}
+
+impl<T> Over<T> {
+    /// Wraps a reader or writer that has not failed yet.
+    pub fn new(inner: T) -> Over<T>
+        ensures none { length result.failures.paths ≡ 0 }
+        ensures same { result.inner ≡ inner }
+    {
+        Over {
+            inner,
+            failures: Trail::new(),
+        }
+    }
+
+    /// Returns the reader or writer.
+    pub fn into_inner(self) -> T
+        ensures { result ≡ self.inner }
+    {
+        let Over { inner, failures: _ } = self;
+        inner
+    }
+}
+
+impl<T: io::Read> Reader for Over<T> {
+    ghost input = { λ o. record { left = T.remaining o.inner; failures = length o.failures.paths } };
+
+    fn read(&mut self, piece: &mut [u8]) -> Result<usize, Failed> {
+        match self.inner.read(piece) {
+            Ok(n) => Ok(n),
+            Err(_) => {
+                self.failures = self.failures.and("");
+                Err(Failed)
+            }
+        }
+    }
+}
+
+impl<T: io::Write> Writer for Over<T> {
+    ghost output = { λ o. record { holds = T.contents o.inner; failures = length o.failures.paths } };
+
+    fn write(&mut self, piece: &[u8]) -> Result<usize, Failed> {
+        match self.inner.write(piece) {
+            Ok(n) if n > 0 || piece.is_empty() => Ok(n),
+            _ => {
+                self.failures = self.failures.and("");
+                Err(Failed)
+            }
+        }
+    }
+}
+
+/// Writes a text.
+///
+/// # Errors
+///
+/// The writer failed: a prefix of the text was written. A failed write is not tried again.
+pub fn write_all<W: Writer>(writer: &mut W, text: &[u8]) -> Result<(), Failed>
+    ensures { WritesText (W.output writer.old) (W.output writer.new) text.now result }
+{
+    let mut rest = text;
+    while !rest.is_empty() {
+        let n = writer.write(rest)?;
+        rest = &rest[n..];
+    }
+    Ok(())
+}
