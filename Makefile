@@ -6,7 +6,7 @@
 # make dist                     packs them for machines without the Rattle kit
 # make bench                    measures how fast both programs are
 # make needs CRATE=replay       prints the crates that a crate needs
-# make pages                    writes what --help says into the man pages and the completion
+# make pages                    writes the texts and options of --help into the man pages and the completion
 # make clean                    removes what was proved and built
 PREFIX = /usr/local
 DESTDIR =

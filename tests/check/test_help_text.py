@@ -1,4 +1,4 @@
-"""Compares what --help says with the man pages, the completion and the manual, and its ranges with the ones that the programs take."""
+"""Compares --help with the man pages, the completion and the manual, and its ranges with the ones that the programs take."""
 import re
 import shutil
 
@@ -29,7 +29,7 @@ def has_in_order(words: list[str], wanted: list[str]) -> bool:
 class HelpTextTest(ProgramTest):
 
     def help_of(self, name: str) -> dict[str, str]:
-        """Returns what a help says of each argument and status, by its words without brackets."""
+        """Returns the sentence of a help about each argument and status, by its words without brackets."""
         done = self.run_command(PROGRAMS[name], '--help')
         self.assertEqual((done.returncode, done.stderr), (0, b''))
         found = {re.sub(r'[<>\[\]]', '', words): text for words, text in ENTRY.findall(done.stdout.decode())}

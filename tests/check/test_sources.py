@@ -1,4 +1,4 @@
-"""Checks the rules of the sources that no contract, type, visibility or line of crates.txt says.
+"""Checks the rules of the sources that no contract, type, visibility or line of crates.txt expresses.
 
 A crate names only the crates of its line of crates.txt, and only what they export, so no rule here says which crate may not name which.
 Comments and ghost items do not count as code."""
