@@ -6,6 +6,7 @@
 # make dist                     packs them for machines without the Rattle kit
 # make bench                    measures how fast both programs are
 # make needs CRATE=replay       prints the crates that a crate needs
+# make pages                    writes the texts and options of --help into the man pages and the completion
 # make clean                    removes what was proved and built
 PREFIX = /usr/local
 DESTDIR =
@@ -17,7 +18,7 @@ DOC = share/doc/cpmrun
 # An installed page says `cpmrun` for `./cpmrun`.
 PAGE = s,(\.\./)+(cpmrun|cpmdeps),\2,g; s,\./(cpmrun|cpmdeps),\1,g; s,tests/programs/,programs/,g
 
-.PHONY: all check stage install uninstall dist bench needs clean
+.PHONY: all check stage install uninstall dist bench needs pages clean
 
 all:
 	@./cpmrun --build > /dev/null
@@ -58,6 +59,9 @@ bench: all
 # the crates that a crate needs, itself included: the lines of crates.txt that name them
 needs:
 	@tac crates.txt | awk -F '[: ]+' '$$1 == "$(CRATE)" || $$1 in used { print $$1; for (i = 2; i <= NF; i++) used[$$i] }' | tac
+
+pages: all
+	@scripts/pages $(PROGRAM) $(DEPENDENCIES_PROGRAM)
 
 clean:
 	@rm -rf crates/*/out

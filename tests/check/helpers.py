@@ -6,6 +6,7 @@ import signal
 import subprocess
 import tempfile
 import unittest
+from collections.abc import Iterable
 from dataclasses import dataclass
 from pathlib import Path
 
@@ -74,6 +75,15 @@ def build_library(source: str, folder: Path) -> Path:
     made = folder / f'{source}.so'
     subprocess.run(['gcc', '-O2', '-shared', '-fPIC', '-o', made, TOP / f'tests/lib/{source}.c'], check=True)
     return made
+
+
+class RuleTest(unittest.TestCase):
+    """A test with a method for each rule."""
+
+    def refuse(self, found: Iterable[object], advice: str = '') -> None:
+        """Fails with what breaks the rule, if anything does."""
+        if lines := [str(each) for each in found]:
+            self.fail('\n'.join(['', *lines, *advice.splitlines()]))
 
 
 class ProgramTest(unittest.TestCase):

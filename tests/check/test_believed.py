@@ -9,8 +9,8 @@ from collections.abc import Iterator
 from functools import cache
 from pathlib import Path
 
-from helpers import TOP, read_crates
-from sources import RuleTest, code_of, functions_of
+from helpers import TOP, RuleTest, read_crates
+from test_sources import code_of, functions_of
 
 SECTION = '## What you must believe, in this order'
 LIMIT = 1500

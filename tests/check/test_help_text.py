@@ -1,58 +1,71 @@
-"""Compares what --help says of each argument with the man page, and the ranges there with the ones that the program takes."""
+"""Compares --help with the man pages, the completion and the manual, and its ranges with the ones that the programs take."""
 import re
+import shutil
 
 from helpers import DEPENDENCIES_PROGRAM, HI, PROGRAM, TOP, ProgramTest
 
 PROGRAMS = {'cpmrun': PROGRAM, 'cpmdeps': DEPENDENCIES_PROGRAM}
-ARGUMENT = re.compile(r'^ {2,6}(?P<words>(?:-\w, )?(?:--[\w-]+|[<\[][A-Z]+[>\]])(?: <[A-Z]+>)?) {2,}(?P<text>\S.*)$', re.MULTILINE)
-"""A line of the help about an argument: its words, and what it is."""
+ENTRY = re.compile(r'^ {2,6}((?:-\w, )?--[\w-]+(?: <[A-Z]+>)?|[<\[][A-Z]+[>\]]|\d+) {2,}(\S.*)$', re.MULTILINE)
+"""A line of the help about an argument or a status: its words, and its sentence."""
 RANGE = re.compile(r'(?P<least>[\d,]+) to (?P<most>[\d,]+)')
-
-
-def plain(line: str) -> str:
-    """Returns the text of a line of a man page, without its macro and its escapes."""
-    if macro := re.match(r'\.(?P<name>[BIR]{1,2}) ', line):
-        between = '' if len(macro['name']) == 2 else ' '
-        words = re.sub(r'\\ ', '\0', line[macro.end():]).split()
-        line = between.join(words).replace('\0', ' ')
-    return line.replace('\\-', '-').replace('\\~', ' ').replace('\\e', '\\')
-
-
-def entries_of_page(page: str) -> dict[str, str]:
-    """Returns what a man page says of each argument, by its words without brackets."""
-    found = {}
-    for part in re.findall(r'^\.SH (?:ARGUMENTS|OPTIONS)\n(.*?)(?=^\.SH )', page, re.MULTILINE | re.DOTALL):
-        for entry in part.split('.TP\n')[1:]:
-            words, *lines = entry.splitlines()
-            found[plain(words)] = ' '.join(plain(line) for line in lines)
-    return found
-
-
-def entries_of_help(text: str) -> dict[str, str]:
-    """Returns what a help says of each argument, by its words without brackets."""
-    return {re.sub(r'[<>\[\]]', '', line['words']): line['text'] for line in ARGUMENT.finditer(text)}
+ROW = re.compile(r'^\| (`(?:--|PROGRAM`|TAIL`).*?) \| (.*) \| (.*) \|$', re.MULTILINE)
+"""A row of the manual about options: their words, what they mean, and the default."""
 
 
 def number(text: str) -> int:
     return int(text.replace(',', ''))
 
 
+def words_of(text: str) -> list[str]:
+    """Returns the words of a text in lower case, without marks and the targets of links."""
+    return re.findall(r'\w+(?:,\d+)*', re.sub(r'\]\([^)]*\)', '', text).lower())
+
+
+def has_in_order(words: list[str], wanted: list[str]) -> bool:
+    left = iter(words)
+    return all(word in left for word in wanted)
+
+
 class HelpTextTest(ProgramTest):
 
     def help_of(self, name: str) -> dict[str, str]:
+        """Returns the sentence of a help about each argument and status, by its words without brackets."""
         done = self.run_command(PROGRAMS[name], '--help')
         self.assertEqual((done.returncode, done.stderr), (0, b''))
-        return entries_of_help(done.stdout.decode())
+        found = {re.sub(r'[<>\[\]]', '', words): text for words, text in ENTRY.findall(done.stdout.decode())}
+        self.assertGreater(len(found), 8)
+        return found
 
-    def test_the_man_pages_have_each_sentence_of_the_help(self) -> None:
+    def test_make_pages_changes_nothing_and_writes_what_is_lost(self) -> None:
+        for folder in 'docs', 'scripts':
+            shutil.copytree(TOP / folder, self.work / folder)
+        for name in 'docs/cpmrun.1', 'docs/cpmdeps.1', 'scripts/completion':
+            text = (TOP / name).read_text()
+            with_losses = re.sub(r'The same for drive|[\d.]+(?=" "Vembrusk")| --limit=N', '', text)
+            self.assertNotEqual(with_losses, text)
+            for before in text, with_losses:
+                page = self.put(name, before)
+                self.expect_command(0, '', '', self.work / 'scripts/pages', *PROGRAMS.values())
+                self.assertEqual(page.read_text(), text, f'run `make pages`, which writes {name}')
+
+    def test_a_man_page_shows_each_entry_of_the_help(self) -> None:
         for name in PROGRAMS:
-            told = self.help_of(name)
-            page = entries_of_page((TOP / f'docs/{name}.1').read_text())
-            self.assertGreater(len(told), 8)
-            self.assertEqual(sorted(told), sorted(page))
-            for words, text in told.items():
-                with self.subTest(program=name, words=words):
-                    self.assertTrue(f'{page[words]} '.startswith((f'{text} ', f'{text}. ')), f'\n{text}\n{page[words]}')
+            page = self.run_command('groff', '-ww', '-man', '-Tascii', '-P-cbu', '-rLL=2000n', TOP / f'docs/{name}.1')
+            self.assertEqual(page.stderr, b'')
+            shown = ' '.join(page.stdout.decode().split())
+            for words, text in self.help_of(name).items():
+                self.assertIn(f' {words} {text}'.replace('`', ''), shown)
+
+    def test_the_manual_has_each_argument_with_the_words_of_the_help(self) -> None:
+        rows = [(re.findall(r'`(\S+(?: [A-Z]+)?)`', words), words_of(text), default) for words, text, default in
+                ROW.findall((TOP / 'docs/MANUAL.md').read_text())]
+        told = [entry for name in PROGRAMS for entry in self.help_of(name).items() if not re.match(r'\d|-\w,', entry[0])]
+        self.assertEqual(sorted(words for row in rows for words in row[0]), sorted(dict(told)))
+        for words, text in told:
+            [(meaning, default)] = [row[1:] for row in rows if words in row[0]]
+            sentence, _, stated = text.removesuffix(']').partition(' [default: ')
+            self.assertTrue(has_in_order(meaning, words_of(sentence)), f'{words}: {sentence}')
+            self.assertIn(stated, ('', default.replace(',', '')), words)
 
     def test_the_ranges_of_the_help_are_the_ones_that_are_taken(self) -> None:
         for name, program in PROGRAMS.items():

@@ -1,4 +1,4 @@
-"""Tests `make install`, `make uninstall` and `make dist`, the completion for bash, and the man pages."""
+"""Tests `make install`, `make uninstall` and `make dist`, and the completion for bash."""
 import os
 import re
 import shutil
@@ -11,7 +11,6 @@ from helpers import DEPENDENCIES_PROGRAM, PROGRAM, TOP
 from test_pages import wrong_blocks
 
 PROGRAMS = {'cpmrun': PROGRAM, 'cpmdeps': DEPENDENCIES_PROGRAM}
-HELP = {name: subprocess.check_output([program, '--help'], text=True) for name, program in PROGRAMS.items()}
 
 
 def run(*words, **how):
@@ -89,29 +88,9 @@ class Install(unittest.TestCase):
         for words, wanted in [('--s',), '--spacing --slots'], [('--files', 'di'), 'disk'], [('--files', '=', 'di'), 'disk'], \
                 [('dig',), 'digits.com'], [('--edits', 'dig'), 'digits.com'], [('--limit', 'd'), '']:
             self.assertEqual(self.completions('cpmrun', *words), wanted.split(), words)
-        for name in PROGRAMS:
-            self.assertEqual(sorted(self.completions(name, '--')), sorted(re.findall(r'(?m)^ +(?:-., )?(--[a-z-]+)', HELP[name])))
+        for name, program in PROGRAMS.items():
+            self.assertEqual(self.completions(name, '--'), re.findall(r'(?m)^ +(?:-., )?(--[a-z-]+)', run(program, '--help').stdout))
             shown = run('bash', '-c', f'source "$0" && complete -p {name}', TOP / 'scripts/completion').stdout
             self.assertEqual(shown, f'complete -F _{name} {name}\n')
-        self.assertEqual(self.completions('cpmdeps', '--make', 'dig'), ['digits.com'])
-
-    def test_the_man_pages_say_what_help_says(self):
-        for name in PROGRAMS:
-            with self.subTest(name):
-                self.expect_man_page(name, HELP[name])
-
-    def expect_man_page(self, name, said):
-        source = TOP / f'docs/{name}.1'
-        page = subprocess.run(['groff', '-ww', '-man', '-Tascii', '-P-c', source], capture_output=True)
-        self.assertEqual(page.stderr, b'')
-        text = re.sub(r'([a-z])-\n *', r'\1', subprocess.run(['col', '-bx'], input=page.stdout, stdout=subprocess.PIPE).stdout.decode())
-        options = [f'{short}{long}' for short, long in re.findall(r'(?m)^ +(-[hV], )?(--[a-z-]+(?: <[A-Z]+>)?)', said)]
-        shown = re.findall(r'(?m)^ {7}(-\S.*?) *$', text)
-        self.assertEqual(sorted(shown), sorted(option.replace('<', '').replace('>', '') for option in options))
-        line = ' '.join(text.split())
-        defaults = re.findall(r'\[default: [^]]*\]', said)
-        statuses = [f'{a} {b}' for a, b in re.findall(r'(?m)^  (\d+) +(.*)', said.split('Exit status:')[1])]
-        for words in defaults + statuses + [' '.join(each) for each in re.findall(r'(?m)^  <(PROGRAM)>  (.*)', said)]:
-            self.assertIn(words, line)
-        version = subprocess.check_output([PROGRAMS[name], '--version'], text=True).strip()
-        self.assertIn(f'.TH {name.upper()} 1 "" "{version}"', source.read_text())
+        for option in '--make', '--by-step':
+            self.assertEqual(self.completions('cpmdeps', option, 'dig'), ['digits.com'])

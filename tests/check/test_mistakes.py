@@ -4,8 +4,7 @@ from collections import Counter
 from collections.abc import Iterator
 from pathlib import Path
 
-from helpers import TOP
-from sources import RuleTest
+from helpers import TOP, RuleTest
 
 MOST = 14
 """The most edits of a crate that the gate tries."""

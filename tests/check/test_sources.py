@@ -1,5 +1,7 @@
-"""Checks what the sources keep apart, beyond what the proofs say: who makes a meter, who executes steps, who knows the 8080, what a checkpoint
-holds, which functions report out of memory; and the form of crates.txt, of the roots of crates, of clauses and of citations."""
+"""Checks the rules of the sources that no contract, type, visibility or line of crates.txt expresses.
+
+A crate names only the crates of its line of crates.txt, and only what they export, so no rule here says which crate may not name which.
+Comments and ghost items do not count as code."""
 import re
 from collections.abc import Iterator
 from dataclasses import dataclass
@@ -7,97 +9,177 @@ from functools import cache
 from itertools import takewhile
 from pathlib import Path
 
-from helpers import TOP, Crate, read_crates
-from sources import RuleTest, code_of, functions_of
+from helpers import TOP, Crate, RuleTest, read_crates
+
+QUOTED_OR_COMMENT = re.compile(r'''("(?:\\.|[^"\\])*"|'(?:\\.|[^'\\])')|//[^\n]*|/\*.*?\*/''', re.DOTALL)
+FUNCTION = re.compile(r'( *)(pub(?:\([a-z]*\))? )?(?:const )?fn ([a-z_0-9]+)')
+IMPL = re.compile(r'impl(?:<[^{]*?>)? +(?:.* for +)?([A-Za-z_0-9]+)')
+USE_OR_TYPE = re.compile(r'^ *(pub(\([^)]*\))? )?(use|type) [^;]*;', re.MULTILINE)
+
+
+def code_of(source: str) -> str:
+    """Returns the code of a source, each line at its place: without comments, ghost items and the `r#` of names."""
+    text = QUOTED_OR_COMMENT.sub(lambda found: found[1] or '\n' * found[0].count('\n'), source)
+    kept, depth = [], 0
+    for line in re.sub(r'\br#', '', text).splitlines():
+        is_ghost = depth > 0 or line.lstrip().startswith('ghost ')
+        depth += line.count('{') - line.count('}') if is_ghost else 0
+        kept.append('' if is_ghost else line)
+    if depth != 0:
+        raise ValueError('a ghost item does not end')
+    return '\n'.join(kept) + '\n'
 
 
 @dataclass(frozen=True)
-class Line:
-    """A line of a file."""
+class Function:
+    """A function of a source."""
 
-    path: str
-    number: int
-    text: str
+    name: str
+    """Its name, with `TYPE::` before it if it is a method."""
+    is_public: bool
+    head: str
+    """The lines from its `fn` up to its body: the signature and the contract."""
+    body: str
+    """The lines inside its braces, if they are on lines of their own."""
 
-    def __str__(self) -> str:
-        return f'{self.path}:{self.number}: {self.text.strip()}'
+    @property
+    def contract(self) -> str:
+        """Its clauses."""
+        start = re.search(r'^ *(requires|ensures)\b', self.head, re.MULTILINE)
+        return self.head[start.start():] if start else ''
+
+    @property
+    def is_law(self) -> bool:
+        """Whether its contract is a theorem: it has no parameter and an empty body, and no code needs to call it."""
+        return self.head.startswith(f'pub fn {self.name}()\n') and not self.body
 
 
-def lines_of(path: Path, text: str | None = None) -> list[Line]:
-    """Returns the lines of a file, or of this text in its place."""
-    name = path.relative_to(TOP).as_posix()
-    return [Line(name, number, line) for number, line in enumerate((text or path.read_text()).splitlines(), 1)]
+def ends_head(line: str, indent: str) -> bool:
+    """Returns whether this line begins a body or has a whole one. The lines of a contract are indented."""
+    return line.startswith(indent) and not line[len(indent):].startswith(' ') and line.endswith(('{', '}', ';'))
 
 
-def joined(lines: list[Line]) -> Iterator[Line]:
-    """Returns lines of code, each `use` and each `type` as one line."""
-    held: list[Line] = []
-    for line in lines:
-        if held or re.match(r' *(pub(\([^)]*\))? )?(use|type) ', line.text):
-            held.append(line)
-            if ';' in line.text:
-                yield Line(line.path, held[0].number, ' '.join(each.text.strip() for each in held))
-                held = []
-        else:
-            yield line
+def functions_of(code: str) -> Iterator[Function]:
+    """Returns the functions of code, in order."""
+    lines, owner = code.splitlines(), ''
+    for number, line in enumerate(lines):
+        if re.match(r'(unsafe )?impl\b', line):
+            kind = IMPL.match(line)
+            owner = f'{kind[1]}::' if kind else ''
+        elif line.startswith('}'):
+            owner = ''
+        if found := FUNCTION.match(line):
+            indent = found[1]
+            start = next(at for at in range(number, len(lines)) if ends_head(lines[at], indent))
+            end = lines.index(f'{indent}}}', start) if lines[start].endswith('{') else start
+            head, body = lines[number:start] or [line], lines[start + 1:end]
+            yield Function((owner if indent else '') + found[3], found[2] == 'pub ', '\n'.join(head), '\n'.join(body))
 
 
 @cache
-def code_lines() -> list[Line]:
-    """Returns the lines of code of all crates."""
-    return [line for crate in read_crates() for path in crate.sources() for line in joined(lines_of(path, code_of(path.read_text())))]
+def product_code() -> dict[str, str]:
+    """Returns the code of each source of the product, by its path below crates, with each `use` and each `type` on one line."""
+    paths = [path for crate in read_crates() if not crate.is_test for path in crate.sources()]
+    codes = {path.relative_to(TOP / 'crates').as_posix(): code_of(path.read_text()) for path in paths}
+    return {path: USE_OR_TYPE.sub(lambda found: ' '.join(found[0].split()) + '\n' * found[0].count('\n'), code) for path, code in codes.items()}
 
 
-def is_of_tests(path: str) -> bool:
-    return re.search(r'crates/test_[a-z_]+/|/tests(\.rt$|/)', path) is not None
+def in_code(pattern: str, *allowed: str) -> list[str]:
+    """Returns the lines of the product's code that match, except in files whose paths begin with one of these."""
+    return [f'crates/{path}:{number}: {line.strip()}' for path, code in product_code().items() if not path.startswith(allowed)
+            for number, line in enumerate(code.splitlines(), 1) if re.search(pattern, line)]
 
 
-def in_code(pattern: str, *allowed: str) -> list[Line]:
-    """Returns the lines of code that match, except in tests and in files whose paths begin with one of these."""
-    return [line for line in code_lines() if re.search(pattern, line.text) and not is_of_tests(line.path) and not line.path.startswith(allowed)]
-
-
-def in_crates(pattern: str, *names: str) -> list[Line]:
-    """Returns the lines that match in the sources of these crates, also in comments and ghost items."""
-    paths = [path for crate in read_crates() if crate.name in names for path in crate.sources()]
-    return [line for path in paths for line in lines_of(path) if re.search(pattern, line.text)]
-
-
-def count_in_code(pattern: str, path: str) -> int:
-    """Returns how often a pattern matches in the code of a file."""
-    return sum(len(list(re.finditer(pattern, line.text))) for line in code_lines() if line.path == path)
-
-
-def item(crates: str, names: str) -> str:
-    """Returns a pattern for an item by its path, and for a `use` that imports it, all items of its crate, or its crate by another name."""
-    return rf'\b({crates})::([a-z_0-9]+::)*({names})\b|\buse\b.*\b({crates})\b.*(\b({names})\b|\*|\bas\b)'
+def lines_of(path: Path) -> Iterator[tuple[str, str]]:
+    """Returns the lines of a file, comments too, each with its place before it."""
+    name = path.relative_to(TOP)
+    return ((line, f'{name}:{number}: {line.strip()}') for number, line in enumerate(path.read_text().splitlines(), 1))
 
 
 METER = r'\bMeter>?::|\bMeter as\b|\b(type|impl|for)\b.*\bMeter\b'
-EXECUTE = rf'{item("i8080", "execute|instructions")}|{item("known_run", "run_known")}'
-CALL = item('console_calls|bdos', 'console_call|calls?')
-STEPS = rf'\brun_from\b|{item("machine", "step")}'
-COMMAND = 'crates/cpmrun/src/command_line.rt'
-LISTING = 'crates/dependency_command/src/command_line.rt'
-LOOP = 'crates/replay/src/run.rt'
-RUN = 'crates/machine/src/run.rt'
-DEPENDENCIES = 'crates/dependencies/src/dependencies.rt'
+STEPS = r'\brun_from\b|\bmachine::step\b|\buse\b.*\bmachine\b.*(\bstep\b|\*|\bas\b)'
+COMMAND = 'cpmrun/src/command_line.rt'
+LISTING = 'dependency_command/src/command_line.rt'
+LOOP = 'replay/src/run.rt'
+DEPENDENCIES = 'dependencies/src/dependencies.rt'
+CHECKPOINT = {
+    'replay/src/ring.rt': 'pub struct Checkpoint { pub step: u64, pub state: SavedState, }',
+    'machine/src/saved_state.rt': 'pub struct SavedState { regs: Regs, cells: Cells, spot: Spot, text_length: usize, journal: Journal, }',
+    'pagemem/src/cells.rt': 'pub struct Cells { slots: Vec<Slot>, alloc: Global, }',
+    'pagemem/src/page.rt': 'pub enum Slot { Empty, Owned(Box<Page>), Shared(Rc<Page>), }',
+}
+"""What a checkpoint holds, by the file of each type."""
+
+MAY_REPORT_OUT_OF_MEMORY = {
+    'command_words': 'error_class read_dependency_words read_words',
+    'cpmdeps': 'main',
+    'cpmrun': 'replay_file run_with_rule',
+    'dependency_command': 'write_listing write_rule',
+    'edit_lines': 'execute_edit hex_bytes',
+    'executable': 'main',
+    'folders': 'add_file host_file list note read_failure read_one set write_failure write_file write_path',
+    'hostfiles': 'number',
+    'loading': 'read_fault tail_of',
+    'make_rules': 'refusal',
+    'one_run': 'report_stop run_once',
+    'replay': 'number',
+    'requests': 'fixed_message message report_fault request_of_error status two_forms',
+}
+"""The functions of each crate that report out of memory themselves, not by `?` or in a `From`. Most turn one error into another, or into a
+number or a message."""
+
+ALLOWED = {
+    'filenames::Fcb::dr': 'the drive byte of a control block',
+    'hostfiles::HostFiles::records_with': 'how many records a file has after a run',
+    'hostfiles::HostFiles::record_with': 'a record of a file after a run',
+    'hostfiles::HostFiles::next_with': 'the names after a run',
+    'machine::Session::tail': "part of the library's surface, as the other parts of a session are",
+    'replay::Runner::kept': 'the steps of the checkpoints',
+    'replay::Runner::alloc_failures': 'how often memory for a checkpoint was refused',
+}
+"""The functions that only users call, each with what it is for."""
+
+AMBIGUOUS = {
+    **{
+        f'cpmfiles::Table::{name}': f'`{name}` of a table'
+        for name in ('has', 'records', 'extent', 'read', 'write', 'write_filled', 'next_entry', 'make', 'rename')
+    },
+    'console_calls::Desk::looked': 'whether a script offset was looked at',
+    'console_calls::Desk::snapshot': 'a copy of a desk',
+    'console_calls::Spot::snapshot': 'a copy of a spot',
+    'filenames::Fcb::set_place': 'sets the place of a control block',
+    'hostfiles::Changes::looked': 'whether the host files were asked something',
+    'hostfiles::Changes::snapshot': 'a copy of what a run did to files',
+    'machine::State::load': 'the loaded state of a session',
+    'machine::step': 'one step',
+    'pagemem::Overlay::looked': 'whether a cell was looked at',
+    'pagemem::Overlay::snapshot': 'a copy of an overlay',
+    'replay::Runner::session': 'the session as it is now',
+}
+"""The same, for names that methods of other types have too: a call of that name may be of another method. The calls of a program ask by
+`cpmfiles::asking` and change the journal under the table, a run is loaded over marks that are used again, a checkpoint shares the cells and
+copies the journal, and a program loads the session of its words."""
 
 
-def struct_lines(path: str, name: str) -> list[Line]:
-    """Returns the lines of a struct."""
-    lines = lines_of(TOP / path)
-    start = next((at for at, line in enumerate(lines) if re.match(rf'pub struct {name}\b', line.text)), None)
-    if start is None:
-        raise LookupError(f'{path} has no struct {name}')
-    return list(takewhile(lambda line: not line.text.startswith('}'), lines[start:]))
+def functions_that_report_out_of_memory() -> set[str]:
+    """Returns the functions of the product whose bodies name such an error or its status, except `from`."""
+    words = re.compile(r'(?<![A-Za-z_])(AllocError|OutOfMemory)(?![A-Za-z_])|=> 12,')
+    return {f'{path.split("/")[0]}::{function.name.split("::")[-1]}' for path, code in product_code().items()
+            if not path.startswith('embedding/') for function in functions_of(code)
+            if function.name.split('::')[-1] != 'from' and words.search(function.body)}
 
 
-def looks_and_texts(path: str, name: str) -> list[Line]:
-    """Returns the fields of a struct that may hold looks or text. The length of a text is neither."""
-    holds = re.compile(r'[Ll]ook|[Tt]ext|[Dd]esk|[Oo]verlay|\bState\b|Vec|String|\[')
-    may = re.compile(r' *((pub )?text_length: usize,|#\[.*\])')
-    return [line for line in struct_lines(path, name) if holds.search(line.text) and not may.fullmatch(line.text)]
+def public_functions() -> dict[str, Function]:
+    """Returns the functions of the product that begin with `pub fn`, by their names after `CRATE::`, except laws."""
+    functions = [(path.split('/')[0], function) for path, code in product_code().items() for function in functions_of(code)]
+    return {f'{crate}::{function.name}': function for crate, function in functions if function.is_public and not function.is_law}
+
+
+def called_names(code: str) -> set[str]:
+    """Returns the names before `(` and after `::`, except in strings, in `use` lines and where a function is defined."""
+    code = re.sub(r'"(\\.|[^"\\])*"', '""', code, flags=re.DOTALL)
+    code = re.sub(r'\bfn +[a-z_0-9]+', 'fn', USE_OR_TYPE.sub('', code))
+    return {before or after for before, after in re.findall(r'\b([a-z_0-9]+)(?=(?:::<[^()]*>)?\()|(?<=::)([a-z_0-9]+)\b', code)}
 
 
 def unnamed(crate: Crate) -> list[str]:
@@ -107,166 +189,99 @@ def unnamed(crate: Crate) -> list[str]:
     return [used for used in crate.uses if not re.search(rf'\bRattle\.{used}\.|(?<![A-Za-z0-9_:.]){used}::|\buse {used}[;:{{ ]', text)]
 
 
-def undescribed(root: Path) -> list[Line]:
+def undescribed(root: Path) -> list[str]:
     """Returns the modules that the first lines of a root, its `//!`, do not name."""
-    lines = lines_of(root)
-    described = '\n'.join(line.text for line in takewhile(lambda line: line.text.startswith('//!'), lines))
-    modules = [(line, re.fullmatch(r'(pub |pub\(crate\) )?mod ([a-z_0-9]+);', line.text)) for line in lines]
-    return [line for line, module in modules if module and f'`{module[2]}`' not in described]
+    text = root.read_text()
+    described = '\n'.join(takewhile(lambda line: line.startswith('//!'), text.splitlines()))
+    modules = re.findall(r'^(?:pub |pub\(crate\) )?mod ([a-z_0-9]+);', text, re.MULTILINE)
+    return [f'{root.relative_to(TOP)}: {module}' for module in modules if f'`{module}`' not in described]
 
 
 DOCUMENT = re.compile(r'Interface Guide|CP/M 2\.2 Interface|8080 manual|User.s Manual|Interaction Trees|POPL')
 CITATION = re.compile(r'\[(Interface Guide 1979|8080 manual 1975), [^]]+\]|\[Interaction Trees 2020\]')
 
 
-def other_citations() -> Iterator[Line]:
-    """Returns the lines that cite a document in another form than docs/DECISIONS.md does under "Sources"."""
-    for folder in 'crates', 'tests/programs':
-        for path in sorted((TOP / folder).rglob('*')):
-            if path.suffix in ('.rt', '.antt', '.asm') and 'out' not in path.relative_to(TOP).parts:
-                yield from (line for line in lines_of(path) if DOCUMENT.search(CITATION.sub('', line.text)))
-
-
-MAY_REPORT_OUT_OF_MEMORY = set('''
-command_words::error_class
-command_words::read_dependency_words
-command_words::read_words
-cpmdeps::main
-cpmrun::replay_file
-cpmrun::run_with_rule
-dependency_command::write_listing
-dependency_command::write_rule
-edit_lines::execute_edit
-edit_lines::hex_bytes
-executable::main
-folders::add_file
-folders::host_file
-folders::list
-folders::note
-folders::read_one
-folders::set
-folders::read_failure
-folders::write_failure
-folders::write_file
-folders::write_path
-hostfiles::number
-loading::read_fault
-loading::tail_of
-make_rules::refusal
-one_run::report_stop
-one_run::run_once
-replay::number
-requests::fixed_message
-requests::message
-requests::report_fault
-requests::request_of_error
-requests::status
-requests::two_forms
-'''.split())
-"""The functions of the product that report out of memory themselves, not by `?` or in a `From`. Any function that may fail so could claim it,
-and no contract refuses that everywhere. Most of these turn one error into another, or into a number or a message."""
-
-
-def functions_that_report_out_of_memory() -> set[str]:
-    words = re.compile(r'(?<![A-Za-z_])(AllocError|OutOfMemory)(?![A-Za-z_])|=> 12,')
-    crates = [crate for crate in read_crates() if not crate.is_test and crate.name != 'embedding']
-    functions = [(crate, function) for crate in crates for path in crate.sources() for function in functions_of(code_of(path.read_text()))]
-    names = [(f'{crate.name}::{function.name.split("::")[-1]}', function.body) for crate, function in functions]
-    return {name for name, body in names if not name.endswith('::from') and words.search(body)}
-
-
 class SourcesTest(RuleTest):
 
     def expect_count(self, count: int, pattern: str, path: str) -> None:
-        self.assertEqual(count_in_code(pattern, path), count, f'matches of {pattern} in {path}')
+        self.assertEqual(len(re.findall(pattern, product_code()[path])), count, f'matches of {pattern} in crates/{path}')
 
-    def test_only_command_the_tests_and_the_example_make_a_meter(self) -> None:
-        self.refuse(in_code(METER, COMMAND, DEPENDENCIES, LISTING, 'crates/machine/src/meter.rt', 'crates/embedding/'))
+    def test_only_the_commands_and_the_example_make_a_meter(self) -> None:
+        """A contract says what a meter counts, and not that there is no other meter; a library has to let its callers make one."""
+        self.refuse(in_code(METER, COMMAND, DEPENDENCIES, LISTING, 'machine/src/meter.rt', 'embedding/'))
+        self.refuse(in_code(r'\bof_run\b', DEPENDENCIES, 'dependency_command/'))
+        for path in COMMAND, DEPENDENCIES, LISTING:
+            self.expect_count(1, METER, path)
 
-    def test_only_dependency_command_and_the_tests_call_of_run_which_makes_a_meter(self) -> None:
-        self.refuse(in_code(r'\bof_run\b', DEPENDENCIES, 'crates/dependency_command/'))
-        self.expect_count(1, METER, DEPENDENCIES)
-        self.expect_count(1, METER, LISTING)
+    def test_only_machine_and_known_run_execute_instructions(self) -> None:
+        """The crates of memory and calls list i8080 for `Bus` and `Regs`, so they could execute instructions that no meter counts."""
+        crates = tuple(f'{crate.name}/' for crate in read_crates() if 'i8080' not in crate.uses)
+        self.refuse(in_code(r'\b(execute|instructions)\b', 'machine/', 'known_run/', *crates))
 
-    def test_command_makes_one_meter(self) -> None:
-        self.expect_count(1, METER, COMMAND)
-        self.expect_count(1, r'\bMeter::new\(\)', COMMAND)
+    def test_machine_exports_no_instruction_and_no_call_and_gives_no_other_name(self) -> None:
+        """The crates above list none of these four, so an export of `machine` is all that could let them execute or call."""
+        exports = in_code(r'\bpub use\b.*(\b(i8080|known_run|console_calls|bdos)\b.*\b[a-z]|\bas\b)')
+        self.refuse(line for line in exports if line.startswith('crates/machine/'))
 
-    def test_only_machine_and_the_tests_execute_instructions(self) -> None:
-        self.refuse(in_code(EXECUTE, 'crates/machine/', 'crates/i8080/', 'crates/known_run/'))
-
-    def test_only_machine_bdos_and_the_tests_make_a_system_call(self) -> None:
-        self.refuse(in_code(CALL, 'crates/machine/', 'crates/console_calls/', 'crates/bdos/'))
-
-    def test_machine_does_not_reexport_instructions_or_calls(self) -> None:
-        exports = re.compile(rf' *pub.*({EXECUTE}|{CALL})')
-        self.refuse(line for line in code_lines() if line.path.startswith('crates/machine/') and exports.match(line.text))
-
-    def test_only_the_loop_of_a_run_and_the_tests_execute_steps(self) -> None:
-        self.refuse(in_code(STEPS, LOOP, 'crates/machine/'))
-
-    def test_the_loop_of_a_run_executes_steps_in_one_place(self) -> None:
-        for loop in (LOOP, RUN):
-            self.expect_count(2, STEPS, loop)
-            self.expect_count(1, r'\brun_from\(', loop)
-
-    def test_no_crate_has_another_name(self) -> None:
-        self.refuse(in_code(r'\bextern crate\b'))
-
-    def test_no_function_that_executes_steps_has_another_name(self) -> None:
-        self.refuse(in_code(r'\buse\b.*\b(execute|calls?|step|run_from|run_known) as\b'))
+    def test_only_the_loop_of_a_run_executes_steps_and_in_one_place(self) -> None:
+        """`run_from` is public for this loop and `step` for tests; a contract counts the steps of the loop, and not what is executed beside it."""
+        self.refuse(in_code(STEPS, LOOP, 'machine/'))
+        for path in LOOP, 'machine/src/run.rt':
+            self.expect_count(2, STEPS, path)
+            self.expect_count(1, r'\brun_from\(', path)
 
     def test_no_macro_is_defined(self) -> None:
-        """A macro can write any name."""
+        """A macro can write any name, past all these rules."""
         self.refuse(in_code(r'\bmacro_rules!'))
 
-    def test_replay_does_not_name_i8080_or_bdos(self) -> None:
-        self.refuse(in_crates(r'\bi8080\b|\bbdos\b', 'replay'))
+    def test_crates_above_replay_do_not_ask_what_was_looked_at(self) -> None:
+        """The state of a run that has ended is public; a reply is about what the run did, and not about its looks."""
+        self.refuse(in_code(r'\blooked\b', 'pagemem/', 'console_calls/', 'hostfiles/', 'machine/', 'replay/'))
 
-    def test_crates_above_replay_do_not_name_pages_looks_or_checkpoints(self) -> None:
-        words = r'\bpagemem\b|Overlay|\bCheckpoint\b|\blooked\b'
-        self.refuse(in_crates(words, 'report_lines', 'edit_lines', 'loading', 'one_run', 'requests', 'cpmrun', 'dependency_command'))
+    def test_a_checkpoint_holds_no_looks_and_no_text_and_shares_its_pages(self) -> None:
+        """No contract says how much memory a value holds, and no other field would change a reply."""
+        for path, definition in CHECKPOINT.items():
+            self.assertIn(definition, ' '.join(product_code()[path].split()), path)
 
-    def test_pages_are_shared_in_an_rc(self) -> None:
-        lines = lines_of(TOP / 'crates/pagemem/src/page.rt')
-        self.refuse(line for line in lines if re.search(r'\bShared\([A-Z]', line.text) and 'Shared(Rc' not in line.text)
-        self.assertTrue(any('Shared(Rc<Page>)' in line.text for line in lines), 'no page is shared')
+    def test_only_the_allowed_functions_report_out_of_memory_themselves(self) -> None:
+        """A function that may fail so could claim it, and no contract refuses that everywhere."""
+        may = {f'{crate}::{name}' for crate, names in MAY_REPORT_OUT_OF_MEMORY.items() for name in names.split()}
+        self.assertEqual(functions_that_report_out_of_memory(), may)
 
-    def test_cells_hold_no_looks(self) -> None:
-        self.refuse(line for line in struct_lines('crates/pagemem/src/cells.rt', 'Cells') if 'look' in line.text.lower())
+    def test_the_product_calls_each_public_function_or_it_is_allowed(self) -> None:
+        """A public function that nothing calls has a contract and a proof for nothing."""
+        called = {name for code in product_code().values() for name in called_names(code)}
+        uncalled = {name for name in public_functions() if name.split('::')[-1] not in called}
+        self.refuse(sorted(uncalled - {*ALLOWED, *AMBIGUOUS}))
+        self.assertLessEqual(set(ALLOWED), uncalled)
+        self.assertLessEqual(set(AMBIGUOUS), set(public_functions()))
 
-    def test_a_saved_state_holds_no_looks_and_no_text(self) -> None:
-        self.refuse(looks_and_texts('crates/machine/src/saved_state.rt', 'SavedState'))
-
-    def test_a_checkpoint_holds_no_looks_and_no_text(self) -> None:
-        self.refuse(looks_and_texts('crates/replay/src/ring.rt', 'Checkpoint'))
-
-    def test_each_crate_is_in_crates_txt_and_tests_are_under_their_heading(self) -> None:
-        crates = read_crates()
-        self.assertEqual(sorted(crate.name for crate in crates), sorted(path.parent.name for path in TOP.glob('crates/*/src')))
-        self.refuse(crate.name for crate in crates if crate.is_test != crate.name.startswith('test_'))
+    def test_the_names_of_tests_and_no_others_begin_with_test(self) -> None:
+        """For rt the heading `# tests` of crates.txt is a comment; here what is below it is no part of the product."""
+        self.refuse(crate.name for crate in read_crates() if crate.is_test != crate.name.startswith('test_'))
 
     def test_each_crate_is_after_the_crates_that_it_uses(self) -> None:
+        """rt takes the lines of crates.txt in any order; `make needs` and `scripts/build.mk` read them from the last one up."""
         at = {crate.name: number for number, crate in enumerate(read_crates())}
         self.refuse(f'{crate.name}: {used}' for crate in read_crates() for used in crate.uses if at.get(used, -1) > at[crate.name])
 
     def test_each_crate_names_the_crates_that_it_uses(self) -> None:
+        """A build proves each of these crates first, also one that is listed for nothing."""
         self.refuse(f'{crate.name}: {used}' for crate in read_crates() for used in unnamed(crate))
 
     def test_the_root_of_each_crate_describes_its_modules(self) -> None:
+        """A reader of a crate begins there."""
         roots = [path for crate in read_crates() for path in crate.sources() if path.name in ('lib.rt', 'main.rt')]
         self.refuse(line for root in roots for line in undescribed(root))
 
     def test_clauses_have_at_most_110_columns(self) -> None:
+        """A clause is read as one sentence; a longer one becomes a definition."""
         may = re.compile(r' *(//|#\[|ghost use|use |pub use|"|help: ")')
         paths = [path for crate in read_crates() if not crate.is_test for path in crate.sources()]
-        self.refuse(line for path in paths for line in lines_of(path) if len(line.text) > 110 and not may.match(line.text))
+        self.refuse(place for path in paths for line, place in lines_of(path) if len(line) > 110 and not may.match(line))
 
     def test_manuals_are_cited_in_brackets_with_year_and_part(self) -> None:
-        self.refuse(other_citations())
-
-    def test_only_the_allowed_functions_report_out_of_memory_themselves(self) -> None:
-        self.refuse(sorted(functions_that_report_out_of_memory() - MAY_REPORT_OUT_OF_MEMORY))
-
-    def test_each_allowed_function_reports_out_of_memory_itself(self) -> None:
-        self.refuse(sorted(MAY_REPORT_OUT_OF_MEMORY - functions_that_report_out_of_memory()))
+        """docs/DECISIONS.md lists the forms under "Sources"."""
+        paths = [path for folder in ('crates', 'tests/programs') for path in sorted((TOP / folder).rglob('*'))
+                 if path.suffix in ('.rt', '.antt', '.asm') and 'out' not in path.relative_to(TOP).parts]
+        self.refuse(place for path in paths for line, place in lines_of(path) if DOCUMENT.search(CITATION.sub('', line)))
