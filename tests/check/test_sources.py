@@ -99,9 +99,7 @@ def lines_of(path: Path) -> Iterator[tuple[str, str]]:
 METER = r'\bMeter>?::|\bMeter as\b|\b(type|impl|for)\b.*\bMeter\b'
 STEPS = r'\brun_from\b|\bmachine::step\b|\buse\b.*\bmachine\b.*(\bstep\b|\*|\bas\b)'
 COMMAND = 'cpmrun/src/command_line.rt'
-LISTING = 'dependency_command/src/command_line.rt'
 LOOP = 'replay/src/run.rt'
-DEPENDENCIES = 'dependencies/src/dependencies.rt'
 CHECKPOINT = {
     'replay/src/ring.rt': 'pub struct Checkpoint { pub step: u64, pub state: SavedState, }',
     'machine/src/saved_state.rt': 'pub struct SavedState { regs: Regs, cells: Cells, spot: Spot, text_length: usize, journal: Journal, }',
@@ -121,7 +119,7 @@ MAY_REPORT_OUT_OF_MEMORY = {
     'hostfiles': 'number',
     'loading': 'read_fault tail_of',
     'make_rules': 'refusal',
-    'one_run': 'report_stop run_once',
+    'one_run': 'run_once',
     'replay': 'number',
     'requests': 'fixed_message message report_fault request_of_error status two_forms',
 }
@@ -206,12 +204,10 @@ class SourcesTest(RuleTest):
     def expect_count(self, count: int, pattern: str, path: str) -> None:
         self.assertEqual(len(re.findall(pattern, product_code()[path])), count, f'matches of {pattern} in crates/{path}')
 
-    def test_only_the_commands_and_the_example_make_a_meter(self) -> None:
+    def test_only_the_command_and_the_example_make_a_meter(self) -> None:
         """A contract says what a meter counts, and not that there is no other meter; a library has to let its callers make one."""
-        self.refuse(in_code(METER, COMMAND, DEPENDENCIES, LISTING, 'machine/src/meter.rt', 'embedding/'))
-        self.refuse(in_code(r'\bof_run\b', DEPENDENCIES, 'dependency_command/'))
-        for path in COMMAND, DEPENDENCIES, LISTING:
-            self.expect_count(1, METER, path)
+        self.refuse(in_code(METER, COMMAND, 'machine/src/meter.rt', 'embedding/'))
+        self.expect_count(1, METER, COMMAND)
 
     def test_only_machine_and_known_run_execute_instructions(self) -> None:
         """The crates of memory and calls list i8080 for `Bus` and `Regs`, so they could execute instructions that no meter counts."""
@@ -223,12 +219,11 @@ class SourcesTest(RuleTest):
         exports = in_code(r'\bpub use\b.*(\b(i8080|known_run|console_calls|bdos)\b.*\b[a-z]|\bas\b)')
         self.refuse(line for line in exports if line.startswith('crates/machine/'))
 
-    def test_only_the_loop_of_a_run_executes_steps_and_in_one_place(self) -> None:
+    def test_only_the_loop_of_a_rerun_executes_steps_and_in_one_place(self) -> None:
         """`run_from` is public for this loop and `step` for tests; a contract counts the steps of the loop, and not what is executed beside it."""
         self.refuse(in_code(STEPS, LOOP, 'machine/'))
-        for path in LOOP, 'machine/src/run.rt':
-            self.expect_count(2, STEPS, path)
-            self.expect_count(1, r'\brun_from\(', path)
+        self.expect_count(2, STEPS, LOOP)
+        self.expect_count(1, r'\brun_from\(', LOOP)
 
     def test_no_macro_is_defined(self) -> None:
         """A macro can write any name, past all these rules."""

@@ -12,7 +12,7 @@ JUMPS = 3
 """One where the loop begins and one in it, by the table for the opcodes that programs use most, and one by the table for the others."""
 
 APART = [
-    'machine::stretch::run_from',
+    'machine::stretch::run_to_look',
     'machine::stretch::execute_learning',
     'machine::state::State::note_looks',
     'pagemem::page::Slot::own',

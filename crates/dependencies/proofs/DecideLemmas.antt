@@ -17,7 +17,7 @@ use Rattle.machine.specs.Runs.{NotesWholeRun}
 use Rattle.machine.proofs.FirstLemmas.{same_after, same_first, looks_here}
 use Rattle.machine.proofs.AskedLemmas.{agree_each, noted_by}
 use Rattle.machine.proofs.ColdLemmas.{cold_ends, cold_stop, cold_limit}
-use Rattle.machine.proofs.WholeLemmas.{plain_machine_is_laid}
+use Rattle.machine.proofs.PlainSteps.{plain_machine_is_laid}
 use Rattle.machine.proofs.WholeRuns.{stop_asks, limit_asks}
 use Rattle.first_looks.specs.declared.question.Question.{Question}
 use Rattle.first_looks.specs.FirstLooks.{FirstLooksView}

@@ -42,7 +42,8 @@ fn read_fault<'a>(error: io::Error, path: &'a str) -> LoadFault<'a>
 ///
 /// Returns `Err` if the file cannot be opened or an allocation fails.
 pub fn open<'a, S: FileSystem>(system: &mut S, path: &'a str) -> Result<S::Input, LoadFault<'a>>
-    ensures opens { IfOk result (λ input. Opens (S.files system.old).bytes path.now (S.Input.input input).left) }
+    ensures opens { IfOk result
+        (λ input. Opens (S.files system.old).bytes path.now (S.Input.input input).left) }
     ensures unfailed { IfOk result (λ input. (S.Input.input input).failures ≡ 0) }
     ensures fault { IfErr result (IsReadFaultOf path.now) }
     ensures unchanged { KeepsFiles load_paths result (S.files system.old) (S.files system.new) }

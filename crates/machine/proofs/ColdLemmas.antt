@@ -12,7 +12,7 @@ use Rattle.machine.specs.Machine.{session_answers, start, after, outcome, cold_r
 use Rattle.machine.specs.PlainState.{plain_run}
 use Rattle.machine.specs.PlainLaid.{plain_run_of}
 use Rattle.machine.proofs.RunLemmas.{after_step, after_zero, run_stops, run_limited}
-use Rattle.machine.proofs.WholeLemmas.{plain_machine_is_laid}
+use Rattle.machine.proofs.PlainSteps.{plain_machine_is_laid}
 
 -- The end of a run of at most `most` steps: at a stop below that, or there.
 pub record Ends {St X : Type 0} (outcome : St → Outcome St X) (limit : X) (start : St) (most : ℕ) (r : RunResult St X) : Type 0 where

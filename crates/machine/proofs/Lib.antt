@@ -10,7 +10,7 @@ pub mod JoinedStretches
 pub mod TidyFiles
 pub mod WholeFiles
 pub mod ChangedFileLemmas
-pub mod WholeLemmas
+pub mod PlainSteps
 pub mod TextLemmas
 pub mod SpliceLemmas
 pub mod FirstLemmas

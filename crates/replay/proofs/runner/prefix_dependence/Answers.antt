@@ -5,7 +5,7 @@ use Rattle.machine.specs.Step.{next}
 use Rattle.machine.specs.Machine.{session_answers, session_tree, outcome_with, start}
 use Rattle.machine.specs.PlainLaid.{laid_state}
 use Rattle.machine.proofs.DependenceLemmas as lemmas
-use Rattle.machine.proofs.WholeLemmas.{plain_machine_is_laid}
+use Rattle.machine.proofs.PlainSteps.{plain_machine_is_laid}
 use Rattle.replay.proofs.runner.prefix_dependence.Goals as goal
 
 pub returns : goal.returns

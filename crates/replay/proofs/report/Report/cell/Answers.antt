@@ -2,7 +2,7 @@ use Rattle.std.proofs.Common.{arith, sym, ap, take, ◌∙◌, Option}
 use Rattle.std.specs.Prelude.{slice_index}
 use Rattle.machine.specs.SavedState.{SavedState, state_with_text}
 use Rattle.machine.specs.PlainLaid.{laid_state}
-use Rattle.machine.proofs.WholeLemmas.{cell_is}
+use Rattle.machine.proofs.PlainSteps.{cell_is}
 use Rattle.replay.specs.LastState.{last_state}
 use Rattle.machine.specs.PlainState.{PlainRun}
 use Rattle.replay.proofs.report.Report.cell.Goals as goal
