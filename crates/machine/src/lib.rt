@@ -7,6 +7,14 @@
 //!   makes the same steps
 //! - `run`, `noting`, `whole_run`: a run in progress, as a value; whether it notes its looks; a run that has ended
 //! - `saved_state`, `meter`: a saved state, and the state that is restored from it; the count of executed steps
+//!
+//! Bytes in an edit are of the type `Bytes`, since contracts would compare a `Vec` with its capacity. `State::load_over` and
+//! `SavedState::overlay` take the session, so that its image is the one that the known cells of the state belong to. `run_from`
+//! requires this of its session (`IsBound`), and `step` does not.
+//!
+//! A meter can't be copied. Who may make one can't be a contract: `tests/check/test_sources.py` checks that only `command`, the
+//! tests, `embedding`, `test_runner`, `dependency_command` and `Dependencies::of_run` make one, and that only `dependency_command`
+//! and the tests call `of_run`.
 #![tactic(auto)]
 
 mod bytes;
