@@ -1,4 +1,5 @@
-"""Has `cpmrun` and `cpmdeps` build a tree of small crates, with a stand-in for rt that sleeps in place of a proof."""
+"""Has `cpmrun` and `cpmdeps` build a tree of small crates, with a stand-in for rt that sleeps in place of a proof: the
+order, parallel proofs, failures, interrupted builds and copies."""
 import os
 import shutil
 import signal

@@ -1,4 +1,4 @@
-"""Runs the built program cpmdeps for rules, which make reads."""
+"""Runs the built program cpmdeps for rules, which make reads: each byte in each place of a path, and files that change, go or come."""
 import os
 import subprocess
 import tempfile

@@ -6,6 +6,8 @@
 //!   looked at
 //! - `line`: the line that function 10 takes from the script
 //! - `cause`, `served`: why a run stops; what a call did
+//!
+//! `Spot::snapshot` allocates nothing and is never an `Err`; it returns a `Result` as `Desk::snapshot` does.
 #![tactic(auto)]
 
 mod calls;

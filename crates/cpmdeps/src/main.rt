@@ -1,4 +1,6 @@
 //! Prints what the run of a CP/M 2.2 program asked for: memory, script, files.
+//!
+//! The crate has `main` alone, since a program of Rattle can't be a library too.
 #![tactic(auto)]
 
 use dependency_command::{Fault, Over, SystemFiles, Tool, dependency_command, report_fault};

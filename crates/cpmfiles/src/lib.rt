@@ -3,6 +3,10 @@
 //! - `asking`: the questions that a program asks about the files, each of which is marked
 //! - `table`: `Table`, the files as a program reads, writes, makes, renames, deletes and searches them
 //! - `laws`: the law of deletion
+//!
+//! A call of `Table` takes a key whose first byte may be any byte, and asks for the directory of that byte; only control blocks name
+//! the drives A to D alone. `Table::next_entry` allocates nothing and is never an `Err`; it returns a `Result` as its siblings do.
+//! What callers name of the crates below is re-exported.
 #![tactic(auto)]
 
 pub mod asking;

@@ -3,6 +3,9 @@
 //! - `request`: the request in the words of the command line
 //! - `rule_run`: one run, after which a rule for make is written
 //! - `command_line`: the command
+//!
+//! `command` takes a `FileSystem` instead of the runtime, so that its contract can name the files; `main` passes `SystemFiles`. What
+//! callers name of the crates below is re-exported.
 #![tactic(auto)]
 
 mod command_line;

@@ -4,6 +4,9 @@
 //! - `execute`, `buffer`, `stream`, `ending`: one line executed; the line that is being read; lines read from a reader and executed
 //!   one by one; how a replay ends
 //! - `limits`: the largest length of a line, and the largest number of lines
+//!
+//! The contract of `replay` speaks of checkpoints, in the words of the crate `replay`; the code does not.
+//! `tests/check/test_sources.py` checks that it names neither pages nor looks.
 #![tactic(auto)]
 
 mod buffer;

@@ -5,6 +5,8 @@
 //! resumes from the last checkpoint before the step that takes the byte.
 //!
 //! - `session`: a session and its runner, a run, and an edit
+//!
+//! It makes the calls of the examples in the comments at `Session::new` and `Runner`, which are not compiled.
 #![tactic(auto)]
 
 mod session;

@@ -1,4 +1,6 @@
 //! Runs a CP/M 2.2 program, or replays edit lines over its session.
+//!
+//! The crate has `main` alone, since a program of Rattle can't be a library too.
 #![tactic(auto)]
 
 use cpmrun::{Fault, Over, SystemFiles, Tool, command, report_fault};

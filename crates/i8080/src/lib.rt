@@ -7,6 +7,9 @@
 //! - `access`: `Access`, the trait of a memory that may refuse a read or a write, as each `Bus` is
 //! - `instructions`: one function for each kind of instruction
 //! - `execution`, `outcome`: `execute`, which reads and executes the instruction at PC; how an instruction ended
+//!
+//! `Bus` has more methods than `ready`, `read` and `write`, for cells in a row and for words. Each has a default; the views of
+//! `pagemem` override them for speed. `lender` lets a contract say that a borrowed memory is still the same one.
 #![tactic(auto)]
 
 mod access;

@@ -4,6 +4,8 @@
 //! - `keys`, `record_set`: sets of keys of files; sets of pairs of a key and a record number
 //! - `drives`: sets of drives
 //! - `ordered`: keys in a form that is fast to compare, as the maps store them
+//!
+//! A set of drives has a place for each byte, not for the drives A to D alone.
 #![tactic(auto)]
 
 pub mod drives;

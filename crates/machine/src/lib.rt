@@ -3,10 +3,17 @@
 //! - `session`, `bytes`: a session, its limits and its edits; bytes as a value
 //! - `state`: a state of a run: the registers, the overlay, the desk, and what was done to the files
 //! - `system_area`: a step in the system area: the calls, and the stops there
-//! - `stretch`, `laws`: `run_from` executes a stretch of steps, and `step` one step; the law that the plain machine
+//! - `stretch`, `laws`: `run_from` executes a stretch of steps and counts them, and `step` one step; the law that the plain machine
 //!   makes the same steps
 //! - `run`, `noting`, `whole_run`: a run in progress, as a value; whether it notes its looks; a run that has ended
 //! - `saved_state`, `meter`: a saved state, and the state that is restored from it; the count of executed steps
+//!
+//! Bytes in an edit are of the type `Bytes`, since contracts would compare a `Vec` with its capacity. `State::load_over` and
+//! `SavedState::overlay` take the session, so that its image is the one that the known cells of the state belong to. `run_from`
+//! requires this of its session (`IsBound`), and `step` does not.
+//!
+//! A meter can't be copied. Who may make one can't be a contract: `tests/check/test_sources.py` checks that only `command`, the
+//! tests and `embedding` do.
 #![tactic(auto)]
 
 mod bytes;

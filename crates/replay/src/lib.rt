@@ -6,6 +6,12 @@
 //!   allocations
 //! - `run`, `rerun`: the loop from one due step to the next; where a rerun begins, and what it leaves
 //! - `runner`, `options`, `report`: `Runner`; how often and how many checkpoints are made; the result of a rerun
+//!
+//! `Report` borrows the runner through one field and owns no memory. A result that borrows from `&mut self` leaves no last value of
+//! `self` for a plain clause, so the clause on it is a starred one (`ends`): it says what the runner is once the report is gone.
+//!
+//! There is no library for C. Rattle passes no owned value to C, so a runner, a session and a report would need handles, with rules
+//! of lifetime that nothing proves. `--edits /dev/stdin` serves every language through a pipe; `examples/python` has a client.
 #![tactic(auto)]
 
 mod change;

@@ -2,6 +2,10 @@
 //!
 //! - `streams`: `Reader` and `Writer`, whose failures are counted
 //! - `trail`: `Trail`, a list of paths without memory, for the paths at which files failed and for counts of failures
+//!
+//! The list takes no byte at run time and has no upper bound, so a caller of `read` or `write` need not show that a count has room. A
+//! stream, which has no path, adds an empty one each time that it fails. A type with such a field can't be made by code alone, so the
+//! two functions that make one are proved by hand.
 #![tactic(auto)]
 
 mod streams;
