@@ -1,5 +1,5 @@
 -- The texts of a report, in pieces.
-use Rattle.std.proofs.Common.{arith, map, drop, take-append-drop, unwrap_or, ◌<◌, ◌/◌, ◌%◌, slice_index, Some, None, [], ◌∷◌, take-suc, add-one, append-nil, append_assoc, codes, ◌≡◌, ℕ, ◌+◌, ◌≤◌, List, ◌++◌, length, take, Option, refl, sym, ap, ◌∙◌}
+use Rattle.std.proofs.Common.{arith, map, drop, take-append-drop, unwrap_or, ◌<◌, ◌/◌, ◌%◌, slice_index, Some, None, [], ◌∷◌, take-suc, add-one, append-nil, append_assoc, codes, ◌≡◌, ℕ, ◌+◌, ◌≤◌, List, ◌++◌, length, take, Option, refl, sym, ap, ◌∙◌, inl, inr}
 use Rattle.std.proofs.lemmas.Bool.{cases_lt}
 use Rattle.std.proofs.lemmas.List.{take_all}
 use Rattle.std.specs.List.{concat, slice_get}

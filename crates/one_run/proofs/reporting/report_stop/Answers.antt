@@ -1,5 +1,5 @@
 use Rattle.streams.proofs.WrittenPieces.{writes_or_fails}
-use Rattle.one_run.proofs.run_once.report_stop.Goals as goal
+use Rattle.one_run.proofs.reporting.report_stop.Goals as goal
 
 pub returns : goal.returns
 returns g c = writes_or_fails _ _ _ c.write_stop_lines.result c.write_stop_lines.ensures

@@ -2,7 +2,7 @@ use Rattle.std.proofs.Common.{◌≡◌, length}
 use Rattle.hostfiles.specs.Changed.{changed_names}
 use Rattle.hostfiles.proofs.ChangedWalk.{keys_above}
 use Rattle.one_run.proofs.Walking.{WritesOn}
-use Rattle.one_run.proofs.run_once.write_changed.Given as goal
+use Rattle.one_run.proofs.reporting.write_changed.Given as goal
 
 -- Some first files were written, and the files with names above the last one are left.
 abbrev pub invariant-loop-changed : goal.invariant-loop-changed

@@ -12,8 +12,8 @@ use Rattle.machine.proofs.ChangedFileLemmas.{there_laid, told_laid}
 use Rattle.report_lines.proofs.ReportPieces.{fewer_keys, same_contents}
 use Rattle.one_run.specs.RunsOnce.{drive_folder}
 use Rattle.one_run.proofs.Walking.{WritesOn, begins, one_written, one_gone, ends, stops}
-use Rattle.one_run.proofs.run_once.write_changed.Goals as goal
-use Rattle.one_run.proofs.run_once.write_changed.Goals.{then-is_there+in_ok-write_to_drive, else-is_there}
+use Rattle.one_run.proofs.reporting.write_changed.Goals as goal
+use Rattle.one_run.proofs.reporting.write_changed.Goals.{then-is_there+in_ok-write_to_drive, else-is_there}
 
 -- The changed file that the walk found is the file with its name.
 there_at : {host host' : Host} {own own' : OwnFiles} {key key' : Key} {b : Bool} → host ≡ host' → own ≡ own' → key ≡ key' → b ≡ has host own key → contains_key (files host' own') key' ≡ b

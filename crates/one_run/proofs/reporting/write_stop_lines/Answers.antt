@@ -1,5 +1,5 @@
 use Rattle.streams.proofs.WrittenPieces.{part_more, writes_part, writes_then}
-use Rattle.one_run.proofs.run_once.write_stop_lines.Goals as goal
+use Rattle.one_run.proofs.reporting.write_stop_lines.Goals as goal
 
 pub returns-in_err-write_all : goal.returns-in_err-write_all
 returns-in_err-write_all g c =

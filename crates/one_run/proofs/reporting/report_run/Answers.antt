@@ -1,5 +1,5 @@
 use Rattle.std.proofs.lemmas.Result.{err_from_is_err_and}
-use Rattle.one_run.proofs.run_once.report_run.Goals as goal
+use Rattle.one_run.proofs.reporting.report_run.Goals as goal
 
 pub returns-in_err-write_output-clause-fault : goal.returns-in_err-write_output-clause-fault
 returns-in_err-write_output-clause-fault g c =
