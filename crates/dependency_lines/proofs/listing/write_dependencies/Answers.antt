@@ -13,4 +13,4 @@ returns-in_err-write_asked g c =
 pub returns : goal.returns
 returns g c =
     writes_then _ (asked_lines c.args.joining c.args.session.now c.args.dependencies.now.looks) (stop_line c.args.dependencies.now.cause) c.write_all.result
-    c.in_ok-write_asked.ensures (rw (c.as_bytes.ensures.value, c.stop_line.ensures) at c.write_all.ensures)
+    c.in_ok-write_asked.ensures (rw (c.as_bytes.ensures.value, c.deref.ensures.0, c.stop_line.ensures) at c.write_all.ensures)
