@@ -127,7 +127,7 @@ fn run<'a, S: FileSystem, O: Writer, E: Writer>(
     Ok(0)
 }
 
-/// Runs the program as `command` does, with a meter that counts the steps that its runs execute.
+/// Runs the program as `command` does, with a meter that counts the steps that a replay of edit lines executes.
 pub fn metered_command<S: FileSystem, O: Writer, E: Writer>(
     system: &mut S,
     words: &[String],

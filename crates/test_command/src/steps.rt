@@ -58,7 +58,6 @@ const EDITED: &[Act<'_>] = &[
         6,
     ),
     Count("@/take.com --console @/typed --edits @/again", 6),
-    Count("@/take.com --console @/typed", 6),
 ];
 
 #[test]

@@ -11,7 +11,7 @@ returns-in-Some-clause-done g c =
     ran_with_rule _ c.in-Session.words are
     (world (g.S.FileSystem.files c.args.system.now) (g.O.Writer.output c.args.out.now) (g.E.Writer.output c.args.err.now))
     (world (g.S.FileSystem.files c.run_with_rule.new.system) (g.O.Writer.output c.run_with_rule.new.out) (g.E.Writer.output c.run_with_rule.new.err))
-    c.run_with_rule.new.meter c.in-Some.path c.run_with_rule.result c.in-Some.is c.run_with_rule.ensures.failed c.run_with_rule.ensures.done
+    c.args.meter.now c.in-Some.path c.run_with_rule.result c.in-Some.is c.run_with_rule.ensures.failed c.run_with_rule.ensures.done
 
 pub returns-in-Some-clause-fault : goal.returns-in-Some-clause-fault
 returns-in-Some-clause-fault g c =
@@ -33,7 +33,7 @@ returns-in_default-edits-clause-done g c =
     ran_once _ c.in-Session.words are c.in_default.is c.in_ok-session.session
     (world (g.S.FileSystem.files c.args.system.now) (g.O.Writer.output c.args.out.now) (g.E.Writer.output c.args.err.now))
     (world (g.S.FileSystem.files c.run_once.new.system) (g.O.Writer.output c.run_once.new.out) (g.E.Writer.output c.run_once.new.err))
-    c.run_once.new.meter (rw c.session.ensures at c.in_ok-session.ensures.session) c.in_ok-run_once.field-0 c.in_default-edits.is
+    c.args.meter.now (rw c.session.ensures at c.in_ok-session.ensures.session) c.in_ok-run_once.field-0 c.in_default-edits.is
     (c.in_ok-run_once.ensures.failed ∙ c.in_ok-session.ensures.unchanged.failed) (rw (same_files c.in_ok-session.ensures.unchanged) at c.in_ok-run_once.ensures.done)
 
 pub returns-in_err-run_once-clause-fault : goal.returns-in_err-run_once-clause-fault
