@@ -16,10 +16,6 @@ CRATES := $(notdir $(wildcard crates/*))
 # other crate gets as many jobs as there are lanes.
 SIDE := $(filter records command_words command_tail folders loading report_lines,$(CRATES))
 
-# how many crates the program needs
-export NEEDED := $(shell tac crates.txt | awk -F '[: ]+' \
-    '$$1 == "$(MAIN)" || $$1 in used { count++; for (i = 2; i <= NF; i++) used[$$i] } END { print count }')
-
 .PHONY: program $(CRATES)
 
 program: $(filter i8080,$(CRATES)) $(MAIN)

@@ -1,6 +1,9 @@
 """Has `cpmrun` and `cpmdeps` build a tree of small crates, with a stand-in for rt that sleeps in place of a proof: the
-order, parallel proofs, failures, interrupted builds and copies."""
+order, parallel proofs, failures, interrupted builds, copies, and what a terminal shows."""
+import contextlib
 import os
+import pty
+import re
 import shutil
 import signal
 import subprocess
@@ -23,6 +26,9 @@ cpmdeps: list
 test_top: top
 '''
 ALL = ['executable', 'far', 'ground', 'left', 'right', 'top']
+SECONDS = '# a comment\nground 100\nleft 200\nright 250\ntop 500\nexecutable 1000\n'
+FIRST = 'cpmrun: first run: proving the program and building it, which takes some minutes on four cores'
+CLEAR = '\r\x1b[K'
 # As rt does, it locks the folders of its crate and of the crates below, and proves only what was not proved of the same text.
 RT = r'''#!/usr/bin/env bash
 crate=$(basename "$PWD")
@@ -57,21 +63,47 @@ class Build(unittest.TestCase):
         for name in 'cpmrun', 'cpmdeps':
             shutil.copy(TOP / name, self.tree)
         shutil.copytree(TOP / 'scripts', self.tree / 'scripts')
+        (self.tree / 'scripts/seconds').write_text(SECONDS)
         self.path = f'{self.work}/bin:{os.environ["PATH"]}'
 
-    def start(self, mode='w', name='cpmrun'):
+    def start(self, mode='w', name='cpmrun', terminal=None, **env):
         for notes in 'log', 'processes':
             open(self.notes / notes, mode).close()
         # what runs in the background or by nohup ignores some signals, and so would the build
-        words = ['env', '--default-signal', self.tree / name, '--build']
+        words = ['env', '--default-signal', *['setsid', '--ctty'] * (terminal is not None), self.tree / name, '--build']
+        env = {'PATH': self.path, 'NOTES': str(self.notes), 'PROGRESS_SECONDS': '0.1', **env}
         with open(self.work / 'err', 'w') as err:
-            return subprocess.Popen(words, env={'PATH': self.path, 'NOTES': str(self.notes)}, stderr=err, stdout=subprocess.PIPE, text=True)
+            return subprocess.Popen(words, env=env, stdin=terminal, stderr=err if terminal is None else terminal, stdout=subprocess.PIPE, text=True)
 
     def start_until(self, crate, name='cpmrun'):
         build = self.start(name=name)
         while f'begins {crate}' not in (self.notes / 'log').read_text():
             time.sleep(0.02)
         return build
+
+    def build_on_terminal(self, status, interrupt_at='', term='xterm'):
+        """Builds with standard error on a terminal, until a text appears there, if one is given. Returns what appeared after each clear."""
+        reads, writes = pty.openpty()
+        build = self.start(terminal=writes, TERM=term)
+        os.close(writes)
+        text = ''
+        with open(reads, 'r+b', buffering=0) as terminal, contextlib.suppress(OSError):  # at its end, when no process has it any more
+            while more := terminal.read(4096).decode():
+                text += more
+                if interrupt_at and interrupt_at in text:
+                    terminal.write(b'\x03')
+                    interrupt_at = ''
+        self.proved = self.end(build, status)
+        return text.replace('\r\n', '\n').split(CLEAR)
+
+    def show(self, main='executable'):
+        """Returns what a build shows on a terminal that has come this far."""
+        reads, writes = pty.openpty()
+        env = {'PATH': self.path, 'TERM': 'xterm', 'NAME': 'cpmrun', 'MAIN': main}
+        subprocess.run([self.tree / 'scripts/progress'], env=env, stderr=writes, check=True)
+        os.close(writes)
+        with open(reads, 'rb', buffering=0) as terminal:
+            return terminal.read(4096).decode().removeprefix(CLEAR)
 
     def end(self, build, status, crate='executable'):
         """Waits for a build, which leaves no process and no room, and returns what it printed and the crates that it proved."""
@@ -100,13 +132,79 @@ class Build(unittest.TestCase):
         if min(len(os.sched_getaffinity(0)), available // 5000) > 1:
             both = [self.log.index(f'{word} {crate}') for word in ('begins', 'ends') for crate in ('left', 'right')]
             self.assertLess(max(both[:2]), min(both[2:]))
-        counted = [line.rsplit(', ')[-1] for line in self.errors.splitlines()[1:]]
-        self.assertEqual(counted, [f'{left} crate{"s" * (left != 1)} left' for left in range(5, -1, -1)])
+        self.expect_a_line_for_each(self.errors)
         self.assertEqual(subprocess.check_output([self.tree / 'cpmrun', 'x']), b'built\n')
         self.assertEqual(self.end(self.start(), 0), [])
         self.change('left')
         self.assertEqual(self.end(self.start(), 0), ['executable', 'left', 'top'])
         self.assertEqual((self.crates / 'left/out/incremental/worked').read_text(), 'worked\n' * 2)
+
+    def expect_a_line_for_each(self, errors):
+        first, *lines = errors.splitlines()
+        self.assertEqual(first, FIRST)
+        self.assertEqual(sorted(line.partition('cpmrun: proved ')[2].partition(',')[0] for line in lines), ALL)
+        self.assertEqual([line.rsplit(', ')[-1] for line in lines], [f'{left} crate{"s" * (left != 1)} left' for left in range(5, -1, -1)])
+
+    def test_a_terminal_has_one_line_which_is_written_again(self):
+        (self.tree / 'scripts/seconds').write_text('ground 1\ntop 2\nexecutable 1000\n')
+        first, *lines, last = self.build_on_terminal(0)
+        self.assertEqual((first, last, self.proved), (f'{FIRST}\n', '', ALL))
+        self.assertGreater(len(lines), 12)
+        form = re.compile(r'cpmrun: ([0-6]) of 6 crates proved(, about \d+ minutes left)?')
+        shown = [form.fullmatch(line) for line in lines]
+        self.assertTrue(all(shown), lines)
+        self.assertEqual(list(dict.fromkeys(match[1] for match in shown)), list('0123456'))
+        self.assertEqual([bool(match[2]) for match in shown if match[1] in '0356'],
+                         [match[1] in '35' for match in shown if match[1] in '0356'])
+
+    def test_a_plain_terminal_has_a_line_for_each_crate(self):
+        self.expect_a_line_for_each(''.join(self.build_on_terminal(0, term='dumb')))
+
+    def test_a_failure_replaces_the_line_of_a_terminal(self):
+        (self.notes / 'fails-right').touch()
+        shown = self.build_on_terminal(1)
+        self.assertEqual(len([text for text in shown if text.startswith('cpmrun: the proof of right failed:\nno proof of right\n')]), 1, shown)
+        self.assertEqual(shown[-1], '')
+
+    def test_the_key_for_an_interrupt_leaves_nothing(self):
+        for count in 0, 1, 4:
+            shown = self.build_on_terminal(-signal.SIGINT, f'cpmrun: {count} of 6 crates')
+            messages = [line for text in shown for line in text.splitlines() if not line.startswith((FIRST, 'make: *** ['))]
+            self.assertEqual((shown[-1], [line for line in messages if not re.match(r'cpmrun: \d of 6 crates proved', line)]), ('', []))
+        self.assertEqual(self.end(self.start(), 0)[0], 'executable')
+
+    def test_the_minutes_that_are_left(self):
+        rooms = self.crates / 'executable/out/rooms'
+        rooms.mkdir(parents=True)
+        now = time.time()
+        for before, proved, shown in (
+                ('', {}, ''), ('', {'far': 100}, ''),
+                ('', {'ground': 150}, ', about 20 minutes left'),
+                ('', {'ground': 150, 'far': 200, 'right': 250}, ', about 12 minutes left'),
+                ('', {'ground': 31}, ', about 1 minute left'), ('', {'ground': 10}, ', about 1 minute left'),
+                ('ground', {'ground': 10, 'far': 20}, ''),
+                ('ground', {'ground': 10, 'left': 200}, ', about 25 minutes left'),
+                ('executable', {'ground': 150}, ''), ('', {'top': 150, 'executable': 200}, '')):
+            with self.subTest(before=before, proved=proved):
+                (rooms / 'before').write_text(f'{before or "*"}/out/rlib\n')
+                os.utime(rooms / 'before', (now - 300, now - 300))
+                for crate, seconds in proved.items():
+                    (rooms / f'{crate}.proved').touch()
+                    os.utime(rooms / f'{crate}.proved', (now - 300 + seconds, now - 300 + seconds))
+                self.assertEqual(self.show(), f'cpmrun: {len(proved)} of 6 crates proved{shown}')
+                for crate in proved:
+                    (rooms / f'{crate}.proved').unlink()
+        (rooms / 'ground.proved').touch()
+        self.assertEqual(self.show('cpmdeps'), 'cpmrun: 1 of 4 crates proved')
+        (rooms / 'before').unlink()
+        self.assertEqual(self.show(), 'cpmrun: 1 of 6 crates proved')
+
+    def test_the_times_of_crates_are_in_order(self):
+        lines = [line.split() for line in (TOP / 'scripts/seconds').read_text().splitlines() if not line.startswith('#')]
+        needed = subprocess.check_output(['make', '-s', 'needs', 'CRATE=executable'], cwd=TOP, text=True).split()
+        self.assertEqual([crate for crate, _ in lines if crate not in needed], [])
+        self.assertEqual(lines, sorted(lines, key=lambda line: int(line[1])))
+        self.assertEqual(lines[-1][0], 'executable')
 
     def test_a_failure_is_reported_and_the_next_build_resumes(self):
         for crate, proved, left, was_built in ('left', ['far', 'ground', 'right'], ['executable', 'left', 'top'], False), \
