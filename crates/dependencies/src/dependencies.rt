@@ -39,10 +39,7 @@ impl Dependencies {
 /// # Errors
 ///
 /// `Err` means out of memory.
-pub fn run_noting_looks<'s>(
-    alloc: Global,
-    session: &'s Session,
-) -> Result<WholeRun<'s>, AllocError>
+pub fn run_noting_looks<'s>(alloc: Global, session: &'s Session) -> Result<WholeRun<'s>, AllocError>
     ensures session { IfOk result (λ run. run.session.now ≡ session.now) }
     ensures looks { IfOk result (λ run. AreDependencies session.now run.looks run.steps run.cause) }
 {

@@ -40,7 +40,9 @@ pub use noting::Noting;
 pub use pagemem::BlankMarks;
 pub use run::Run;
 pub use saved_state::SavedState;
-pub use session::{PROGRAM_LIMIT, PROGRAM_START, SCRIPT_LIMIT, STEP_LIMIT, Session, SessionError, limits};
+pub use session::{
+    PROGRAM_LIMIT, PROGRAM_START, SCRIPT_LIMIT, STEP_LIMIT, Session, SessionError, limits,
+};
 pub use state::State;
 pub use stretch::{run_from, step};
 pub use whole_run::WholeRun;

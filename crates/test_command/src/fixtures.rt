@@ -7,8 +7,8 @@ use machine::Meter;
 use std::alloc::{AllocError, Global};
 use std::test::Fail;
 use std::{fs, process};
-use test_sessions::program;
 use streams::Trail;
+use test_sessions::program;
 
 /// A program that prints `Hi` by call 9 and returns.
 pub const HI: &[u8] = &program![MVI C,9; LXI D,0x0109; CALL 5; RET; DB b'H',b'i',b'$';];

@@ -6,8 +6,8 @@ use edit_lines::{Failed, Reader, ReplayFault, Writer, replay};
 use machine::Meter;
 use replay::Runner;
 use std::alloc::Global;
-use test_sessions::{Given, PRINTS, Trouble, make};
 use streams::Trail;
+use test_sessions::{Given, PRINTS, Trouble, make};
 
 /// A replay of an edit text over a program, and the expected result.
 #[derive(Clone, Copy)]
