@@ -33,9 +33,9 @@ RECORD = b'new' + bytes(125)
 def calls(*acts: str) -> bytes:
     """Returns a program that makes calls of files: a number and one name or two, as in `22 B:NEW.TXT` and `23 OLD NEW`. Acts with the same
     names share a control block. Each record that is written is RECORD."""
-    blocks = {act.partition(' ')[2]: f'block_{chr(97 + number)}' for number, act in enumerate(acts)}
-    code = ['MVI C,26; LXI D,record; CALL 5']
-    code += [f'MVI C,{number}; LXI D,{blocks[names]}; CALL 5' for number, _, names in (act.partition(' ') for act in acts)]
+    pairs = [act.split(' ', 1) for act in acts]
+    blocks = {names: f'block_{chr(97 + at)}' for at, names in enumerate(dict.fromkeys(names for _, names in pairs))}
+    code = ['MVI C,26; LXI D,record; CALL 5', *(f'MVI C,{number}; LXI D,{blocks[names]}; CALL 5' for number, names in pairs)]
     code += ['RET', 'record: DB "new"; DS 125']
     for names, label in blocks.items():
         code.append(f'{label}:')
