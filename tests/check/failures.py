@@ -4,7 +4,7 @@ import tempfile
 from dataclasses import dataclass, field
 from pathlib import Path
 
-from helpers import DRIVES, PROGRAM, RENAME, ProgramTest, build_library, file_of_drive
+from helpers import DRIVES, PROGRAM, RECORD, RENAME, ProgramTest, build_library, calls, file_of_drive
 
 
 @dataclass
@@ -22,10 +22,18 @@ class Wanted:
     """Whether a run may end as without a failure."""
     may_be_cut: bool = True
     """Whether a failure may cut the output off; else all of it is written, or nothing."""
-    files: dict[str, bytes] = field(default_factory=dict)
-    """The written files, by drive (a to d) and name, in the order in which they are written."""
-    older: bytes | None = None
-    """An older file at each of their paths, if any. It is replaced as a whole or not at all."""
+    files: dict[str, bytes | None] = field(default_factory=dict)
+    """The changed files, by drive (a to d) and name, in the order in which they are changed, with `None` for one that is removed."""
+    before: dict[str, bytes] = field(default_factory=dict)
+    """The files that are there before the run. Each is replaced as a whole, or removed, or not touched."""
+
+    def states(self) -> list[dict[str, bytes]]:
+        """Returns the files that are there after no change, after the first, and so on."""
+        states = [self.before]
+        for name, data in self.files.items():
+            state = {**states[-1], name: data}
+            states.append({other: kept for other, kept in state.items() if kept is not None})
+        return states
 
 
 class FailureTest(ProgramTest):
@@ -57,14 +65,14 @@ class FailureTest(ProgramTest):
 
     def each_in_turn(self, wanted: Wanted, *words: object, **how) -> None:
         """Runs the program with each request failing in turn."""
+        states = wanted.states()
         for at in range(1, 100_001):
-            for name in wanted.files if wanted.older is not None else ():
-                (self.work / 'written' / name).write_bytes(wanted.older)
+            self.put_files(wanted.before)
             done = self.run_with_failure(at, self.program, *words, **how)
-            count, are_whole = self.take_written(wanted)
+            found = self.take_files()
             with self.subTest(request=at, words=[str(word) for word in words]):
-                self.assertTrue(are_whole, 'a file is cut off, gone, or one that is not wanted')
-                self.check_end(wanted, done, count)
+                self.assertTrue(found in states, 'a file is cut off, gone, changed before its turn, or one that is not wanted')
+                self.check_end(wanted, done, states.index(found))
                 if not self.mark.exists():
                     self.assertEqual(done.returncode, wanted.status)
                     self.assertGreater(at, 6, 'fewer than six requests')
@@ -73,7 +81,7 @@ class FailureTest(ProgramTest):
         self.fail('requests without end')
 
     def check_end(self, wanted: Wanted, done, count: int) -> None:
-        """Checks the end of a run that wrote `count` files."""
+        """Checks the end of a run that changed the first `count` files."""
         if done.returncode == wanted.status:
             self.assertEqual((done.stdout, done.stderr, count), (wanted.out, wanted.err, len(wanted.files)))
             return
@@ -84,20 +92,18 @@ class FailureTest(ProgramTest):
         else:
             self.assertTrue(wanted.out.startswith(done.stdout), 'the output is not a prefix of the wanted one')
 
-    def take_written(self, wanted: Wanted) -> tuple[int, bool]:
-        """Removes the written files. Returns how many of the wanted ones there are, from the first on, and whether there is nothing else
-        except older files."""
-        found = {}
-        for path in sorted((self.work / 'written').glob('*/*')):
-            found[path.relative_to(self.work / 'written').as_posix()] = path.read_bytes()
+    def put_files(self, files: dict[str, bytes]) -> None:
+        """Writes files below `written`."""
+        for name, data in files.items():
+            self.put(f'written/{name}', data)
+
+    def take_files(self) -> dict[str, bytes]:
+        """Removes the files below `written`, and returns them."""
+        paths = sorted((self.work / 'written').glob('*/*'))
+        files = {path.relative_to(self.work / 'written').as_posix(): path.read_bytes() for path in paths}
+        for path in paths:
             path.unlink()
-        names = list(wanted.files)
-        count = 0
-        while count < len(found) and found.get(names[count]) == wanted.files[names[count]]:
-            count += 1
-        others = [found.get(name) for name in names[count:len(found)]]
-        are_known = list(found) == names[:len(found)] and all(other == wanted.older for other in others)
-        return count, are_known and (wanted.older is None or len(found) == len(names))
+        return files
 
     def drive_words(self) -> tuple[list[object], dict[str, bytes]]:
         """Returns the arguments of a run that reads a folder for each drive and writes a file for each, and these files."""
@@ -117,3 +123,14 @@ class FailureTest(ProgramTest):
         """Returns the arguments of a run that renames a host file, and the file that it writes."""
         words = [self.put('rename.com', RENAME), 'x y', '--files', self.host(), '--out', self.work / 'written/a']
         return words, {'a/Y': b'one' + b'\x1a' * 125}
+
+    def disk_words(self) -> tuple[list[object], str, dict[str, bytes], dict[str, bytes | None]]:
+        """Returns the arguments of a run that changes the files of two disks and writes one to another folder, its line of the stop with the
+        ones after it, the files that are there before, and the changes."""
+        acts = ['19 OLD', '21 NOTE.TXT', '23 ANN BEN', '22 B:NEW', '21 B:NEW', '19 D:X', '22 D:Y']
+        written = self.work / 'written'
+        words = [self.put('calls.com', calls(*acts)), '--disk', written / 'a', '--out-b', written / 'b', '--disk-d', written / 'd']
+        before = {'a/Keep': b'kept', 'a/ann': b'one', 'a/note.txt': b'o' * 200, 'a/old': b'old', 'd/X': b''}
+        files = {'a/ben': b'one' + b'\x1a' * 125, 'a/note.txt': RECORD + b'o' * 72 + b'\x1a' * 56, 'b/NEW': RECORD, 'd/Y': b'',
+                 'a/ann': None, 'a/old': None, 'd/X': None}
+        return words, 'stop WarmBoot\ngone ANN\ngone OLD\ngone D:X\n', before, files

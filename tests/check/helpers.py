@@ -10,6 +10,8 @@ from collections.abc import Iterable
 from dataclasses import dataclass
 from pathlib import Path
 
+from assembler import assemble
+
 TOP = Path(__file__).resolve().parents[2]
 PROGRAM = Path(os.environ.get('PROGRAM', TOP / 'crates/executable/out/executable')).resolve()
 DEPENDENCIES_PROGRAM = Path(os.environ.get('DEPENDENCIES_PROGRAM', TOP / 'crates/cpmdeps/out/cpmdeps')).resolve()
@@ -22,6 +24,27 @@ RENAME = bytes.fromhex('0e17 115c00 cd0500 c9')
 DRIVES = bytes.fromhex('3e01 325c00 115c00 0e13 cd0500 0e16 cd0500 0e15 cd0500 3a5c00 3c fe05 c20201 c9')
 """On each drive deletes the first name of its tail, makes it, and writes one record after the place where the drive before ended:
 MVI A,1; and then STA 5CH; LXI D,5CH; MVI C,19; CALL 5; MVI C,22; CALL 5; MVI C,21; CALL 5; LDA 5CH; INR A; CPI 5; JNZ to the STA; RET."""
+
+
+RECORD = b'new' + bytes(125)
+"""The record that programs of `calls` write."""
+
+
+def calls(*acts: str) -> bytes:
+    """Returns a program that makes calls of files: a number and one name or two, as in `22 B:NEW.TXT` and `23 OLD NEW`. Acts with the same
+    names share a control block. Each record that is written is RECORD."""
+    pairs = [act.split(' ', 1) for act in acts]
+    blocks = {names: f'block_{chr(97 + at)}' for at, names in enumerate(dict.fromkeys(names for _, names in pairs))}
+    code = ['MVI C,26; LXI D,record; CALL 5', *(f'MVI C,{number}; LXI D,{blocks[names]}; CALL 5' for number, names in pairs)]
+    code += ['RET', 'record: DB "new"; DS 125']
+    for names, label in blocks.items():
+        code.append(f'{label}:')
+        for name in [*names.split(), ''][:2]:
+            drive, _, plain = name.rpartition(':')
+            stem, _, kind = plain.partition('.')
+            code.append(f'DB {" ABCD".index(drive or " ")},"{stem:8}{kind:3}"; DS 4')
+        code.append('DS 4')
+    return assemble(code)
 
 
 @dataclass(frozen=True)

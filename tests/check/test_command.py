@@ -8,10 +8,10 @@ import signal
 import time
 from pathlib import Path
 
-from helpers import DRIVES, HI, OUT_OF_MEMORY, PROGRAM, RENAME, ProgramTest, build_library, file_of_drive
+from helpers import DRIVES, HI, OUT_OF_MEMORY, PROGRAM, RENAME, ProgramTest, build_library, calls, file_of_drive
 
 WARM_BOOT = 'stop WarmBoot\n'
-READ_OPTIONS = ['--files', '--files-b', '--files-c', '--files-d', '--console', '--edits']
+READ_OPTIONS = ['--files', '--files-b', '--files-c', '--files-d', '--disk', '--disk-d', '--console', '--edits']
 
 RETURN = bytes.fromhex('c9')
 """RET"""
@@ -336,6 +336,14 @@ class PermissionTest(CommandTest):
         self.expect_command(1, '.', f'cpmrun: cannot write {folder}/A\n', *self.nobody, self.three, 'a', '--out', folder)
         self.expect_names(folder)
 
+    def test_a_file_of_an_unwritable_disk_stays(self) -> None:
+        folder = self.make_folder('sealed')
+        self.put('sealed/a.txt', 'one')
+        self.set_mode(folder, 0o555)
+        delete = self.put('delete.com', calls('19 A.TXT'))
+        self.expect_command(1, '', f'cpmrun: cannot write {folder}/a.txt\n', *self.nobody, delete, '--disk', folder)
+        self.expect_names(folder, 'a.txt')
+
 
 class WrittenFileTest(CommandTest):
     """Which files are written where."""
@@ -367,7 +375,8 @@ class WrittenFileTest(CommandTest):
 
     def test_an_empty_path_is_a_usage_error(self) -> None:
         for words, name in [([self.three, f'--{option}', ''], f'--{option} <{value}>') for option, value in
-                            [('files', 'DIR'), ('files-b', 'DIR'), ('console', 'FILE'), ('edits', 'FILE'), ('out', 'DIR'), ('out-d', 'DIR')]] + [
+                            [('files', 'DIR'), ('files-b', 'DIR'), ('console', 'FILE'), ('edits', 'FILE'), ('out', 'DIR'), ('out-d', 'DIR'), ('disk', 'DIR'),
+                             ('disk-c', 'DIR')]] + [
                                 ([''], '<PROGRAM>')]:
             with self.subTest(name):
                 done = self.run_command(PROGRAM, *words)

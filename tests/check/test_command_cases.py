@@ -1,20 +1,23 @@
-"""Plays the cases of tests/cases/command: the built program with the words of a command line, in a folder of its own; its status and what it writes."""
+"""Plays the cases of tests/cases/command: the built program with the words of a command line, in a folder of its own; its status, its two outputs
+and the files that it leaves."""
 import shlex
 from pathlib import Path
 
 from assembler import assemble
-from cases import FOLDER, common_programs, parse_bytes, rows_of, sections_of
+from cases import FOLDER, common_programs, parse_bytes, programs_in, rows_of, sections_of
 from helpers import PROGRAM, ProgramTest
 
 
 class Wanted:
-    """What is expected of a command: its status, its two outputs, and texts that these contain."""
+    """What is expected of a command: its status, its two outputs, texts that these contain, and the names and bytes of files after it."""
 
     def __init__(self, words: list[str]) -> None:
         self.words = words
         self.status = 0
         self.texts = {'|': b'', '!': b''}
         self.parts: dict[str, list[bytes]] = {'|': [], '!': []}
+        self.names: list[list[str]] = []
+        self.bytes: dict[str, bytes] = {}
 
     def read(self, line: str) -> None:
         word, _, rest = line.partition(' ')
@@ -24,6 +27,11 @@ class Wanted:
             self.texts['|'] += parse_bytes(rest)
         elif word in self.texts:
             self.texts[word] += rest.encode() + b'\n'
+        elif word == 'names':
+            self.names.append(rest.split())
+        elif word == 'bytes':
+            name, _, data = rest.partition(' ')
+            self.bytes[name] = parse_bytes(data)
         else:
             self.parts[word.removesuffix('~')].append(rest.encode())
 
@@ -38,7 +46,9 @@ class CommandCasesTest(ProgramTest):
         paths = sorted((FOLDER / 'command').glob('*.txt'))
         self.assertTrue(paths)
         for path in paths:
-            for section in sections_of(path)[1:]:
+            head, *sections = sections_of(path)
+            self.programs = {**common_programs(), **programs_in(head)}
+            for section in sections:
                 for lines in rows_of(section):
                     with self.subTest(case=f'{path.name}: {lines[0][3:]}'):
                         self.remove_work()
@@ -59,12 +69,16 @@ class CommandCasesTest(ProgramTest):
             done = self.run_command(PROGRAM, *wanted.words, cwd=self.work)
             self.assertEqual(done.returncode, wanted.status, (wanted.words, done.stderr))
             self.assertTrue(wanted.is_met('|', done.stdout) and wanted.is_met('!', done.stderr), (wanted.words, done.stdout, done.stderr))
+            for folder, *names in wanted.names:
+                self.expect_names(self.work / folder, *names)
+            for name, data in wanted.bytes.items():
+                self.assertEqual((self.work / name).read_bytes(), data, (wanted.words, name))
 
     def prepare(self, verb: str, name: str, rest: str) -> None:
         """Makes a program, a file, a sparse file of zeros, or a folder."""
         path: Path = self.work / name
         if verb == 'code':
-            path.write_bytes(assemble(common_programs()[rest[8:]] if rest.startswith('program ') else [rest]))
+            path.write_bytes(assemble(self.programs[rest[8:]] if rest.startswith('program ') else [rest]))
         elif verb == 'put':
             path.write_bytes(parse_bytes(rest))
         elif verb == 'zeros':

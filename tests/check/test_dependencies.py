@@ -320,6 +320,8 @@ class ListingTest(DependenciesTest):
         opens, out = self.put('opens.com', OPEN_TWO), 'stop Limit\n'
         self.expect(0, out, '', '--limit=0', f'--files={folder}', f'--files-d={folder}', '--', opens, '-x y')
         self.expect(0, out, '', opens, '--limit', '0', '--console', opens, '--by-step')
+        done = self.run_command(DEPENDENCIES_PROGRAM, GREETING, '--console', self.put('script', 'Ada\r'))
+        self.expect(0, done.stdout, '', GREETING, '--typed', 'Ada')
 
 
 class LargeTest(DependenciesTest):
@@ -388,6 +390,11 @@ class ErrorTest(DependenciesTest):
             ([HI, '--console', ''], "error: a value is required for '--console <FILE>' but none was supplied"),
             ([''], "error: a value is required for '<PROGRAM>' but none was supplied"),
             ([HI, '--make', 'made', '--by-step'], "error: the argument '--make <TARGET>' cannot be used with '--by-step'"),
+            ([HI, '--console', 'x', '--typed', 'y'], "error: the argument '--console <FILE>' cannot be used with '--typed <TEXT>'"),
+            ([HI, '--typed', 'x', '--console', 'y', '--by-step', '--make', 'made'],
+             "error: the argument '--make <TARGET>' cannot be used with '--by-step'"),
+            (['none.com', '--typed', r'a\q'], r"error: invalid value 'a\q' for '--typed <TEXT>': unknown escape after a backslash"),
+            ([HI, '--disk', 'x'], "error: unexpected argument '--disk' found"),
             ([HI, '--limit', '4000000001'], "error: invalid value '4000000001' for '--limit <N>': 4000000001 is not in 0..=4000000000"),
         ]:
             with self.subTest(first):

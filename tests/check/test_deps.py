@@ -35,8 +35,8 @@ class Refusals(Failures):
 
     def test_each_allocation_fails(self) -> None:
         words, files = self.words_and_files()
-        for older in None, b'o' * 1000:
-            self.each_in_turn(Wanted(b'', WARM + b'gone X\n', may_be_cut=False, files=files, older=older), *words)
+        for before in {}, dict.fromkeys(files, b'o' * 1000):
+            self.each_in_turn(Wanted(b'', WARM + b'gone X\n', may_be_cut=False, files=files, before=before), *words)
         for words in [HI, '--deps', 'a:'], [HI, '--edits', 'none', '--deps', 'none']:
             self.each_in_turn(Wanted(b'', self.run_command(PROGRAM, *words).stderr, status=1, may_be_cut=False), *words)
 
@@ -48,8 +48,8 @@ class Devices(Failures):
         words, files = self.words_and_files()
         unread = words[0], f'{self.work}/host', f'{self.work}/host/x'
         messages = (*(f'cannot read {path}' for path in unread), *(f'cannot write {self.work}/written/{name}' for name in files))
-        for older in None, b'o' * 1000:
-            self.each_in_turn(Wanted(b'', WARM + b'gone X\n', fault_status=1, messages=messages, may_pass=False, files=files, older=older), *words)
+        for before in {}, dict.fromkeys(files, b'o' * 1000):
+            self.each_in_turn(Wanted(b'', WARM + b'gone X\n', fault_status=1, messages=messages, may_pass=False, files=files, before=before), *words)
 
     def test_each_call_fails(self) -> None:
         self.environment = {'FAIL_CALLS': 'orwdsn'}
@@ -102,6 +102,18 @@ class DepsTest(DependenciesTest):
             self.touch(1, path)
         (self.work / 'disk/out').write_text('')
         self.assertTrue(self.is_made('made/OUT'))
+
+    def test_what_changes_on_a_disk_makes_again(self) -> None:
+        self.disk(one='1', two='2')
+        self.put('two.com', MAKE_AND_OPEN)
+        rule = self.run_with_rule('two.com', 'one out', '--disk', 'disk')
+        self.assertEqual(rule, 'disk/out: two.com disk/one $(wildcard disk/OUT)\ndisk/one:\n# not there: disk/OUT\n')
+        self.touch(1, 'two.com', 'disk/one', 'disk/two', 'disk/out')
+        self.assertFalse(self.is_made('disk/out'))
+        for path, is_needed in ('two.com', True), ('disk/one', True), ('disk/two', False), ('disk', False):
+            self.touch(2, path)
+            self.assertEqual(self.is_made('disk/out'), is_needed, path)
+            self.touch(1, path)
 
     def test_each_target_is_made_again(self) -> None:
         self.disk()

@@ -12,7 +12,7 @@ class Devices(FailureTest):
     library = 'fail'
 
     def each_call_fails(self) -> None:
-        """Tries one run and a replay of the greeting, and a run with files on each drive, with and without older files."""
+        """Tries one run and a replay of the greeting, a run with files on each drive, with and without older files, and one with disks."""
         script = self.put('script', 'Ada\r')
         console = {'fault_status': 1, 'may_pass': False}
         unread, unwritten = f'cannot read {GREETING}', 'cannot write standard output'
@@ -23,12 +23,22 @@ class Devices(FailureTest):
         words, files = self.drive_words()
         messages = (f'cannot read {words[0]}', f'cannot read {self.work}/host', f'cannot read {self.work}/host/x',
                     *(f'cannot write {self.work}/written/{name}' for name in files))
-        for older in None, b'o' * 1000:
-            self.each_in_turn(Wanted(b'', b'stop WarmBoot\n', messages=messages, files=files, older=older, **console), *words)
+        for before in {}, dict.fromkeys(files, b'o' * 1000):
+            self.each_in_turn(Wanted(b'', b'stop WarmBoot\n', messages=messages, files=files, before=before, **console), *words)
+        words, stop, before, files = self.disk_words()
+        messages = (f'cannot read {words[0]}', *(f'cannot read {self.work}/written/{name}' for name in ('a', 'd', *before)),
+                    *(f'cannot write {self.work}/written/{name}' for name in files))
+        self.each_in_turn(Wanted(b'', stop.encode(), messages=messages, files=files, before=before, **console), *words)
 
     def test_each_call_fails(self) -> None:
-        self.environment = {'FAIL_CALLS': 'orwdsn'}
+        self.environment = {'FAIL_CALLS': 'orwdsmn'}
         self.each_call_fails()
+
+    def test_each_removal_fails(self) -> None:
+        self.environment = {'FAIL_CALLS': 'u'}
+        words, stop, before, files = self.disk_words()
+        messages = tuple(f'cannot write {self.work}/written/{name}' for name, data in files.items() if data is None)
+        self.each_in_turn(Wanted(b'', stop.encode(), fault_status=1, messages=messages, files=files, before=before), *words)
 
     def test_each_read_or_write_of_one_byte_fails(self) -> None:
         self.environment = {'FAIL_CALLS': 'rw', 'FAIL_PIECES': '1'}

@@ -1,5 +1,5 @@
 """Which path a message names when a call of the system fails, and what comes first when two things are wrong."""
-from failures import FailureTest, Wanted
+from failures import FailureTest
 from helpers import DEPENDENCIES_PROGRAM, HI, ProgramTest
 
 
@@ -10,12 +10,12 @@ class CallsTest(FailureTest):
 
     def expect_messages(self, calls: str, *messages: str) -> None:
         """Expects one of these messages for each failing call of the kinds of these letters, and each message at some call."""
-        words, files = self.drive_words()
+        words, _ = self.drive_words()
         self.environment = {'FAIL_CALLS': calls}
         told = set()
         for at in range(1, 1001):
             done = self.run_with_failure(at, self.program, *words)
-            self.take_written(Wanted(b'', files=files))
+            self.take_files()
             if not self.mark.exists():
                 break
             with self.subTest(calls=calls, at=at):
@@ -44,6 +44,18 @@ class CallsTest(FailureTest):
         self.host()
         self.expect_messages('o', f'cannot read {self.work}/drives.com', f'cannot read {self.work}/host', f'cannot read {self.work}/host/x',
                              *(f'cannot write {self.work}/written/{drive}/X' for drive in 'abcd'))
+
+    def test_a_removal_names_the_file_that_stays(self) -> None:
+        """Before each of the four files is written, what has its temporary name is removed; it is no error if that fails."""
+        words, stop, before, _ = self.disk_words()
+        self.environment = {'FAIL_CALLS': 'u'}
+        ends = []
+        for at in range(1, 8):
+            self.put_files(before)
+            ends.append(self.run_with_failure(at, self.program, *words).stderr.decode())
+            self.assertTrue(self.mark.exists())
+            self.take_files()
+        self.assertEqual(ends, [stop] * 4 + [f'cpmrun: cannot write {self.work}/written/{name}\n' for name in ('a/ann', 'a/old', 'd/X')])
 
 
 class OrderTest(ProgramTest):

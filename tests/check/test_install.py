@@ -86,7 +86,7 @@ class Install(unittest.TestCase):
         (self.work / 'disk').mkdir()
         (self.work / 'digits.com').touch()
         for words, wanted in [('--s',), '--spacing --slots'], [('--files', 'di'), 'disk'], [('--files', '=', 'di'), 'disk'], \
-                [('dig',), 'digits.com'], [('--edits', 'dig'), 'digits.com'], [('--limit', 'd'), '']:
+                [('dig',), 'digits.com'], [('--edits', 'dig'), 'digits.com'], [('--limit', 'd'), ''], [('--typed', 'd'), '']:
             self.assertEqual(self.completions('cpmrun', *words), wanted.split(), words)
         for name, program in PROGRAMS.items():
             self.assertEqual(self.completions(name, '--'), re.findall(r'(?m)^ +(?:-., )?(--[a-z-]+)', run(program, '--help').stdout))

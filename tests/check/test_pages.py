@@ -58,15 +58,6 @@ class PagesTest(ProgramTest):
     def test_commands_of_the_manual(self) -> None:
         self.expect_page('docs/MANUAL.md')
 
-    def test_the_commands_over_gone_remove_names_in_either_case_on_drive_a(self) -> None:
-        commands = re.search(r'^sed -n [^\n]*gone .*?^done$', (TOP / 'docs/MANUAL.md').read_text(), re.MULTILINE | re.DOTALL)[0]
-        (self.work / 'copies').mkdir()
-        for name in 'note.txt', 'Note', 'x.', 'keep.txt', 'other.txt':
-            self.put(f'copies/{name}', name)
-        self.put('gone', 'stop WarmBoot\ngone NOTE.TXT\ngone X\ngone B:KEEP.TXT\n')
-        self.expect_command(0, '', '', 'bash', '-c', commands, cwd=self.work)
-        self.expect_names(self.work / 'copies', 'Note', 'keep.txt', 'other.txt')
-
     def test_commands_of_the_examples(self) -> None:
         self.expect_page('examples/README.md')
 

@@ -54,6 +54,17 @@ class Refusals(FailureTest):
         words, files = self.drive_words()
         self.each_in_turn(Wanted(b'', WARM, may_be_cut=False, files=files), *words)
 
+    def test_disks(self) -> None:
+        words, stop, before, files = self.disk_words()
+        for more in [], ['--deps', self.work / 'rule']:
+            self.each_in_turn(Wanted(b'', stop.encode(), may_be_cut=False, files=files, before=before), *words, *more)
+
+    def test_typed_text(self) -> None:
+        words = [EXAMPLES / 'greeting/greeting.com', '--typed']
+        self.each_in_turn(Wanted(b'Name? Ada\r\nHello, Ada', WARM, may_be_cut=False), *words, r'A\x64a')
+        for others in [r'A\x6'], ['Ada', '--console', 'none']:
+            self.each_in_turn(Wanted(b'', self.run_command(PROGRAM, *words, *others).stderr, status=1, may_be_cut=False), *words, *others)
+
     def replay(self, lines: list[tuple[str, str]], *words: object) -> None:
         edits = self.put('edits', ''.join(f'{line}\n' for line, _ in lines))
         self.each_in_turn(Wanted(''.join(reply for _, reply in lines).encode()), HI, '--edits', edits, *words)

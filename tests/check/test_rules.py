@@ -110,6 +110,7 @@ disk/note.txt:
                          'made: typed.com empty\nempty:\n# stop ConsoleExhausted\n')
         self.assertEqual(self.rule('typed.com', '--make', 'made', stop='ConsoleExhausted'),
                          'made: typed.com\n# stop ConsoleExhausted\n', 'no script was given')
+        self.assertEqual(self.rule('typed.com', '--typed', 'x', '--make', 'made'), 'made: typed.com\n', 'the script is no file')
 
     def test_stops(self) -> None:
         for code, stop in ('76', 'Halt'), ('08', 'Undefined 08'), ('C300FE', 'SystemArea FE00'), ('0EFF CD0500', 'Unsupported 255'):

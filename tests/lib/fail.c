@@ -1,7 +1,7 @@
 /* Preloaded before a program, makes one of its calls of the system fail: of those whose letters stand in FAIL_CALLS, the one
    whose number REFUSE_AT gives, counted from 1. It leaves an empty file at the path REFUSE_MARK to tell that it did. The letters
-   are o for open, r for read, w for write but to standard error, d for the entries of a folder, s for the state of a file, and n
-   for rename. Where FAIL_PIECES is set, a read or a write moves one byte at most. */
+   are o for open, r for read, w for write but to standard error, d for the entries of a folder, s for the state of a file, m for
+   its mode, n for rename, and u for unlink. Where FAIL_PIECES is set, a read or a write moves one byte at most. */
 #define _GNU_SOURCE
 #include <errno.h>
 #include <fcntl.h>
@@ -68,5 +68,9 @@ int statx(int folder, const char *path, int flags, unsigned mask, struct statx *
 {
     return fails('s') ? -1 : syscall(SYS_statx, folder, path, flags, mask, state);
 }
+
+int fchmod(int file, mode_t mode) { return fails('m') ? -1 : syscall(SYS_fchmod, file, mode); }
+
+int unlink(const char *path) { return fails('u') ? -1 : syscall(SYS_unlink, path); }
 
 int rename(const char *from, const char *to) { return fails('n') ? -1 : syscall(SYS_rename, from, to); }
