@@ -7,7 +7,7 @@ import tempfile
 import unittest
 from pathlib import Path
 
-from helpers import DEPENDENCIES_PROGRAM, PROGRAM, TOP
+from helpers import DEPENDENCIES_PROGRAM, PROGRAM, TOP, files_below
 from test_pages import wrong_blocks
 
 PROGRAMS = {'cpmrun': PROGRAM, 'cpmdeps': DEPENDENCIES_PROGRAM}
@@ -15,10 +15,6 @@ PROGRAMS = {'cpmrun': PROGRAM, 'cpmdeps': DEPENDENCIES_PROGRAM}
 
 def run(*words, **how):
     return subprocess.run(words, stdout=subprocess.PIPE, stderr=subprocess.STDOUT, text=True, **how)
-
-
-def files_below(folder):
-    return {path.relative_to(folder).as_posix(): path.read_bytes() for path in Path(folder).rglob('*') if path.is_file()}
 
 
 class Install(unittest.TestCase):
