@@ -1,9 +1,9 @@
 //! The folders of the host for the drives A to D: their files are read as host files, changed files are written into them, and on a disk
-//! files that are gone are removed.
+//! deleted ones are removed.
 //!
 //! - `folder_names`, `listing`: the names of files in a folder, and their paths; the files of a folder by their keys
 //! - `file_system`: `FileSystem`, files by their paths as contracts see them, and `SystemFiles`, the files of the operating system
-//! - `places`: where the changed files of a run are written, and from where those that are gone are removed
+//! - `places`: where the changed files of a run are written, and from where deleted ones are removed
 //! - `reading`, `writing`, `fault`: reading folders into host files; writing and removing files; why either fails, and the message
 #![tactic(auto)]
 

@@ -1,12 +1,12 @@
--- The bytes that a text stands for.
+-- The bytes that a text gives.
 use Rattle.std.proofs.Common.{◌≡◌, ◌<◌, ◌≤◌, ◌∙◌, ◌++◌, ◌∷◌, [], ℕ, Bool, true, false, List, Option, Some, None, Result, Ok, Err, ap, arith, cond, drop, length, refl, sym}
 use Rattle.std.specs.Prelude.{◌==◌, option_map}
 use Rattle.hex.specs.declared.error.FromHexError.{FromHexError}
-use Rattle.loading.specs.Typed.{StandsFor, by_digits, byte_before, escaped, first_typed, letter_byte}
+use Rattle.loading.specs.Typed.{Gives, by_digits, byte_before, escaped, first_typed, letter_byte}
 
 -- One more byte.
-pub one_further : (text bytes middle : List ℕ) (byte : ℕ) (rest : List ℕ) → StandsFor text bytes middle → first_typed middle ≡ Some (byte, rest)
-    → StandsFor text (bytes ++ byte ∷ []) rest
+pub one_further : (text bytes middle : List ℕ) (byte : ℕ) (rest : List ℕ) → Gives text bytes middle → first_typed middle ≡ Some (byte, rest)
+    → Gives text (bytes ++ byte ∷ []) rest
 one_further text [] middle byte rest h e = (rest, ap first_typed h ∙ e, refl)
 one_further text (b ∷ bytes) middle byte rest h e = (h.0, h.1, one_further h.0 bytes middle byte rest h.2 e)
 

@@ -1,5 +1,5 @@
--- A script as typed text: a byte stands for itself, but for those after a backslash. (This project's profile; the letters are those of C
--- and Rust.)
+-- A script as typed text: each byte is itself, unless a backslash is before it. (This project's profile; the letters are as in C and
+-- Rust.)
 use Rattle.std.specs.Prelude.{◌≡◌, ◌≢◌, ◌==◌, ◌-◌, ℕ, Bool, false, List, [], ◌∷◌, ◌++◌, Option, Some, None, Result, Ok, Err, if◌then◌else◌, drop, length, option_map, slice_get, take}
 use Rattle.std.specs.Option.{option_map_or}
 use Rattle.hex.specs.Hex.{decode_sized}
@@ -18,7 +18,7 @@ by_digits text = byte_before (decode_sized (take 2 text) 1) (drop 2 text)
 abbrev pub letter_byte : ℕ → Option ℕ
 letter_byte c = if c == 114 then Some 13 else if c == 110 then Some 10 else if c == 116 then Some 9 else if c == 92 then Some 92 else None
 
--- The byte of the text after a backslash, where `x` stands before two digits, and the text after it.
+-- The byte of the text after a backslash, where `x` is before two digits, and the text after it.
 abbrev pub escaped : List ℕ → Option (ℕ × List ℕ)
 escaped [] = None
 escaped (c ∷ text) = if c == 120 then by_digits text else option_map (λ byte. (byte, text)) (letter_byte c)
@@ -28,10 +28,10 @@ abbrev pub first_typed : List ℕ → Option (ℕ × List ℕ)
 first_typed [] = None
 first_typed (c ∷ text) = if c == 92 then escaped text else Some (c, text)
 
--- A text stands for these bytes, up to this rest of it.
-abbrev pub StandsFor : List ℕ → List ℕ → List ℕ → Type 0
-StandsFor text [] rest = text ≡ rest
-StandsFor text (byte ∷ bytes) rest = (next : List ℕ) × (first_typed text ≡ Some (byte, next)) × StandsFor next bytes rest
+-- A text gives these bytes, up to this rest of it.
+abbrev pub Gives : List ℕ → List ℕ → List ℕ → Type 0
+Gives text [] rest = text ≡ rest
+Gives text (byte ∷ bytes) rest = (next : List ℕ) × (first_typed text ≡ Some (byte, next)) × Gives next bytes rest
 
 -- Bytes with a carriage return at the end, which is added unless it is there.
 abbrev pub ends_line : List ℕ → Bool
@@ -43,13 +43,13 @@ as_line bytes = if ends_line bytes then bytes else bytes ++ 13 ∷ []
 -- The script of a text: all of its bytes, as a line.
 pub record IsTyped (text script : List ℕ) : Type 0 where
   pub bytes : List ℕ
-  pub stands : StandsFor text bytes []
+  pub gives : Gives text bytes []
   pub is : script ≡ as_line bytes
 
 -- A text has a backslash that no such letter follows.
 pub record HasBadEscape (text : List ℕ) : Type 0 where
   pub bytes : List ℕ
   pub rest : List ℕ
-  pub stands : StandsFor text bytes rest
+  pub gives : Gives text bytes rest
   pub left : rest ≢ []
   pub bad : first_typed rest ≡ None

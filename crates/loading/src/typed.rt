@@ -59,7 +59,7 @@ fn first_typed(text: &[u8]) -> Option<(u8, &[u8])>
 
 // Returns the bytes of a text.
 fn typed_bytes<'a>(alloc: Global, text: &'a str) -> Result<Vec<u8>, LoadFault<'a>>
-    ensures bytes { IfOk result (λ bytes. texts.StandsFor text.entry.now bytes.items []) }
+    ensures bytes { IfOk result (λ bytes. texts.Gives text.entry.now bytes.items []) }
     ensures fault { IfErr result (IsTypedFault text.entry) }
 {
     let mut bytes = Vec::new(alloc);

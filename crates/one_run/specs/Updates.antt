@@ -1,5 +1,5 @@
--- How the changed files of a run are written at their places, and those that are gone are removed from their disks. (This project's
--- profile.)
+-- How the changed files of a run are written at their places, and the ones that are gone are removed from their disks. (This
+-- project's profile.)
 use Rattle.std.specs.Prelude.{◌≡◌, ℕ, ◌⊎◌, [], ◌∷◌, List, MatchOption, Option, Some, None, filter, not, unwrap_or}
 use Rattle.std.specs.FinMap.{contains_key}
 use Rattle.std.specs.List.{concat}
@@ -15,7 +15,7 @@ use Rattle.folders.specs.declared.places.Places.{Places}
 use Rattle.machine.specs.ChangedFiles.{changed_keys_in, contents_in}
 use Rattle.machine.specs.PlainFiles.{Files}
 
--- The changed files that are there at the stop, in the order of their names, and those that are gone.
+-- The changed files that are there at the stop, in the order of their names, and the ones that are gone.
 abbrev pub written_keys : Host → Files → List Key
 written_keys host files = filter (contains_key files) (changed_keys_in host files)
 
@@ -76,7 +76,7 @@ FailsToWriteAll p host files before after f = StopsAt (WritesFile p files) (Fail
 abbrev pub FailsToRemoveAll : Places → Host → Files → Option FileBytes → Option FileBytes → Failure → Type 0
 FailsToRemoveAll p host files before after f = StopsAt (RemovesFile p) (FailsToRemove p f) before (gone_keys host files) after
 
--- All changed files were written, and only then those that are gone were removed.
+-- All changed files were written, and only then the ones that are gone were removed.
 pub record UpdatesAll (p : Places) (host : Host) (files : Files) (before after : Option FileBytes) : Type 0 where
   pub written : Option FileBytes
   pub writes : WritesAll p host files before written

@@ -60,7 +60,7 @@ pub fn report_stop<E: Writer>(run: &WholeRun<'_>, err: &mut E)
 }
 
 /// Writes the console text of a run to `out`, then each changed file that is there at the stop at its place, if it has one, and then
-/// removes those that are gone from their disks.
+/// removes the ones that are gone from their disks.
 ///
 /// # Errors
 ///
@@ -117,7 +117,7 @@ fn run_to_end(alloc: Global, session: &Session) -> Result<WholeRun<'_>, AllocErr
 }
 
 /// Runs a session once. First its console text is written to `out`. Then each changed file that is there when the run stops is
-/// written at its place, if it has one, and those that are gone are removed from their disks. Then `err` gets a line that reports why
+/// written at its place, if it has one, and the ones that are gone are removed from their disks. Then `err` gets a line that reports why
 /// the run stopped, and a line for each changed file that is gone. Returns the exit status for the stop.
 ///
 /// # Errors

@@ -1,4 +1,4 @@
-// The changed files of a run: those that are there are written, and those that are gone are removed from their disks.
+// The changed files of a run: the ones that are there are written, and the ones that are gone are removed from their disks.
 
 ghost use Rattle.std.specs.Prelude.{◌≡◌, IfErr, MatchOption, OnOk};
 ghost use Rattle.folders.specs.ChangedBytes.{file_bytes};
@@ -96,8 +96,8 @@ fn remove_gone<S: FileSystem>(
     Ok(())
 }
 
-/// Writes the changed files that are there when the run stops at their places, and then removes those that are gone from their disks,
-/// each in the order of their names.
+/// Writes the changed files that are there when the run stops at their places, and then removes the ones that are gone from their
+/// disks, each in the order of their names.
 ///
 /// # Errors
 ///

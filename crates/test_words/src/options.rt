@@ -128,7 +128,7 @@ fn options_that_exclude_others(rt: HostRuntime) -> Result<(), Fail> {
     Ok(())
 }
 
-// Returns whether a drive is read from its disk, but for one that has a folder of host files.
+// Returns whether a drive is read from its disk, unless it has a folder of host files.
 fn reads_from_disks(alloc: Global) -> Result<bool, AllocError> {
     let words = owned(
         alloc,
