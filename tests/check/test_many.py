@@ -92,7 +92,7 @@ class ManyTest(ProgramTest):
             self.fail('\n'.join(['', *found]))
         for name in 'ada', 'bob':
             self.assertIn('perl', (machines / f'{name}.commands').read_text())
-            self.expect_names(machines / name)
+            self.assertEqual(files_below(machines / name), {}, 'files are left there')
 
     def test_a_machine_that_goes_away_changes_no_report(self) -> None:
         """Jobs must be removed from the log only if it goes away while reports come back. With `--retries`, no second command is needed."""
