@@ -93,6 +93,11 @@ def words_of_case(case: Path) -> list[str]:
     return words + ((case / 'args').read_text().splitlines() if (case / 'args').exists() else [])
 
 
+def files_below(folder: Path) -> dict[str, bytes]:
+    """Returns the files below a folder, by their paths from there."""
+    return {path.relative_to(folder).as_posix(): path.read_bytes() for path in folder.rglob('*') if path.is_file()}
+
+
 def build_library(source: str, folder: Path) -> Path:
     """Compiles tests/lib/SOURCE.c to a library for LD_PRELOAD."""
     made = folder / f'{source}.so'

@@ -7,7 +7,8 @@ import tempfile
 import unittest
 from pathlib import Path
 
-from helpers import DEPENDENCIES_PROGRAM, PROGRAM, TOP
+from helpers import DEPENDENCIES_PROGRAM, PROGRAM, TOP, files_below
+from test_many import has_parallel, make_machines, smaller
 from test_pages import wrong_blocks
 
 PROGRAMS = {'cpmrun': PROGRAM, 'cpmdeps': DEPENDENCIES_PROGRAM}
@@ -15,10 +16,6 @@ PROGRAMS = {'cpmrun': PROGRAM, 'cpmdeps': DEPENDENCIES_PROGRAM}
 
 def run(*words, **how):
     return subprocess.run(words, stdout=subprocess.PIPE, stderr=subprocess.STDOUT, text=True, **how)
-
-
-def files_below(folder):
-    return {path.relative_to(folder).as_posix(): path.read_bytes() for path in Path(folder).rglob('*') if path.is_file()}
 
 
 class Install(unittest.TestCase):
@@ -48,6 +45,10 @@ class Install(unittest.TestCase):
             copy = self.work / 'copies' / page
             shutil.copytree(doc, copy)
             found += wrong_blocks(doc / page, copy, env)
+        if has_parallel():
+            page = self.work / 'WALKS.md'
+            page.write_text(smaller((doc / 'WALKS.md').read_text()))
+            found += wrong_blocks(page, self.work / 'copies/WALKS.md', make_machines(self.work / 'machines', env), 'sh parallel')
         if found:
             self.fail('\n'.join(['', *found]))
         examples = run('make', '-s', '-C', doc / 'examples', f'BUILT={self.work}/built', 'test-hi', env=env)

@@ -2,7 +2,8 @@
 
 A block of commands is fenced by ```sh, and bash runs it at the top of the copy. The next block, if it is fenced by ```text, is what the
 commands print on standard output and standard error, without carriage returns; if there is none, they may print anything. Every block must
-end with status 0. The blocks of a page run one after another in a copy of their own."""
+end with status 0. The blocks of a page run one after another in a copy of their own. Blocks that are fenced by ```sh parallel are run by
+test_many.py."""
 import re
 import shutil
 import subprocess
@@ -13,7 +14,10 @@ from helpers import DEPENDENCIES_PROGRAM, PROGRAM, TOP, ProgramTest
 PARTS = ['cpmrun', 'cpmdeps', 'crates.txt', 'scripts', 'examples', 'tests', 'docs']
 """What the commands may name. Of the crates they may name only the built programs."""
 
-BLOCKS = re.compile(r'^```sh\n(?P<commands>.*?)^```\n(?:\n?```text\n(?P<text>.*?)^```$)?', re.MULTILINE | re.DOTALL)
+
+def blocks_of(page: str, fence: str = 'sh') -> list[re.Match[str]]:
+    """Returns the blocks of commands of a page, each with `commands` and `text`."""
+    return list(re.finditer(rf'^```{fence}\n(?P<commands>.*?)^```\n(?:\n?```text\n(?P<text>.*?)^```$)?', page, re.MULTILINE | re.DOTALL))
 
 
 def copy_tree(copy: Path) -> None:
@@ -28,10 +32,10 @@ def copy_tree(copy: Path) -> None:
         shutil.copy2(program, copy / 'crates' / crate / 'out' / crate)
 
 
-def wrong_blocks(page: Path, copy: Path, env: dict[str, str] | None = None) -> list[str]:
+def wrong_blocks(page: Path, copy: Path, env: dict[str, str] | None = None, fence: str = 'sh') -> list[str]:
     """Returns the blocks of a page that fail or print something else, with what they print."""
     found = []
-    for block in BLOCKS.finditer(page.read_text()):
+    for block in blocks_of(page.read_text(), fence):
         run = subprocess.run(['bash', '-c', block['commands']], cwd=copy, env=env, stdin=subprocess.DEVNULL, stdout=subprocess.PIPE,
                              stderr=subprocess.STDOUT)
         printed = run.stdout.decode(errors='replace').replace('\r', '')
@@ -44,7 +48,7 @@ class PagesTest(ProgramTest):
 
     def expect_page(self, name: str) -> None:
         """Expects of each block of a page what the page says."""
-        self.assertRegex((TOP / name).read_text(), BLOCKS)
+        self.assertTrue(blocks_of((TOP / name).read_text()))
         copy_tree(self.work)
         if found := wrong_blocks(TOP / name, self.work):
             self.fail('\n'.join(['', *found]))

@@ -115,13 +115,13 @@ MAY_REPORT_OUT_OF_MEMORY = {
     'dependency_command': 'write_listing write_rule',
     'edit_lines': 'execute_edit hex_bytes',
     'executable': 'main',
-    'folders': 'add_file host_file list note read_failure read_one set write_failure write_file write_path',
+    'folders': 'add_file find host_file names_in note read_failure read_one set write_failure write_path',
     'hostfiles': 'number',
-    'loading': 'read_fault tail_of',
+    'loading': 'read_fault tail_of typed_bytes typed_script',
     'make_rules': 'refusal',
-    'one_run': 'run_once',
+    'one_run': 'remove_one run_once write_one',
     'replay': 'number',
-    'requests': 'fixed_message message report_fault request_of_error status two_forms',
+    'requests': 'clash_fault fixed_message message report_fault request_of_error status',
 }
 """The functions of each crate that report out of memory themselves, not by `?` or in a `From`. Most turn one error into another, or into a
 number or a message."""

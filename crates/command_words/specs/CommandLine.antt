@@ -44,13 +44,17 @@ input_rules =
     path_rule (codes "files") ∷ path_rule (codes "files-b") ∷ path_rule (codes "files-c") ∷ path_rule (codes "files-d")
     ∷ path_rule (codes "console") ∷ []
 
+-- The script as typed text, which may be empty.
+abbrev pub typed_rule : Rule
+typed_rule = option_rule (codes "typed")
+
 -- The limit of steps.
 abbrev pub limit_rule : Rule
 limit_rule = number_rule (codes "limit") 0 4000000000 (codes "1000000")
 
 -- A command with the program, the tail, and what is read.
 abbrev pub with_input_rules : App → App
-with_input_rules app = with_rules (with_rules app positional_rules) input_rules
+with_input_rules app = with_rule (with_rules (with_rules app positional_rules) input_rules) typed_rule
 
 -- A command without arguments, with a version, whose words begin after its name.
 abbrev pub plain_command : Text → App
@@ -87,4 +91,5 @@ pub record AreSessionWordsOf (rows : List Row) (words : SessionWords) : Type 0 w
   pub tail : words.tail.now ≡ unwrap_or (first_of (codes "TAIL") rows) []
   pub files : map text_of words.files ≡ texts_of rows (codes "files" ∷ codes "files-b" ∷ codes "files-c" ∷ codes "files-d" ∷ [])
   pub console : text_of words.console ≡ first_of (codes "console") rows
+  pub typed : text_of words.typed ≡ first_of (codes "typed") rows
   pub limit : IsNumberOf rows (codes "limit") words.limit

@@ -2,3 +2,4 @@ pub mod ErrorClass
 pub mod CommandLine
 pub mod RunLine
 pub mod DependencyLine
+pub mod Clashes

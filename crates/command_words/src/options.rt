@@ -1,7 +1,7 @@
 ghost use Rattle.std.specs.Prelude.{◌≡◌, false, codes, IfOk, map};
 ghost use Rattle.clap.specs.Words.{app_of, rule_of};
 ghost use Rattle.command_words.specs.CommandLine.{limit_rule, number_rule, option_rule, path_rule, plain_command};
-ghost use Rattle.command_words.specs.CommandLine.{positional_rules, with_default, with_input_rules, with_rules};
+ghost use Rattle.command_words.specs.CommandLine.{positional_rules, typed_rule, with_default, with_input_rules, with_rules};
 ghost use Rattle.command_words.specs.RunLine.{run_line, run_number_rules};
 ghost use Rattle.command_words.specs.DependencyLine.{dependency_line, flag_rule};
 
@@ -46,7 +46,7 @@ const INPUT_PATHS: &[PathOption<'_>] = &[
     },
 ];
 
-/// The options of `cpmrun` for the edit lines, for the folders of changed files, and for the file of the rule for make.
+/// The options of `cpmrun` for the edit lines, for the folders of changed files, for the disks, and for the file of the rule for make.
 const RUN_PATHS: &[PathOption<'_>] = &[
     PathOption {
         name: "edits",
@@ -70,6 +70,26 @@ const RUN_PATHS: &[PathOption<'_>] = &[
     },
     PathOption {
         name: "out-d",
+        value: "DIR",
+        help: "The same for drive D",
+    },
+    PathOption {
+        name: "disk",
+        value: "DIR",
+        help: "Directory that is drive A: read as by --files, and changed as the run changes it (only read with --edits)",
+    },
+    PathOption {
+        name: "disk-b",
+        value: "DIR",
+        help: "The same for drive B",
+    },
+    PathOption {
+        name: "disk-c",
+        value: "DIR",
+        help: "The same for drive C",
+    },
+    PathOption {
+        name: "disk-d",
         value: "DIR",
         help: "The same for drive D",
     },
@@ -128,6 +148,19 @@ fn with_positionals<'a>(alloc: Global, command: Command<'a>) -> Result<Command<'
         .arg(Arg::new(alloc, "TAIL").help(
             "The command tail: one word of at most 126 bytes, which may contain blanks [default: empty]",
         ))
+}
+
+/// Returns the option for a script as typed text.
+fn typed_option<'a>(alloc: Global) -> Arg<'a>
+    ensures rule { rule_of result ≡ typed_rule }
+    ensures local { result.global ≡ false }
+{
+    Arg::new(alloc, "typed")
+        .long("typed")
+        .value_name("TEXT")
+        .help(
+            "The console input as text with \\r, \\n, \\t, \\\\ and \\xHH; a carriage return is added if none ends it",
+        )
 }
 
 /// Returns the argument for an option whose value is a number, without a check of its value.
@@ -215,7 +248,8 @@ fn with_inputs<'a>(alloc: Global, command: Command<'a>) -> Result<Command<'a>, A
     ensures { IfOk result (λ c. app_of c ≡ with_input_rules (app_of command.entry)) }
 {
     let command = with_positionals(alloc, command)?;
-    with_paths(alloc, command, INPUT_PATHS)
+    let command = with_paths(alloc, command, INPUT_PATHS)?;
+    command.arg(typed_option(alloc))
 }
 
 /// Returns the command line of `cpmrun`.

@@ -17,8 +17,10 @@ pub struct SessionWords<'a> {
     pub tail: &'a str,
     /// The folder of the host files of each drive, A to D.
     pub files: [Option<&'a str>; 4],
-    /// The path of the script, or `None` for an empty script.
+    /// The path of the script, if it has one.
     pub console: Option<&'a str>,
+    /// The script as typed text. With neither a path nor a text, the script is empty.
+    pub typed: Option<&'a str>,
     /// The limit of steps, 0 to 4,000,000,000.
     pub limit: u64,
 }
@@ -32,12 +34,16 @@ pub struct Words<'a> {
     pub tail: &'a str,
     /// The folder of the host files of each drive, A to D.
     pub files: [Option<&'a str>; 4],
-    /// The path of the script, or `None` for an empty script.
+    /// The path of the script, if it has one.
     pub console: Option<&'a str>,
+    /// The script as typed text. With neither a path nor a text, the script is empty.
+    pub typed: Option<&'a str>,
     /// The limit of steps, 0 to 4,000,000,000.
     pub limit: u64,
     /// The folder for the changed files of each drive, A to D.
     pub out: [Option<&'a str>; 4],
+    /// The folder of each drive, A to D, that is its disk: it is read, and the changed files are written and removed there.
+    pub disk: [Option<&'a str>; 4],
     /// The path of the edit lines, or `None` to run the session once.
     pub edits: Option<&'a str>,
     /// The path of the file that gets a rule for make, if one is to be written.
@@ -52,15 +58,21 @@ impl<'a> Words<'a> {
     ghost use Rattle.std.specs.Prelude.{◌≡◌};
     ghost use Rattle.command_words.specs.RunLine.{session_words};
 
-    /// Returns the words that describe the session.
+    /// Returns the words that describe the session. A drive without a folder of host files is read from its disk.
     pub fn session(&self) -> SessionWords<'a>
         ensures { result ≡ session_words self.now }
     {
         SessionWords {
             program: self.program,
             tail: self.tail,
-            files: self.files,
+            files: [
+                self.files[0].or(self.disk[0]),
+                self.files[1].or(self.disk[1]),
+                self.files[2].or(self.disk[2]),
+                self.files[3].or(self.disk[3]),
+            ],
             console: self.console,
+            typed: self.typed,
             limit: self.limit,
         }
     }
@@ -113,6 +125,7 @@ fn session_words_of<'a>(matches: &ArgMatches<'a>) -> Option<SessionWords<'a>>
             matches.get_str("files-d"),
         ],
         console: matches.get_str("console"),
+        typed: matches.get_str("typed"),
         limit: number(matches, "limit", 0, 4_000_000_000)?,
     })
 }
@@ -131,12 +144,19 @@ fn words_of<'a>(matches: &ArgMatches<'a>) -> Option<Words<'a>>
         tail: session.tail,
         files: session.files,
         console: session.console,
+        typed: session.typed,
         limit: session.limit,
         out: [
             matches.get_str("out"),
             matches.get_str("out-b"),
             matches.get_str("out-c"),
             matches.get_str("out-d"),
+        ],
+        disk: [
+            matches.get_str("disk"),
+            matches.get_str("disk-b"),
+            matches.get_str("disk-c"),
+            matches.get_str("disk-d"),
         ],
         edits: matches.get_str("edits"),
         deps: matches.get_str("deps"),

@@ -14,9 +14,12 @@ use Rattle.folders.specs.FileSystem.{StoredFiles}
 use Rattle.one_run.specs.World.{World, world}
 use Rattle.streams.specs.Streams.{Output}
 use Rattle.std.specs.Prelude.{MatchOption}
-use Rattle.requests.specs.FaultReports.{file_paths, of_load, of_run}
+use Rattle.requests.specs.FaultReports.{file_paths, of_failure, of_load, of_run}
 use Rattle.command_words.specs.RunLine.{session_words}
 use Rattle.folders.specs.Failures.{ReportsPaths}
+use Rattle.folders.specs.Places.{ArePlaces, FailsPlaces}
+use Rattle.folders.specs.declared.fault.Failure.{Failure}
+use Rattle.folders.specs.declared.places.Places.{Places}
 use Rattle.loading.specs.Loading.{FailsToLoad}
 use Rattle.loading.specs.declared.fault.LoadFault.{LoadFault}
 use Rattle.cpmrun.specs.RuleEnds.{BreaksWithRule, RunsWithRule}
@@ -27,11 +30,11 @@ at_some : {A : Type 0} (P : Type 0) (Q : A → Type 0) (o : Option A) (x : A) �
 at_some P Q o x e h = subst (λ v. MatchOption v P Q) (sym e) h
 
 -- What an error of a run leaves does not depend on standard error.
-pub any_err : (folders : List (Option (Bor (List ℕ)))) (s : Session) (files now : StoredFiles) (out written e d old new : Output) (f : RunFault)
-    → BreaksRun folders s (world files out e) (world now written d) f → BreaksRun folders s (world files out old) (world now written new) f
-any_err folders s files now out written e d old new run.CannotWrite h = h
-any_err folders s files now out written e d old new (run.Folders x) h = h
-any_err folders s files now out written e d old new run.OutOfMemory h = h
+pub any_err : (p : Places) (s : Session) (files now : StoredFiles) (out written e d old new : Output) (f : RunFault)
+    → BreaksRun p s (world files out e) (world now written d) f → BreaksRun p s (world files out old) (world now written new) f
+any_err p s files now out written e d old new run.CannotWrite h = h
+any_err p s files now out written e d old new (run.Folders x) h = h
+any_err p s files now out written e d old new run.OutOfMemory h = h
 
 module _ (words : List (List ℕ)) (w : Words) (are : AreWords words w) where
   -- The session was run, and a rule for make was written.
@@ -62,11 +65,16 @@ module _ (words : List (List ℕ)) (w : Words) (are : AreWords words w) where
       unloaded r f is fails out_same same = rw is (λ old new. inr (inr (w, are, rw none (inl (f, refl, fails, (out_same, same))))))
 
       module _ (s : Session) (of : IsSessionOf (world files out out) w s) where
+        -- There are no places for its files.
+        pub unplaced : {T : Type 0} (r : Result T Fault) (f : Failure) → r ≡ Err (of_failure f) → w.edits ≡ None → FailsPlaces files w.disk f → written ≡ out
+            → now.bytes ≡ files.bytes → IfErr r HasFault
+        unplaced r f is edits fails out_same same = rw is (λ old new. inr (inr (w, are, rw none (inr (s, of, rw edits (inl (f, refl, fails, (out_same, same))))))))
+
         -- An error broke off the run.
-        pub run_broken : {T : Type 0} (r : Result T Fault) (f : RunFault) (e d : Output) → r ≡ Err (of_run f) → w.edits ≡ None
-            → BreaksRun w.out s (world files out e) (world now written d) f → IfErr r HasFault
-        run_broken r f e d is edits h =
-            rw is (λ old new. inr (inr (w, are, rw none (inr (s, of, rw edits (f, refl, any_err w.out s files now out written e d old new f h))))))
+        pub run_broken : {T : Type 0} (r : Result T Fault) (p : Places) (f : RunFault) (e d : Output) → r ≡ Err (of_run f) → w.edits ≡ None
+            → ArePlaces files w.out w.disk p → BreaksRun p s (world files out e) (world now written d) f → IfErr r HasFault
+        run_broken r p f e d is edits places h =
+            rw is (λ old new. inr (inr (w, are, rw none (inr (s, of, rw edits (inr (p, places, (f, refl, any_err p s files now out written e d old new f h))))))))
 
         -- An error broke off the replay of the edit lines.
         pub replay_broken : {T : Type 0} (r : Result T Fault) (f : Fault) (path : Bor (List ℕ)) → r ≡ Err f → w.edits ≡ Some path → now.bytes ≡ files.bytes
@@ -75,9 +83,9 @@ module _ (words : List (List ℕ)) (w : Words) (are : AreWords words w) where
 
   module _ (none : w.deps ≡ None) (s : Session) (before after : World) (steps : ℕ) (of : IsSessionOf before w s) where
     -- The session was run once.
-    pub ran_once : (status : ℕ) → w.edits ≡ None → after.files.failed ≡ before.files.failed → RunsOnce w.out s status before after
-        → MeteredEnds RunsWithRule words status before after steps
-    ran_once status e same h = (same, inr (w, are, rw none (s, of, rw e h)))
+    pub ran_once : (status : ℕ) (p : Places) → w.edits ≡ None → after.files.failed ≡ before.files.failed → ArePlaces before.files w.out w.disk p
+        → RunsOnce p s status before after → MeteredEnds RunsWithRule words status before after steps
+    ran_once status p e same places h = (same, inr (w, are, rw none (s, of, rw e (record { places = p; are = places; runs = h }))))
 
     -- The edit lines were replayed.
     pub replayed : (path : Bor (List ℕ)) → w.edits ≡ Some path → after.err ≡ before.err → after.files.bytes ≡ before.files.bytes → after.files.failed ≡ before.files.failed

@@ -20,8 +20,11 @@ use Rattle.one_run.specs.World.{World}
 use Rattle.streams.specs.Streams.{Output, WritesWhole}
 use Rattle.one_run.specs.declared.fault.RunFault.{RunFault}
 use Rattle.folders.specs.FileSystem.{text_at}
+use Rattle.folders.specs.Places.{ArePlaces, FailsPlaces}
+use Rattle.folders.specs.declared.fault.Failure.{Failure}
+use Rattle.folders.specs.declared.places.Places.{Places}
 use Rattle.edit_lines.specs.Pieces.{lines_of}
-use Rattle.requests.specs.FaultReports.{EndsWithFault, of_run}
+use Rattle.requests.specs.FaultReports.{EndsWithFault, of_failure, of_run}
 use Rattle.edit_lines.specs.Faults.{AreLines, Faults, replay_view}
 use Rattle.edit_lines.specs.Replay.{Finished, Replays}
 
@@ -60,11 +63,23 @@ BreaksReplay path source s old new fault = ⊥
 abbrev pub IsSessionOf : World → Words → Session → Type 0
 IsSessionOf before w s = IsLoadedFrom before.files (session_words w) s
 
+-- The session was run once, and its changed files were written at the places of the words.
+pub record RunsAtPlaces (w : Words) (s : Session) (status : ℕ) (before after : World) : Type 0 where
+  pub places : Places
+  pub are : ArePlaces before.files w.out w.disk places
+  pub runs : RunsOnce places s status before after
+
+-- An error of a run: there are no such places, and nothing was written; or one of the run itself.
+abbrev pub BreaksAtPlaces : Words → Session → World → World → Fault → Type 0
+BreaksAtPlaces w s before after fault =
+    ((f : Failure) × (fault ≡ of_failure f) × FailsPlaces before.files w.disk f × WritesNothing before after)
+    ⊎ ((p : Places) × ArePlaces before.files w.out w.disk p × ((f : RunFault) × (fault ≡ of_run f) × BreaksRun p s before after f))
+
 -- How a session that the words describe is completed: it is run once, or the edit lines are replayed to their end. `IsReplayed`
 -- holds for the path of the edit lines.
 abbrev pub Completes : (List ℕ → Type 0) → Words → Session → ℕ → World → World → Type 0
 Completes IsReplayed w s status before after = MatchOption w.edits
-    (RunsOnce w.out s status before after)
+    (RunsAtPlaces w s status before after)
     (λ path. (status ≡ 0) × (after.err ≡ before.err) × (after.files.bytes ≡ before.files.bytes) × IsReplayed path.now)
 
 -- How the program ends without an error: it wrote help or the version, or the session was completed. No call of the file system
@@ -84,7 +99,7 @@ EndsWithoutFault WithRule words status before after =
 -- What an error leaves that broke off the run or the replay of the session of the words.
 abbrev pub StopsByFault : Words → Session → World → World → Fault → Type 0
 StopsByFault w s before after fault = MatchOption w.edits
-    ((f : RunFault) × (fault ≡ of_run f) × BreaksRun w.out s before after f)
+    (BreaksAtPlaces w s before after fault)
     (λ path. BreaksReplay path.now (text_at before.files.bytes path.now) s before.out after.out fault
     × (after.files.bytes ≡ before.files.bytes))
 

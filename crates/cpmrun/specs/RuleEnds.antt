@@ -6,19 +6,21 @@ use Rattle.command_words.specs.declared.words.Words.{Words}
 use Rattle.folders.specs.Faults.{FailsBy, IsWriteFault}
 use Rattle.folders.specs.FileSystem.{FileBytes, Path}
 use Rattle.folders.specs.OwnPaths.{LeavesAt, PutsAt}
+use Rattle.folders.specs.Places.{ArePlaces, FailsPlaces}
 use Rattle.folders.specs.declared.fault.Failure.{Failure}
+use Rattle.folders.specs.declared.places.Places.{Places}
 use Rattle.machine.specs.Inputs.{Session}
 use Rattle.machine.specs.PlainState.{plain_run}
 use Rattle.make_rules.specs.RefusedPaths.{FailsPaths, refuses_rule}
 use Rattle.make_rules.specs.RunRules.{BreaksRule, IsRule}
 use Rattle.make_rules.specs.declared.fault.RuleFault.{RuleFault}
 use Rattle.one_run.specs.Faults.{fault_of}
-use Rattle.one_run.specs.RunsOnce.{BreaksRun, WritesFiles, console_text, stop_status, stop_text}
+use Rattle.one_run.specs.RunsOnce.{BreaksRun, UpdatesFiles, console_text, stop_status, stop_text}
 use Rattle.one_run.specs.World.{World}
 use Rattle.one_run.specs.WrittenPaths.{written_paths}
 use Rattle.one_run.specs.declared.fault.RunFault.{RunFault}
 use Rattle.streams.specs.Streams.{WritesOrFails, WritesWhole}
-use Rattle.requests.specs.FaultReports.{of_run}
+use Rattle.requests.specs.FaultReports.{of_failure, of_run}
 use Rattle.requests.specs.Requests.{FailsToLoadSession, WritesNothing}
 use Rattle.requests.specs.RuleFaults.{of_rule}
 use Rattle.requests.specs.declared.fault.Fault.{Fault}
@@ -29,20 +31,22 @@ abbrev pub or_rule : Path → List Path → List Path
 or_rule path [] = path ∷ []
 or_rule path (target ∷ targets) = target ∷ targets
 
-abbrev pub targets_of : Words → Path → Session → List Path
-targets_of w path s = or_rule path (written_paths w.out s)
+abbrev pub targets_of : Places → Path → Session → List Path
+targets_of p path s = or_rule path (written_paths p s)
 
--- The console text was written, and then the changed files, which left these files.
-pub record WritesRun (w : Words) (s : Session) (before after : World) (files : Option FileBytes) : Type 0 where
+-- The console text was written, and then the changed files were written and removed, which left these files.
+pub record WritesRun (p : Places) (s : Session) (before after : World) (files : Option FileBytes) : Type 0 where
   pub text : WritesWhole before.out after.out (console_text s)
-  pub changed : WritesFiles w.out s before.files.bytes files
+  pub changed : UpdatesFiles p s before.files.bytes files
 
 -- The same, and then the rule for make, which is made from the files as they were before.
 pub record WritesRule (w : Words) (path : Path) (s : Session) (before after : World) : Type 0 where
+  pub places : Places
+  pub are : ArePlaces before.files w.out w.disk places
   pub files : Option FileBytes
-  pub run : WritesRun w s before after files
+  pub run : WritesRun places s before after files
   pub rule : List ℕ
-  pub is : IsRule (session_words w) (targets_of w path s) before.files s rule
+  pub is : IsRule (session_words w) (targets_of places path s) before.files s rule
   pub written : PutsAt path files after.files.bytes rule
 
 -- And then the stop was reported, with its status.
@@ -52,20 +56,27 @@ pub record RunsRule (w : Words) (path : Path) (s : Session) (status : ℕ) (befo
   pub reported : WritesOrFails before.err after.err (stop_text s)
 
 -- The rule was not written after the run was, for this error.
-pub record LeavesRule (w : Words) (path : Path) (s : Session) (before after : World) (f : RunFault) : Type 0 where
+pub record LeavesRule (p : Places) (path : Path) (s : Session) (before after : World) (f : RunFault) : Type 0 where
   pub files : Option FileBytes
-  pub run : WritesRun w s before after files
+  pub run : WritesRun p s before after files
   pub left : LeavesAt path files after.files.bytes
   pub failure : Failure
   pub is : f ≡ fault_of failure
   pub fault : FailsBy (IsWriteFault path) failure
 
--- What was written before an error: nothing if there is no rule, or else a part of the text and of the changed files, then the rule.
+-- What was written at places before an error: nothing if there is no rule, or else a part of the text and of the changed files, then the
+-- rule.
+abbrev pub BreaksRuleAt : Words → Places → Path → Session → World → World → Fault → Type 0
+BreaksRuleAt w p path s before after fault =
+    ((f : RuleFault) × (fault ≡ of_rule f) × BreaksRule (session_words w) (targets_of p path s) before.files s f × WritesNothing before after)
+    ⊎ ((f : RunFault) × (fault ≡ of_run f)
+    × (BreaksRun p s before after f ⊎ LeavesRule p path s before after f))
+
+-- The same, or there are no places of the words, or no memory, and nothing was written.
 abbrev pub BreaksRuleRun : Words → Path → Session → World → World → Fault → Type 0
 BreaksRuleRun w path s before after fault =
-    ((f : RuleFault) × (fault ≡ of_rule f) × BreaksRule (session_words w) (targets_of w path s) before.files s f × WritesNothing before after)
-    ⊎ ((f : RunFault) × (fault ≡ of_run f)
-    × (BreaksRun w.out s before after f ⊎ LeavesRule w path s before after f))
+    ((f : Failure) × (fault ≡ of_failure f) × (FailsPlaces before.files w.disk f) × WritesNothing before after)
+    ⊎ ((p : Places) × ArePlaces before.files w.out w.disk p × BreaksRuleAt w p path s before after fault)
 
 -- The rule can have the paths of the words; the session was loaded and run, and the rule was written to this path.
 pub record RunsWithRule (w : Words) (path : Bor (List ℕ)) (status : ℕ) (before after : World) : Type 0 where

@@ -17,7 +17,7 @@ use crate::request::read_request;
 use crate::rule_run::run_with_rule;
 use command_words::Words;
 use edit_lines::{Ending, Reader, ReplayFault, Writer, replay};
-use folders::FileSystem;
+use folders::{FileSystem, Places};
 use loading::{load, open};
 use machine::{Meter, Session};
 use one_run::run_once;
@@ -121,7 +121,8 @@ fn run<'a, S: FileSystem, O: Writer, E: Writer>(
     }
     let session = load(system, &words.session())?;
     let Some(path) = words.edits else {
-        return Ok(run_once(system, &words.out, session, out, err)?);
+        let places = Places::find(system, &words.out, &words.disk)?;
+        return Ok(run_once(system, &places, session, out, err)?);
     };
     replay_file(system, path, session, options(&words), meter, out)?;
     Ok(0)

@@ -17,7 +17,7 @@ ghost use Rattle.cpmrun.specs.RuleEnds.{BreaksRuleRun, BreaksWithRule, RunsRule,
 
 use command_words::Words;
 use dependencies::run_noting_looks;
-use folders::{FileSystem, write_path};
+use folders::{FileSystem, Places, write_path};
 use loading::load;
 use machine::WholeRun;
 use make_rules::{RuleFault, check_paths, rule_of_run};
@@ -47,18 +47,19 @@ fn targets_or(
 fn rule_for<S: FileSystem>(
     system: &mut S,
     words: &Words<'_>,
+    places: &Places,
     path: &str,
     run: &WholeRun<'_>,
 ) -> Result<Vec<u8>, RuleFault>
     requires { AreDependencies run.now.session.now run.now.looks run.now.steps run.now.cause }
     ensures rule { IfOk result (λ text. IsRule (session_words words.now)
-        (targets_of words.now path.now run.now.session.now) (S.files system.old)
+        (targets_of places.now path.now run.now.session.now) (S.files system.old)
         run.now.session.now text.items) }
     ensures fault { IfErr result (BreaksRule (session_words words.now)
-        (targets_of words.now path.now run.now.session.now) (S.files system.old) run.now.session.now) }
+        (targets_of places.now path.now run.now.session.now) (S.files system.old) run.now.session.now) }
     ensures unchanged { KeepsFiles rule_paths result (S.files system.old) (S.files system.new) }
 {
-    let written = written_paths(system.alloc(), &words.out, run)?;
+    let written = written_paths(system.alloc(), places, run)?;
     let targets = targets_or(system.alloc(), written, path)?;
     rule_of_run(system, targets.as_slice(), &words.session(), run)
 }
@@ -75,8 +76,8 @@ fn write_rule<S: FileSystem>(system: &mut S, path: &str, rule: &Vec<u8>) -> Resu
     Ok(write_path(system, path, rule)?)
 }
 
-// Reports a whole run that noted its looks: its console text, its changed files, the rule for make, and its stop. The rule is made
-// before anything is written. Returns the exit status for the stop.
+// Reports a whole run that noted its looks: its console text, its changed files, the rule for make, and its stop. The places and the rule
+// are made before anything is written. Returns the exit status for the stop.
 fn report_with_rule<'a, S: FileSystem, O: Writer, E: Writer>(
     system: &mut S,
     words: &Words<'_>,
@@ -95,8 +96,9 @@ fn report_with_rule<'a, S: FileSystem, O: Writer, E: Writer>(
     ensures unreported { OnErr result (err.new ≡ err.old) }
     ensures failed { ReportsPaths file_paths result (S.files system.old) (S.files system.new) }
 {
-    let rule = rule_for(system, words, path, run)?;
-    write_output(system, &words.out, run, out)?;
+    let places = Places::find(system, &words.out, &words.disk)?;
+    let rule = rule_for(system, words, &places, path, run)?;
+    write_output(system, &places, run, out)?;
     write_rule(system, path, &rule)?;
     report_stop(run, err);
     Ok(stop_status(run.cause()))

@@ -16,7 +16,7 @@ use Rattle.requests.specs.Requests.{FailsToInform, FailsToLoadSession, FailsToPa
 use Rattle.requests.specs.RuleFaults.{of_rule}
 use Rattle.requests.specs.declared.fault.Fault.{Fault}
 use Rattle.requests.specs.declared.tool.Tool.TheVariants.{Cpmdeps}
-use Rattle.dependency_command.specs.AreDependencyWords.{AreDependencyWords, AsksTwice}
+use Rattle.dependency_command.specs.AreDependencyWords.{AreDependencyWords, Clash}
 use Rattle.dependency_command.specs.Answers.{BreaksAnswer, HasNoRule, IsAnswer, ReportsAnswer, WritesAnswer}
 
 -- A rule for make is asked for, and it can have the paths; or none is asked for.
@@ -54,9 +54,9 @@ pub record EndsWithAnswer (words : List (List ℕ)) (status : ℕ) (before after
 abbrev pub RefusesRule : DependencyWords → World → World → Fault → Type 0
 RefusesRule w before after fault = (f : RuleFault) × (fault ≡ of_rule f) × RefusesPaths w f × WritesNothing before after
 
--- The words are a usage error: for clap, or since they ask for a rule and for the listing by steps.
+-- The words are a usage error: for clap, or since they have two options that exclude each other.
 abbrev pub HasFaultClass : List (List ℕ) → ErrorClass → Type 0
-HasFaultClass words outcome = HasErrorClass (dependency_faults words) outcome ⊎ ((outcome ≡ UsageError) × AsksTwice words)
+HasFaultClass words outcome = HasErrorClass (dependency_faults words) outcome ⊎ ((outcome ≡ UsageError) × Clash words)
 
 -- An error of these words, and what it leaves: an error of the words themselves, of writing help, of a path that a rule cannot have, or, if
 -- there is none, of loading the session or of the answer about its run.

@@ -18,7 +18,7 @@ use Rattle.folders.specs.FolderNames.{key_in, path_text}
 use Rattle.folders.specs.Faults.{FailsBy, IsReadFault}
 use Rattle.folders.specs.FileSystem.{Path, FileBytes, ReadsFile, StoredFiles}
 use Rattle.folders.specs.Listings.{ListsFolder}
-use Rattle.folders.specs.Folders.{AreFromFolder, FailsFile, FailsFolder, FailsListed, FailsListing, IsEntryFault, IsNextFile, IsReadAs, RefusesAs, folder_of}
+use Rattle.folders.specs.Folders.{AreFromFolder, FailsFile, FailsFolder, FailsListed, FailsListing, FailsName, IsEntryFault, IsNextFile, IsReadAs, RefusesAs, folder_of}
 use Rattle.folders.specs.declared.fault.Failure.{Failure}
 use Rattle.folders.specs.declared.fault.Failure.TheVariants.{AtFault, OutOfMemory}
 use Rattle.folders.proofs.ListingLemmas.{Map}
@@ -66,19 +66,26 @@ pub entry_fails : (drive : ℕ) (folder name path : Path) (key : Key) (f : Failu
 entry_fails drive folder name path key OutOfMemory has at h = tt
 entry_fails drive folder name path key (AtFault fault) has at h = (ap is_some has, subst (λ p. IsReadFault p fault) at h)
 
--- If what is at one of the names in a folder cannot be read, the folder is not listed.
-pub entry_unlisted : {Z : Type 0} (files : StoredFiles) (drive d : ℕ) (folder name : Path) (items : List (String Z)) (i : ℕ) (item : String Z) (f : Failure)
+-- What is at one of these names cannot be read.
+pub name_unlisted : {Z : Type 0} (drive d : ℕ) (folder name : Path) (items : List (String Z)) (i : ℕ) (item : String Z) (f : Failure)
     → i < length items → item ≡ get_or items i item → name ≡ string_bytes item → d ≡ drive
-    → IfSome files.bytes (λ stored. map string_bytes items ≡ files.names folder)
-    → FailsBy (IsEntryFault d folder name) f → FailsBy (FailsListing files drive folder) f
-entry_unlisted files drive d folder name items i item OutOfMemory lt is says on all h = tt
-entry_unlisted files drive d folder name items i item (AtFault fault) lt is says on all h =
-    inr (name, listed files.bytes all, subst (λ k. IsEntryFault k folder name fault) on h) where
-      listed : (o : Option FileBytes) → IfSome o (λ stored. map string_bytes items ≡ files.names folder) → IfSome o (λ stored. Contains (files.names folder) name)
-      listed None same = tt
-      listed (Some stored) same = subst (λ names. Contains names name) same
-          (subst (Contains (map string_bytes items)) (get_or-map string_bytes items i item name lt ∙ ap string_bytes (sym is) ∙ sym says)
-          (Contains-get_or (map string_bytes items) i name (let same = length-map items string_bytes in omega (arith, same, lt))))
+    → FailsBy (IsEntryFault d folder name) f → FailsBy (FailsName (map string_bytes items) drive folder) f
+name_unlisted drive d folder name items i item OutOfMemory lt is says on h = tt
+name_unlisted drive d folder name items i item (AtFault fault) lt is says on h = (
+  name,
+  subst (Contains (map string_bytes items)) (get_or-map string_bytes items i item name lt ∙ ap string_bytes (sym is) ∙ sym says)
+      (Contains-get_or (map string_bytes items) i name (let same = length-map items string_bytes in omega (arith, same, lt))),
+  subst (λ k. IsEntryFault k folder name fault) on h,
+)
+
+-- If what is at one of the names in a folder cannot be read, the folder is not listed.
+pub names_unlisted : (files : StoredFiles) (drive : ℕ) (folder : Path) (names : List Path) (f : Failure) → IfSome files.bytes (λ _. names ≡ files.names folder)
+    → FailsBy (FailsName names drive folder) f → FailsBy (FailsListing files drive folder) f
+names_unlisted files drive folder names OutOfMemory all h = tt
+names_unlisted files drive folder names (AtFault fault) all (name, there, fails) = inr (name, known files.bytes all, fails) where
+  known : (o : Option FileBytes) → IfSome o (λ _. names ≡ files.names folder) → IfSome o (λ _. Contains (files.names folder) name)
+  known None same = tt
+  known (Some stored) same = subst (λ ns. Contains ns name) same there
 
 -- If a folder cannot be read, it is not listed.
 pub folder_unlisted : (files : StoredFiles) (drive : ℕ) (folder : Path) (f : Failure) → FailsBy (IsReadFault folder) f → FailsBy (FailsListing files drive folder) f

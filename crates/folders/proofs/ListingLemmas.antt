@@ -210,3 +210,13 @@ module _ {Z : Type 0} (drive : ℕ) (folder : Path) (files : Map (String Z)) (du
   all_listed (Some stored) items i names le e l =
       let long = length-map items (string_bytes {Z = Z}) in
       subst (λ n. ListsFolder stored drive folder n files duplicate) (take_all i (map string_bytes items) (omega (arith, le, long)) ∙ e) l
+
+  -- The names are those of the folder.
+  pub listed_as : (o : Option FileBytes) (names others : List Path) → IfSome o (λ _. names ≡ others) → IfSome o (λ stored. ListsFolder stored drive folder names files duplicate)
+      → IfSome o (λ stored. ListsFolder stored drive folder others files duplicate)
+  listed_as None names others same l = tt
+  listed_as (Some stored) names others same l = subst (λ n. ListsFolder stored drive folder n files duplicate) same l
+
+pub same_names : (o : Option FileBytes) (names : List Path) → IfSome o (λ _. names ≡ names)
+same_names None names = tt
+same_names (Some stored) names = refl

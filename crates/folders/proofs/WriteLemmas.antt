@@ -5,8 +5,6 @@ use Rattle.std.specs.Cmp.{eq_by_cmp_equiv}
 use Rattle.std.specs.Cmp.Lexicographic.{slice_cmp, nat_list_cmp_total}
 use Rattle.std.specs.FinMap.{get, insert, remove, get-remove}
 use Rattle.keymaps.proofs.Views.{same_key, key_of, get_here, get_apart}
-use Rattle.filenames.specs.Names.{Key}
-use Rattle.folders.specs.FolderNames.{folder_name, needs_slash, path_text, temporary_text}
 use Rattle.folders.specs.FileSystem.{Path, FileBytes, Becomes, ChangesAt, PutsInPlace, files_after_rename, with_file_at}
 use Rattle.folders.specs.OwnPaths.{IsTemporaryOf}
 use Rattle.hostfiles.proofs.ContentsLemmas.{record_here}
@@ -113,10 +111,6 @@ longer front text before behind one four =
 
 no_longer : {n : ℕ} (m : ℕ) → n ≡ m → n ≡ m + 5 → ⊥
 no_longer m p q = let same : m ≡ m + 5 = sym p ∙ q in absurd (omega (arith, same))
-
--- The two paths of a file in a folder differ.
-pub paths_differ : (folder : Path) (name : Key) → path_text folder (temporary_text name) ≢ path_text folder (folder_name name)
-paths_differ folder name e = no_longer _ (ap length e) (longer (folder ++ cond (needs_slash folder) (47 ∷ []) []) (folder_name name) (codes ".") (codes ".new") refl refl)
 
 -- A path differs from the one at which its file is first written.
 pub temporary_differs : (path temporary : Path) → IsTemporaryOf path temporary → temporary ≢ path

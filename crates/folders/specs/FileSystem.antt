@@ -44,6 +44,10 @@ abbrev pub ChangesAt : Path → Option FileBytes → Option FileBytes → Type 0
 ChangesAt path None after = ⊤
 ChangesAt path (Some files) after = (changed : FileBytes) × (after ≡ Some changed) × ((p : Path) → p ≢ path → get changed p ≡ get files p)
 
+-- If the files are known, the file of this path is gone, and every other file is unchanged.
+abbrev pub RemovesAt : Path → Option FileBytes → Option FileBytes → Type 0
+RemovesAt path before after = Becomes before after (λ files. remove files path)
+
 -- The file of one path is moved to another, replacing what was there.
 abbrev pub with_file_at : Path → Option (List ℕ) → FileBytes → FileBytes
 with_file_at to None files = files

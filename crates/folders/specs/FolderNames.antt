@@ -16,10 +16,6 @@ key_in drive file = if list_any is_colon file then None else ok_or_none (name_wi
 abbrev pub folder_name : Key → List ℕ
 folder_name key = display_text (slice_set key 0 0)
 
--- The name while the file is written.
-abbrev pub temporary_text : Key → List ℕ
-temporary_text key = codes "." ++ folder_name key ++ codes ".new"
-
 -- Whether a folder needs a `/` after it: it is not empty, and its last byte is no `/`.
 abbrev pub needs_slash : List ℕ → Bool
 needs_slash folder = option_map_or (λ last. not (last == 47)) (slice_get folder (length folder - 1)) false

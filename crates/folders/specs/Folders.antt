@@ -1,4 +1,4 @@
--- Host files that are read from folders, and why they are not; why a changed file is not written. (This project's profile.)
+-- Host files that are read from folders, and why they are not. (This project's profile.)
 use Rattle.std.specs.Prelude.{◌≡◌, ◌<◌, ◌+◌, ℕ, ◌⊎◌, List, Option, Some, None, Result, Ok, Err, IfSome, ⊤, true, is_some, slice_index, get_or, option_map, String, string_bytes, take}
 use Rattle.std.specs.List.{Contains}
 use Rattle.std.specs.Borrow.{Bor}
@@ -8,9 +8,9 @@ use Rattle.std.specs.FinMap.{FinMap, get, contains_key}
 use Rattle.filenames.specs.Names.{Key}
 use Rattle.hostfiles.specs.Hosts.{Host, Record, records_in, refusal_of}
 use Rattle.hostfiles.specs.declared.host.TheConstants.{FILE_LIMIT}
-use Rattle.folders.specs.FolderNames.{folder_name, key_in, path_text, temporary_text}
-use Rattle.folders.specs.Faults.{FailsBy, IsReadFault, IsWriteFault}
-use Rattle.folders.specs.FileSystem.{Path, FileBytes, StoredFiles, ChangesAt, PutsInPlace, ReadsFile}
+use Rattle.folders.specs.FolderNames.{key_in, path_text}
+use Rattle.folders.specs.Faults.{FailsBy, IsReadFault}
+use Rattle.folders.specs.FileSystem.{Path, FileBytes, StoredFiles, ReadsFile}
 use Rattle.folders.specs.Listings.{AreDuplicates, IsHostFile}
 use Rattle.folders.specs.declared.fault.Fault.{Fault}
 use Rattle.folders.specs.declared.fault.Fault.TheVariants.{CannotRead, TwoFiles, Refused}
@@ -87,6 +87,10 @@ abbrev pub IsEntryFault : ℕ → Path → Path → Fault → Type 0
 IsEntryFault drive folder name fault = (is_some (key_in drive name) ≡ true) × IsReadFault (path_text folder name) fault
 
 -- The same for one of these names.
+abbrev pub FailsName : List Path → ℕ → Path → Fault → Type 0
+FailsName names drive folder fault = (name : Path) × Contains names name × IsEntryFault drive folder name fault
+
+-- The same for one of the names in the folder, if these are known.
 abbrev pub FailsEntry : Option FileBytes → List Path → ℕ → Path → Fault → Type 0
 FailsEntry files names drive folder fault = (name : Path) × IfSome files (λ stored. Contains names name) × IsEntryFault drive folder name fault
 
@@ -123,18 +127,3 @@ pub record FailsFolders (files : StoredFiles) (folders : List (Option (Bor (List
   pub host : Host
   pub before : IfSome files.bytes (λ stored. (d : ℕ) (f : Path) → d < drive → folder_of folders d ≡ Some f → AreFromFolder stored (files.names f) d f host)
   pub fails : FailsBy (FailsFolder files drive folder host) failure
-
--- Why a file is not written into the folder of its drive.
-abbrev pub FailsToWrite : List (Option (Bor (List ℕ))) → Key → Failure → Type 0
-FailsToWrite folders name failure =
-    (folder : List ℕ) × (folder_of folders (slice_index name 0) ≡ Some folder) × FailsBy (IsWriteFault (path_text folder (folder_name name))) failure
-
--- A file was written into the folder of its drive, or nowhere if the drive has no folder.
-abbrev pub WritesInto : Option Path → Option FileBytes → Option FileBytes → Key → List ℕ → Type 0
-WritesInto None files after name bytes = after ≡ files
-WritesInto (Some folder) files after name bytes = PutsInPlace files after (path_text folder (folder_name name)) (path_text folder (temporary_text name)) bytes
-
--- A file was not written: each file is unchanged, except what may be left at the path where it is first written.
-abbrev pub LeavesIn : Option Path → Option FileBytes → Option FileBytes → Key → Type 0
-LeavesIn None files after name = after ≡ files
-LeavesIn (Some folder) files after name = ChangesAt (path_text folder (temporary_text name)) files after

@@ -6,3 +6,4 @@ pub mod Listings
 pub mod Folders
 pub mod ChangedBytes
 pub mod OwnPaths
+pub mod Places

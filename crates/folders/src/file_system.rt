@@ -1,7 +1,7 @@
 // The files of a machine, by their paths.
 
 ghost use Rattle.std.specs.Prelude.{◌≡◌, ◌<◌, ◌∷◌, ℕ, List, [], None, IfOk, OnOk, OnErr, IfSome, map, string_bytes};
-ghost use Rattle.std.specs.FinMap.{contains_key, insert};
+ghost use Rattle.std.specs.FinMap.{contains_key, insert, remove};
 ghost use Rattle.std.specs.Io.KnownBytes.{Appends};
 ghost use Rattle.folders.specs.Failures.{AddsPaths, KeepsFiles, ReportsPaths, io_paths};
 ghost use Rattle.folders.specs.FileSystem.{Becomes, ChangesAt, Opens, ReadsFile, StoredFiles, files_after_rename};
@@ -84,8 +84,15 @@ pub trait FileSystem {
         ensures err { OnErr result ((files self.new).bytes ≡ (files self.old).bytes) }
         ensures failed { ReportsPaths (io_paths to.now) result (files self.old) (files self.new) };
 
+    /// Removes a file.
+    fn remove(&mut self, path: &str) -> io::Result<()>
+        ensures removed { OnOk result (Becomes (files self.old).bytes (files self.new).bytes
+            (λ stored. remove stored path.now)) }
+        ensures err { OnErr result ((files self.new).bytes ≡ (files self.old).bytes) }
+        ensures failed { ReportsPaths (io_paths path.now) result (files self.old) (files self.new) };
+
     /// Removes a file if there is one and it can be removed. It is no failure if not.
-    fn remove(&mut self, path: &str)
+    fn discard(&mut self, path: &str)
         ensures others { ChangesAt path.now (files self.old).bytes (files self.new).bytes }
         ensures failed { (files self.new).failed ≡ (files self.old).failed };
 }
@@ -235,7 +242,12 @@ impl<R: Files + AllocGlobal + Clone + Drop> FileSystem for SystemFiles<'_, R> {
         self.note(to, renamed)
     }
 
-    fn remove(&mut self, path: &str) {
+    fn remove(&mut self, path: &str) -> io::Result<()> {
+        let removed = fs::remove_file(self.rt, path);
+        self.note(path, removed)
+    }
+
+    fn discard(&mut self, path: &str) {
         let _ = fs::remove_file(self.rt, path);
     }
 }

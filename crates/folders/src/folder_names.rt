@@ -1,9 +1,9 @@
 // Names of files in a folder, and their paths.
 
-ghost use Rattle.std.specs.Prelude.{◌≡◌, ◌++◌, ℕ, None, codes, IfOk, IfSome, slice_index, string_bytes};
+ghost use Rattle.std.specs.Prelude.{◌≡◌, ◌++◌, codes, IfOk, IfSome, slice_index, string_bytes};
 ghost use Rattle.filenames.specs.Drives.{drive_number};
 ghost use Rattle.folders.specs.OwnPaths.{IsTemporaryOf};
-ghost use Rattle.folders.specs.FolderNames.{key_in, folder_name, temporary_text, needs_slash, path_text};
+ghost use Rattle.folders.specs.FolderNames.{key_in, folder_name, needs_slash, path_text};
 
 use filenames::{Drive, Name};
 use std::alloc::{AllocError, Global};
@@ -31,16 +31,6 @@ pub fn file_name(alloc: Global, name: &Name) -> Result<String, AllocError>
     format!(in alloc; "{plain}")
 }
 
-/// Returns the name that a file has in the folder of its drive while it is written. No host file has this name on any drive, as
-/// it begins with a `.`.
-pub fn temporary_name(alloc: Global, name: &Name) -> Result<String, AllocError>
-    ensures text { IfOk result (λ s. string_bytes s ≡ temporary_text name.now) }
-    ensures passed_over { IfOk result (λ s. (drive : ℕ) → key_in drive (string_bytes s) ≡ None) }
-{
-    let plain = name.with_drive(Drive::A);
-    format!(in alloc; ".{plain}.new")
-}
-
 // Returns the path at which a file is first written in a folder.
 fn temporary_in(alloc: Global, folder: &str, name: &str) -> Result<String, AllocError>
     ensures { IfOk result (λ s.
@@ -54,6 +44,7 @@ fn temporary_in(alloc: Global, folder: &str, name: &str) -> Result<String, Alloc
 }
 
 /// Returns the path at which the file of a path is first written: in the same folder, with a `.` before its name and `.new` after it.
+/// No host file has this name on any drive, as it begins with a `.`.
 pub fn temporary_path(alloc: Global, path: &str) -> Result<String, AllocError>
     ensures { IfOk result (λ s. IsTemporaryOf path.now (string_bytes s)) }
 {

@@ -1,13 +1,13 @@
 // Reading folders as host files.
 
-ghost use Rattle.std.specs.Prelude.{◌≡◌, ◌≢◌, ◌∷◌, ◌++◌, [], ℕ, List, true, false, None, Some, IfOk, IfErr, IfSome, OnOk, OnErr, slice_index};
+ghost use Rattle.std.specs.Prelude.{◌≡◌, ◌≢◌, ◌∷◌, ◌++◌, [], ℕ, List, true, false, None, Some, IfOk, IfErr, IfSome, OnOk, OnErr, map, slice_index, string_bytes};
 ghost use Rattle.std.specs.FinMap as finmap;
 ghost use Rattle.filenames.specs.Drives.{drive_number};
 ghost use Rattle.hostfiles.specs.Hosts.{records_in, refusal_of};
 ghost use Rattle.folders.specs.FolderNames.{path_text};
 ghost use Rattle.folders.specs.Failures.{KeepsFiles};
-ghost use Rattle.folders.specs.Faults.{FailsBy, failure_paths};
-ghost use Rattle.folders.specs.Folders.{AreFromFolders, AreFromFolder, FailsFile, FailsFolder, FailsFolders, FailsListed, FailsListing, HaveBytesOf, HasBytesOf, IsEntryFault, RefusesAs, KeepsFilesWhere};
+ghost use Rattle.folders.specs.Faults.{FailsBy, IsReadFault, failure_paths};
+ghost use Rattle.folders.specs.Folders.{AreFromFolders, AreFromFolder, FailsFile, FailsFolder, FailsFolders, FailsListed, FailsListing, FailsName, HaveBytesOf, HasBytesOf, IsEntryFault, RefusesAs, KeepsFilesWhere};
 ghost use Rattle.folders.specs.Listings.{Finds, ListsFolder};
 
 use crate::fault::{Failure, Fault, read_failure};
@@ -95,6 +95,44 @@ fn add_file<S: FileSystem>(
     }
 }
 
+// Returns the names in a folder.
+pub(crate) fn names_in<S: FileSystem>(system: &mut S, folder: &str) -> Result<Vec<String>, Failure>
+    ensures names { IfOk result (λ names. IfSome (S.files system.old).bytes (λ _.
+        map string_bytes names.items ≡ (S.files system.old).names folder.now)) }
+    ensures fault { IfErr result (FailsBy (IsReadFault folder.now)) }
+    ensures unchanged { KeepsFiles failure_paths result (S.files system.old) (S.files system.new) }
+{
+    let Ok(path) = String::from_str(system.alloc(), folder) else {
+        return Err(Failure::OutOfMemory);
+    };
+    match system.list(folder) {
+        Ok(names) => Ok(names),
+        Err(error) => Err(read_failure(error, path)),
+    }
+}
+
+// Lists the host files among these names in the folder of a drive.
+pub(crate) fn list_names<S: FileSystem>(
+    system: &mut S,
+    drive: Drive,
+    folder: &str,
+    names: &[String],
+) -> Result<Listing, Failure>
+    ensures drive { IfOk result (λ listing. listing.drive ≡ drive) }
+    ensures lists { IfOk result (λ listing. IfSome (S.files system.old).bytes (λ stored.
+        ListsFolder stored (drive_number drive) folder.now (map string_bytes names.now)
+        listing.files listing.duplicate)) }
+    ensures fault { IfErr result (FailsBy
+        (FailsName (map string_bytes names.now) (drive_number drive) folder.now)) }
+    ensures unchanged { KeepsFiles failure_paths result (S.files system.old) (S.files system.new) }
+{
+    let mut listing = Listing::new(system.alloc(), drive);
+    for name in names {
+        add_file(system, folder, name.as_str(), &mut listing)?;
+    }
+    Ok(listing)
+}
+
 /// Lists the host files in the folder of a drive, by their names.
 ///
 /// # Errors
@@ -109,18 +147,8 @@ pub fn list<S: FileSystem>(system: &mut S, drive: Drive, folder: &str) -> Result
         (FailsBy (FailsListing (S.files system.old) (drive_number drive) folder.now)) }
     ensures unchanged { KeepsFiles failure_paths result (S.files system.old) (S.files system.new) }
 {
-    let mut listing = Listing::new(system.alloc(), drive);
-    let Ok(path) = String::from_str(system.alloc(), folder) else {
-        return Err(Failure::OutOfMemory);
-    };
-    let names = match system.list(folder) {
-        Ok(names) => names,
-        Err(error) => return Err(read_failure(error, path)),
-    };
-    for name in &names {
-        add_file(system, folder, name.as_str(), &mut listing)?;
-    }
-    Ok(listing)
+    let names = names_in(system, folder)?;
+    list_names(system, drive, folder, names.as_slice())
 }
 
 // Reads a file of a folder and sets it under a name. An error sets nothing.

@@ -1,19 +1,16 @@
-// Writing a changed file into a folder.
+// Writing and removing files.
 
-ghost use Rattle.std.specs.Prelude.{◌≡◌, ◌≢◌, Some, OnOk, OnErr, IfOk, IfErr, slice_index, string_bytes};
+ghost use Rattle.std.specs.Prelude.{◌≡◌, ◌≢◌, OnOk, OnErr, IfOk, IfErr, string_bytes};
 ghost use Rattle.std.specs.Io.KnownBytes.{Appends};
-ghost use Rattle.folders.specs.FolderNames.{folder_name, path_text, temporary_text};
 ghost use Rattle.folders.specs.Failures.{ReportsPaths, io_paths};
 ghost use Rattle.folders.specs.Faults.{FailsBy, IsWriteFault, failure_paths};
-ghost use Rattle.folders.specs.FileSystem.{ChangesAt, PutsInPlace};
-ghost use Rattle.folders.specs.Folders.{FailsToWrite, LeavesIn, WritesInto, folder_of};
+ghost use Rattle.folders.specs.FileSystem.{ChangesAt, PutsInPlace, RemovesAt};
 ghost use Rattle.folders.specs.ChangedBytes.{file_bytes};
 ghost use Rattle.folders.specs.OwnPaths.{IsTemporaryOf, LeavesAt, PutsAt};
 
 use crate::fault::{Failure, write_failure};
 use crate::file_system::{Contents, FileSystem};
-use crate::folder_names::{file_name, path_in, temporary_name, temporary_path};
-use filenames::Name;
+use crate::folder_names::temporary_path;
 use hostfiles::FileView;
 use std::alloc::{AllocError, Global};
 use std::io;
@@ -59,7 +56,7 @@ fn write_and_rename<S: FileSystem, C: Contents>(
         (ChangesAt temporary.now (S.files system.old).bytes (S.files system.new).bytes) }
     ensures failed { ReportsPaths (io_paths path.now) result (S.files system.old) (S.files system.new) }
 {
-    system.remove(temporary);
+    system.discard(temporary);
     system.write_new(temporary, path, contents)?;
     system.rename(temporary, path)
 }
@@ -82,7 +79,7 @@ fn write_at<S: FileSystem, C: Contents>(
     match write_and_rename(system, contents, temporary, path.as_str()) {
         Ok(()) => Ok(()),
         Err(error) => {
-            system.remove(temporary);
+            system.discard(temporary);
             Err(write_failure(error, path))
         }
     }
@@ -120,62 +117,20 @@ fn own_paths(alloc: Global, path: &str) -> Result<(String, String), AllocError>
     Ok((String::from_str(alloc, path)?, temporary_path(alloc, path)?))
 }
 
-/// Writes a file into a folder, by its name without the letter and `:`, replacing a file of this name. The file is first written
-/// under another name in that folder, which no host file has, and then renamed.
+/// Removes the file of a path.
 ///
 /// # Errors
 ///
-/// Returns the error of the file's path, or out of memory. A file of this name that was there before is then unchanged, and no part
-/// of the new one is under this name.
-pub fn write_file<S: FileSystem, C: Contents>(
-    system: &mut S,
-    folder: &str,
-    name: &Name,
-    contents: &C,
-) -> Result<(), Failure>
-    ensures written { OnOk result (WritesInto (Some folder.now)
-        (S.files system.old).bytes (S.files system.new).bytes name.now (C.bytes contents.now)) }
-    ensures err { OnErr result (LeavesIn (Some folder.now)
-        (S.files system.old).bytes (S.files system.new).bytes name.now) }
-    ensures fault { IfErr result (FailsBy (IsWriteFault (path_text folder.now (folder_name name.now)))) }
+/// Returns the error of the path, or out of memory. The file is then still there.
+pub fn remove_path<S: FileSystem>(system: &mut S, path: String) -> Result<(), Failure>
+    ensures removed { OnOk result
+        (RemovesAt (string_bytes path) (S.files system.old).bytes (S.files system.new).bytes) }
+    ensures err { OnErr result ((S.files system.new).bytes ≡ (S.files system.old).bytes) }
+    ensures fault { IfErr result (FailsBy (IsWriteFault (string_bytes path))) }
     ensures failed { ReportsPaths failure_paths result (S.files system.old) (S.files system.new) }
 {
-    let Ok((path, temporary)) = paths(system.alloc(), folder, name) else {
-        return Err(Failure::OutOfMemory);
-    };
-    write_at(system, path, temporary.as_str(), contents)
-}
-
-// Returns the path of a file in a folder, and the path under which it is first written.
-fn paths(alloc: Global, folder: &str, name: &Name) -> Result<(String, String), AllocError>
-    ensures path { IfOk result (λ r. string_bytes r.0 ≡ path_text folder.now (folder_name name.now)) }
-    ensures temporary { IfOk result
-        (λ r. string_bytes r.1 ≡ path_text folder.now (temporary_text name.now)) }
-{
-    let file = file_name(alloc, name)?;
-    let temporary = temporary_name(alloc, name)?;
-    Ok((
-        path_in(alloc, folder, file.as_str())?,
-        path_in(alloc, folder, temporary.as_str())?,
-    ))
-}
-
-/// Writes a file into the folder of its drive, A to D, as `write_file` does. If that drive has no folder, nothing is written.
-pub fn write_to_drive<S: FileSystem, C: Contents>(
-    system: &mut S,
-    folders: &[Option<&str>; 4],
-    name: &Name,
-    contents: &C,
-) -> Result<(), Failure>
-    ensures written { OnOk result (WritesInto (folder_of folders.now (slice_index name.now 0))
-        (S.files system.old).bytes (S.files system.new).bytes name.now (C.bytes contents.now)) }
-    ensures err { OnErr result (LeavesIn (folder_of folders.now (slice_index name.now 0))
-        (S.files system.old).bytes (S.files system.new).bytes name.now) }
-    ensures fault { IfErr result (FailsToWrite folders.now name.now) }
-    ensures failed { ReportsPaths failure_paths result (S.files system.old) (S.files system.new) }
-{
-    match folders[name.drive().number() as usize] {
-        Some(folder) => write_file(system, folder, name, contents),
-        None => Ok(()),
+    match system.remove(path.as_str()) {
+        Ok(()) => Ok(()),
+        Err(error) => Err(write_failure(error, path)),
     }
 }

@@ -1,5 +1,7 @@
 -- A session that is made or refused, by the words.
-use Rattle.std.proofs.Common.{◌≡◌, ◌∙◌, ℕ, List, Some, None, Result, Ok, Err, IfErr, inr, refl, sym, ap}
+use Rattle.std.proofs.Common.{◌≡◌, ◌∙◌, ℕ, List, Some, None, Option, Result, Ok, Err, IfErr, IfSome, inl, inr, refl, sym, ap}
+use Rattle.std.specs.Prelude.{MatchOption}
+use Rattle.std.specs.Borrow.{Bor}
 use Rattle.command_words.specs.CommandLine.{text_of}
 use Rattle.command_words.specs.declared.words.SessionWords.{SessionWords}
 use Rattle.hostfiles.specs.Hosts.{Host}
@@ -11,34 +13,77 @@ use Rattle.folders.specs.declared.fault.Failure.{Failure}
 use Rattle.folders.specs.declared.fault.Failure.TheVariants as failure
 use Rattle.folders.specs.declared.fault.Failure.TheVariants.{AtFault}
 use Rattle.loading.specs.Faults.{fault_of}
-use Rattle.std.specs.Prelude.{Option}
+use Rattle.loading.specs.Typed.{IsTyped}
 use Rattle.loading.specs.declared.fault.LoadFault.{LoadFault}
-use Rattle.loading.specs.declared.fault.LoadFault.TheVariants.{CannotRead, Folders, Refused, OutOfMemory}
-use Rattle.loading.specs.Loading.{IsProgramOf, IsScriptOf, MadeOrRefused, FailsToLoad, IsReadFaultOf, IsReadFaultIfAny}
+use Rattle.loading.specs.declared.fault.LoadFault.TheVariants.{BadEscape, CannotRead, Folders, Refused, OutOfMemory}
+use Rattle.loading.specs.Loading.{FailsToLoad, HasTypedScript, IsProgramOf, IsReadFaultIfAny, IsReadFaultOf, IsScriptAt, IsScriptOf, IsTypedFault, IsTypedScript, MadeOrRefused}
 
 -- A refusal of the session is a refusal of the words.
 pub refused_of_words : (stored : StoredFiles) (w : SessionWords) (program : List ℕ) (files : Host) (script : List ℕ) (r : Result Session LoadFault)
     → IsProgramOf stored w program → AreFromFolders stored w.files files → IsScriptOf stored w script
     → MadeOrRefused (session_or_refusal program w.tail.now files script w.limit) r → IfErr r (FailsToLoad stored w)
 refused_of_words stored w program files script (Ok s) p a b h = tt
+refused_of_words stored w program files script (Err (BadEscape text)) p a b h = absurd h
 refused_of_words stored w program files script (Err (CannotRead path)) p a b h = absurd h
 refused_of_words stored w program files script (Err (Folders f)) p a b h = absurd h
 refused_of_words stored w program files script (Err (Refused n)) p a b h =
     record { program = program; files = files; script = script; of_program = p; from_folders = a; of_script = b; refused = h }
 refused_of_words stored w program files script (Err OutOfMemory) p a b h = absurd h
 
+-- The script of a text, or without one that of a file.
+pub typed_known : (stored : StoredFiles) (w : SessionWords) (script : List ℕ) → IsTypedScript w.typed (Some script) → IsScriptOf stored w script
+typed_known stored w script h = by w.typed h where
+  by : (o : Option (Bor (List ℕ))) → IsTypedScript o (Some script) → MatchOption o (IsScriptAt stored.bytes (text_of w.console) script) (λ text. IsTyped text.now script)
+  by None h = absurd h
+  by (Some text) h = h
+
+pub none_typed : (o : Option (Bor (List ℕ))) → IsTypedScript o None → o ≡ None
+none_typed None h = refl
+none_typed (Some text) h = absurd h
+
+-- Without a text, the script is read.
+pub untyped_known : (stored : StoredFiles) (w : SessionWords) (script : List ℕ) → IsTypedScript w.typed None → IsScriptAt stored.bytes (text_of w.console) script → IsScriptOf stored w script
+untyped_known stored w script none h = rw (none_typed w.typed none) h
+
+pub well_typed : (w : SessionWords) (o : Option (List ℕ)) → IsTypedScript w.typed o → HasTypedScript w
+well_typed w o h = by w.typed o h where
+  by : (t : Option (Bor (List ℕ))) (o : Option (List ℕ)) → IsTypedScript t o → IfSome t (λ text. (script : List ℕ) × IsTyped text.now script)
+  by None o h = tt
+  by (Some text) None h = absurd h
+  by (Some text) (Some script) h = (script, h)
+
+-- If the text of the script has a bad escape, no session is loaded.
+pub badly_typed : (stored : StoredFiles) (w : SessionWords) (f : LoadFault) → MatchOption w.typed ⊥ (λ text. IsTypedFault text f) → FailsToLoad stored w f
+badly_typed stored w f h = by w.typed refl f h where
+  by : (o : Option (Bor (List ℕ))) → w.typed ≡ o → (f : LoadFault) → MatchOption o ⊥ (λ text. IsTypedFault text f) → FailsToLoad stored w f
+  by o e OutOfMemory h = tt
+  by None e f h = absurd h
+  by (Some text) e (BadEscape t) h = (e ∙ ap Some (sym h.0), rw h.0 h.1)
+  by (Some text) e (CannotRead p) h = absurd h
+  by (Some text) e (Folders f) h = absurd h
+  by (Some text) e (Refused n) h = absurd h
+
+-- If the program cannot be read, no session is loaded.
+pub program_unread : (stored : StoredFiles) (w : SessionWords) (f : LoadFault) → HasTypedScript w → IsReadFaultOf w.program.now f → FailsToLoad stored w f
+program_unread stored w (BadEscape text) t h = absurd h
+program_unread stored w (CannotRead p) t h = (t, inl h)
+program_unread stored w (Folders f) t h = absurd h
+program_unread stored w (Refused n) t h = absurd h
+program_unread stored w OutOfMemory t h = tt
+
 -- If the folders cannot be read, no session is loaded.
-pub folders_unread : (stored : StoredFiles) (w : SessionWords) (program : List ℕ) (f : Failure) → IsProgramOf stored w program → FailsFolders stored w.files f
+pub folders_unread : (stored : StoredFiles) (w : SessionWords) (program : List ℕ) (f : Failure) → HasTypedScript w → IsProgramOf stored w program → FailsFolders stored w.files f
     → FailsToLoad stored w (fault_of f)
-folders_unread stored w program (AtFault fault) p h = ((program, p), h)
-folders_unread stored w program failure.OutOfMemory p h = tt
+folders_unread stored w program (AtFault fault) t p h = (t, (program, p), h)
+folders_unread stored w program failure.OutOfMemory t p h = tt
 
 -- If the script cannot be read, no session is loaded.
-pub script_unread : (stored : StoredFiles) (w : SessionWords) (program : List ℕ) (files : Host) (f : LoadFault) → IsProgramOf stored w program → AreFromFolders stored w.files files
-    → IsReadFaultIfAny (text_of w.console) f → FailsToLoad stored w f
-script_unread stored w program files f of from h = by_path (text_of w.console) refl h where
+pub script_unread : (stored : StoredFiles) (w : SessionWords) (program : List ℕ) (files : Host) (f : LoadFault) → w.typed ≡ None → IsProgramOf stored w program
+    → AreFromFolders stored w.files files → IsReadFaultIfAny (text_of w.console) f → FailsToLoad stored w f
+script_unread stored w program files f none of from h = by_path (text_of w.console) refl h where
   by_fault : (path : Path) → text_of w.console ≡ Some path → (f : LoadFault) → IsReadFaultOf path f → FailsToLoad stored w f
-  by_fault path e (CannotRead p) h = inr ((program, of), (files, from), e ∙ ap Some (sym h))
+  by_fault path e (BadEscape text) h = absurd h
+  by_fault path e (CannotRead p) h = (rw none tt, inr ((program, of), (files, from), none, e ∙ ap Some (sym h)))
   by_fault path e (Folders x) h = absurd h
   by_fault path e (Refused n) h = absurd h
   by_fault path e OutOfMemory h = tt

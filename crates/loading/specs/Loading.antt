@@ -1,5 +1,6 @@
 -- The session that is loaded from the files of the command line, and why none is. (This project's profile.)
-use Rattle.std.specs.Prelude.{◌≡◌, ◌+◌, ℕ, ◌⊎◌, List, [], Option, Some, None, Result, Ok, Err}
+use Rattle.std.specs.Prelude.{◌≡◌, ◌+◌, ℕ, ◌⊎◌, List, [], IfSome, MatchOption, Option, Some, None, Result, Ok, Err, ⊤}
+use Rattle.std.specs.Borrow.{Bor}
 use Rattle.command_words.specs.CommandLine.{text_of}
 use Rattle.command_words.specs.declared.words.SessionWords.{SessionWords}
 use Rattle.hostfiles.specs.Hosts.{Host}
@@ -9,8 +10,9 @@ use Rattle.folders.specs.declared.fault.Failure.TheVariants.{AtFault}
 use Rattle.machine.specs.declared.session.TheConstants.{PROGRAM_LIMIT, SCRIPT_LIMIT}
 use Rattle.machine.specs.Inputs.{Session}
 use Rattle.machine.specs.Session.{session_or_refusal}
+use Rattle.loading.specs.Typed.{HasBadEscape, IsTyped}
 use Rattle.loading.specs.declared.fault.LoadFault.{LoadFault}
-use Rattle.loading.specs.declared.fault.LoadFault.TheVariants.{CannotRead, Folders, Refused, OutOfMemory}
+use Rattle.loading.specs.declared.fault.LoadFault.TheVariants.{BadEscape, CannotRead, Folders, Refused, OutOfMemory}
 
 -- The bytes of a program: the file PROGRAM, of which at most one byte more is read than a session takes.
 abbrev pub IsProgramOf : StoredFiles → SessionWords → List ℕ → Type 0
@@ -21,8 +23,16 @@ abbrev pub IsScriptAt : Option FileBytes → Option (List ℕ) → List ℕ → 
 IsScriptAt files None script = script ≡ []
 IsScriptAt files (Some path) script = ReadsFile files path (SCRIPT_LIMIT + 1) script
 
+-- The same, or the script of the text, if there is one.
 abbrev pub IsScriptOf : StoredFiles → SessionWords → List ℕ → Type 0
-IsScriptOf files w script = IsScriptAt files.bytes (text_of w.console) script
+IsScriptOf files w script = MatchOption w.typed (IsScriptAt files.bytes (text_of w.console) script) (λ text. IsTyped text.now script)
+
+-- The script of a text, if there is one.
+abbrev pub IsTypedScript : Option (Bor (List ℕ)) → Option (List ℕ) → Type 0
+IsTypedScript None None = ⊤
+IsTypedScript None (Some script) = ⊥
+IsTypedScript (Some text) None = ⊥
+IsTypedScript (Some text) (Some script) = IsTyped text.now script
 
 -- The session of the files that the words name, with the tail and the limit of the words.
 pub record IsLoadedFrom (stored : StoredFiles) (w : SessionWords) (s : Session) : Type 0 where
@@ -59,6 +69,16 @@ abbrev pub IsReadFaultIfAny : Option (List ℕ) → LoadFault → Type 0
 IsReadFaultIfAny None f = ⊥
 IsReadFaultIfAny (Some path) f = IsReadFaultOf path f
 
+-- Why a text has no script.
+abbrev pub IsTypedFault : Bor (List ℕ) → LoadFault → Type 0
+IsTypedFault text (BadEscape t) = (t ≡ text) × HasBadEscape text.now
+IsTypedFault text OutOfMemory = Unit {0}
+IsTypedFault text f = ⊥
+
+-- The text, if there is one, has a script.
+abbrev pub HasTypedScript : SessionWords → Type 0
+HasTypedScript w = IfSome w.typed (λ text. (script : List ℕ) × IsTyped text.now script)
+
 -- The program was read, and then the folders.
 abbrev pub ReadsProgram : StoredFiles → SessionWords → Type 0
 ReadsProgram files w = (program : List ℕ) × IsProgramOf files w program
@@ -66,10 +86,12 @@ ReadsProgram files w = (program : List ℕ) × IsProgramOf files w program
 abbrev pub ReadsFolders : StoredFiles → SessionWords → Type 0
 ReadsFolders files w = (host : Host) × AreFromFolders files w.files host
 
--- Why no session is loaded from the files of the words, which are read in this order: the program, the folders and the script.
+-- Why no session is loaded: the text of the script has a bad escape; or because of the files of the words, which are read in this order:
+-- the program, the folders, and the script, if it has no text.
 abbrev pub FailsToLoad : StoredFiles → SessionWords → LoadFault → Type 0
-FailsToLoad files w (CannotRead p) =
-    (p.now ≡ w.program.now) ⊎ (ReadsProgram files w × ReadsFolders files w × (text_of w.console ≡ Some p.now))
-FailsToLoad files w (Folders f) = ReadsProgram files w × FailsFolders files w.files (AtFault f)
+FailsToLoad files w (BadEscape text) = (w.typed ≡ Some text) × HasBadEscape text.now
+FailsToLoad files w (CannotRead p) = HasTypedScript w
+    × ((p.now ≡ w.program.now) ⊎ (ReadsProgram files w × ReadsFolders files w × (w.typed ≡ None) × (text_of w.console ≡ Some p.now)))
+FailsToLoad files w (Folders f) = HasTypedScript w × ReadsProgram files w × FailsFolders files w.files (AtFault f)
 FailsToLoad files w (Refused n) = IsSessionRefusal files w n
 FailsToLoad files w OutOfMemory = Unit {0}

@@ -3,6 +3,8 @@ use folders::{Failure, Fault};
 /// Why a session was not loaded.
 #[derive(Drop)]
 pub enum LoadFault<'a> {
+    /// This typed text has a backslash that no letter of an escape follows.
+    BadEscape(&'a str),
     /// The file at this path could not be read.
     CannotRead(&'a str),
     /// A folder of host files could not be read, or a file in it was refused.

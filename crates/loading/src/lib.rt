@@ -1,11 +1,13 @@
 //! Loading of the session that a command line describes, from the files and folders that it names.
 //!
 //! - `loading`: reading the program, the host files and the script, and making the session
+//! - `typed`: a script as typed text
 //! - `fault`: why a session was not loaded
 #![tactic(auto)]
 
 mod fault;
 mod loading;
+mod typed;
 
 pub use fault::LoadFault;
 pub use loading::{load, open};

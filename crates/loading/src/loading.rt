@@ -1,14 +1,15 @@
 // Loading a session from the files of the command line.
 
-ghost use Rattle.std.specs.Prelude.{◌≡◌, ◌+◌, IfOk, IfErr};
+ghost use Rattle.std.specs.Prelude.{◌≡◌, ◌+◌, None, IfOk, IfErr, option_map};
 ghost use Rattle.command_words.specs.CommandLine.{text_of};
 ghost use Rattle.folders.specs.Failures.{KeepsFiles, io_paths};
 ghost use Rattle.folders.specs.FileSystem.{Opens, ReadsFile};
 ghost use Rattle.machine.specs.Session.{session_or_refusal};
 ghost use Rattle.loading.specs.Faults.{load_paths};
-ghost use Rattle.loading.specs.Loading.{IsLoadedFrom, IsScriptAt, MadeOrRefused, FailsToLoad, IsReadFaultOf, IsReadFaultIfAny};
+ghost use Rattle.loading.specs.Loading.{IsLoadedFrom, IsScriptAt, IsScriptOf, IsTypedScript, MadeOrRefused, FailsToLoad, IsReadFaultOf, IsReadFaultIfAny};
 
 use crate::fault::LoadFault;
+use crate::typed::typed_script;
 use command_words::SessionWords;
 use folders::{FileSystem, read_folders};
 use hostfiles::HostFiles;
@@ -86,6 +87,24 @@ fn script_at<'a, S: FileSystem>(
     }
 }
 
+/// Returns the script of a text, if the words have one, and otherwise reads it.
+fn script_of<'a, S: FileSystem>(
+    system: &mut S,
+    words: &SessionWords<'a>,
+    typed: Option<Vec<u8>>,
+) -> Result<Vec<u8>, LoadFault<'a>>
+    requires { IsTypedScript words.now.typed (option_map (λ bytes. bytes.items) typed) }
+    ensures script { IfOk result (λ script. IsScriptOf (S.files system.old) words.now script.items) }
+    ensures fault { IfErr result
+        (λ fault. (words.now.typed ≡ None) × IsReadFaultIfAny (text_of words.now.console) fault) }
+    ensures unchanged { KeepsFiles load_paths result (S.files system.old) (S.files system.new) }
+{
+    match typed {
+        Some(script) => Ok(script),
+        None => script_at(system, words.console),
+    }
+}
+
 /// Returns a copy of the command tail.
 fn tail_of<'a>(alloc: Global, words: &SessionWords<'a>) -> Result<Vec<u8>, LoadFault<'a>>
     ensures tail { IfOk result (λ tail. tail.items ≡ words.now.tail.now) }
@@ -113,11 +132,13 @@ fn session_of<'a>(
     }
 }
 
-/// Loads the session that the words describe: reads the program, the folders of the drives A to D and the script, in this order.
+/// Loads the session that the words describe: reads the program, the folders of the drives A to D and the script, in this order. A
+/// script that is given as text is not read.
 ///
 /// # Errors
 ///
-/// Returns `Err` if a file or a folder cannot be read or is refused, if the session is refused, or if an allocation fails.
+/// Returns `Err` if the text of a script has a bad escape, and then reads nothing. Returns `Err` if a file or a folder cannot be read or
+/// is refused, if the session is refused, or if an allocation fails.
 pub fn load<'a, S: FileSystem>(
     system: &mut S,
     words: &SessionWords<'a>,
@@ -127,8 +148,9 @@ pub fn load<'a, S: FileSystem>(
     ensures unchanged { KeepsFiles load_paths result (S.files system.old) (S.files system.new) }
 {
     let tail = tail_of(system.alloc(), words)?;
+    let typed = typed_script(system.alloc(), words.typed)?;
     let program = program_at(system, words.program)?;
     let files = read_folders(system, &words.files)?;
-    let script = script_at(system, words.console)?;
+    let script = script_of(system, words, typed)?;
     session_of(program, tail, files, script, words.limit)
 }

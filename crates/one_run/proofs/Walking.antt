@@ -1,74 +1,74 @@
--- The changed files of a run, written one after the other.
-use Rattle.std.proofs.Common.{◌≡◌, ℕ, true, false, cond, List, [], ◌∷◌, inl, inr, refl, sym, ap, subst, ◌∙◌, Option, Some, None, filter}
-use Rattle.std.specs.Borrow.{Bor}
+-- What is done with the changed files of a run, one after the other.
+use Rattle.std.proofs.Common.{◌≡◌, Bool, true, false, cond, List, [], ◌∷◌, inl, inr, refl, sym, ap, subst, ◌∙◌, Option, Some, None, filter}
 use Rattle.std.specs.FinMap.{contains_key}
 use Rattle.hostfiles.proofs.ChangedWalk.{keys_above, keys_above_none}
 use Rattle.hostfiles.specs.Changed.{changed_names}
-use Rattle.hostfiles.specs.Files.{OwnFiles, files}
+use Rattle.hostfiles.specs.Files.{OwnFiles, files, has}
 use Rattle.hostfiles.specs.Hosts.{Key, Host}
-use Rattle.machine.specs.PlainFiles.{Files}
-use Rattle.machine.proofs.ChangedFileLemmas.{changed_keys_laid}
+use Rattle.machine.specs.ChangedFiles.{changed_keys_in}
+use Rattle.machine.proofs.ChangedFileLemmas.{changed_keys_laid, there_laid}
 use Rattle.folders.specs.FileSystem.{FileBytes}
-use Rattle.folders.specs.Folders.{FailsToWrite, LeavesIn, WritesInto}
 use Rattle.folders.specs.declared.fault.Failure.{Failure}
-use Rattle.one_run.specs.RunsOnce.{StopsAt, WritesEach, bytes_in, drive_folder, written_keys}
+use Rattle.one_run.specs.Updates.{Deed, DoesEach, StopsAt}
 
-module _ (folders : List (Option (Bor (List ℕ)))) (host : Host) (own : OwnFiles) where
-  abbrev all_files : Files
-  all_files = files host own
+-- The changed file that the walk found is the file with its name.
+pub there_at : {host host' : Host} {own own' : OwnFiles} {key key' : Key} {b : Bool} → host ≡ host' → own ≡ own' → key ≡ key' → b ≡ has host own key → contains_key (files host' own') key' ≡ b
+there_at {host' = host'} {own' = own'} {key' = key'} h o k e = there_laid host' own' key' ∙ (let same : has host' own' key' ≡ _ = cc in same)
 
-  -- The changed files that are there, with keys above one.
-  abbrev pub there_above : Option Key → List Key
-  there_above after = filter (contains_key all_files) (keys_above (changed_names host own) after)
+module _ (pass : Key → Bool) (host : Host) (own : OwnFiles) where
+  -- The changed files that pass, and those of them with keys above one.
+  abbrev pub all_keys : List Key
+  all_keys = filter pass (changed_keys_in host (files host own))
 
-  -- If the remaining files are written from here on, all are.
-  pub record WritesOn (before : Option FileBytes) (after : Option Key) (now : Option FileBytes) : Type 0 where
-    pub all : (last : Option FileBytes) → WritesEach folders all_files now (there_above after) last → WritesEach folders all_files before (written_keys host all_files) last
-    pub some : (f : Failure) (last : Option FileBytes) → StopsAt (λ name. FailsToWrite folders name f) folders all_files now (there_above after) last
-        → StopsAt (λ name. FailsToWrite folders name f) folders all_files before (written_keys host all_files) last
+  abbrev pub left_above : Option Key → List Key
+  left_above after = filter pass (keys_above (changed_names host own) after)
 
-  pub begin : there_above None ≡ written_keys host all_files
-  begin = ap (filter (contains_key all_files)) (keys_above_none (changed_names host own) ∙ sym (changed_keys_laid host own))
+  abbrev pub IsNext : Option Key → Key → Type 0
+  IsNext after key = keys_above (changed_names host own) after ≡ key ∷ keys_above (changed_names host own) (Some key)
 
-  pub begins : (before : Option FileBytes) → WritesOn before None before
-  begins before = record {
-    all = λ last h. subst (λ keys. WritesEach folders all_files before keys last) begin h;
-    some = λ f last h. subst (λ keys. StopsAt (λ name. FailsToWrite folders name f) folders all_files before keys last) begin h;
-  }
+  pub begin : left_above None ≡ all_keys
+  begin = ap (filter pass) (keys_above_none (changed_names host own) ∙ sym (changed_keys_laid host own))
 
-  -- The next key belongs to a file that is there.
-  pub there_next : (after : Option Key) (key : Key) → keys_above (changed_names host own) after ≡ key ∷ keys_above (changed_names host own) (Some key) → contains_key all_files key ≡ true
-      → there_above after ≡ key ∷ there_above (Some key)
-  there_next after key split h = ap (filter (contains_key all_files)) split ∙ ap (λ b. cond b (key ∷ there_above (Some key)) (there_above (Some key))) h
+  -- The next key passes, or does not.
+  pub passes_next : (after : Option Key) (key : Key) → IsNext after key → pass key ≡ true → left_above after ≡ key ∷ left_above (Some key)
+  passes_next after key split h = ap (filter pass) split ∙ ap (λ b. cond b (key ∷ left_above (Some key)) (left_above (Some key))) h
 
-  -- The next key belongs to a file that is gone.
-  pub gone_next : (after : Option Key) (key : Key) → keys_above (changed_names host own) after ≡ key ∷ keys_above (changed_names host own) (Some key) → contains_key all_files key ≡ false
-      → there_above after ≡ there_above (Some key)
-  gone_next after key split h = ap (filter (contains_key all_files)) split ∙ ap (λ b. cond b (key ∷ there_above (Some key)) (there_above (Some key))) h
+  pub skips_next : (after : Option Key) (key : Key) → IsNext after key → pass key ≡ false → left_above after ≡ left_above (Some key)
+  skips_next after key split h = ap (filter pass) split ∙ ap (λ b. cond b (key ∷ left_above (Some key)) (left_above (Some key))) h
 
-  pub one_written : (before : Option FileBytes) (after : Option Key) (now next : Option FileBytes) (key : Key) → WritesOn before after now
-      → keys_above (changed_names host own) after ≡ key ∷ keys_above (changed_names host own) (Some key) → contains_key all_files key ≡ true
-      → WritesInto (drive_folder folders key) now next key (bytes_in all_files key) → WritesOn before (Some key) next
-  one_written before after now next key w split h into = record {
-    all = λ last rest. w.all last (subst (λ keys. WritesEach folders all_files now keys last) (sym (there_next after key split h)) (next, into, rest));
-    some = λ f last rest. w.some f last (subst (λ keys. StopsAt (λ name. FailsToWrite folders name f) folders all_files now keys last) (sym (there_next after key split h)) (inr (next, into, rest)));
-  }
+  module _ (Does : Deed) (Fails : Failure → Deed) where
+    -- If it is done with the remaining files from here on, it is done with all.
+    pub record DoesOn (before : Option FileBytes) (after : Option Key) (now : Option FileBytes) : Type 0 where
+      pub all : (last : Option FileBytes) → DoesEach Does now (left_above after) last → DoesEach Does before all_keys last
+      pub some : (f : Failure) (last : Option FileBytes) → StopsAt Does (Fails f) now (left_above after) last → StopsAt Does (Fails f) before all_keys last
 
-  pub one_gone : (before : Option FileBytes) (after : Option Key) (now : Option FileBytes) (key : Key) → WritesOn before after now
-      → keys_above (changed_names host own) after ≡ key ∷ keys_above (changed_names host own) (Some key) → contains_key all_files key ≡ false → WritesOn before (Some key) now
-  one_gone before after now key w split h = record {
-    all = λ last rest. w.all last (subst (λ keys. WritesEach folders all_files now keys last) (sym (gone_next after key split h)) rest);
-    some = λ f last rest. w.some f last (subst (λ keys. StopsAt (λ name. FailsToWrite folders name f) folders all_files now keys last) (sym (gone_next after key split h)) rest);
-  }
+    pub begins : (before : Option FileBytes) → DoesOn before None before
+    begins before = record {
+      all = λ last h. subst (λ keys. DoesEach Does before keys last) begin h;
+      some = λ f last h. subst (λ keys. StopsAt Does (Fails f) before keys last) begin h;
+    }
 
-  -- No key is left.
-  pub ends : (before : Option FileBytes) (after : Option Key) (now : Option FileBytes) → WritesOn before after now → keys_above (changed_names host own) after ≡ []
-      → WritesEach folders all_files before (written_keys host all_files) now
-  ends before after now w none = w.all now (subst (λ keys. WritesEach folders all_files now (filter (contains_key all_files) keys) now) (sym none) refl)
+    pub one_done : (before : Option FileBytes) (after : Option Key) (now next : Option FileBytes) (key : Key) → DoesOn before after now
+        → IsNext after key → pass key ≡ true → Does key now next → DoesOn before (Some key) next
+    one_done before after now next key w split h does = record {
+      all = λ last rest. w.all last (subst (λ keys. DoesEach Does now keys last) (sym (passes_next after key split h)) (next, does, rest));
+      some = λ f last rest. w.some f last (subst (λ keys. StopsAt Does (Fails f) now keys last) (sym (passes_next after key split h)) (inr (next, does, rest)));
+    }
 
-  -- The next file is not written.
-  pub stops : (f : Failure) (before : Option FileBytes) (after : Option Key) (now last : Option FileBytes) (key : Key) → WritesOn before after now
-      → keys_above (changed_names host own) after ≡ key ∷ keys_above (changed_names host own) (Some key) → contains_key all_files key ≡ true
-      → FailsToWrite folders key f → LeavesIn (drive_folder folders key) now last key → StopsAt (λ name. FailsToWrite folders name f) folders all_files before (written_keys host all_files) last
-  stops f before after now last key w split h fails leaves =
-      w.some f last (subst (λ keys. StopsAt (λ name. FailsToWrite folders name f) folders all_files now keys last) (sym (there_next after key split h)) (inl (fails, leaves)))
+    pub one_skipped : (before : Option FileBytes) (after : Option Key) (now : Option FileBytes) (key : Key) → DoesOn before after now
+        → IsNext after key → pass key ≡ false → DoesOn before (Some key) now
+    one_skipped before after now key w split h = record {
+      all = λ last rest. w.all last (subst (λ keys. DoesEach Does now keys last) (sym (skips_next after key split h)) rest);
+      some = λ f last rest. w.some f last (subst (λ keys. StopsAt Does (Fails f) now keys last) (sym (skips_next after key split h)) rest);
+    }
+
+    -- No key is left.
+    pub ends : (before : Option FileBytes) (after : Option Key) (now : Option FileBytes) → DoesOn before after now → keys_above (changed_names host own) after ≡ []
+        → DoesEach Does before all_keys now
+    ends before after now w none = w.all now (subst (λ keys. DoesEach Does now (filter pass keys) now) (sym none) refl)
+
+    -- It fails with the next file.
+    pub stops : (f : Failure) (before : Option FileBytes) (after : Option Key) (now last : Option FileBytes) (key : Key) → DoesOn before after now
+        → IsNext after key → pass key ≡ true → Fails f key now last → StopsAt Does (Fails f) before all_keys last
+    stops f before after now last key w split h fails =
+        w.some f last (subst (λ keys. StopsAt Does (Fails f) now keys last) (sym (passes_next after key split h)) (inl fails))

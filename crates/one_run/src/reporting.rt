@@ -2,19 +2,19 @@
 
 ghost use Rattle.std.specs.Prelude.{◌≡◌, ◌++◌, IfOk, IfErr, OnOk, OnErr};
 ghost use Rattle.folders.specs.Failures.{ReportsPaths};
-ghost use Rattle.folders.specs.Faults.{failure_paths};
 ghost use Rattle.hostfiles.specs.Files.{files};
 ghost use Rattle.machine.specs.PlainState.{plain_run};
 ghost use Rattle.report_lines.specs.ChangedLines.{gone_lines};
 ghost use Rattle.report_lines.specs.FirstLines.{stop_line};
 ghost use Rattle.streams.specs.Streams.{Output, WritesOrFails, WritesText, WritesWhole};
 ghost use Rattle.one_run.specs.Faults.{run_paths};
-ghost use Rattle.one_run.specs.RunsOnce.{BreaksRun, FailsToWriteAll, RunsOnce, WritesAll, WritesFiles, console_text, stop_status, stop_text};
+ghost use Rattle.one_run.specs.RunsOnce.{BreaksRun, RunsOnce, UpdatesFiles, console_text, stop_status, stop_text};
 ghost use Rattle.one_run.specs.World.{world};
 
 use crate::fault::RunFault;
-use folders::{Failure, FileSystem, write_to_drive};
-use hostfiles::{HostFiles, Journal, Name, next_changed};
+use crate::updating::update_files;
+use folders::{FileSystem, Places};
+use hostfiles::{HostFiles, Journal};
 use machine::{Cause, Noting, Run, Session, WholeRun};
 use report_lines::{Failed, FileFilter, Writer, stop_line, write_all, write_changed_files};
 use std::alloc::{AllocError, Global};
@@ -34,31 +34,6 @@ pub fn stop_status(cause: Cause) -> u8
         Cause::Unsupported(_) => 9,
         Cause::BadDrive(_) => 10,
     }
-}
-
-/// Writes the changed files that are there when the run stops into the folders of their drives, as far as these have folders, in
-/// the order of their names.
-fn write_changed<S: FileSystem>(
-    system: &mut S,
-    folders: &[Option<&str>; 4],
-    host: &HostFiles,
-    journal: &Journal,
-) -> Result<(), Failure>
-    ensures written { OnOk result (WritesAll folders.now host.now (files host.now journal.now.entries)
-        (S.files system.old).bytes (S.files system.new).bytes) }
-    ensures fault { IfErr result
-        (FailsToWriteAll folders.now host.now (files host.now journal.now.entries)
-        (S.files system.old).bytes (S.files system.new).bytes) }
-    ensures failed { ReportsPaths failure_paths result (S.files system.old) (S.files system.new) }
-{
-    let mut after: Option<Name> = None;
-    while let Some(changed) = next_changed(host, journal, after.as_ref()) {
-        if changed.file.is_there() {
-            write_to_drive(system, folders, &changed.name, &changed.file)?;
-        }
-        after = Some(changed.name);
-    }
-    Ok(())
 }
 
 /// Writes the line of a stop, and then the lines of the changed files that are gone. If the writer fails, a prefix of this is
@@ -84,23 +59,23 @@ pub fn report_stop<E: Writer>(run: &WholeRun<'_>, err: &mut E)
     let _ = write_stop_lines(err, run.cause(), run.session.files(), run.journal());
 }
 
-/// Writes the console text of a run to `out`, and then each changed file that is there at the stop into the folder of its drive, if
-/// the drive has one.
+/// Writes the console text of a run to `out`, then each changed file that is there at the stop at its place, if it has one, and then
+/// removes the ones that are gone from their disks.
 ///
 /// # Errors
 ///
-/// Returns `Err` if writing to `out` or a file fails, or an allocation.
+/// Returns `Err` if writing to `out`, or writing or removing a file fails, or an allocation.
 pub fn write_output<S: FileSystem, O: Writer>(
     system: &mut S,
-    folders: &[Option<&str>; 4],
+    places: &Places,
     run: &WholeRun<'_>,
     out: &mut O,
 ) -> Result<(), RunFault>
     ensures text { OnOk result
         (WritesWhole (O.output out.old) (O.output out.new) (console_text run.now.session.now)) }
-    ensures files { OnOk result (WritesFiles folders.now run.now.session.now
+    ensures files { OnOk result (UpdatesFiles places.now run.now.session.now
         (S.files system.old).bytes (S.files system.new).bytes) }
-    ensures fault { IfErr result (λ fault. (err : Output) → BreaksRun folders.now run.now.session.now
+    ensures fault { IfErr result (λ fault. (err : Output) → BreaksRun places.now run.now.session.now
         (world (S.files system.old) (O.output out.old) err)
         (world (S.files system.new) (O.output out.new) err) fault) }
     ensures failed { ReportsPaths run_paths result (S.files system.old) (S.files system.new) }
@@ -108,27 +83,27 @@ pub fn write_output<S: FileSystem, O: Writer>(
     let Ok(()) = write_all(out, run.text()) else {
         return Err(RunFault::CannotWrite);
     };
-    Ok(write_changed(system, folders, run.session.files(), run.journal())?)
+    Ok(update_files(system, places, run.session.files(), run.journal())?)
 }
 
 /// Reports a run: its console text, its changed files, and its stop. Returns the exit status for the stop.
 fn report_run<S: FileSystem, O: Writer, E: Writer>(
     system: &mut S,
-    folders: &[Option<&str>; 4],
+    places: &Places,
     run: &WholeRun<'_>,
     out: &mut O,
     err: &mut E,
 ) -> Result<u8, RunFault>
-    ensures done { IfOk result (λ status. RunsOnce folders.now run.now.session.now status
+    ensures done { IfOk result (λ status. RunsOnce places.now run.now.session.now status
         (world (S.files system.old) (O.output out.old) (E.output err.old))
         (world (S.files system.new) (O.output out.new) (E.output err.new))) }
-    ensures fault { IfErr result (BreaksRun folders.now run.now.session.now
+    ensures fault { IfErr result (BreaksRun places.now run.now.session.now
         (world (S.files system.old) (O.output out.old) (E.output err.old))
         (world (S.files system.new) (O.output out.new) (E.output err.new))) }
     ensures unreported { OnErr result (err.new ≡ err.old) }
     ensures failed { ReportsPaths run_paths result (S.files system.old) (S.files system.new) }
 {
-    write_output(system, folders, run, out)?;
+    write_output(system, places, run, out)?;
     report_stop(run, err);
     Ok(stop_status(run.cause()))
 }
@@ -142,23 +117,23 @@ fn run_to_end(alloc: Global, session: &Session) -> Result<WholeRun<'_>, AllocErr
 }
 
 /// Runs a session once. First its console text is written to `out`. Then each changed file that is there when the run stops is
-/// written into the folder of its drive, if the drive has one. Then `err` gets a line that reports why the run stopped, and a
-/// line for each changed file that is gone. Returns the exit status for the stop.
+/// written at its place, if it has one, and the ones that are gone are removed from their disks. Then `err` gets a line that reports why
+/// the run stopped, and a line for each changed file that is gone. Returns the exit status for the stop.
 ///
 /// # Errors
 ///
-/// Returns `Err` if writing to `out` or a file fails, or an allocation; `err` is then unchanged.
+/// Returns `Err` if writing to `out`, or writing or removing a file fails, or an allocation; `err` is then unchanged.
 pub fn run_once<S: FileSystem, O: Writer, E: Writer>(
     system: &mut S,
-    folders: &[Option<&str>; 4],
+    places: &Places,
     session: Session,
     out: &mut O,
     err: &mut E,
 ) -> Result<u8, RunFault>
-    ensures done { IfOk result (λ status. RunsOnce folders.now session status
+    ensures done { IfOk result (λ status. RunsOnce places.now session status
         (world (S.files system.old) (O.output out.old) (E.output err.old))
         (world (S.files system.new) (O.output out.new) (E.output err.new))) }
-    ensures fault { IfErr result (BreaksRun folders.now session
+    ensures fault { IfErr result (BreaksRun places.now session
         (world (S.files system.old) (O.output out.old) (E.output err.old))
         (world (S.files system.new) (O.output out.new) (E.output err.new))) }
     ensures unreported { OnErr result (err.new ≡ err.old) }
@@ -167,5 +142,5 @@ pub fn run_once<S: FileSystem, O: Writer, E: Writer>(
     let Ok(run) = run_to_end(system.alloc(), &session) else {
         return Err(RunFault::OutOfMemory);
     };
-    report_run(system, folders, &run, out, err)
+    report_run(system, places, &run, out, err)
 }

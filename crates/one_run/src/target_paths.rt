@@ -4,26 +4,23 @@ ghost use Rattle.std.specs.Prelude.{◌≡◌, ◌++◌, IfOk, OnOk, map, string
 ghost use Rattle.hostfiles.specs.Files.{files};
 ghost use Rattle.one_run.specs.WrittenPaths as texts;
 
-use folders::{file_name, path_in};
+use folders::Places;
 use hostfiles::{HostFiles, Journal, Name, next_changed};
 use machine::WholeRun;
 use std::alloc::{AllocError, Global};
 
-// Adds the path at which a file is written into the folder of its drive, if the drive has one.
+// Adds the path at which a file is written, if it has one.
 fn push_path(
     alloc: Global,
     paths: &mut Vec<String>,
-    folders: &[Option<&str>; 4],
+    places: &Places,
     name: &Name,
 ) -> Result<(), AllocError>
     ensures { OnOk result (map string_bytes paths.new.items
-        ≡ map string_bytes paths.old.items ++ texts.written_path folders.now name.now) }
+        ≡ map string_bytes paths.old.items ++ texts.written_path places.now name.now) }
 {
-    match folders[name.drive().number() as usize] {
-        Some(folder) => {
-            let file = file_name(alloc, name)?;
-            Ok(paths.push(path_in(alloc, folder, file.as_str())?)?)
-        }
+    match places.path_of(alloc, name)? {
+        Some(path) => Ok(paths.push(path)?),
         None => Ok(()),
     }
 }
@@ -31,18 +28,18 @@ fn push_path(
 // Returns the paths of the changed files that are there.
 fn paths_of_changed(
     alloc: Global,
-    folders: &[Option<&str>; 4],
+    places: &Places,
     host: &HostFiles,
     journal: &Journal,
 ) -> Result<Vec<String>, AllocError>
     ensures { IfOk result (λ paths. map string_bytes paths.items
-        ≡ texts.paths_of_written folders.now host.now (files host.now journal.now.entries)) }
+        ≡ texts.paths_of_written places.now host.now (files host.now journal.now.entries)) }
 {
     let mut paths = Vec::new(alloc);
     let mut after: Option<Name> = None;
     while let Some(changed) = next_changed(host, journal, after.as_ref()) {
         if changed.file.is_there() {
-            push_path(alloc, &mut paths, folders, &changed.name)?;
+            push_path(alloc, &mut paths, places, &changed.name)?;
         }
         after = Some(changed.name);
     }
@@ -52,11 +49,11 @@ fn paths_of_changed(
 /// Returns the paths at which the changed files of a run are written, in the order in which they are written.
 pub fn written_paths(
     alloc: Global,
-    folders: &[Option<&str>; 4],
+    places: &Places,
     run: &WholeRun<'_>,
 ) -> Result<Vec<String>, AllocError>
     ensures { IfOk result (λ paths.
-        map string_bytes paths.items ≡ texts.written_paths folders.now run.now.session.now) }
+        map string_bytes paths.items ≡ texts.written_paths places.now run.now.session.now) }
 {
-    paths_of_changed(alloc, folders, run.session.files(), run.journal())
+    paths_of_changed(alloc, places, run.session.files(), run.journal())
 }

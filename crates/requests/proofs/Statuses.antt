@@ -4,11 +4,12 @@ use Rattle.streams.specs.Streams.{Output}
 use Rattle.requests.specs.FaultReports.{ReportsFaultOrMemory, status_of}
 use Rattle.requests.specs.declared.tool.Tool.{Tool}
 use Rattle.requests.specs.declared.fault.Fault.{Fault}
-use Rattle.requests.specs.declared.fault.Fault.TheVariants.{Usage, NotText, CannotRead, CannotWrite, Folders, Refused, Malformed, TooLong, RulePath, OutOfMemory}
+use Rattle.requests.specs.declared.fault.Fault.TheVariants.{Usage, BadEscape, NotText, CannotRead, CannotWrite, Folders, Refused, Malformed, TooLong, RulePath, OutOfMemory}
 
 -- No error has the status 0.
 status_above : (f : Fault) → status_of f ≡ 0 → ⊥
 status_above (Usage text) e = cc
+status_above (BadEscape text) e = cc
 status_above NotText e = cc
 status_above (CannotRead path) e = cc
 status_above CannotWrite e = cc

@@ -3,24 +3,31 @@ use Rattle.std.specs.Prelude.{◌≡◌, ℕ, List, [], ◌∷◌, ◌⊎◌, �
 use Rattle.std.specs.Fmt.{decimal}
 use Rattle.folders.specs.Faults.{fault_paths, text_of}
 use Rattle.folders.specs.FileSystem.{Path}
+use Rattle.folders.specs.declared.fault.Failure.{Failure}
+use Rattle.folders.specs.declared.fault.Failure.TheVariants as failure
 use Rattle.loading.specs.declared.fault.LoadFault.{LoadFault}
 use Rattle.loading.specs.declared.fault.LoadFault.TheVariants as load
 use Rattle.one_run.specs.declared.fault.RunFault.{RunFault}
 use Rattle.one_run.specs.declared.fault.RunFault.TheVariants as run
 use Rattle.requests.specs.declared.fault.Fault.{Fault}
-use Rattle.requests.specs.declared.fault.Fault.TheVariants.{Usage, NotText, CannotRead, CannotWrite, Folders, Refused, Malformed, TooLong, RulePath, OutOfMemory}
+use Rattle.requests.specs.declared.fault.Fault.TheVariants.{Usage, BadEscape, NotText, CannotRead, CannotWrite, Folders, Refused, Malformed, TooLong, RulePath, OutOfMemory}
 use Rattle.requests.specs.declared.tool.Tool.{Tool}
 use Rattle.requests.specs.declared.tool.Tool.TheVariants.{Cpmrun, Cpmdeps}
 use Rattle.one_run.specs.World.{World}
 use Rattle.report_lines.specs.FirstLines.{line}
 use Rattle.streams.specs.Streams.{Output, WritesOrFails}
 
--- The program's error for an error of loading, and for an error of the run.
+-- The program's error for an error of loading, for a failure of the folders, and for an error of the run.
 abbrev pub of_load : LoadFault → Fault
+of_load (load.BadEscape text) = BadEscape text
 of_load (load.CannotRead path) = CannotRead path
 of_load (load.Folders f) = Folders f
 of_load (load.Refused n) = Refused n
 of_load load.OutOfMemory = OutOfMemory
+
+abbrev pub of_failure : Failure → Fault
+of_failure (failure.AtFault f) = Folders f
+of_failure failure.OutOfMemory = OutOfMemory
 
 abbrev pub of_run : RunFault → Fault
 of_run run.CannotWrite = CannotWrite
@@ -49,9 +56,14 @@ name_of Cpmdeps = codes "cpmdeps"
 abbrev pub message_line : Tool → List ℕ → List ℕ
 message_line tool text = name_of tool ++ codes ": " ++ line text
 
+-- The end of the message of a bad escape, worded as clap's.
+abbrev pub bad_escape : List ℕ
+bad_escape = line (codes "' for '--typed <TEXT>': unknown escape after a backslash") ++ line [] ++ line (codes "For more information, try '--help'.")
+
 -- The message of an error: clap's lines for a usage error, and one line for every other.
 abbrev pub message_of : Tool → Fault → List ℕ
 message_of tool (Usage text) = string_bytes text
+message_of tool (BadEscape text) = codes "error: invalid value '" ++ text.now ++ bad_escape
 message_of tool NotText =
     line (codes "error: invalid UTF-8 was detected in one or more arguments") ++ line []
     ++ codes "Usage: " ++ name_of tool ++ line (codes " [OPTIONS] <PROGRAM> [TAIL]") ++ line []
@@ -71,6 +83,7 @@ ReportsFault tool f status before after = (status ≡ status_of f) × WritesOrFa
 
 -- The message has a path, a name or a number put into it, and so needs memory.
 abbrev pub NamesAValue : Fault → Type 0
+NamesAValue (BadEscape text) = Unit {0}
 NamesAValue (CannotRead path) = Unit {0}
 NamesAValue (Folders f) = Unit {0}
 NamesAValue (Refused n) = Unit {0}

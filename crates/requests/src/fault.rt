@@ -3,6 +3,7 @@ ghost use Rattle.requests.specs.FaultReports.{ReportsFaultOrMemory};
 ghost use Rattle.streams.specs.Streams.{WritesOrFails};
 
 use crate::tool::Tool;
+use folders::Failure;
 use loading::LoadFault;
 use make_rules::RuleFault;
 use one_run::RunFault;
@@ -14,6 +15,8 @@ use std::alloc::{AllocError, Global};
 pub enum Fault<'a> {
     /// A usage error in the words of the command line, with its message.
     Usage(String),
+    /// This text of a script has a bad escape.
+    BadEscape(&'a str),
     /// A word of the command line is not UTF-8.
     NotText,
     /// The file of this path could not be read.
@@ -42,10 +45,25 @@ impl<'a> From<LoadFault<'a>> for Fault<'a> {
 
     fn from(fault: LoadFault<'a>) -> Self {
         match fault {
+            LoadFault::BadEscape(text) => Fault::BadEscape(text),
             LoadFault::CannotRead(path) => Fault::CannotRead(path),
             LoadFault::Folders(fault) => Fault::Folders(fault),
             LoadFault::Refused(number) => Fault::Refused(number),
             LoadFault::OutOfMemory => Fault::OutOfMemory,
+        }
+    }
+}
+
+impl From<Failure> for Fault<'_> {
+    ghost use Rattle.std.specs.Prelude.{◌≡◌};
+    ghost use Rattle.requests.specs.FaultReports.{of_failure};
+
+    ghost from_gives = { λ failure fault. fault ≡ of_failure failure };
+
+    fn from(failure: Failure) -> Self {
+        match failure {
+            Failure::AtFault(fault) => Fault::Folders(fault),
+            Failure::OutOfMemory => Fault::OutOfMemory,
         }
     }
 }
@@ -117,6 +135,10 @@ impl Fault<'_> {
         match self {
             Fault::Usage(text) => String::from_str(alloc, text.as_str()),
             Fault::NotText => String::from_str(alloc, tool.not_text()),
+            Fault::BadEscape(text) => format!(in alloc;
+                "error: invalid value '{text}' for '--typed <TEXT>': unknown escape after a backslash\n\n\
+                 For more information, try '--help'.\n"
+            ),
             Fault::CannotRead(path) => format!(in alloc; "{name}: cannot read {path}\n"),
             Fault::CannotWrite => String::from_str(alloc, tool.cannot_write()),
             Fault::Folders(fault) => format!(in alloc; "{name}: {fault}\n"),

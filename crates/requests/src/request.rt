@@ -4,7 +4,8 @@ ghost use Rattle.std.specs.Prelude.{◌≡◌, IfOk, IfErr};
 ghost use Rattle.requests.specs.Requests.{FailsToParse, IsRequestOf, WritesSomeText};
 
 use crate::fault::Fault;
-use command_words::ErrorClass;
+use crate::tool::Tool;
+use command_words::{Clash, ErrorClass};
 use report_lines::{Writer, write_all};
 use std::alloc::{AllocError, Global};
 
@@ -37,11 +38,26 @@ pub fn request_of_error<'a, W>(
     }
 }
 
-/// Returns the usage error of words that ask for two things of which one excludes the other, with this text.
-pub fn two_forms<'a>(alloc: Global, text: &str) -> Fault<'a>
+// Returns the text of the usage error of two options that exclude each other, worded as `clap` words it.
+fn clash_text(alloc: Global, tool: Tool, clash: Clash) -> Result<String, AllocError> {
+    let Clash { first, second } = clash;
+    let name = tool.name();
+    format!(in alloc;
+        "\
+error: the argument '{first}' cannot be used with '{second}'
+
+Usage: {name} [OPTIONS] <PROGRAM> [TAIL]
+
+For more information, try '--help'.
+"
+    )
+}
+
+/// Returns the usage error of words with two options that exclude each other.
+pub fn clash_fault<'a>(alloc: Global, tool: Tool, clash: Clash) -> Fault<'a>
     ensures { FailsToParse (λ outcome. outcome ≡ ErrorClass.UsageError) result }
 {
-    match String::from_str(alloc, text) {
+    match clash_text(alloc, tool, clash) {
         Ok(text) => Fault::Usage(text),
         Err(_) => Fault::OutOfMemory,
     }

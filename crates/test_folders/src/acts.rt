@@ -1,7 +1,7 @@
 // Acts in the folder of a test, and the expected results.
 
 use crate::listed::{Telling, told};
-use crate::written::{How, has_a_hole, holds, lacks, wrote};
+use crate::written::{How, has_a_hole, holds, lacks, place, removed, wrote};
 use std::alloc::{AllocError, Global};
 use std::os::unix::fs::symlink;
 use std::test::Fail;
@@ -29,6 +29,10 @@ pub enum Act<'a> {
     HasBoth(&'a str),
     /// The text after the file of this name, which a run made, is written.
     Writes(&'a str, &'a str, How, Text<'a>),
+    /// The path at which the file of this name is written if the folder is the disk of its drive, or the text of the error.
+    Place(&'a str, &'a str, Text<'a>),
+    /// The text after a file is removed.
+    Removes(&'a str, Text<'a>),
     /// A written file that has two records, and zeros for the hole between them.
     HasAHole(&'a str),
     /// A file with these bytes.
@@ -38,8 +42,8 @@ pub enum Act<'a> {
 }
 
 use Act::{
-    HasAHole, HasBoth, Holds, Lacks, Link, MakeFolder, Put, PutMany, PutSparse, RemoveFolder,
-    Tells, TellsBoth, Writes,
+    HasAHole, HasBoth, Holds, Lacks, Link, MakeFolder, Place, Put, PutMany, PutSparse,
+    RemoveFolder, Removes, Tells, TellsBoth, Writes,
 };
 
 /// The expected text.
@@ -122,6 +126,7 @@ fn place_of(act: Act<'_>) -> &str {
         MakeFolder(place) | RemoveFolder(place) | Link(place, _) => place,
         Tells(place, _, _) | TellsBoth(place, _, _) | HasBoth(place) => place,
         Writes(place, _, _, _) | HasAHole(place) | Holds(place, _) | Lacks(place) => place,
+        Place(place, _, _) | Removes(place, _) => place,
     }
 }
 
@@ -163,6 +168,14 @@ fn answers(rt: &HostRuntime, folder: &str, path: &str, act: Act<'_>) -> Result<b
         TellsBoth(_, place, text) => tells_both(rt, folder, path, place, text),
         HasBoth(_) => has_both(rt, path),
         Writes(_, name, how, text) => writes(rt, folder, path, name, how, text),
+        Place(_, name, text) => {
+            let found = place(rt, path, name)?;
+            Ok(is_text(found.as_str(), folder, text))
+        }
+        Removes(_, text) => {
+            let found = removed(rt, path)?;
+            Ok(is_text(found.as_str(), folder, text))
+        }
         HasAHole(_) => has_a_hole(rt, path),
         Holds(_, bytes) => holds(rt, path, bytes),
         Lacks(_) => lacks(rt, path),

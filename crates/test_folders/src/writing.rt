@@ -1,7 +1,7 @@
 // Files that are written into a folder.
 
 use crate::acts::Act::{
-    HasAHole, Holds, Lacks, Link, MakeFolder, Put, RemoveFolder, Tells, Writes,
+    HasAHole, Holds, Lacks, Link, MakeFolder, Place, Put, RemoveFolder, Removes, Tells, Writes,
 };
 use crate::acts::Text::{Around, Is};
 use crate::acts::{Case, play};
@@ -69,6 +69,52 @@ const CASES: &[Case<'_>] = &[
             Tells("", Some(0), Is(" B")),
         ],
     },
+    Case {
+        name: "a disk keeps the names that are there",
+        acts: &[
+            Place("", "a:new.txt", Around("", "/NEW.TXT")),
+            Put("Mixed.Txt", b""),
+            Place("", "b:mixed.txt", Around("", "/Mixed.Txt")),
+            Place("", "c:new.txt", Around("", "/NEW.TXT")),
+        ],
+    },
+    // Names that a host file cannot have do not count, and neither do those without a letter.
+    Case {
+        name: "a new file is named as most files of a disk are",
+        acts: &[
+            Put("one.txt", b""),
+            Place("", "d:new.txt", Around("", "/new.txt")),
+            Put("TWO.TXT", b""),
+            Put("LONGER.THAN", b""),
+            Put("12.34", b""),
+            Place("", "new.txt", Around("", "/NEW.TXT")),
+            Put("three", b""),
+            Place("", "new.txt", Around("", "/new.txt")),
+            Place("", "two.txt", Around("", "/TWO.TXT")),
+            Put("Four", b""),
+            Place("", "new.txt", Around("", "/NEW.TXT")),
+        ],
+    },
+    Case {
+        name: "a folder that is no disk is reported",
+        acts: &[
+            Place("none", "a", Around("cannot read ", "/none")),
+            Put("x", b""),
+            Put("X", b""),
+            Place("", "a", Is("two files are X")),
+        ],
+    },
+    Case {
+        name: "a file is removed",
+        acts: &[
+            Put("x", b"x"),
+            Removes("x", Is("")),
+            Lacks("x"),
+            Removes("x", Around("cannot write ", "/x")),
+            MakeFolder("y"),
+            Removes("y", Around("cannot write ", "/y")),
+        ],
+    },
 ];
 
 #[test]
@@ -78,6 +124,7 @@ fn files_that_are_written(rt: HostRuntime) -> Result<(), Fail> {
 
 #[test]
 fn a_file_that_is_being_written_is_passed_over(rt: HostRuntime) -> Result<(), Fail> {
-    assert!(rt; is_passed_over(rt.alloc(), "d:h.dat", ".H.DAT.new")?);
+    assert!(rt; is_passed_over(".H.DAT.new"));
+    assert!(rt; is_passed_over(".h.new"));
     Ok(())
 }

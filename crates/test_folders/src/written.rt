@@ -2,7 +2,7 @@
 
 use crate::listed::text;
 use filenames::{Drive, Name};
-use folders::{Failure, SystemFiles, name_in_folder, temporary_name, write_file, write_to_drive};
+use folders::{Failure, FileSystem, Places, SystemFiles, name_in_folder, remove_path, write_path};
 use hostfiles::{FileView, Gap, HostFiles, Journal};
 use std::alloc::{AllocError, Global};
 use std::fs;
@@ -63,11 +63,52 @@ fn write(
     }
     let folders = [None, Some(folder), None, Some("/none")];
     let mut system = SystemFiles::new(rt);
-    let answer = match how {
-        How::WithAHole => write_file(&mut system, folder, name, &file),
-        How::ToItsDrive => write_to_drive(&mut system, &folders, name, &file),
+    let folders = match how {
+        How::WithAHole => [Some(folder); 4],
+        How::ToItsDrive => folders,
     };
+    let answer = write_at_place(&mut system, &folders, name, &file);
     text_of(rt.alloc(), answer)
+}
+
+fn write_at_place<S: FileSystem>(
+    system: &mut S,
+    folders: &[Option<&str>; 4],
+    name: &Name,
+    file: &FileView<'_>,
+) -> Result<(), Failure> {
+    let places = Places::find(system, folders, &[None; 4])?;
+    match places.path_of(system.alloc(), name) {
+        Ok(Some(path)) => write_path(system, path.as_str(), file),
+        Ok(None) => Ok(()),
+        Err(_) => Err(Failure::OutOfMemory),
+    }
+}
+
+/// Returns the path of a file in a folder that is the disk of its drive, or the text for the error.
+pub fn place(rt: &HostRuntime, folder: &str, name: &str) -> Result<String, Fail> {
+    let mut system = SystemFiles::new(rt);
+    let name = Name::parse(name)?;
+    match Places::find(&mut system, &[None; 4], &[Some(folder); 4]) {
+        Ok(places) => Ok(place_in(rt.alloc(), &places, &name)?),
+        Err(failure) => Ok(text(rt.alloc(), &failure)?),
+    }
+}
+
+// Returns the path at which a file is written, if it is removed from there too.
+fn place_in(alloc: Global, places: &Places, name: &Name) -> Result<String, AllocError> {
+    let written = places.path_of(alloc, name)?;
+    let removed = places.removed_path_of(alloc, name)?;
+    match (written, removed) {
+        (Some(written), Some(removed)) if written.as_str() == removed.as_str() => Ok(written),
+        _ => String::from_str(alloc, "no such place"),
+    }
+}
+
+/// Removes a file, and returns the text for the error, empty if there is none.
+pub fn removed(rt: &HostRuntime, path: &str) -> Result<String, Fail> {
+    let path = String::from_str(rt.alloc(), path)?;
+    Ok(text_of(rt.alloc(), remove_path(&mut SystemFiles::new(rt), path))?)
 }
 
 // Returns the text for an error, empty if there is none.
@@ -106,14 +147,8 @@ pub fn lacks(rt: &HostRuntime, path: &str) -> Result<bool, Fail> {
     }
 }
 
-/// Returns whether a file is first written under this name, which is ignored when a folder is read.
-pub fn is_passed_over(alloc: Global, name: &str, file: &str) -> Result<bool, Fail> {
-    let name = Name::parse(name)?;
-    let temporary = temporary_name(alloc, &name)?;
-    Ok(temporary.as_str() == file && is_no_name(temporary.as_str()))
-}
-
-fn is_no_name(file: &str) -> bool {
+/// Returns whether a name is ignored when a folder is read.
+pub fn is_passed_over(file: &str) -> bool {
     for drive in Drive::ALL {
         if name_in_folder(drive, file).is_some() {
             return false;

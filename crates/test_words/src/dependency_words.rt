@@ -18,6 +18,7 @@ struct Read<'a> {
     /// For the drives A to D.
     files: &'a [Option<&'a str>],
     console: Option<&'a str>,
+    typed: Option<&'a str>,
     limit: u64,
     target: Option<&'a str>,
     by_step: bool,
@@ -30,6 +31,7 @@ const PROGRAM: Read<'_> = Read {
     tail: "",
     files: &[None; 4],
     console: None,
+    typed: None,
     limit: 1_000_000,
     target: None,
     by_step: false,
@@ -57,6 +59,11 @@ const READ: &[Read<'_>] = &[
         files: &[Some("fa"), Some("fb"), Some("fc"), Some("fd")],
         console: Some("typed"),
         limit: 4_000_000_000,
+        ..PROGRAM
+    },
+    Read {
+        words: &["p.com", "--typed", "a\\rq"],
+        typed: Some("a\\rq"),
         ..PROGRAM
     },
     Read {
@@ -100,6 +107,7 @@ const UNREAD: &[Unread<'_>] = &[
     (&["p.com", "--by-step", "--by-step"], UsageError, &[]),
     (&["p.com", "--limit", "4000000001"], UsageError, &[]),
     (&["p.com", "--out", "changed"], UsageError, &[]),
+    (&["p.com", "--disk", "disk"], UsageError, &[]),
     (&["p.com", "--edits", "lines"], UsageError, &[]),
     (&["p.com", "--slots", "4"], UsageError, &[]),
     (
@@ -125,7 +133,9 @@ fn are_same(folders: &[Option<&str>], wanted: &[Option<&str>]) -> bool {
 }
 
 fn has_same_inputs(read: &SessionWords<'_>, wanted: &Read<'_>) -> bool {
-    are_same(&read.files, wanted.files) && read.console == wanted.console
+    are_same(&read.files, wanted.files)
+        && read.console == wanted.console
+        && read.typed == wanted.typed
 }
 
 fn is_same_session(read: &SessionWords<'_>, wanted: &Read<'_>) -> bool {

@@ -36,6 +36,8 @@ const ROWS: &[Row<'_>] = &[
     (&["p.com", "--out", ""], MISUSE),
     (&["p.com", "--edits="], MISUSE),
     (&["p.com", "--console", ""], MISUSE),
+    (&["p.com", "--typed"], MISUSE),
+    (&["p.com", "--disk-b", ""], MISUSE),
     (&[""], MISUSE),
     (&["p.com", "-x"], MISUSE),
     (

@@ -13,9 +13,12 @@ pub struct Fields<'a> {
     /// For the drives A to D.
     pub files: &'a [Option<&'a str>],
     pub console: Option<&'a str>,
+    pub typed: Option<&'a str>,
     pub limit: u64,
     /// For the drives A to D.
     pub out: &'a [Option<&'a str>],
+    /// For the drives A to D.
+    pub disk: &'a [Option<&'a str>],
     pub edits: Option<&'a str>,
     pub deps: Option<&'a str>,
     pub spacing: u64,
@@ -42,8 +45,10 @@ pub const PROGRAM: Fields<'_> = Fields {
     tail: "",
     files: &[None; 4],
     console: None,
+    typed: None,
     limit: 1_000_000,
     out: &[None; 4],
+    disk: &[None; 4],
     edits: None,
     deps: None,
     spacing: 10_000,
@@ -78,7 +83,9 @@ fn are_same(folders: &[Option<&str>], wanted: &[Option<&str>]) -> bool {
 fn has_same_files(words: &Words<'_>, wanted: &Fields<'_>) -> bool {
     are_same(&words.files, wanted.files)
         && are_same(&words.out, wanted.out)
+        && are_same(&words.disk, wanted.disk)
         && words.console == wanted.console
+        && words.typed == wanted.typed
         && words.edits == wanted.edits
         && words.deps == wanted.deps
 }

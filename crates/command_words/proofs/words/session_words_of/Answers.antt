@@ -14,6 +14,7 @@ returns-clause-says c =
           (c.get_str-3.ensures ∙ first_value-rows f (codes "files")) (c.get_str-4.ensures ∙ first_value-rows f (codes "files-b"))
           (c.get_str-5.ensures ∙ first_value-rows f (codes "files-c")) (c.get_str-6.ensures ∙ first_value-rows f (codes "files-d"));
       console = c.get_str-7.ensures ∙ first_value-rows f (codes "console");
+      typed = c.get_str-8.ensures ∙ first_value-rows f (codes "typed");
       limit = c.in_ok-number.ensures.said;
     }
 

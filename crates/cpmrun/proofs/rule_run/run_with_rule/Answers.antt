@@ -1,7 +1,7 @@
 use Rattle.std.proofs.Common.{inl, inr, refl}
 use Rattle.std.proofs.lemmas.Result.{IfErr-weaker, IfOk-weaker, err_from_is_err_and}
 use Rattle.folders.proofs.FilesLemmas.{same_files}
-use Rattle.make_rules.specs.declared.fault.RuleFault.TheVariants as rule
+use Rattle.folders.specs.declared.fault.Failure.TheVariants as failure
 use Rattle.cpmrun.proofs.rule_run.run_with_rule.Goals as goal
 
 pub returns-in_err-check_paths-clause-fault : goal.returns-in_err-check_paths-clause-fault
@@ -21,7 +21,7 @@ pub returns-in_default-clause-fault : goal.returns-in_default-clause-fault
 returns-in_default-clause-fault g c =
     λ old new. inr (
       rw (c.session.ensures, c.as_slice.ensures) at c.in_ok-check_paths.ensures.allowed,
-      inr (c.in_ok-session.session, rw c.session-2.ensures at c.in_ok-session.ensures.session, inl (rule.OutOfMemory, refl, tt, (refl, c.in_ok-session.ensures.unchanged.bytes))),
+      inr (c.in_ok-session.session, rw c.session-2.ensures at c.in_ok-session.ensures.session, inl (failure.OutOfMemory, refl, tt, (refl, c.in_ok-session.ensures.unchanged.bytes))),
     )
 
 pub report_with_rule-requires : goal.report_with_rule-requires

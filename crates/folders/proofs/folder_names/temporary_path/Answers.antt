@@ -6,6 +6,7 @@ use Rattle.std.specs.Str.{NoCharPasses}
 use Rattle.std.specs.Str.Pattern.{RFindsChar, SplitsAroundMatch}
 use Rattle.std.specs.Prelude.{◌==◌}
 use Rattle.folders.specs.OwnPaths.{IsTemporaryOf}
+use Rattle.folders.proofs.EntryLemmas.{dotted_key}
 use Rattle.folders.proofs.folder_names.temporary_path.Goals as goal
 
 no_slash : (name : List ℕ) → NoCharPasses (λ d. d == 47) name → (i : ℕ) → i < length name → get_or name i 0 ≢ 47
@@ -24,6 +25,7 @@ after_slash path folder name h =
       temporary_is = append_assoc (folder ++ codes "/.") name (codes ".new") ∙ append_assoc folder (codes "/.") (name ++ codes ".new")
           ∙ sym (append_assoc folder (47 ∷ []) (codes "." ++ name ++ codes ".new"));
       without_slash = no_slash name (subst (NoCharPasses (λ d. d == 47)) (sym back) found.0);
+      passed_over = dotted_key (name ++ codes ".new");
     }
 
 pub returns-in-Some : goal.returns-in-Some
@@ -35,4 +37,4 @@ pub returns-in-None : goal.returns-in-None
 returns-in-None c =
     let path = c.args.path.now in
     let text : IfOk c.format.result (λ s. string_bytes s ≡ codes "." ++ path ++ codes ".new") = search rules in
-    IfOk-weaker c.format.result _ _ (λ s e. record { folder = []; name = path; path_is = refl; temporary_is = e; without_slash = no_slash path c.in-None.ensures.cases }) text
+    IfOk-weaker c.format.result _ _ (λ s e. record { folder = []; name = path; path_is = refl; temporary_is = e; without_slash = no_slash path c.in-None.ensures.cases; passed_over = dotted_key (path ++ codes ".new") }) text

@@ -1,51 +1,26 @@
-use Rattle.std.proofs.Common.{◌∙◌, ap}
-use Rattle.std.proofs.lemmas.Result.{err_from_is_err_and}
+use Rattle.std.proofs.Common.{map, string_bytes}
+use Rattle.std.proofs.lemmas.Result.{IfErr-weaker, IfOk-weaker, err_from_is_err_and}
 use Rattle.filenames.specs.Drives.{drive_number}
-use Rattle.folders.proofs.FaultLemmas.{entry_unlisted, folder_unlisted}
-use Rattle.folders.proofs.FilesLemmas.{keeps_err, keeps_same, same_files}
-use Rattle.folders.proofs.ListingLemmas.{none_listed_if_told, further, all_listed}
+use Rattle.folders.proofs.FaultLemmas.{folder_unlisted, names_unlisted}
+use Rattle.folders.proofs.ListingLemmas.{listed_as}
 use Rattle.folders.proofs.reading.list.Goals as goal
 
-pub loop-name-init : goal.loop-name-init
-loop-name-init g c = (
-  c.new-listing.ensures.drive,
-  same_files c.in-Ok-list.ensures.unchanged,
-  none_listed_if_told (drive_number c.args.drive) c.args.folder.now _ _ (g.S.FileSystem.files c.args.system.now).bytes c.new-listing.ensures.files c.new-listing.ensures.duplicate,
-)
-
-pub loop-name-preserved : goal.loop-name-preserved
-loop-name-preserved g c = (
-  c.add_file.ensures.drive ∙ c.loop-name.invariant.0,
-  same_files c.in_ok-add_file.ensures.unchanged ∙ c.loop-name.invariant.1,
-  further (drive_number c.args.drive) c.args.folder.now _ _ c.as_str.result.now (g.S.FileSystem.files c.args.system.now).bytes c.deref-name-items.result.now c.loop-name.name-index c.name-item.result
-      (drive_number c.loop-name.listing.drive) _ _ c.loop-name-test.true c.name-item.is c.as_str.ensures.value (ap drive_number c.loop-name.invariant.0) c.loop-name.invariant.2
-      (rw c.loop-name.invariant.1 at c.in_ok-add_file.ensures.lists),
-)
-
-pub returns-in_err-add_file-clause-unchanged : goal.returns-in_err-add_file-clause-unchanged
-returns-in_err-add_file-clause-unchanged g c =
-    let left = err_from_is_err_and c.from_residual.result c.from_residual.ensures.1 in
-    rw (left.1, left.2) (keeps_err c.loop-name.invariant.1 c.in_err-add_file.ensures.unchanged)
-
-pub returns-in_err-add_file-clause-fault : goal.returns-in_err-add_file-clause-fault
-returns-in_err-add_file-clause-fault g c =
-    let left = err_from_is_err_and c.from_residual.result c.from_residual.ensures.1 in
+pub returns-clause-lists : goal.returns-clause-lists
+returns-clause-lists g c =
     let files = g.S.FileSystem.files c.args.system.now in
-    rw (left.1, left.2) (entry_unlisted files (drive_number c.args.drive) (drive_number c.loop-name.listing.drive) c.args.folder.now c.as_str.result.now
-    c.deref-name-items.result.now c.loop-name.name-index c.name-item.result _
-    c.loop-name-test.true c.name-item.is c.as_str.ensures.value (ap drive_number c.loop-name.invariant.0)
-    (rw (← c.deref-name-items.ensures.value) at c.in-Ok-list.ensures.lists) c.in_err-add_file.ensures.fault)
+    IfOk-weaker c.list_names.result _ _
+    (λ listing. listed_as (drive_number c.args.drive) c.args.folder.now listing.files listing.duplicate files.bytes _ _ (rw (← c.as_slice.ensures.value) at c.in_ok-names.ensures.names))
+    (rw c.names_in.ensures.unchanged.bytes at c.list_names.ensures.lists)
 
-pub returns-in-Err-clause-fault : goal.returns-in-Err-clause-fault
-returns-in-Err-clause-fault g c =
-    folder_unlisted (g.S.FileSystem.files c.args.system.now) (drive_number c.args.drive) c.args.folder.now c.read_failure.result
-    (rw c.in-Ok.ensures.ok at c.read_failure.ensures.fault)
+pub returns-clause-fault : goal.returns-clause-fault
+returns-clause-fault g c =
+    let files = g.S.FileSystem.files c.args.system.now in
+    IfErr-weaker c.list_names.result _ _
+    (λ f. names_unlisted files (drive_number c.args.drive) c.args.folder.now (map string_bytes c.as_slice.result.now) f
+    (rw (← c.as_slice.ensures.value) at c.in_ok-names.ensures.names))
+    c.list_names.ensures.fault
 
-pub returns : goal.returns
-returns g c = record {
-  drive = c.loop-name.invariant.0;
-  lists = all_listed (drive_number c.args.drive) c.args.folder.now _ _ (g.S.FileSystem.files c.args.system.now).bytes c.deref-name-items.result.now c.loop-name.name-index _ c.loop-name-test.false
-      (rw c.deref-name-items.ensures.value c.in-Ok-list.ensures.lists) c.loop-name.invariant.2;
-  fault = tt;
-  unchanged = keeps_same _ _ _ _ c.loop-name.invariant.1;
-}
+pub returns-in_err-names-clause-fault : goal.returns-in_err-names-clause-fault
+returns-in_err-names-clause-fault g c =
+    let left = err_from_is_err_and c.from_residual.result c.from_residual.ensures.1 in
+    rw (left.1, left.2) (folder_unlisted (g.S.FileSystem.files c.args.system.now) (drive_number c.args.drive) c.args.folder.now _ c.in_err-names.ensures.fault)
