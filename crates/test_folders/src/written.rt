@@ -97,12 +97,16 @@ pub fn place(rt: &HostRuntime, folder: &str, name: &str) -> Result<String, Fail>
 
 // Returns the path at which a file is written, if it is removed from there too.
 fn place_in(alloc: Global, places: &Places, name: &Name) -> Result<String, AllocError> {
-    let written = places.path_of(alloc, name)?;
-    let removed = places.removed_path_of(alloc, name)?;
-    match (written, removed) {
-        (Some(written), Some(removed)) if written.as_str() == removed.as_str() => Ok(written),
-        _ => String::from_str(alloc, "no such place"),
+    let Some(written) = places.path_of(alloc, name)? else {
+        return String::from_str(alloc, "written nowhere");
+    };
+    let Some(removed) = places.removed_path_of(alloc, name)? else {
+        return String::from_str(alloc, "removed from nowhere");
+    };
+    if written.as_str() == removed.as_str() {
+        return Ok(written);
     }
+    String::from_str(alloc, "removed from another place")
 }
 
 /// Removes a file, and returns the text for the error, empty if there is none.
