@@ -111,15 +111,15 @@ CHECKPOINT = {
 MAY_REPORT_OUT_OF_MEMORY = {
     'command_words': 'error_class read_dependency_words read_words',
     'cpmdeps': 'main',
-    'cpmrun': 'replay_file run_with_rule',
+    'cpmrun': 'replay_file',
     'dependency_command': 'write_listing write_rule',
     'edit_lines': 'execute_edit hex_bytes',
     'executable': 'main',
-    'folders': 'add_file find host_file names_in note read_failure read_one set write_failure write_path',
+    'folders': 'add_file at host_file names_in note read_failure read_one set write_failure write_path',
     'hostfiles': 'number',
     'loading': 'read_fault tail_of typed_bytes typed_script',
     'make_rules': 'refusal',
-    'one_run': 'remove_one run_once write_one',
+    'one_run': 'remove_one write_one',
     'replay': 'number',
     'requests': 'clash_fault fixed_message message report_fault request_of_error status',
 }

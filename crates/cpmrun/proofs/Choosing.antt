@@ -9,7 +9,6 @@ use Rattle.requests.specs.declared.fault.Fault.{Fault}
 use Rattle.cpmrun.specs.AreWords.{AreWords}
 use Rattle.one_run.specs.RunsOnce.{BreaksRun, RunsOnce}
 use Rattle.one_run.specs.declared.fault.RunFault.{RunFault}
-use Rattle.one_run.specs.declared.fault.RunFault.TheVariants as run
 use Rattle.folders.specs.FileSystem.{StoredFiles}
 use Rattle.one_run.specs.World.{World, world}
 use Rattle.streams.specs.Streams.{Output}
@@ -28,13 +27,6 @@ use Rattle.cpmrun.specs.MeteredEnds.{MeteredEnds, WritesReplayBy, options_of}
 
 at_some : {A : Type 0} (P : Type 0) (Q : A → Type 0) (o : Option A) (x : A) → o ≡ Some x → Q x → MatchOption o P Q
 at_some P Q o x e h = subst (λ v. MatchOption v P Q) (sym e) h
-
--- What an error of a run leaves does not depend on standard error.
-pub any_err : (p : Places) (s : Session) (files now : StoredFiles) (out written e d old new : Output) (f : RunFault)
-    → BreaksRun p s (world files out e) (world now written d) f → BreaksRun p s (world files out old) (world now written new) f
-any_err p s files now out written e d old new run.CannotWrite h = h
-any_err p s files now out written e d old new (run.Folders x) h = h
-any_err p s files now out written e d old new run.OutOfMemory h = h
 
 module _ (words : List (List ℕ)) (w : Words) (are : AreWords words w) where
   -- The session was run, and a rule for make was written.
@@ -74,7 +66,7 @@ module _ (words : List (List ℕ)) (w : Words) (are : AreWords words w) where
         pub run_broken : {T : Type 0} (r : Result T Fault) (p : Places) (f : RunFault) (e d : Output) → r ≡ Err (of_run f) → w.edits ≡ None
             → ArePlaces files w.out w.disk p → BreaksRun p s (world files out e) (world now written d) f → IfErr r HasFault
         run_broken r p f e d is edits places h =
-            rw is (λ old new. inr (inr (w, are, rw none (inr (s, of, rw edits (inr (p, places, (f, refl, any_err p s files now out written e d old new f h))))))))
+            rw is (λ old new. inr (inr (w, are, rw none (inr (s, of, rw edits (inr (p, places, (f, refl, h))))))))
 
         -- An error broke off the replay of the edit lines.
         pub replay_broken : {T : Type 0} (r : Result T Fault) (f : Fault) (path : Bor (List ℕ)) → r ≡ Err f → w.edits ≡ Some path → now.bytes ≡ files.bytes

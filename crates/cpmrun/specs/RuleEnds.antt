@@ -64,15 +64,16 @@ pub record LeavesRule (p : Places) (path : Path) (s : Session) (before after : W
   pub is : f ≡ fault_of failure
   pub fault : FailsBy (IsWriteFault path) failure
 
--- What was written at places before an error: nothing if there is no rule, or else a part of the text and of the changed files, then the
--- rule.
+-- What was written at places before an error: all of the text, and no file, if there is no rule; or else a part of the text and of the
+-- changed files, then the rule.
 abbrev pub BreaksRuleAt : Words → Places → Path → Session → World → World → Fault → Type 0
 BreaksRuleAt w p path s before after fault =
-    ((f : RuleFault) × (fault ≡ of_rule f) × BreaksRule (session_words w) (targets_of p path s) before.files s f × WritesNothing before after)
+    ((f : RuleFault) × (fault ≡ of_rule f) × BreaksRule (session_words w) (targets_of p path s) before.files s f
+    × WritesWhole before.out after.out (console_text s) × (after.files.bytes ≡ before.files.bytes))
     ⊎ ((f : RunFault) × (fault ≡ of_run f)
     × (BreaksRun p s before after f ⊎ LeavesRule p path s before after f))
 
--- The same, or there are no places of the words, or no memory, and nothing was written.
+-- The same, or there are no places of the words, and nothing was written.
 abbrev pub BreaksRuleRun : Words → Path → Session → World → World → Fault → Type 0
 BreaksRuleRun w path s before after fault =
     ((f : Failure) × (fault ≡ of_failure f) × (FailsPlaces before.files w.disk f) × WritesNothing before after)

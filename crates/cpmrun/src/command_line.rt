@@ -106,7 +106,7 @@ fn run<'a, S: FileSystem, O: Writer, E: Writer>(
     ensures fault { IfErr result (λ fault. (old new : Output) → FaultOf BreaksWithRule
         (map string_bytes words.entry.now) (world (S.files system.old) (O.output out.old) old)
         (world (S.files system.new) (O.output out.new) new) fault) }
-    ensures unreported { OnErr result (err.new ≡ err.old) }
+    ensures unreported { OnErr result (E.output err.new ≡ E.output err.old) }
     ensures failed { ReportsPaths file_paths result (S.files system.old) (S.files system.new) }
 {
     let words = match read_request(system.alloc(), words)? {

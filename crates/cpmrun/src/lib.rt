@@ -19,3 +19,4 @@ pub use edit_lines::{
 };
 pub use folders::{FileSystem, SystemFiles};
 pub use requests::{Fault, Tool, report_fault};
+pub use streams::Terminal;

@@ -16,12 +16,11 @@ ghost use Rattle.requests.specs.FaultReports.{file_paths};
 ghost use Rattle.cpmrun.specs.RuleEnds.{BreaksRuleRun, BreaksWithRule, RunsRule, RunsWithRule, or_rule, targets_of};
 
 use command_words::Words;
-use dependencies::run_noting_looks;
 use folders::{FileSystem, Places, write_path};
 use loading::load;
-use machine::WholeRun;
+use machine::{Noting, Session, WholeRun};
 use make_rules::{RuleFault, check_paths, rule_of_run};
-use one_run::{RunFault, report_stop, stop_status, write_output, written_paths};
+use one_run::{RunFault, report_stop, run_to_end, stop_status, update_files, written_paths};
 use report_lines::Writer;
 use requests::Fault;
 use std::alloc::{AllocError, Global};
@@ -76,31 +75,31 @@ fn write_rule<S: FileSystem>(system: &mut S, path: &str, rule: &Vec<u8>) -> Resu
     Ok(write_path(system, path, rule)?)
 }
 
-// Reports a whole run that noted its looks: its console text, its changed files, the rule for make, and its stop. The places and the rule
-// are made before anything is written. Returns the exit status for the stop.
-fn report_with_rule<'a, S: FileSystem, O: Writer, E: Writer>(
+// Runs a session once, and writes its console text, its changed files and the rule for make, and reports its stop. The places are found
+// before the run, and the rule is made before a file is written. Returns the exit status for the stop.
+fn run_and_report<'a, S: FileSystem, O: Writer, E: Writer>(
     system: &mut S,
     words: &Words<'_>,
     path: &str,
-    run: &WholeRun<'_>,
+    session: &Session,
     out: &mut O,
     err: &mut E,
 ) -> Result<u8, Fault<'a>>
-    requires { AreDependencies run.now.session.now run.now.looks run.now.steps run.now.cause }
-    ensures done { IfOk result (λ status. RunsRule words.now path.now run.now.session.now status
+    ensures done { IfOk result (λ status. RunsRule words.now path.now session.now status
         (world (S.files system.old) (O.output out.old) (E.output err.old))
         (world (S.files system.new) (O.output out.new) (E.output err.new))) }
     ensures fault { IfErr result (λ fault. (old new : Output) → BreaksRuleRun
-        words.now path.now run.now.session.now (world (S.files system.old) (O.output out.old) old)
+        words.now path.now session.now (world (S.files system.old) (O.output out.old) old)
         (world (S.files system.new) (O.output out.new) new) fault) }
-    ensures unreported { OnErr result (err.new ≡ err.old) }
+    ensures unreported { OnErr result (E.output err.new ≡ E.output err.old) }
     ensures failed { ReportsPaths file_paths result (S.files system.old) (S.files system.new) }
 {
     let places = Places::find(system, &words.out, &words.disk)?;
-    let rule = rule_for(system, words, &places, path, run)?;
-    write_output(system, &places, run, out)?;
+    let run = run_to_end(system.alloc(), session, Noting::Looks, out, err)?;
+    let rule = rule_for(system, words, &places, path, &run)?;
+    update_files(system, &places, run.session.files(), run.journal())?;
     write_rule(system, path, &rule)?;
-    report_stop(run, err);
+    report_stop(&run, err);
     Ok(stop_status(run.cause()))
 }
 
@@ -119,13 +118,10 @@ pub fn run_with_rule<'a, S: FileSystem, O: Writer, E: Writer>(
     ensures fault { IfErr result (λ fault. (old new : Output) → BreaksWithRule words.now path.entry
         (world (S.files system.old) (O.output out.old) old)
         (world (S.files system.new) (O.output out.new) new) fault) }
-    ensures unreported { OnErr result (err.new ≡ err.old) }
+    ensures unreported { OnErr result (E.output err.new ≡ E.output err.old) }
     ensures failed { ReportsPaths file_paths result (S.files system.old) (S.files system.new) }
 {
     check_paths(system.alloc(), &words.session(), path, words.out.as_slice())?;
     let session = load(system, &words.session())?;
-    let Ok(run) = run_noting_looks(system.alloc(), &session) else {
-        return Err(Fault::OutOfMemory);
-    };
-    report_with_rule(system, words, path, &run, out, err)
+    run_and_report(system, words, path, &session, out, err)
 }

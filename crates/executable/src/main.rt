@@ -3,7 +3,7 @@
 //! The crate has `main` alone, since a program of Rattle can't be a library too.
 #![tactic(auto)]
 
-use cpmrun::{Fault, Over, SystemFiles, Tool, command, report_fault};
+use cpmrun::{Fault, Over, SystemFiles, Terminal, Tool, command, report_fault};
 use std::env;
 use std::io::ErrorKind;
 use std::process::ExitCode;
@@ -12,7 +12,7 @@ use std::process::ExitCode;
 fn main(rt: HostRuntime) -> ExitCode {
     let alloc = rt.alloc();
     let mut out = Over::new(rt.stdout());
-    let mut err = Over::new(rt.stderr());
+    let mut err = Terminal::new(&rt, rt.stderr());
     let args = match env::args(&rt) {
         Ok(args) => args,
         Err(error) if error.kind() == ErrorKind::OutOfMemory => {

@@ -1,46 +1,24 @@
 -- The places of folders and disks.
-use Rattle.std.proofs.Common.{◌≡◌, ℕ, ◌∙◌, Bool, true, false, cond, List, [], ◌∷◌, Option, Some, None, ap, ap₂, arith, filter, get_or, length, map, refl, subst, sym}
-use Rattle.std.specs.Prelude.{MatchOption, String, string_bytes}
+use Rattle.std.proofs.Common.{◌≡◌, ℕ, zero, suc, ◌<◌, Bool, true, false, cond, List, [], ◌∷◌, Option, Some, None, ap, arith, filter, get_or, length, map, refl}
+use Rattle.std.specs.Prelude.{MatchOption}
 use Rattle.std.specs.Borrow.{Bor}
-use Rattle.std.specs.Option.{option_map, option_or}
+use Rattle.std.specs.Option.{option_map}
 use Rattle.folders.specs.Faults.{FailsBy}
 use Rattle.folders.specs.FileSystem.{StoredFiles}
-use Rattle.folders.specs.Places.{AreDisksFrom, FailsDisk, FailsPlaces, IsDiskOf, path_of, written_folders}
+use Rattle.folders.specs.Places.{FailsDisk, FailsPlaces}
 use Rattle.folders.specs.declared.fault.Failure.{Failure}
 use Rattle.folders.specs.declared.fault.Failure.TheVariants.{AtFault, OutOfMemory}
-use Rattle.folders.specs.declared.places.Disk.{Disk}
 
 abbrev pub Paths : Type 0
 Paths = List (Option (Bor (List ℕ)))
 
--- A list of four.
-of_four : (xs : Paths) → length xs ≡ 4 → xs ≡ get_or xs 0 None ∷ get_or xs 1 None ∷ get_or xs 2 None ∷ get_or xs 3 None ∷ []
-of_four [] e = absurd (omega (arith, e))
-of_four (a ∷ []) e = absurd (omega (arith, e))
-of_four (a ∷ b ∷ []) e = absurd (omega (arith, e))
-of_four (a ∷ b ∷ c ∷ []) e = absurd (omega (arith, e))
-of_four (a ∷ b ∷ c ∷ d ∷ []) e = refl
-of_four (a ∷ b ∷ c ∷ d ∷ x ∷ xs) e = absurd (omega (arith, e))
-
--- The folders of four drives.
-pub four_copies : {Z : Type 0} (a b c d : Option (String Z)) (disks out : Paths) → length disks ≡ 4 → length out ≡ 4
-    → option_map string_bytes a ≡ path_of (option_or (get_or disks 0 None) (get_or out 0 None))
-    → option_map string_bytes b ≡ path_of (option_or (get_or disks 1 None) (get_or out 1 None))
-    → option_map string_bytes c ≡ path_of (option_or (get_or disks 2 None) (get_or out 2 None))
-    → option_map string_bytes d ≡ path_of (option_or (get_or disks 3 None) (get_or out 3 None))
-    → map (option_map string_bytes) (a ∷ b ∷ c ∷ d ∷ []) ≡ map path_of (written_folders disks out)
-four_copies a b c d disks out e f p q r s =
-    four p q r s ∙ sym (ap (map path_of) (ap₂ written_folders (of_four disks e) (of_four out f)))
-  where
-    four : {w x y z : Option (List ℕ)} → option_map string_bytes a ≡ w → option_map string_bytes b ≡ x → option_map string_bytes c ≡ y → option_map string_bytes d ≡ z
-        → map (option_map string_bytes) (a ∷ b ∷ c ∷ d ∷ []) ≡ w ∷ x ∷ y ∷ z ∷ []
-    four p q r s = cc
-
--- The disks of four drives.
-pub four_disks : (files : StoredFiles) (disks : Paths) (a b c d : Option Disk) → length disks ≡ 4
-    → IsDiskOf files 0 (get_or disks 0 None) a → IsDiskOf files 1 (get_or disks 1 None) b → IsDiskOf files 2 (get_or disks 2 None) c → IsDiskOf files 3 (get_or disks 3 None) d
-    → AreDisksFrom files 0 disks (a ∷ b ∷ c ∷ d ∷ [])
-four_disks files disks a b c d e p q r s = subst (λ l. AreDisksFrom files 0 l (a ∷ b ∷ c ∷ d ∷ [])) (sym (of_four disks e)) (p, (q, (r, (s, refl))))
+-- What holds for each of the four drives.
+pub each_drive : (P : ℕ → Type 0) → P 0 → P 1 → P 2 → P 3 → (drive : ℕ) → drive < 4 → P drive
+each_drive P a b c d zero h = a
+each_drive P a b c d (suc zero) h = b
+each_drive P a b c d (suc (suc zero)) h = c
+each_drive P a b c d (suc (suc (suc zero))) h = d
+each_drive P a b c d (suc (suc (suc (suc n)))) h = absurd (omega (arith, h))
 
 -- A folder is no disk of its drive.
 pub fails_there : (files : StoredFiles) (disks : Paths) (drive : ℕ) (f : Failure)

@@ -1,5 +1,5 @@
 -- Names of files in the folder of a drive. (This project's profile.)
-use Rattle.std.specs.Prelude.{ℕ, ◌==◌, ◌-◌, ◌++◌, ◌∷◌, [], Bool, false, not, List, Option, Some, None, Result, Ok, Err, if◌then◌else◌, codes, slice_get, slice_set, length}
+use Rattle.std.specs.Prelude.{ℕ, ◌==◌, ◌-◌, ◌++◌, ◌∷◌, [], Bool, false, not, List, Option, Some, None, Result, Ok, Err, if◌then◌else◌, slice_get, slice_set, length}
 use Rattle.std.specs.List.{list_any}
 use Rattle.std.specs.Option.{option_map_or}
 use Rattle.filenames.specs.Names.{Key, is_colon, name_without_drive, display_text}

@@ -1,6 +1,6 @@
 // Where the changed files of a run are written.
 
-ghost use Rattle.std.specs.Prelude.{◌≡◌, IfErr, IfOk, IfSome, MatchOption, is_some, length, map, option_map, string_bytes};
+ghost use Rattle.std.specs.Prelude.{◌≡◌, IfErr, IfOk, IfSome, MatchOption, length, map, option_map, string_bytes};
 ghost use Rattle.std.specs.Char.{is_ascii_lowercase, is_ascii_uppercase};
 ghost use Rattle.std.specs.List.{filter, list_any};
 ghost use Rattle.filenames.specs.Drives.{drive_number};
@@ -117,46 +117,67 @@ impl Disk {
     }
 }
 
-// Reads which files the folder of a drive has, if it is a disk.
-fn read_disk<S: FileSystem>(
-    system: &mut S,
-    drive: Drive,
-    folder: Option<&str>,
-) -> Result<Option<Disk>, Failure>
-    ensures disk { IfOk result (texts.IsDiskOf (S.files system.old) (drive_number drive) folder.entry) }
-    ensures fault { IfErr result (FailsBy (λ fault. MatchOption folder.entry ⊥ (λ path.
-        texts.FailsDisk (S.files system.old) (drive_number drive) path.now fault))) }
-    ensures unchanged { KeepsFiles failure_paths result (S.files system.old) (S.files system.new) }
-{
-    match folder {
-        Some(folder) => Ok(Some(Disk::read(system, drive, folder)?)),
-        None => Ok(None),
-    }
-}
-
-/// The disks of the drives A to D, as far as their folders are disks.
+/// Where the changed files of a drive are written.
 #[derive(Drop)]
-pub struct Disks {
-    of: [Option<Disk>; 4],
+pub struct Place {
+    /// The folder.
+    folder: String,
+    /// Its files, if the folder is the disk of the drive.
+    disk: Option<Disk>,
 }
 
-impl Disks {
-    // Returns whether the folder of a file's drive is a disk.
-    fn has_drive_of(&self, name: &Name) -> bool
-        ensures { result ≡ is_some (texts.disk_in self.now name.now) }
+impl Place {
+    // Returns the place of a folder.
+    fn at(alloc: Global, folder: &str, disk: Option<Disk>) -> Result<Place, Failure>
+        ensures folder { IfOk result (λ place. string_bytes place.folder ≡ folder.now) }
+        ensures disk { IfOk result (λ place. place.disk ≡ disk) }
+        ensures fault { IfErr result (λ failure. failure ≡ Failure.OutOfMemory) }
     {
-        self.of[name.drive().number() as usize].is_some()
+        match String::from_str(alloc, folder) {
+            Ok(folder) => Ok(Place { folder, disk }),
+            Err(_) => Err(Failure::OutOfMemory),
+        }
+    }
+
+    // Finds the place of a drive: its disk, or else the folder into which its changed files are written.
+    fn find<S: FileSystem>(
+        system: &mut S,
+        drive: Drive,
+        disk: Option<&str>,
+        out: Option<&str>,
+    ) -> Result<Option<Place>, Failure>
+        ensures place { IfOk result
+            (texts.IsPlace (S.files system.old) (drive_number drive) disk.entry out.entry) }
+        ensures fault { IfErr result (FailsBy (λ fault. MatchOption disk.entry ⊥ (λ folder.
+            texts.FailsDisk (S.files system.old) (drive_number drive) folder.now fault))) }
+        ensures unchanged { KeepsFiles failure_paths result (S.files system.old) (S.files system.new) }
+    {
+        if let Some(folder) = disk {
+            let files = Disk::read(system, drive, folder)?;
+            return Ok(Some(Place::at(system.alloc(), folder, Some(files))?));
+        }
+        match out {
+            Some(folder) => Ok(Some(Place::at(system.alloc(), folder, None)?)),
+            None => Ok(None),
+        }
     }
 
     // Returns the name of a file: on a disk the one that it has there, elsewhere as printed.
     fn name_of(&self, alloc: Global, name: &Name) -> Result<String, AllocError>
-        ensures { IfOk result
-            (λ file. string_bytes file ≡ texts.name_at (texts.disk_in self.now name.now) name.now) }
+        ensures { IfOk result (λ file. string_bytes file ≡ texts.name_at self.now.disk name.now) }
     {
-        match &self.of[name.drive().number() as usize] {
+        match &self.disk {
             Some(disk) => disk.name_of(alloc, name),
             None => file_name(alloc, name),
         }
+    }
+
+    // Returns the path of a file.
+    fn path_of(&self, alloc: Global, name: &Name) -> Result<String, AllocError>
+        ensures { IfOk result (λ path. string_bytes path ≡ texts.path_at self.now name.now) }
+    {
+        let file = self.name_of(alloc, name)?;
+        path_in(alloc, self.folder.as_str(), file.as_str())
     }
 }
 
@@ -164,36 +185,8 @@ impl Disks {
 /// found, a new file gets a name in the case of most names there, and a file that is gone is removed.
 #[derive(Drop)]
 pub struct Places {
-    /// The folder of each drive, if its changed files are written.
-    folders: [Option<String>; 4],
-    /// The disk of each drive whose folder is one.
-    disks: Disks,
-}
-
-// Returns a copy of a path, if there is one.
-fn copy_of(alloc: Global, path: Option<&str>) -> Result<Option<String>, AllocError>
-    ensures { IfOk result (λ copy. option_map string_bytes copy ≡ texts.path_of path.entry) }
-{
-    match path {
-        Some(path) => Ok(Some(String::from_str(alloc, path)?)),
-        None => Ok(None),
-    }
-}
-
-// Returns the folder of each drive: its disk, or the one where its changed files are written.
-fn written_folders(
-    alloc: Global,
-    out: &[Option<&str>; 4],
-    disks: &[Option<&str>; 4],
-) -> Result<[Option<String>; 4], AllocError>
-    ensures { IfOk result (λ folders. map (option_map string_bytes) folders
-        ≡ map texts.path_of (texts.written_folders disks.now out.now)) }
-{
-    let a = copy_of(alloc, disks[0].or(out[0]))?;
-    let b = copy_of(alloc, disks[1].or(out[1]))?;
-    let c = copy_of(alloc, disks[2].or(out[2]))?;
-    let d = copy_of(alloc, disks[3].or(out[3]))?;
-    Ok([a, b, c, d])
+    /// The place of each drive, if its changed files are written.
+    of: [Option<Place>; 4],
 }
 
 impl Places {
@@ -212,28 +205,21 @@ impl Places {
         ensures fault { IfErr result (texts.FailsPlaces (S.files system.old) disks.now) }
         ensures unchanged { KeepsFiles failure_paths result (S.files system.old) (S.files system.new) }
     {
-        let Ok(folders) = written_folders(system.alloc(), out, disks) else {
-            return Err(Failure::OutOfMemory);
-        };
-        let a = read_disk(system, Drive::A, disks[0])?;
-        let b = read_disk(system, Drive::B, disks[1])?;
-        let c = read_disk(system, Drive::C, disks[2])?;
-        let d = read_disk(system, Drive::D, disks[3])?;
-        Ok(Places {
-            folders,
-            disks: Disks { of: [a, b, c, d] },
-        })
+        let a = Place::find(system, Drive::A, disks[0], out[0])?;
+        let b = Place::find(system, Drive::B, disks[1], out[1])?;
+        let c = Place::find(system, Drive::C, disks[2], out[2])?;
+        let d = Place::find(system, Drive::D, disks[3], out[3])?;
+        Ok(Places { of: [a, b, c, d] })
     }
 
     /// Returns the path at which a file is written, or `None` if its drive has no folder for that.
     pub fn path_of(&self, alloc: Global, name: &Name) -> Result<Option<String>, AllocError>
         ensures { IfOk result (λ path. option_map string_bytes path ≡ texts.place_of self.now name.now) }
     {
-        let Some(folder) = &self.folders[name.drive().number() as usize] else {
-            return Ok(None);
-        };
-        let file = self.disks.name_of(alloc, name)?;
-        Ok(Some(path_in(alloc, folder.as_str(), file.as_str())?))
+        match &self.of[name.drive().number() as usize] {
+            Some(place) => Ok(Some(place.path_of(alloc, name)?)),
+            None => Ok(None),
+        }
     }
 
     /// Returns the path from which a file that is gone is removed, or `None` if its drive is no disk.
@@ -241,9 +227,9 @@ impl Places {
         ensures { IfOk result
             (λ path. option_map string_bytes path ≡ texts.removed_place_of self.now name.now) }
     {
-        if !self.disks.has_drive_of(name) {
-            return Ok(None);
+        match &self.of[name.drive().number() as usize] {
+            Some(place) if place.disk.is_some() => Ok(Some(place.path_of(alloc, name)?)),
+            _ => Ok(None),
         }
-        self.path_of(alloc, name)
     }
 }

@@ -30,7 +30,7 @@ refused_of_words stored w program files script (Err (Refused n)) p a b h =
     record { program = program; files = files; script = script; of_program = p; from_folders = a; of_script = b; refused = h }
 refused_of_words stored w program files script (Err OutOfMemory) p a b h = absurd h
 
--- The script of a text, or without one that of a file.
+-- The script of a text, or of a file if there is no text.
 pub typed_known : (stored : StoredFiles) (w : SessionWords) (script : List ℕ) → IsTypedScript w.typed (Some script) → IsScriptOf stored w script
 typed_known stored w script h = by w.typed h where
   by : (o : Option (Bor (List ℕ))) → IsTypedScript o (Some script) → MatchOption o (IsScriptAt stored.bytes (text_of w.console) script) (λ text. IsTyped text.now script)

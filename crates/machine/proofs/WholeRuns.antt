@@ -11,7 +11,11 @@ use Rattle.machine.specs.StateView.{PartialState, AllLooks}
 use Rattle.machine.specs.Machine.{session_answers, after, cold_run}
 use Rattle.machine.specs.FirstLooks.{asking_steps}
 use Rattle.machine.specs.Runs.{AreNoted, EndsBy, NotesWholeRun, RunView, asked_by, seen_by}
+use Rattle.machine.specs.PlainState.{PlainRun, plain_run}
+use Rattle.machine.specs.Run.{RunResult}
+use Rattle.machine.specs.Session.{IsSession}
 use Rattle.machine.proofs.ColdLemmas.{cold_limit, cold_stop}
+use Rattle.machine.proofs.PlainSteps.{plain_machine_is_laid}
 
 pub stop_asks : (n limit : ℕ) → n < limit → asking_steps n limit ≡ n + 1
 stop_asks n limit below = rw (lt-ltb n limit below) refl
@@ -41,3 +45,11 @@ module _ (s : Session) (r : RunView) (same : r.session ≡ s) where
   noted_whole t looked Looks stop noted is ends =
       let seen : t.seen ≡ asked_by r.step stop = cc in
       (rw same at noted.0, seen ∙ asks stop ends)
+
+-- Its text is the text of the plain run.
+pub text_of_ended : (r : RunView) (st : PartialState) (stop : Option Cause) → IsSession r.session → after (session_answers r.session) r.step ≡ Some st → EndsBy r r.session.limit stop
+    → st.core.desk.text ≡ (plain_run r.session).state.core.desk.text
+text_of_ended r st stop is at ends =
+    let cold = is_cold r.session r refl st at stop (unwrap_or stop Limit) ends refl in
+    sym (ap (λ (p : PlainRun). p.state.core.desk.text) (plain_machine_is_laid.runs r.session is)
+    ∙ ap (λ (c : RunResult PartialState Cause). c.state.core.desk.text) cold)

@@ -11,6 +11,7 @@ use Rattle.machine.specs.Inputs.{Session}
 use Rattle.machine.specs.StateView.{PartialState, AllLooks, StateView}
 use Rattle.machine.specs.Machine.{Answers, session_answers, after, outcome}
 use Rattle.machine.specs.FirstLooks.{AllNoted, IsFirstLooks, asking_steps}
+use Rattle.machine.specs.Session.{IsSession}
 
 -- A run of a session: its number of steps, and the step below which its looks are noted, or `None` if they are not.
 pub record RunView : Type 0 where
@@ -30,6 +31,7 @@ AreNoted Looks f step t looked = IsFirstLooks f t × (t.seen ≡ step → AllNot
 
 -- The parts of a run belong together: the state is that after `step` steps, and what is noted are its looks.
 pub record IsRun (s : Session) (st : StateView) (t : FirstLooksView) (step : ℕ) (noting : Noting) : Type 0 where
+  pub session : IsSession s
   pub at : after (session_answers s) step ≡ Some st.state
   pub within : step ≤ STEP_LIMIT
   pub bound : IsBound s st

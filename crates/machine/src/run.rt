@@ -1,7 +1,8 @@
-ghost use Rattle.std.specs.Prelude.{◌≡◌, ◌+◌, ◌-◌, ◌^◌, ◌<◌, ◌≤◌, ◌↔◌, Some, IfNone, IfOk, IfSome, IsNone, IsTrue, OnOk, length};
+ghost use Rattle.std.specs.Prelude.{◌≡◌, ◌+◌, ◌-◌, ◌^◌, ◌<◌, ◌≤◌, ◌↔◌, Some, IfNone, IfOk, IfSome, IsNone, IsTrue, OnOk, Option, length, take};
 ghost use Rattle.first_looks.specs.FirstLooks.{with_seen};
 ghost use Rattle.machine.specs.FirstLooks.{NotesSeenStep};
 ghost use Rattle.machine.specs.Machine.{HasNoQuestions, looks_from, cold_run, session_answers};
+ghost use Rattle.machine.specs.PlainState.{plain_run};
 ghost use Rattle.machine.specs.Runs.{GoesOn, EndsBy, NotesWholeRun, StopsBelow, asked_by, seen_by};
 
 use crate::noting::Noting;
@@ -153,6 +154,17 @@ impl<'s> Run<'s> {
         Ok(stop)
     }
 
+    /// Returns the bytes that were sent to the console so far: a beginning of those of the whole run, or all of them at its end.
+    pub fn text(&self) -> &[u8]
+        requires { self.now.step ≤ self.now.session.limit }
+        ensures begins { result.now
+            ≡ take (length result.now) (plain_run self.now.session).state.core.desk.text }
+        ensures whole { (stop : Option Cause) → EndsBy self.now self.now.session.limit stop
+            → result.now ≡ (plain_run self.now.session).state.core.desk.text }
+    {
+        self.state.desk.text()
+    }
+
     /// Runs to a stop or to the session's limit, and consumes the run.
     ///
     /// # Errors
@@ -168,6 +180,18 @@ impl<'s> Run<'s> {
     {
         let limit = self.session.limit();
         let stop = self.advance(limit)?;
+        Ok(self.ended(stop))
+    }
+
+    /// Consumes a run that came to this stop or, if there is none, to the session's limit.
+    pub fn ended(self, stop: Option<Cause>) -> WholeRun<'s>
+        requires { EndsBy self self.session.limit stop }
+        ensures session { result.session.now ≡ self.entry.session }
+        ensures cold { cold_run self.entry.session
+            ≡ record { state = result.state.state; steps = result.steps; cause = result.cause } }
+        ensures looks { self.entry.seen ≡ Some (asked_by self.entry.step stop)
+            → NotesWholeRun self.entry.session result.looks result.steps }
+    {
         let Run {
             session,
             state,
@@ -175,13 +199,13 @@ impl<'s> Run<'s> {
             step,
             ..
         } = self;
-        Ok(WholeRun {
+        WholeRun {
             session,
             state,
             looks,
             steps: step,
             cause: stop.unwrap_or(Cause::Limit),
-        })
+        }
     }
 }
 

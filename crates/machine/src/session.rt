@@ -207,7 +207,8 @@ impl Session {
     /// Returns the image that known cells of a run of this session belong to.
     #[inline(always)]
     pub(crate) fn beneath(&self) -> Beneath
-        ensures { cells_beneath result ≡ image_of self.now }
+        ensures image { cells_beneath result ≡ image_of self.now }
+        ensures session { IsSession self.now }
     {
         Beneath::of(&self.first_page, &self.program)
     }

@@ -5,6 +5,7 @@ ghost use Rattle.first_looks.specs.FirstLooks.{NotesLooks, SameBelow};
 ghost use Rattle.machine.specs.Machine.{start, HasNoHostQuestions, HasNoLooks, HasNoQuestions, is_looked_at, looks_from};
 ghost use Rattle.machine.specs.TakesQuestion.{TakesQuestion};
 ghost use Rattle.machine.specs.Bound.{IsBound};
+ghost use Rattle.machine.specs.Session.{IsSession};
 
 use crate::session::{STEP_LIMIT, Session};
 use console_calls::{Desk, ScriptLooks};
@@ -54,6 +55,7 @@ impl State {
         ensures state { IfOk result (λ r. r.state ≡ start) }
         ensures looked { IfOk result (λ r. HasNoLooks r.looked) }
         ensures bound { IfOk result (λ r. IsBound session.now r) }
+        ensures session { OnOk result (IsSession session.now) }
     {
         State::load_over(alloc, session, BlankMarks::new(alloc)?)
     }
@@ -71,6 +73,7 @@ impl State {
         ensures state { IfOk result (λ r. r.state ≡ start) }
         ensures looked { IfOk result (λ r. HasNoLooks r.looked) }
         ensures bound { IfOk result (λ r. IsBound session.now r) }
+        ensures session { OnOk result (IsSession session.now) }
     {
         let cells = Cells::new(alloc)?;
         Ok(State {

@@ -1,16 +1,16 @@
 -- One run of a session: what it writes, its status, and what holds after an error. (This project's profile.)
-use Rattle.std.specs.Prelude.{◌≡◌, ℕ, ◌⊎◌, ◌++◌, List, Option}
+use Rattle.std.specs.Prelude.{◌≡◌, ℕ, ◌⊎◌, ◌++◌, List, Option, take}
 use Rattle.machine.specs.Cause.{Cause}
 use Rattle.machine.specs.Cause.TheVariants.{WarmBoot, Halt, Limit, Undefined, SystemArea, ConsoleExhausted, NoDollar, Unsupported, BadDrive}
 use Rattle.folders.specs.FileSystem.{FileBytes}
 use Rattle.folders.specs.declared.fault.Failure.{Failure}
-use Rattle.folders.specs.declared.fault.Failure.TheVariants as failure
 use Rattle.folders.specs.declared.places.Places.{Places}
 use Rattle.machine.specs.Inputs.{Session}
 use Rattle.machine.specs.PlainState.{plain_run}
 use Rattle.report_lines.specs.ChangedLines.{gone_lines}
 use Rattle.report_lines.specs.FirstLines.{stop_line}
-use Rattle.streams.specs.Streams.{WritesOrFails, WritesPart, WritesWhole}
+use Rattle.streams.specs.Streams.{Output, WritesOrFails, WritesPart, WritesWhole}
+use Rattle.one_run.specs.Faults.{fault_of}
 use Rattle.one_run.specs.Updates.{FailsToUpdateAll, UpdatesAll}
 use Rattle.one_run.specs.World.{World}
 use Rattle.one_run.specs.declared.fault.RunFault.{RunFault}
@@ -52,12 +52,16 @@ pub record RunsOnce (p : Places) (s : Session) (status : ℕ) (before after : Wo
   pub files : UpdatesFiles p s before.files.bytes after.files.bytes
   pub reported : WritesOrFails before.err after.err (stop_text s)
 
--- What was written before an error: a prefix of the console text if writing that failed, all of it if a changed file was not
--- written or removed, and nothing or all of the console text if an allocation failed.
+-- What was written of the console text before an error: a prefix of it, if writing it or an allocation failed.
+abbrev pub BreaksText : List ℕ → Output → Output → RunFault → Type 0
+BreaksText text old new CannotWrite = WritesPart old new text
+BreaksText text old new OutOfMemory = (count : ℕ) × WritesWhole old new (take count text)
+BreaksText text old new (Folders f) = ⊥
+
+-- What an error leaves: a prefix of the console text, and the files unchanged; or all of the text, and a changed file that was not
+-- written or removed.
 abbrev pub BreaksRun : Places → Session → World → World → RunFault → Type 0
-BreaksRun p s before after CannotWrite = WritesPart before.out after.out (console_text s) × (after.files.bytes ≡ before.files.bytes)
-BreaksRun p s before after (Folders f) =
-    FailsToUpdateFiles p s before.files.bytes after.files.bytes (failure.AtFault f) × WritesWhole before.out after.out (console_text s)
-BreaksRun p s before after OutOfMemory =
-    ((after.out ≡ before.out) × (after.files.bytes ≡ before.files.bytes))
-    ⊎ (WritesWhole before.out after.out (console_text s) × FailsToUpdateFiles p s before.files.bytes after.files.bytes failure.OutOfMemory)
+BreaksRun p s before after fault =
+    (BreaksText (console_text s) before.out after.out fault × (after.files.bytes ≡ before.files.bytes))
+    ⊎ (WritesWhole before.out after.out (console_text s)
+    × (f : Failure) × (fault ≡ fault_of f) × FailsToUpdateFiles p s before.files.bytes after.files.bytes f)

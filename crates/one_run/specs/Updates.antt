@@ -1,6 +1,6 @@
 -- How the changed files of a run are written at their places, and the ones that are gone are removed from their disks. (This
 -- project's profile.)
-use Rattle.std.specs.Prelude.{◌≡◌, ℕ, ◌⊎◌, [], ◌∷◌, List, MatchOption, Option, Some, None, filter, not, unwrap_or}
+use Rattle.std.specs.Prelude.{◌≡◌, ℕ, ◌⊎◌, Bool, [], ◌∷◌, List, MatchOption, Option, Some, None, filter, not, unwrap_or}
 use Rattle.std.specs.FinMap.{contains_key}
 use Rattle.std.specs.List.{concat}
 use Rattle.hostfiles.specs.Names.{Key}
@@ -14,76 +14,66 @@ use Rattle.folders.specs.declared.fault.Failure.{Failure}
 use Rattle.folders.specs.declared.places.Places.{Places}
 use Rattle.machine.specs.ChangedFiles.{changed_keys_in, contents_in}
 use Rattle.machine.specs.PlainFiles.{Files}
+use Rattle.one_run.specs.declared.updating.Deed.{Deed}
+use Rattle.one_run.specs.declared.updating.Deed.TheVariants.{Remove, Write}
 
--- The changed files that are there at the stop, in the order of their names, and the ones that are gone.
-abbrev pub written_keys : Host → Files → List Key
-written_keys host files = filter (contains_key files) (changed_keys_in host files)
+-- Whether this is done with a changed file that is there at the stop, or is gone.
+abbrev pub is_for : Deed → Bool → Bool
+is_for Write there = there
+is_for Remove there = not there
 
-abbrev pub gone_keys : Host → Files → List Key
-gone_keys host files = filter (λ key. not (contains_key files key)) (changed_keys_in host files)
+-- The changed files with which it is done, in the order of their names.
+abbrev pub keys_for : Deed → Host → Files → List Key
+keys_for deed host files = filter (λ key. is_for deed (contains_key files key)) (changed_keys_in host files)
 
 -- The records of a file in order, with zeros for its holes; nothing if there is no file.
 abbrev pub bytes_in : Files → Key → List ℕ
 bytes_in files key = concat (unwrap_or (contents_in files key) [])
 
--- What is done with one file.
-abbrev pub Deed : Type 1
-Deed = Key → Option FileBytes → Option FileBytes → Type 0
+-- What is done with a file of these bytes: it is written whole at its place, if it has one, or removed from its disk, if its drive is one.
+abbrev pub Does : Places → Deed → List ℕ → Key → Option FileBytes → Option FileBytes → Type 0
+Does p Write bytes key before after = MatchOption (place_of p key) (after ≡ before) (λ path. PutsAt path before after bytes)
+Does p Remove bytes key before after = MatchOption (removed_place_of p key) (after ≡ before) (λ path. RemovesAt path before after)
 
--- A file is written whole at its place, or nowhere if it has none.
-abbrev pub WritesFile : Places → Files → Deed
-WritesFile p files key before after = MatchOption (place_of p key) (after ≡ before) (λ path. PutsAt path before after (bytes_in files key))
-
--- A file is removed from its disk, or nothing is done if its drive is none.
-abbrev pub RemovesFile : Places → Deed
-RemovesFile p key before after = MatchOption (removed_place_of p key) (after ≡ before) (λ path. RemovesAt path before after)
-
--- The file at a place could not be written.
+-- The file at a place could not be written or removed.
 abbrev pub IsFaultAt : Option Path → Fault → Type 0
 IsFaultAt None fault = ⊥
 IsFaultAt (Some path) fault = IsWriteFault path fault
 
--- A file was not written, because of this failure. Its place is unchanged, if it has one.
-abbrev pub FailsToWrite : Places → Failure → Deed
-FailsToWrite p f key before after = FailsBy (IsFaultAt (place_of p key)) f × MatchOption (place_of p key) (after ≡ before) (λ path. LeavesAt path before after)
+-- It was not done, because of this failure. The place of a file that was to be written is unchanged, if it has one.
+abbrev pub FailsAt : Places → Failure → Deed → Key → Option FileBytes → Option FileBytes → Type 0
+FailsAt p f Write key before after = FailsBy (IsFaultAt (place_of p key)) f × MatchOption (place_of p key) (after ≡ before) (λ path. LeavesAt path before after)
+FailsAt p f Remove key before after = FailsBy (IsFaultAt (removed_place_of p key)) f × (after ≡ before)
 
--- A file was not removed, because of this failure.
-abbrev pub FailsToRemove : Places → Failure → Deed
-FailsToRemove p f key before after = FailsBy (IsFaultAt (removed_place_of p key)) f × (after ≡ before)
+-- It was done with these files of a run, one after the other.
+abbrev pub DoesEach : Places → Deed → Files → Option FileBytes → List Key → Option FileBytes → Type 0
+DoesEach p deed files before [] after = after ≡ before
+DoesEach p deed files before (key ∷ keys) after =
+    (next : Option FileBytes) × Does p deed (bytes_in files key) key before next × DoesEach p deed files next keys after
 
--- This is done with each file of a list, one after the other.
-abbrev pub DoesEach : Deed → Option FileBytes → List Key → Option FileBytes → Type 0
-DoesEach Does before [] after = after ≡ before
-DoesEach Does before (key ∷ keys) after = (next : Option FileBytes) × Does key before next × DoesEach Does next keys after
+-- It was done with the first of them, and then it failed with one.
+abbrev pub FailsEach : Places → Deed → Files → Failure → Option FileBytes → List Key → Option FileBytes → Type 0
+FailsEach p deed files f before [] after = ⊥
+FailsEach p deed files f before (key ∷ keys) after =
+    FailsAt p f deed key before after
+    ⊎ ((next : Option FileBytes) × Does p deed (bytes_in files key) key before next × FailsEach p deed files f next keys after)
 
--- It is done with the first of them, and then it fails with one.
-abbrev pub StopsAt : Deed → Deed → Option FileBytes → List Key → Option FileBytes → Type 0
-StopsAt Does Fails before [] after = ⊥
-StopsAt Does Fails before (key ∷ keys) after = Fails key before after ⊎ ((next : Option FileBytes) × Does key before next × StopsAt Does Fails next keys after)
+-- It was done with all changed files that it is for.
+abbrev pub DoesAll : Places → Deed → Host → Files → Option FileBytes → Option FileBytes → Type 0
+DoesAll p deed host files before after = DoesEach p deed files before (keys_for deed host files) after
 
--- All changed files that are there were written.
-abbrev pub WritesAll : Places → Host → Files → Option FileBytes → Option FileBytes → Type 0
-WritesAll p host files before after = DoesEach (WritesFile p files) before (written_keys host files) after
+-- It was not, because of this failure.
+abbrev pub FailsAll : Places → Deed → Host → Files → Option FileBytes → Option FileBytes → Failure → Type 0
+FailsAll p deed host files before after f = FailsEach p deed files f before (keys_for deed host files) after
 
--- All changed files that are gone were removed from their disks.
-abbrev pub RemovesAll : Places → Host → Files → Option FileBytes → Option FileBytes → Type 0
-RemovesAll p host files before after = DoesEach (RemovesFile p) before (gone_keys host files) after
-
--- They were not all written, or removed, because of this failure.
-abbrev pub FailsToWriteAll : Places → Host → Files → Option FileBytes → Option FileBytes → Failure → Type 0
-FailsToWriteAll p host files before after f = StopsAt (WritesFile p files) (FailsToWrite p f) before (written_keys host files) after
-
-abbrev pub FailsToRemoveAll : Places → Host → Files → Option FileBytes → Option FileBytes → Failure → Type 0
-FailsToRemoveAll p host files before after f = StopsAt (RemovesFile p) (FailsToRemove p f) before (gone_keys host files) after
-
--- All changed files were written, and only then the ones that are gone were removed.
+-- All changed files that are there were written, and only then the ones that are gone were removed.
 pub record UpdatesAll (p : Places) (host : Host) (files : Files) (before after : Option FileBytes) : Type 0 where
   pub written : Option FileBytes
-  pub writes : WritesAll p host files before written
-  pub removes : RemovesAll p host files written after
+  pub writes : DoesAll p Write host files before written
+  pub removes : DoesAll p Remove host files written after
 
 -- This failed: a file was not written, and none was removed; or all were written, and one was not removed.
 abbrev pub FailsToUpdateAll : Places → Host → Files → Option FileBytes → Option FileBytes → Failure → Type 0
 FailsToUpdateAll p host files before after f =
-    FailsToWriteAll p host files before after f
-    ⊎ ((written : Option FileBytes) × WritesAll p host files before written × FailsToRemoveAll p host files written after f)
+    FailsAll p Write host files before after f
+    ⊎ ((written : Option FileBytes) × DoesAll p Write host files before written × FailsAll p Remove host files written after f)

@@ -9,7 +9,8 @@ use Rattle.hostfiles.specs.Names.{Key}
 use Rattle.machine.specs.Inputs.{Session}
 use Rattle.machine.specs.PlainFiles.{Files}
 use Rattle.machine.specs.PlainState.{plain_run}
-use Rattle.one_run.specs.Updates.{written_keys}
+use Rattle.one_run.specs.Updates.{keys_for}
+use Rattle.one_run.specs.declared.updating.Deed.TheVariants.{Write}
 
 -- A path, if there is one.
 abbrev pub path_if_any : Option Path → List Path
@@ -21,7 +22,7 @@ written_path p key = path_if_any (place_of p key)
 
 -- The paths of the changed files that are there and have places.
 abbrev pub paths_of_written : Places → Host → Files → List Path
-paths_of_written p host files = flat_map (written_path p) (written_keys host files)
+paths_of_written p host files = flat_map (written_path p) (keys_for Write host files)
 
 abbrev pub written_paths : Places → Session → List Path
 written_paths p s = paths_of_written p s.files (plain_run s).state.files

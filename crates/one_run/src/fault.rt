@@ -1,4 +1,5 @@
 use folders::{Failure, Fault};
+use std::alloc::AllocError;
 
 /// Why a run was not reported in full.
 #[derive(Drop)]
@@ -22,5 +23,16 @@ impl From<Failure> for RunFault {
             Failure::AtFault(fault) => RunFault::Folders(fault),
             Failure::OutOfMemory => RunFault::OutOfMemory,
         }
+    }
+}
+
+impl From<AllocError> for RunFault {
+    ghost use Rattle.std.specs.Prelude.{◌≡◌};
+    ghost use Rattle.one_run.specs.declared.fault.RunFault.TheVariants.{OutOfMemory};
+
+    ghost from_gives = { λ _ fault. fault ≡ OutOfMemory };
+
+    fn from(_: AllocError) -> Self {
+        RunFault::OutOfMemory
     }
 }

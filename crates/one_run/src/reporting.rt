@@ -1,23 +1,23 @@
 // One run of a session, without edits.
 
-ghost use Rattle.std.specs.Prelude.{◌≡◌, ◌++◌, IfOk, IfErr, OnOk, OnErr};
+ghost use Rattle.std.specs.Prelude.{◌≡◌, ◌++◌, IfOk, IfErr, OnErr};
 ghost use Rattle.folders.specs.Failures.{ReportsPaths};
 ghost use Rattle.hostfiles.specs.Files.{files};
 ghost use Rattle.machine.specs.PlainState.{plain_run};
 ghost use Rattle.report_lines.specs.ChangedLines.{gone_lines};
 ghost use Rattle.report_lines.specs.FirstLines.{stop_line};
-ghost use Rattle.streams.specs.Streams.{Output, WritesOrFails, WritesText, WritesWhole};
+ghost use Rattle.streams.specs.Streams.{WritesOrFails, WritesText};
 ghost use Rattle.one_run.specs.Faults.{run_paths};
-ghost use Rattle.one_run.specs.RunsOnce.{BreaksRun, RunsOnce, UpdatesFiles, console_text, stop_status, stop_text};
+ghost use Rattle.one_run.specs.RunsOnce.{BreaksRun, RunsOnce, stop_status, stop_text};
 ghost use Rattle.one_run.specs.World.{world};
 
 use crate::fault::RunFault;
+use crate::running::run_to_end;
 use crate::updating::update_files;
 use folders::{FileSystem, Places};
 use hostfiles::{HostFiles, Journal};
-use machine::{Cause, Noting, Run, Session, WholeRun};
+use machine::{Cause, Noting, Session, WholeRun};
 use report_lines::{Failed, FileFilter, Writer, stop_line, write_all, write_changed_files};
-use std::alloc::{AllocError, Global};
 
 /// Returns the exit status for a run that stopped by this cause.
 pub fn stop_status(cause: Cause) -> u8
@@ -59,70 +59,13 @@ pub fn report_stop<E: Writer>(run: &WholeRun<'_>, err: &mut E)
     let _ = write_stop_lines(err, run.cause(), run.session.files(), run.journal());
 }
 
-/// Writes the console text of a run to `out`, then each changed file that is there at the stop at its place, if it has one, and then
-/// removes the ones that are gone from their disks.
-///
-/// # Errors
-///
-/// Returns `Err` if writing to `out`, or writing or removing a file fails, or an allocation.
-pub fn write_output<S: FileSystem, O: Writer>(
-    system: &mut S,
-    places: &Places,
-    run: &WholeRun<'_>,
-    out: &mut O,
-) -> Result<(), RunFault>
-    ensures text { OnOk result
-        (WritesWhole (O.output out.old) (O.output out.new) (console_text run.now.session.now)) }
-    ensures files { OnOk result (UpdatesFiles places.now run.now.session.now
-        (S.files system.old).bytes (S.files system.new).bytes) }
-    ensures fault { IfErr result (λ fault. (err : Output) → BreaksRun places.now run.now.session.now
-        (world (S.files system.old) (O.output out.old) err)
-        (world (S.files system.new) (O.output out.new) err) fault) }
-    ensures failed { ReportsPaths run_paths result (S.files system.old) (S.files system.new) }
-{
-    let Ok(()) = write_all(out, run.text()) else {
-        return Err(RunFault::CannotWrite);
-    };
-    Ok(update_files(system, places, run.session.files(), run.journal())?)
-}
-
-/// Reports a run: its console text, its changed files, and its stop. Returns the exit status for the stop.
-fn report_run<S: FileSystem, O: Writer, E: Writer>(
-    system: &mut S,
-    places: &Places,
-    run: &WholeRun<'_>,
-    out: &mut O,
-    err: &mut E,
-) -> Result<u8, RunFault>
-    ensures done { IfOk result (λ status. RunsOnce places.now run.now.session.now status
-        (world (S.files system.old) (O.output out.old) (E.output err.old))
-        (world (S.files system.new) (O.output out.new) (E.output err.new))) }
-    ensures fault { IfErr result (BreaksRun places.now run.now.session.now
-        (world (S.files system.old) (O.output out.old) (E.output err.old))
-        (world (S.files system.new) (O.output out.new) (E.output err.new))) }
-    ensures unreported { OnErr result (err.new ≡ err.old) }
-    ensures failed { ReportsPaths run_paths result (S.files system.old) (S.files system.new) }
-{
-    write_output(system, places, run, out)?;
-    report_stop(run, err);
-    Ok(stop_status(run.cause()))
-}
-
-/// Runs a session to its end, without its looks.
-fn run_to_end(alloc: Global, session: &Session) -> Result<WholeRun<'_>, AllocError>
-    ensures { IfOk result (λ run. run.session.now ≡ session.now) }
-{
-    let run = Run::start(alloc, session, Noting::Nothing)?;
-    run.finish()
-}
-
-/// Runs a session once. First its console text is written to `out`. Then each changed file that is there when the run stops is
+/// Runs a session once. Its console text is written to `out` while it runs. Then each changed file that is there when the run stops is
 /// written at its place, if it has one, and the ones that are gone are removed from their disks. Then `err` gets a line that reports why
 /// the run stopped, and a line for each changed file that is gone. Returns the exit status for the stop.
 ///
 /// # Errors
 ///
-/// Returns `Err` if writing to `out`, or writing or removing a file fails, or an allocation; `err` is then unchanged.
+/// Returns `Err` if writing to `out`, or writing or removing a file fails, or an allocation; nothing is then written to `err`.
 pub fn run_once<S: FileSystem, O: Writer, E: Writer>(
     system: &mut S,
     places: &Places,
@@ -136,11 +79,11 @@ pub fn run_once<S: FileSystem, O: Writer, E: Writer>(
     ensures fault { IfErr result (BreaksRun places.now session
         (world (S.files system.old) (O.output out.old) (E.output err.old))
         (world (S.files system.new) (O.output out.new) (E.output err.new))) }
-    ensures unreported { OnErr result (err.new ≡ err.old) }
+    ensures unreported { OnErr result (E.output err.new ≡ E.output err.old) }
     ensures failed { ReportsPaths run_paths result (S.files system.old) (S.files system.new) }
 {
-    let Ok(run) = run_to_end(system.alloc(), &session) else {
-        return Err(RunFault::OutOfMemory);
-    };
-    report_run(system, places, &run, out, err)
+    let run = run_to_end(system.alloc(), &session, Noting::Nothing, out, err)?;
+    update_files(system, places, run.session.files(), run.journal())?;
+    report_stop(&run, err);
+    Ok(stop_status(run.cause()))
 }

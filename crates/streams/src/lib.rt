@@ -1,6 +1,7 @@
 //! Readers and writers whose failures contracts see.
 //!
 //! - `streams`: `Reader` and `Writer`, whose failures are counted
+//! - `terminal`: `Terminal`, standard error, which shows the steps of a long run if it is a terminal
 //! - `trail`: `Trail`, a list of paths without memory, for the paths at which files failed and for counts of failures
 //!
 //! The list takes no byte at run time and has no upper bound, so a caller of `read` or `write` need not show that a count has room. A
@@ -9,7 +10,9 @@
 #![tactic(auto)]
 
 mod streams;
+mod terminal;
 mod trail;
 
 pub use streams::{Failed, Over, Reader, Writer, write_all};
+pub use terminal::Terminal;
 pub use trail::Trail;

@@ -26,7 +26,8 @@ pub trait Reader {
         ensures err { OnErr result ((input self.new).failures ≡ (input self.old).failures + 1) };
 }
 
-/// A sink for bytes. A contract sees the bytes that it holds, if the writer reports them, and a count of failures.
+/// A sink for bytes. A contract sees the bytes that it holds, if the writer reports them, and a count of failures. What a terminal shows
+/// for a while is none of them.
 pub trait Writer {
     /// What it holds, if it reports that, and how often it failed.
     ghost output: { Self → Output };
@@ -42,13 +43,23 @@ pub trait Writer {
         ensures bytes { WriteAppends (output self.old).holds (output self.new).holds result piece.now }
         ensures ok { OnOk result ((output self.new).failures ≡ (output self.old).failures) }
         ensures err { OnErr result ((output self.new).failures ≡ (output self.old).failures + 1) };
+
+    /// Shows the steps of a run in progress, until something is written here or `hide_steps` is called. Only a terminal does so.
+    fn show_steps(&mut self, _steps: u64)
+        ensures { output self.new ≡ output self.old }
+    {}
+
+    /// Takes away the steps that are shown.
+    fn hide_steps(&mut self)
+        ensures { output self.new ≡ output self.old }
+    {}
 }
 
 /// A reader or writer of the standard library with a count of its failures. A write that takes no byte of a piece that is not empty is a
 /// failure.
 #[derive(Drop)]
 pub struct Over<T> {
-    inner: T,
+    pub(crate) inner: T,
     failures: Trail,
 }
 

@@ -1,7 +1,6 @@
 use Rattle.std.proofs.Common.{inl, inr, refl}
 use Rattle.std.proofs.lemmas.Result.{IfErr-weaker, IfOk-weaker, err_from_is_err_and}
 use Rattle.folders.proofs.FilesLemmas.{same_files}
-use Rattle.folders.specs.declared.fault.Failure.TheVariants as failure
 use Rattle.cpmrun.proofs.rule_run.run_with_rule.Goals as goal
 
 pub returns-in_err-check_paths-clause-fault : goal.returns-in_err-check_paths-clause-fault
@@ -17,32 +16,22 @@ returns-in_err-session-clause-fault g c =
       inl (c.in_err-session.field-0.0, refl, (rw c.session-2.ensures at c.in_err-session.ensures.fault), (refl, c.in_err-session.ensures.unchanged.bytes)),
     ))
 
-pub returns-in_default-clause-fault : goal.returns-in_default-clause-fault
-returns-in_default-clause-fault g c =
-    λ old new. inr (
-      rw (c.session.ensures, c.as_slice.ensures) at c.in_ok-check_paths.ensures.allowed,
-      inr (c.in_ok-session.session, rw c.session-2.ensures at c.in_ok-session.ensures.session, inl (failure.OutOfMemory, refl, tt, (refl, c.in_ok-session.ensures.unchanged.bytes))),
-    )
-
-pub report_with_rule-requires : goal.report_with_rule-requires
-report_with_rule-requires g c = rw c.in-Ok.ensures.session c.in-Ok.ensures.looks
-
 pub returns-clause-done : goal.returns-clause-done
 returns-clause-done g c =
-    IfOk-weaker c.report_with_rule.result _ _ (λ status h. record {
+    IfOk-weaker c.run_and_report.result _ _ (λ status h. record {
       allowed = rw (c.session.ensures, c.as_slice.ensures) at c.in_ok-check_paths.ensures.allowed;
       s = c.in_ok-session.session;
       of = rw c.session-2.ensures at c.in_ok-session.ensures.session;
-      runs = rw (c.in-Ok.ensures.session, same_files c.in_ok-session.ensures.unchanged) at h;
-    }) c.report_with_rule.ensures.done
+      runs = rw (same_files c.in_ok-session.ensures.unchanged) at h;
+    }) c.run_and_report.ensures.done
 
 pub returns-clause-fault : goal.returns-clause-fault
 returns-clause-fault g c =
-    IfErr-weaker c.report_with_rule.result _ _ (λ fault h old new. inr (
+    IfErr-weaker c.run_and_report.result _ _ (λ fault h old new. inr (
       rw (c.session.ensures, c.as_slice.ensures) at c.in_ok-check_paths.ensures.allowed,
       inr (
         c.in_ok-session.session,
         rw c.session-2.ensures at c.in_ok-session.ensures.session,
-        (rw (c.in-Ok.ensures.session, same_files c.in_ok-session.ensures.unchanged) at (h old new)),
+        (rw (same_files c.in_ok-session.ensures.unchanged) at (h old new)),
       ),
-    )) c.report_with_rule.ensures.fault
+    )) c.run_and_report.ensures.fault

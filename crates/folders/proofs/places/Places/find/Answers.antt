@@ -1,7 +1,8 @@
-use Rattle.std.proofs.Common.{◌≡◌, ◌∙◌, length, rules}
+use Rattle.std.proofs.Common.{◌∙◌, [], ◌∷◌, None, get_or}
 use Rattle.std.proofs.lemmas.Result.{err_from_is_err_and}
 use Rattle.folders.proofs.FilesLemmas.{same_files}
-use Rattle.folders.proofs.PlaceLemmas.{fails_there, four_disks}
+use Rattle.folders.specs.Places.{IsPlace}
+use Rattle.folders.proofs.PlaceLemmas.{each_drive, fails_there}
 use Rattle.folders.proofs.places.Places.find.Goals as goal
 
 pub returns-in_err-a-clause-fault : goal.returns-in_err-a-clause-fault
@@ -31,12 +32,9 @@ pub returns-clause-places : goal.returns-clause-places
 returns-clause-places g c =
     let files = g.S.FileSystem.files c.args.system.now in
     let disks = c.args.disks.now in
-    let four : length disks ≡ 4 = search rules in
+    let out = c.args.out.now in
     let first = same_files c.in_ok-a.ensures.unchanged in
     let second = same_files c.in_ok-b.ensures.unchanged ∙ first in
     let third = same_files c.in_ok-c.ensures.unchanged ∙ second in
-    record {
-      folders = c.in-Ok.ensures;
-      disks_are = four_disks files disks c.in_ok-a.a c.in_ok-b.b c.in_ok-c.c c.in_ok-d.d four c.in_ok-a.ensures.disk
-          (rw first at c.in_ok-b.ensures.disk) (rw second at c.in_ok-c.ensures.disk) (rw third at c.in_ok-d.ensures.disk);
-    }
+    each_drive (λ drive. IsPlace files drive (get_or disks drive None) (get_or out drive None) (get_or (c.in_ok-a.a ∷ c.in_ok-b.b ∷ c.in_ok-c.c ∷ c.in_ok-d.d ∷ []) drive None))
+    c.in_ok-a.ensures.place (rw first at c.in_ok-b.ensures.place) (rw second at c.in_ok-c.ensures.place) (rw third at c.in_ok-d.ensures.place)

@@ -12,6 +12,7 @@ invariant_of-self-2 c =
     let s = i.session.now in
     let stretch = rw c.in_ok-stop.was at c.run_to_look-reached.ensures.runs in
     record {
+      session = c.self.invariant.session;
       at = stretch.at ∙ ap (λ (st : PartialState). Some st) (sym c.note_step.ensures.state);
       within = omega (arith, stretch.within, c.requires.order);
       bound = still_bound s c.run_to_look-reached.new.state c.note_step.new.state c.note_step.ensures.beneath c.run_to_look-reached.ensures.bound;

@@ -11,6 +11,7 @@ invariant_of-result c =
     let e = c.new.ensures in
     let f = session_answers c.args.session.now in
     record {
+      session = c.in_ok-state.ensures.session;
       at = after_zero (outcome f) start c.in_ok-state.state.state c.in_ok-state.ensures.state;
       within = omega arith;
       bound = c.in_ok-state.ensures.bound;
