@@ -180,8 +180,9 @@ class MessageTest(CommandTest):
                 self.expect(status, out, err, HI, '--edits', self.put('edits', text))
 
     def test_a_failed_allocation_has_its_status(self) -> None:
+        """Without memory for the first two, the names of a device and of a kind of terminal, the program goes on as without a terminal."""
         library = build_library('refuse', self.work)
-        preload = {'LD_PRELOAD': str(library), 'REFUSE_AT': '1', 'REFUSE_MARK': str(self.work / 'mark')}
+        preload = {'LD_PRELOAD': str(library), 'REFUSE_AT': '3', 'REFUSE_MARK': str(self.work / 'mark')}
         self.expect(12, '', OUT_OF_MEMORY, HI, env={**os.environ, **preload})
 
     def test_the_first_error_is_reported(self) -> None:

@@ -14,7 +14,7 @@ from helpers import PROGRAM, ProgramTest, build_library
 WARM_BOOT = b'stop WarmBoot\n'
 PRINT = 'MVI E,{0}; MVI C,2; CALL 5'
 WAIT = ['MVI D,{0}', '{1}: LXI B,0', '{1}_inner: DCX B; MOV A,B; ORA C; JNZ {1}_inner', 'DCR D; JNZ {1}']
-"""Takes 262,147 steps for each of a number of turns, and one more."""
+"""Takes 262,147 steps for each of at most 255 turns, and one more."""
 
 
 def show(millions: int) -> bytes:
@@ -30,7 +30,10 @@ def printing(*waits: int) -> bytes:
     """Returns a program that prints A, B and so on, and waits for these numbers of turns, one after each letter."""
     code = []
     for number, turns in enumerate(waits):
-        code += [PRINT.format(65 + number), *(line.format(turns, f'wait_{chr(97 + number)}') for line in WAIT)]
+        code.append(PRINT.format(65 + number))
+        for part in range(0, turns, 200):
+            label = f'wait_{chr(97 + number)}_{chr(97 + part // 200)}'
+            code += [line.format(min(200, turns - part), label) for line in WAIT]
     return assemble([*code, 'RET'])
 
 
