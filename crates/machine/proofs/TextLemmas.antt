@@ -103,7 +103,7 @@ within_whole s n st at within =
       | inr limited ↦ omega (arith, within, limited.0)
     ]
 
--- Its text is a beginning of that of the whole run.
+-- Such a run has printed a beginning of the text of the whole run.
 pub text_of_run : (s : Session) (n : ℕ) (st : PartialState) → IsSession s → after (session_answers s) n ≡ Some st → n ≤ s.limit
     → st.core.desk.text ≡ take (length st.core.desk.text) (plain_run s).state.core.desk.text
 text_of_run s n st is at within =
