@@ -6,6 +6,8 @@ pub mod StepLemmas
 pub mod StretchLemmas
 pub mod KnownSteps
 mod Forgetting
+mod CallStretches
+pub mod PlainViews
 pub mod JoinedStretches
 pub mod TidyFiles
 pub mod WholeFiles

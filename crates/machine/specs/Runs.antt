@@ -1,6 +1,6 @@
 -- A run in progress, and a whole run. (This project's own.)
-use Rattle.std.specs.Prelude.{◌≡◌, ℕ, ◌+◌, ◌<◌, ◌≤◌, Option, Some, None}
-use Rattle.interaction_trees.specs.Outcome.{Stop}
+use Rattle.std.specs.Prelude.{◌≡◌, ◌≢◌, ℕ, ◌+◌, ◌<◌, ◌≤◌, Option, Some, None, unwrap_or}
+use Rattle.interaction_trees.specs.Outcome.{Step, Stop}
 use Rattle.console_calls.specs.declared.cause.Cause.{Cause}
 use Rattle.first_looks.specs.FirstLooks.{FirstLooksView}
 use Rattle.machine.specs.declared.noting.Noting.{Noting}
@@ -11,6 +11,8 @@ use Rattle.machine.specs.Inputs.{Session}
 use Rattle.machine.specs.StateView.{PartialState, AllLooks, StateView}
 use Rattle.machine.specs.Machine.{Answers, session_answers, after, outcome}
 use Rattle.machine.specs.FirstLooks.{AllNoted, IsFirstLooks, asking_steps}
+use Rattle.machine.specs.PlainLaid.{plain_after}
+use Rattle.machine.specs.PlainState.{PlainState, loaded_machine, plain_outcome}
 use Rattle.machine.specs.Session.{IsSession}
 
 -- A run of a session: its number of steps, and the step below which its looks are noted, or `None` if they are not.
@@ -23,6 +25,27 @@ pub record RunView : Type 0 where
 abbrev pub seen_by : Noting → ℕ → Option ℕ
 seen_by Nothing seen = None
 seen_by Looks seen = Some seen
+
+-- The state of the plain machine at the step of a run.
+abbrev pub state_of : RunView → PlainState
+state_of r = unwrap_or (plain_after r.session r.step) (loaded_machine r.session)
+
+-- A stop follows there.
+abbrev pub StopsHere : RunView → Cause → Type 0
+StopsHere r cause = plain_outcome r.session (state_of r) ≡ Stop cause
+
+-- One step led from a run to another; or a stop follows it, and it is the same.
+abbrev pub Leads : RunView → RunView → Option Cause → Type 0
+Leads old new None = (new.step ≡ old.step + 1) × (plain_outcome old.session (state_of old) ≡ Step (state_of new))
+Leads old new (Some cause) = (new.step ≡ old.step) × (plain_outcome old.session (state_of old) ≡ Stop cause)
+
+-- A run is at a call.
+abbrev pub IsAtCall : RunView → Type 0
+IsAtCall r = (state_of r).core.regs.pc ≡ 0xfe06
+
+-- No step of a session from `from` on and below `upto` is a call.
+abbrev pub MakesNoCall : Session → ℕ → ℕ → Type 0
+MakesNoCall s from upto = (i : ℕ) (w : PlainState) → from ≤ i → i < upto → plain_after s i ≡ Some w → w.core.regs.pc ≢ 0xfe06
 
 -- If looks are noted, the table has those of the steps below `seen`, and if that is the step of the run, those of its state.
 abbrev pub AreNoted : Noting → Answers → ℕ → FirstLooksView → AllLooks → Type 0

@@ -1,5 +1,5 @@
 -- Steps one after another: those of which only the last looks at anything new, and those whose looks are forgotten. (This project's own.)
-use Rattle.std.specs.Prelude.{◌≡◌, ℕ, ◌+◌, ◌<◌, ◌≤◌, ◌-◌, true, [], Option, Some, IfOk, IfNone, IfSome, OnErr}
+use Rattle.std.specs.Prelude.{◌≡◌, ◌≢◌, ℕ, ◌+◌, ◌<◌, ◌≤◌, ◌-◌, true, [], Option, Some, IfOk, IfNone, IfSome, OnErr}
 use Rattle.std.specs.declared.result.Result.{Result}
 use Rattle.std.specs.declared.alloc.AllocError.{AllocError}
 use Rattle.interaction_trees.specs.Outcome.{Stop}
@@ -32,11 +32,16 @@ pub record RunsStretch (s : Session) (from end : ℕ) (looked : AllLooks) (n : �
   pub extends : KeepsLooks looked new.looked
   pub bounded : OnErr result (AddsNoOtherLooks looked (looks (session_answers s) n) new.looked)
 
+-- No step from `from` on and below `upto` is a call.
+abbrev pub CallsNothing : Answers → ℕ → ℕ → Type 0
+CallsNothing f from upto = (i : ℕ) (st : PartialState) → from ≤ i → i < upto → after f i ≡ Some st → st.core.regs.pc ≢ 0xfe06
+
 -- n steps led from one state to another, whatever the step of the first, in each session whose image the known cells belong to; none
--- of them looked at anything new.
+-- of them looked at anything new, and none is a call.
 pub record RunsQuietly (n : ℕ) (old new : StateView) : Type 0 where
   pub at : (s : Session) → IsBound s old → (from : ℕ) → after (session_answers s) from ≡ Some old.state → after (session_answers s) (from + n) ≡ Some new.state
   pub quiet : (s : Session) → IsBound s old → (from : ℕ) → after (session_answers s) from ≡ Some old.state → LooksAtNothingNew (session_answers s) old.looked from (from + n)
+  pub calls : (s : Session) → IsBound s old → (from : ℕ) → after (session_answers s) from ≡ Some old.state → CallsNothing (session_answers s) from (from + n)
   pub looked : new.looked ≡ old.looked
   pub beneath : image_beneath new ≡ image_beneath old
 
@@ -46,3 +51,12 @@ pub record RunsForgetting (s : Session) (from end n : ℕ) (result : Result (Opt
   pub at : after (session_answers s) n ≡ Some new
   pub ended : IfOk result (λ stop. IfNone stop (n ≡ end))
   pub stopped : IfOk result (λ stop. IfSome stop (λ cause. (n < end) × (outcome (session_answers s) new ≡ Stop cause)))
+
+-- Steps from `from` on, none of them a call, led to the state after n steps: to step `end`, to a call before it, to a stop before it that
+-- is no call, or to an error.
+pub record RunsToCall (s : Session) (from end n : ℕ) (result : Result (Option Cause) AllocError) (new : PartialState) : Type 0 where
+  pub within : (from ≤ n) × (n ≤ end)
+  pub at : after (session_answers s) n ≡ Some new
+  pub calls : CallsNothing (session_answers s) from n
+  pub arrived : IfOk result (λ stop. IfNone stop (n < end → new.core.regs.pc ≡ 0xfe06))
+  pub stopped : IfOk result (λ stop. IfSome stop (λ cause. (n < end) × (new.core.regs.pc ≢ 0xfe06) × (outcome (session_answers s) new ≡ Stop cause)))

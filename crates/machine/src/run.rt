@@ -1,17 +1,22 @@
-ghost use Rattle.std.specs.Prelude.{◌≡◌, ◌+◌, ◌-◌, ◌^◌, ◌<◌, ◌≤◌, ◌↔◌, Some, IfNone, IfOk, IfSome, IsNone, IsTrue, OnOk, Option, length, take};
+ghost use Rattle.std.specs.Prelude.{◌≡◌, ◌==◌, ◌+◌, ◌-◌, ◌^◌, ◌<◌, ◌≤◌, ◌↔◌, Some, IfNone, IfOk, IfSome, IsNone, IsTrue, OnOk, Option, length, nat_lt, slice_index, take};
 ghost use Rattle.first_looks.specs.FirstLooks.{with_seen};
 ghost use Rattle.machine.specs.FirstLooks.{NotesSeenStep};
-ghost use Rattle.machine.specs.Machine.{HasNoQuestions, looks_from, cold_run, session_answers};
+ghost use Rattle.machine.specs.Machine.{HasNoQuestions, after, looks_from, cold_run, session_answers};
 ghost use Rattle.machine.specs.PlainState.{plain_run};
-ghost use Rattle.machine.specs.Runs.{GoesOn, EndsBy, NotesWholeRun, StopsBelow, asked_by, seen_by};
+ghost use Rattle.machine.specs.PlainLaid.{plain_after};
+ghost use Rattle.machine.specs.Session.{IsSession};
+ghost use Rattle.machine.specs.Runs.{GoesOn, EndsBy, IsAtCall, Leads, MakesNoCall, NotesWholeRun, StopsBelow, StopsHere, asked_by, seen_by, state_of};
 
 use crate::noting::Noting;
 use crate::session::{STEP_LIMIT, Session};
 use crate::state::State;
-use crate::stretch::{run_forgetting, run_to_look};
+use crate::stretch::{run_forgetting, run_to_call, run_to_look};
+use crate::system_area::{BDOS_ENTRY, SYSTEM_AREA};
 use crate::whole_run::WholeRun;
 use console_calls::Cause;
+use filenames::Drive;
 use first_looks::FirstLooks;
+use i8080::Regs;
 use std::alloc::{AllocError, Global};
 use std::marker::Model;
 
@@ -65,9 +70,61 @@ impl<'s> Run<'s> {
 
     /// Returns the number of steps.
     pub fn step(&self) -> u64
-        ensures { result ≡ self.now.step }
+        ensures value { result ≡ self.now.step }
+        ensures at { plain_after self.now.session self.now.step ≡ Some (state_of self.now) }
+        ensures session { IsSession self.now.session }
     {
         self.step
+    }
+
+    /// Returns the state, with what the run wrote and did.
+    pub fn state(&self) -> &State
+        ensures at { after (session_answers self.now.session) self.now.step ≡ Some result.now.state }
+        ensures session { IsSession self.now.session }
+    {
+        &self.state
+    }
+
+    /// Returns the registers.
+    pub fn regs(&self) -> Regs
+        ensures { result ≡ (state_of self.now).core.regs }
+    {
+        self.state.regs
+    }
+
+    /// Returns whether the next step is a call, if it does not stop the run.
+    pub fn is_at_call(&self) -> bool
+        ensures { result ≡ ((state_of self.now).core.regs.pc == 0xfe06) }
+    {
+        self.state.regs.pc == BDOS_ENTRY
+    }
+
+    /// Returns whether the next step is an instruction, if it does not stop the run.
+    pub fn is_at_instruction(&self) -> bool
+        ensures { result ≡ nat_lt (state_of self.now).core.regs.pc 0xfe00 }
+    {
+        self.state.regs.pc < SYSTEM_AREA
+    }
+
+    /// Returns the byte of a cell.
+    pub fn byte(&self, at: u16) -> u8
+        ensures { result ≡ slice_index (state_of self.now).memory at }
+    {
+        self.state.byte(self.session, at)
+    }
+
+    /// Returns the current drive.
+    pub fn drive(&self) -> Drive
+        ensures { result ≡ (state_of self.now).core.desk.spot.drive }
+    {
+        self.state.desk.drive()
+    }
+
+    /// Returns the address of the buffer.
+    pub fn buffer(&self) -> u16
+        ensures { result ≡ (state_of self.now).core.desk.spot.buffer }
+    {
+        self.state.desk.buffer()
     }
 
     /// Runs up to step `end`, or to a stop, whose cause it returns. A run that notes looks notes those of each step, and of the stop;
@@ -80,6 +137,7 @@ impl<'s> Run<'s> {
         requires { (self.old.step ≤ end) × (end ≤ STEP_LIMIT) }
         ensures goes { GoesOn self.old self.new end }
         ensures ends { IfOk result (λ stop. EndsBy self.new end stop) }
+        ensures stops { IfOk result (λ stop. IfSome stop (StopsHere self.new)) }
         ensures noted { self.old.seen ≡ Some self.old.step
             → IfOk result (λ stop. self.new.seen ≡ Some (asked_by self.new.step stop)) }
     {
@@ -89,6 +147,43 @@ impl<'s> Run<'s> {
             }
         }
         Ok(None)
+    }
+
+    /// Executes one step, or returns the cause of a stop. The run notes nothing any more.
+    ///
+    /// # Errors
+    ///
+    /// `Err` means out of memory. The run is then at the same step.
+    pub fn take_step(&mut self) -> Result<Option<Cause>, AllocError>
+        requires { self.old.step < STEP_LIMIT }
+        ensures session { self.new.session ≡ self.old.session }
+        ensures leads { IfOk result (λ stop. Leads self.old self.new stop) }
+    {
+        let from = self.step;
+        self.noting = Noting::Nothing;
+        let (reached, ended) = run_forgetting(&mut self.state, self.session, from, from + 1);
+        self.step = reached;
+        ended
+    }
+
+    /// Runs up to step `end`, to a call, which is not executed, or to a stop, whose cause it returns. The run notes nothing any more.
+    ///
+    /// # Errors
+    ///
+    /// `Err` means out of memory. The run is then at the step that it reached.
+    pub fn advance_to_call(&mut self, end: u64) -> Result<Option<Cause>, AllocError>
+        requires { (self.old.step ≤ end) × (end ≤ STEP_LIMIT) }
+        ensures goes { GoesOn self.old self.new end }
+        ensures calls { MakesNoCall self.new.session self.old.step self.new.step }
+        ensures arrives { IfOk result (λ stop. IfNone stop (self.new.step < end → IsAtCall self.new)) }
+        ensures ends { IfOk result (λ stop. IfSome stop (λ cause.
+            EndsBy self.new end (Some cause) × (IsAtCall self.new → ⊥) × StopsHere self.new cause)) }
+    {
+        let from = self.step;
+        self.noting = Noting::Nothing;
+        let (reached, ended) = run_to_call(&mut self.state, self.session, from, end);
+        self.step = reached;
+        ended
     }
 
     // Runs up to step `end`, to a stop, or, if it notes looks, to a step that looks at something new.
@@ -157,6 +252,7 @@ impl<'s> Run<'s> {
     /// Returns the bytes that were sent to the console so far: a beginning of those of the whole run, or all of them at its end.
     pub fn text(&self) -> &[u8]
         requires { self.now.step ≤ self.now.session.limit }
+        ensures now { result.now ≡ (state_of self.now).core.desk.text }
         ensures begins { result.now
             ≡ take (length result.now) (plain_run self.now.session).state.core.desk.text }
         ensures whole { (stop : Option Cause) → EndsBy self.now self.now.session.limit stop

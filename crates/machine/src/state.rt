@@ -2,7 +2,7 @@ ghost use Rattle.std.specs.Prelude.{◌≡◌, ◌<◌, ◌≤◌, ℕ, true, fa
 ghost use Rattle.hostfiles.specs.FileLooks.{is_looked};
 ghost use Rattle.hostfiles.specs.declared.looks.Ask.{Ask};
 ghost use Rattle.first_looks.specs.FirstLooks.{NotesLooks, SameBelow};
-ghost use Rattle.machine.specs.Machine.{start, HasNoHostQuestions, HasNoLooks, HasNoQuestions, is_looked_at, looks_from};
+ghost use Rattle.machine.specs.Machine.{cell_at, start, HasNoHostQuestions, HasNoLooks, HasNoQuestions, is_looked_at, looks_from};
 ghost use Rattle.machine.specs.TakesQuestion.{TakesQuestion};
 ghost use Rattle.machine.specs.Bound.{IsBound};
 ghost use Rattle.machine.specs.Session.{IsSession};
@@ -99,6 +99,13 @@ impl State {
             desk: Desk::new(alloc),
             changes: Changes::new(alloc),
         })
+    }
+
+    /// Returns the byte of a cell in a state of a session. This is no look.
+    pub fn byte(&self, session: &Session, at: u16) -> u8
+        ensures { result ≡ cell_at session.now self.now.state at }
+    {
+        self.overlay.written(at).unwrap_or(session.image().at(at))
     }
 
     /// Returns the number of cells that were looked at.

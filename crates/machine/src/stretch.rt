@@ -9,12 +9,12 @@ ghost use Rattle.machine.specs.Machine.{session_answers, after, HasNoHostQuestio
 ghost use Rattle.machine.specs.Session.{image_of};
 ghost use Rattle.machine.specs.Stops.{stop_of_instruction};
 ghost use Rattle.machine.specs.TakesStep.{memory_over_image, TakesStep};
-ghost use Rattle.machine.specs.Stretch.{RunsForgetting, RunsQuietly, RunsStretch};
+ghost use Rattle.machine.specs.Stretch.{RunsForgetting, RunsQuietly, RunsStretch, RunsToCall};
 
 use crate::meter::Meter;
 use crate::session::Session;
 use crate::state::State;
-use crate::system_area::{SYSTEM_AREA, enter_system};
+use crate::system_area::{BDOS_ENTRY, SYSTEM_AREA, enter_system};
 use console_calls::Cause;
 use i8080::{Did, Regs, execute};
 use known_run::run_known;
@@ -200,6 +200,41 @@ pub(crate) fn run_forgetting(
         }
         n += 1;
         state.forget_host_questions();
+    }
+    (n, Ok(None))
+}
+
+/// Executes steps from step `from` on up to step `end`, to a call, which is not executed, or to a stop, whose cause it returns. Returns the
+/// step that was reached, also at `Err`.
+///
+/// # Errors
+///
+/// `Err` means out of memory. It leaves the state that was reached.
+#[inline(never)]
+pub(crate) fn run_to_call(
+    state: &mut State,
+    session: &Session,
+    from: u64,
+    end: u64,
+) -> (u64, Result<Option<Cause>, AllocError>)
+    requires order { from ≤ end }
+    requires at { after (session_answers session.now) from ≡ Some state.old.state }
+    requires bound { IsBound session.now state.old }
+    ensures runs { RunsToCall session.now from end result.0 result.1 state.new.state }
+    ensures bound { IsBound session.now state.new }
+{
+    let mut n = from;
+    while n < end {
+        n += run_quietly(state, end - n);
+        if n == end || state.regs.pc == BDOS_ENTRY {
+            return (n, Ok(None));
+        }
+        match take_step(state, session, true) {
+            Ok(None) => {}
+            Ok(Some(cause)) => return (n, Ok(Some(cause))),
+            Err(error) => return (n, Err(error)),
+        }
+        n += 1;
     }
     (n, Ok(None))
 }

@@ -27,7 +27,7 @@ use std::alloc::AllocError;
 const WARM_START: u16 = 0xff03;
 
 /// The address of the BDOS, to which the jump at 0005H leads.
-const BDOS_ENTRY: u16 = 0xfe06;
+pub(crate) const BDOS_ENTRY: u16 = 0xfe06;
 
 /// The first cell of the system area.
 pub(crate) const SYSTEM_AREA: u16 = 0xfe00;

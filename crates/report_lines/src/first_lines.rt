@@ -23,7 +23,7 @@ fn digit(value: u8) -> char
 }
 
 /// Appends the two digits of a byte.
-fn push_byte<const N: usize>(text: &mut ArrayString<N>, value: u8)
+pub fn push_byte<const N: usize>(text: &mut ArrayString<N>, value: u8)
     requires { array_string_len text.old + 2 ≤ N }
     ensures digits { text.new.bytes ≡ text.old.bytes ++ byte_text value }
     ensures len { array_string_len text.new ≡ array_string_len text.old + 2 }
@@ -106,7 +106,7 @@ fn push_named_word(text: &mut ArrayString<256>, name: &str, value: u16)
 }
 
 /// Appends the registers with their names, without a line end.
-fn push_regs(text: &mut ArrayString<256>, regs: Regs)
+pub fn push_regs(text: &mut ArrayString<256>, regs: Regs)
     requires { array_string_len text.old ≤ 128 }
     ensures regs { text.new.bytes ≡ text.old.bytes ++ regs_text regs }
     ensures len { array_string_len text.new ≤ array_string_len text.old + 62 }

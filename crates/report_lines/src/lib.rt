@@ -9,6 +9,6 @@ mod first_lines;
 mod hex_writer;
 
 pub use changed_lines::{FileFilter, write_changed_files, write_head};
-pub use first_lines::{push_word, report_head, stop_line, write_text};
+pub use first_lines::{push_byte, push_regs, push_word, report_head, stop_line, write_text};
 pub use hex_writer::write_hex;
 pub use streams::{Failed, Over, Reader, Writer, write_all};

@@ -1,0 +1,13 @@
+use Rattle.std.proofs.Common.{◌≡◌, ◌∙◌, ap, subst, sym}
+use Rattle.machine.specs.PlainState.{PlainState}
+use Rattle.machine.specs.Runs.{RunView, seen_by, state_of}
+use Rattle.machine.specs.declared.run.Run.TheInside.{Inside}
+use Rattle.machine.proofs.PlainViews.{state_is}
+use Rattle.machine.proofs.run.Run.buffer.Goals as goal
+
+pub returns : goal.returns
+returns c =
+    let i = c.self.inside in
+    c.buffer.ensures ∙ ap (λ (r : Inside). r.state.state.core.desk.spot.buffer) c.self-inside.view_is
+    ∙ subst (λ (r : RunView). i.state.state.core.desk.spot.buffer ≡ (state_of r).core.desk.spot.buffer) c.self.view_is
+    (sym (ap (λ (w : PlainState). w.core.desk.spot.buffer) (state_is (record { session = i.session.now; step = i.step; seen = seen_by i.noting i.looks.seen }) i.state.state c.self.invariant.session c.self.invariant.at)))

@@ -1,0 +1,157 @@
+// The text of an instruction, from a table by its opcode and the digits of its operand.
+
+ghost use Rattle.std.specs.Prelude.{◌≡◌, ◌+◌, ◌<◌, ◌≤◌, ◌++◌, [], ◌∷◌, length, map, slice_index, Some};
+ghost use Rattle.arrayvec.specs.ArrayString.{array_string_len};
+ghost use Rattle.hex.specs.Hex.{upper_digits};
+ghost use Rattle.i8080.specs.Opcodes.{decoded};
+ghost use Rattle.i8080.specs.declared.opcode.Op.{Op};
+ghost use Rattle.mnemonics.specs.Mnemonics as spec;
+ghost use Rattle.mnemonics.specs.Mnemonics.{instruction_text, mnemonic, named};
+
+use arrayvec::ArrayString;
+use i8080::decode;
+use i8080::opcode::{Op, Source};
+
+// The text before the operand for each opcode, in order.
+const OPENINGS: [&str; 256] = [
+    "NOP", "LXI B,", "STAX B", "INX B", "INR B", "DCR B", "MVI B,", "RLC", "DB ", "DAD B",
+    "LDAX B", "DCX B", "INR C", "DCR C", "MVI C,", "RRC", "DB ", "LXI D,", "STAX D", "INX D",
+    "INR D", "DCR D", "MVI D,", "RAL", "DB ", "DAD D", "LDAX D", "DCX D", "INR E", "DCR E",
+    "MVI E,", "RAR", "DB ", "LXI H,", "SHLD ", "INX H", "INR H", "DCR H", "MVI H,", "DAA", "DB ",
+    "DAD H", "LHLD ", "DCX H", "INR L", "DCR L", "MVI L,", "CMA", "DB ", "LXI SP,", "STA ",
+    "INX SP", "INR M", "DCR M", "MVI M,", "STC", "DB ", "DAD SP", "LDA ", "DCX SP", "INR A",
+    "DCR A", "MVI A,", "CMC", "MOV B,B", "MOV B,C", "MOV B,D", "MOV B,E", "MOV B,H", "MOV B,L",
+    "MOV B,M", "MOV B,A", "MOV C,B", "MOV C,C", "MOV C,D", "MOV C,E", "MOV C,H", "MOV C,L",
+    "MOV C,M", "MOV C,A", "MOV D,B", "MOV D,C", "MOV D,D", "MOV D,E", "MOV D,H", "MOV D,L",
+    "MOV D,M", "MOV D,A", "MOV E,B", "MOV E,C", "MOV E,D", "MOV E,E", "MOV E,H", "MOV E,L",
+    "MOV E,M", "MOV E,A", "MOV H,B", "MOV H,C", "MOV H,D", "MOV H,E", "MOV H,H", "MOV H,L",
+    "MOV H,M", "MOV H,A", "MOV L,B", "MOV L,C", "MOV L,D", "MOV L,E", "MOV L,H", "MOV L,L",
+    "MOV L,M", "MOV L,A", "MOV M,B", "MOV M,C", "MOV M,D", "MOV M,E", "MOV M,H", "MOV M,L", "HLT",
+    "MOV M,A", "MOV A,B", "MOV A,C", "MOV A,D", "MOV A,E", "MOV A,H", "MOV A,L", "MOV A,M",
+    "MOV A,A", "ADD B", "ADD C", "ADD D", "ADD E", "ADD H", "ADD L", "ADD M", "ADD A", "ADC B",
+    "ADC C", "ADC D", "ADC E", "ADC H", "ADC L", "ADC M", "ADC A", "SUB B", "SUB C", "SUB D",
+    "SUB E", "SUB H", "SUB L", "SUB M", "SUB A", "SBB B", "SBB C", "SBB D", "SBB E", "SBB H",
+    "SBB L", "SBB M", "SBB A", "ANA B", "ANA C", "ANA D", "ANA E", "ANA H", "ANA L", "ANA M",
+    "ANA A", "XRA B", "XRA C", "XRA D", "XRA E", "XRA H", "XRA L", "XRA M", "XRA A", "ORA B",
+    "ORA C", "ORA D", "ORA E", "ORA H", "ORA L", "ORA M", "ORA A", "CMP B", "CMP C", "CMP D",
+    "CMP E", "CMP H", "CMP L", "CMP M", "CMP A", "RNZ", "POP B", "JNZ ", "JMP ", "CNZ ", "PUSH B",
+    "ADI ", "RST 0", "RZ", "RET", "JZ ", "DB ", "CZ ", "CALL ", "ACI ", "RST 1", "RNC", "POP D",
+    "JNC ", "OUT ", "CNC ", "PUSH D", "SUI ", "RST 2", "RC", "DB ", "JC ", "IN ", "CC ", "DB ",
+    "SBI ", "RST 3", "RPO", "POP H", "JPO ", "XTHL", "CPO ", "PUSH H", "ANI ", "RST 4", "RPE",
+    "PCHL", "JPE ", "XCHG", "CPE ", "DB ", "XRI ", "RST 5", "RP", "POP PSW", "JP ", "DI", "CP ",
+    "PUSH PSW", "ORI ", "RST 6", "RM", "SPHL", "JM ", "EI", "CM ", "DB ", "CPI ", "RST 7",
+];
+
+/// Returns the text at this opcode in a table of the texts before the operand.
+fn entry(table: &'static [&'static str; 256], opcode: u8) -> &'static str
+    requires { map (λ t. t.now) table.now ≡ spec.openings }
+    ensures text { result.now ≡ spec.opening_text (decoded opcode) }
+    ensures len { length result.now ≤ 8 }
+{
+    table[usize::from(opcode)]
+}
+
+/// Returns how many operand bytes follow the opcode of this instruction. [8080 manual 1975, chapter 4, instruction set]
+pub fn operand_count(op: Op) -> usize
+    ensures { result ≡ spec.operand_count op }
+{
+    match op {
+        Op::Mvi(_) | Op::Accumulate(_, Source::Immediate) | Op::In | Op::Out => 1,
+        Op::Lxi(_) | Op::Lda | Op::Sta | Op::Lhld | Op::Shld => 2,
+        Op::Jmp | Op::JumpIf(_) | Op::Call | Op::CallIf(_) => 2,
+        _ => 0,
+    }
+}
+
+/// Returns how many bytes the instruction with this opcode has, 1 to 3, or 1 for an undefined byte.
+/// [8080 manual 1975, chapter 4, instruction set]
+pub fn byte_count(opcode: u8) -> usize
+    ensures count { result ≡ spec.byte_count (decoded opcode) }
+    ensures range { (1 ≤ result) × (result ≤ 3) }
+{
+    match decode(opcode) {
+        None => 1,
+        Some(op) => 1 + operand_count(op),
+    }
+}
+
+/// Returns a digit in upper case.
+fn digit(value: u8) -> char
+    requires { value < 16 }
+    ensures value { result ≡ slice_index upper_digits value }
+    ensures ascii { result < 128 }
+{
+    char::from(b"0123456789ABCDEF"[usize::from(value)])
+}
+
+/// Appends the two digits of a byte.
+fn push_digits<const N: usize>(text: &mut ArrayString<N>, byte: u8)
+    requires { array_string_len text.old + 2 ≤ N }
+    ensures digits { text.new.bytes ≡ text.old.bytes ++ spec.digits byte }
+    ensures len { array_string_len text.new ≡ array_string_len text.old + 2 }
+{
+    text.push(digit(byte / 16));
+    text.push(digit(byte % 16));
+}
+
+/// Appends the digits of the first byte of a number, with a 0 before a letter.
+fn push_first_digits<const N: usize>(text: &mut ArrayString<N>, byte: u8)
+    requires { array_string_len text.old + 3 ≤ N }
+    ensures digits { text.new.bytes ≡ text.old.bytes ++ spec.first_digits byte }
+    ensures len { array_string_len text.new ≤ array_string_len text.old + 3 }
+{
+    if byte >= 0xa0 {
+        text.push_str("0");
+    }
+    push_digits(text, byte);
+}
+
+/// Appends a byte as a number.
+fn push_byte<const N: usize>(text: &mut ArrayString<N>, byte: u8)
+    requires { array_string_len text.old + 4 ≤ N }
+    ensures number { text.new.bytes ≡ text.old.bytes ++ spec.byte_text byte }
+    ensures len { array_string_len text.new ≤ array_string_len text.old + 4 }
+{
+    push_first_digits(text, byte);
+    text.push_str("H");
+}
+
+/// Appends a word as a number.
+fn push_word<const N: usize>(text: &mut ArrayString<N>, low: u8, high: u8)
+    requires { array_string_len text.old + 6 ≤ N }
+    ensures number { text.new.bytes ≡ text.old.bytes ++ spec.word_text low high }
+    ensures len { array_string_len text.new ≤ array_string_len text.old + 6 }
+{
+    push_first_digits(text, high);
+    push_digits(text, low);
+    text.push_str("H");
+}
+
+/// Appends the instruction that begins with these bytes, as `JMP 0100H`, or `DB` and the first byte if that is undefined.
+/// The notation is Intel's. [8080 manual 1975, chapter 4, instruction set]
+pub fn push_instruction<const N: usize>(
+    text: &mut ArrayString<N>,
+    opcode: u8,
+    second: u8,
+    third: u8,
+)
+    requires { array_string_len text.old + 16 ≤ N }
+    ensures text { text.new.bytes ≡ text.old.bytes ++ instruction_text (decoded opcode) opcode second third }
+    ensures len { array_string_len text.new ≤ array_string_len text.old + 16 }
+{
+    text.push_str(entry(&OPENINGS, opcode));
+    match decode(opcode) {
+        None => push_byte(text, opcode),
+        Some(op) => match operand_count(op) {
+            0 => {}
+            1 => push_byte(text, second),
+            _ => push_word(text, second, third),
+        },
+    }
+}
+
+/// Each instruction is found by its text before the operand, so no two instructions have the same text.
+pub fn mnemonics_differ()
+    ensures found { (op : Op) → named (mnemonic op) ≡ Some op }
+    ensures differ { (p q : Op) → mnemonic p ≡ mnemonic q → p ≡ q }
+{}

@@ -1,0 +1,66 @@
+// Whether a call passes filters of the cells that it writes and reads.
+
+ghost use Rattle.std.specs.Prelude.{◌≡◌, ◌&&◌, IfOk};
+ghost use Rattle.machine.specs.Runs.{IsAtCall, state_of};
+ghost use Rattle.pagemem.specs.Overlay.{looks_of, own_of};
+ghost use Rattle.trials.specs.Accesses.{NotesStep, read_cells, written_cells};
+ghost use Rattle.trials.specs.Ranges.{passes_cells};
+
+use crate::ranges::{CellRange, reads_pass, writes_pass};
+use crate::trial::Trial;
+use bdos::call;
+use console_calls::Desk;
+use cpmfiles::Table;
+use machine::{Run, Session};
+use pagemem::Overlay;
+use std::alloc::AllocError;
+
+// Executes the next call of a run on copies, and returns what it wrote with its looks.
+fn tried_call(run: &Run<'_>, session: &Session) -> Result<Overlay, AllocError>
+    requires call { IsAtCall run.now }
+    requires session { run.now.session ≡ session.now }
+    ensures { IfOk result (λ o. NotesStep session.now (state_of run.now) (own_of o) (looks_of o)) }
+{
+    let state = run.state();
+    // A desk needs a text that is at least as long as its column, so the text is copied too.
+    let text = state.desk.snapshot()?.into_text();
+    let tried = Overlay::new(*text.allocator())?;
+    let mut desk = Desk::from_parts(state.desk.spot(), text);
+    let mut changes = state.changes.snapshot()?;
+    let mut table = Table::new(session.files(), &mut changes);
+    let mut regs = state.regs;
+    let mut trial = Trial {
+        run,
+        session,
+        tried,
+    };
+    call(
+        &mut regs,
+        &mut trial,
+        &mut table,
+        &mut desk,
+        session.script(),
+    )?;
+    Ok(trial.tried)
+}
+
+/// Returns whether the next call of a run passes two filters: whether it writes a cell of `writes`, and reads a cell of `reads`.
+/// Every call passes `None`. The call is executed on copies, so the run is unchanged.
+///
+/// # Errors
+///
+/// `Err` means out of memory.
+pub fn call_passes(
+    run: &Run<'_>,
+    session: &Session,
+    writes: Option<CellRange>,
+    reads: Option<CellRange>,
+) -> Result<bool, AllocError>
+    requires call { IsAtCall run.now }
+    requires session { run.now.session ≡ session.now }
+    ensures { let s = session.now in let w = state_of run.now in IfOk result (λ b. b
+        ≡ (passes_cells writes (written_cells s w) && passes_cells reads (read_cells s w))) }
+{
+    let tried = tried_call(run, session)?;
+    Ok(writes_pass(&tried, writes) && reads_pass(&tried, reads))
+}
