@@ -1,0 +1,179 @@
+// Whether a step has a line.
+
+ghost use Rattle.std.specs.Prelude.{◌≡◌, ◌≤◌, ◌&&◌, ◌||◌, ◌∷◌, ◌++◌, IfOk, true};
+ghost use Rattle.std.specs.List.{list_any};
+ghost use Rattle.filenames.specs.Drives.{drive_number};
+ghost use Rattle.machine.specs.Runs.{state_of};
+ghost use Rattle.trials.specs.Accesses.{read_cells, written_cells};
+ghost use Rattle.trace_lines.specs.Rows.{row};
+ghost use Rattle.trials.specs.Ranges.{is_in_range, passes_cells};
+ghost use Rattle.trace_lines.specs.StepLines.{is_instruction};
+ghost use Rattle.trace_filters.specs.Chosen.{call_names, has_line, is_call, is_chosen, names, names_file, passes_address, passes_file};
+
+use crate::choice::Choice;
+use directory::is_match;
+use filenames::{Drive, Fcb, Key};
+use machine::{Run, Session};
+use std::alloc::AllocError;
+use trace_lines::{Argument, Code, Row, argument_of, block_at, drive_in};
+use trials::{CellRange, call_passes};
+
+// Returns whether a cell is in a range.
+fn is_in_range(range: CellRange, at: u16) -> bool
+    ensures { result ≡ is_in_range range at }
+{
+    range.first <= at && at <= range.last
+}
+
+// Returns whether one of at most three cells in a row is in a range.
+fn touches(range: CellRange, at: u16, count: u16) -> bool
+    requires { count ≤ 3 }
+    ensures { result ≡ list_any (is_in_range range) (row at count) }
+{
+    let next = at.wrapping_add(1);
+    match count {
+        0 => false,
+        1 => is_in_range(range, at),
+        2 => is_in_range(range, at) || is_in_range(range, next),
+        _ => is_in_range(range, at)
+            || is_in_range(range, next)
+            || is_in_range(range, next.wrapping_add(1)),
+    }
+}
+
+// Returns the key of eleven bytes on a drive.
+fn key_on(drive: Drive, name: [u8; 11]) -> Key
+    ensures { result ≡ drive_number drive ∷ name }
+{
+    let mut key = [drive.number(); 12];
+    key[1..].copy_from_slice(&name);
+    key
+}
+
+// Returns whether a name in a control block is the file's, or a pattern that matches it.
+fn names(drive: Option<Drive>, name: [u8; 11], key: &Key) -> bool
+    ensures { result ≡ names drive name key.now }
+{
+    match drive {
+        None => false,
+        Some(drive) => is_match(&key_on(drive, name), key),
+    }
+}
+
+// Returns whether a call with a control block names a file.
+#[tactic(auto, unfolding(crate::specs::Chosen::names_file))]
+fn names_file(argument: Argument, drive: Option<Drive>, block: &Fcb, key: &Key) -> bool
+    ensures { result ≡ names_file argument drive block.now key.now }
+{
+    match argument {
+        Argument::Nothing | Argument::Byte | Argument::Word => false,
+        Argument::Renaming => names(drive, block.key(), key) || names(drive, block.new_key(), key),
+        _ => names(drive, block.key(), key),
+    }
+}
+
+// Returns whether the call at which a run is names a file.
+fn call_names(run: &Run<'_>, key: &Key) -> bool
+    ensures { result ≡ call_names (state_of run.now) key.now }
+{
+    let block = block_at(run);
+    let drive = drive_in(run.drive(), block.dr());
+    names_file(argument_of(run.regs().c), drive, &block, key)
+}
+
+// Returns whether a PC passes the filter.
+fn passes_address(at: Option<u16>, pc: u16) -> bool
+    ensures { result ≡ passes_address at pc }
+{
+    match at {
+        None => true,
+        Some(at) => pc == at,
+    }
+}
+
+// Returns whether the next step passes the filter of files.
+#[tactic(auto, unfolding(crate::specs::Chosen::passes_file))]
+fn passes_file(run: &Run<'_>, file: &Option<Key>) -> bool
+    ensures { result ≡ passes_file file.now (state_of run.now) }
+{
+    match file {
+        None => true,
+        Some(key) => run.is_at_call() && call_names(run, key),
+    }
+}
+
+// Returns whether the next step is a call, or an instruction if they have lines too.
+fn is_shown(run: &Run<'_>, instructions: bool) -> bool
+    ensures { let w = state_of run.now in result ≡ (is_call w || (instructions && is_instruction w)) }
+{
+    run.is_at_call() || (instructions && run.is_at_instruction())
+}
+
+// Returns whether a step is chosen by its number, its kind, its PC and the file that it names.
+#[tactic(auto, unfolding(crate::specs::Chosen::is_chosen))]
+fn is_chosen(run: &Run<'_>, choice: &Choice) -> bool
+    ensures { result ≡ is_chosen choice.now run.now.step (state_of run.now) }
+{
+    let step = run.step();
+    if step < choice.from || step > choice.to {
+        return false;
+    }
+    if !is_shown(run, choice.instructions) {
+        return false;
+    }
+    passes_address(choice.at, run.regs().pc) && passes_file(run, &choice.file)
+}
+
+// Returns whether the instruction at which a run is reads and writes what the filters ask for.
+fn instruction_passes(run: &Run<'_>, choice: &Choice) -> bool
+    requires { is_instruction (state_of run.now) ≡ true }
+    ensures { let s = run.now.session in let w = state_of run.now in
+        result ≡ (passes_cells choice.now.writes (written_cells s w)
+        && passes_cells choice.now.reads (read_cells s w)) }
+{
+    let code = Code::at(run);
+    writes_pass(choice.writes, code.written(run))
+        && reads_pass(choice.reads, run.regs().pc, code.count(), code.read(run))
+}
+
+// Returns whether a row of written cells passes the filter.
+fn writes_pass(writes: Option<CellRange>, cells: Row) -> bool
+    ensures { result ≡ passes_cells writes (row cells.at cells.count) }
+{
+    match writes {
+        None => true,
+        Some(range) => touches(range, cells.at, cells.count),
+    }
+}
+
+// Returns whether an instruction's bytes and a row of cells pass the filter of cells that are read.
+fn reads_pass(reads: Option<CellRange>, pc: u16, count: u16, cells: Row) -> bool
+    requires { count ≤ 3 }
+    ensures { result ≡ passes_cells reads (row pc count ++ row cells.at cells.count) }
+{
+    match reads {
+        None => true,
+        Some(range) => touches(range, pc, count) || touches(range, cells.at, cells.count),
+    }
+}
+
+/// Returns whether the next step has a line.
+///
+/// # Errors
+///
+/// `Err` means out of memory.
+pub fn has_line(run: &Run<'_>, session: &Session, choice: &Choice) -> Result<bool, AllocError>
+    requires { run.now.session ≡ session.now }
+    ensures { IfOk result (λ b. b ≡ has_line choice.now session.now run.now.step (state_of run.now)) }
+{
+    if !is_chosen(run, choice) {
+        return Ok(false);
+    }
+    if choice.writes.is_none() && choice.reads.is_none() {
+        return Ok(true);
+    }
+    if run.is_at_call() {
+        return call_passes(run, session, choice.writes, choice.reads);
+    }
+    Ok(instruction_passes(run, choice))
+}

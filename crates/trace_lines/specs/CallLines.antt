@@ -1,0 +1,108 @@
+-- The line of a call. (This project's profile.)
+use Rattle.std.specs.Prelude.{ℕ, ◌==◌, ◌&&◌, ◌||◌, ◌*◌, ◌+◌, List, [], ◌∷◌, ◌++◌, codes, length, map, flat_map, take, drop, slice_index, nat_le, nat_lt, if◌then◌else◌, Option, Some, None}
+use Rattle.std.specs.List.{range_with_len, before_first}
+use Rattle.std.specs.Fmt.{decimal}
+use Rattle.interaction_trees.specs.Outcome.{Outcome, Step, Stop}
+use Rattle.i8080.specs.Registers.{onward, word}
+use Rattle.console_calls.specs.declared.cause.Cause.{Cause}
+use Rattle.filenames.specs.ControlBlock.{place_of}
+use Rattle.filenames.specs.Drives.{drive_number}
+use Rattle.filenames.specs.Names.{is_blank, drive_text, type_text}
+use Rattle.filenames.specs.declared.drive.Drive.{Drive}
+use Rattle.bdos.specs.FileCalls.{drive_of_byte}
+use Rattle.machine.specs.PlainState.{PlainState}
+use Rattle.machine.specs.Regs.{Regs}
+use Rattle.report_lines.specs.FirstLines.{byte_text, word_text, line}
+use Rattle.trace_lines.specs.CallForms.{call_name, argument_of, is_read, returned_of}
+use Rattle.trace_lines.specs.declared.forms.Argument.{Argument}
+use Rattle.trace_lines.specs.declared.forms.Argument.TheVariants as argument
+use Rattle.trace_lines.specs.declared.forms.Returned.{Returned}
+use Rattle.trace_lines.specs.declared.forms.Returned.TheVariants as returned
+
+-- A byte of a text: `"` and `\` after a `\`, then `\r`, `\n`, `\t`, and other control bytes and those above 7EH as `\x` and two digits.
+abbrev pub escaped_byte : ℕ → List ℕ
+escaped_byte b =
+    if b == 34 || b == 92 then 92 ∷ b ∷ []
+    else if b == 13 then codes "\\r"
+    else if b == 10 then codes "\\n"
+    else if b == 9 then codes "\\t"
+    else if nat_le 0x20 b && nat_le b 0x7e then b ∷ []
+    else codes "\\x" ++ byte_text b
+
+abbrev pub escaped : List ℕ → List ℕ
+escaped bytes = flat_map escaped_byte bytes
+
+-- ---- what a call is given
+
+-- The address in DE, and the control block there, which may begin again at 0000H.
+abbrev pub address_in : Regs → ℕ
+address_in r = word r.e r.d
+
+abbrev pub block_in : PlainState → List ℕ
+block_in w = map (λ i. slice_index w.memory (onward (address_in w.core.regs) i)) (range_with_len 0 36)
+
+-- The drive that a control block names, by its letter unless that is A; `?:` if there is no such drive.
+abbrev pub drive_part : Option Drive → List ℕ
+drive_part None = codes "?:"
+drive_part (Some drive) = drive_text (drive_number drive)
+
+-- The name of a file in a control block: the bytes before the first blank of the eight from an index on, and of the three after them.
+abbrev pub name_text : Drive → List ℕ → ℕ → List ℕ
+name_text current block at =
+    drive_part (drive_of_byte current (slice_index block 0))
+    ++ escaped (before_first is_blank (take 8 (drop at block)))
+    ++ escaped (type_text (before_first is_blank (take 3 (drop (at + 8) block))))
+
+abbrev pub file_text : PlainState → ℕ → List ℕ
+file_text w at = name_text w.core.desk.spot.drive (block_in w) at
+
+-- A record number, and the buffer that gets the record or has it.
+abbrev pub record_text : PlainState → ℕ → List ℕ
+record_text w number =
+    codes " record " ++ decimal number
+    ++ (if is_read w.core.regs.c then codes " to " else codes " from ") ++ word_text w.core.desk.spot.buffer
+
+-- The random record number, with its overflow byte.
+abbrev pub whole_place_of : List ℕ → ℕ
+whole_place_of block = slice_index block 33 + 256 * slice_index block 34 + 65536 * slice_index block 35
+
+abbrev pub argument_text : Argument → PlainState → List ℕ
+argument_text argument.Nothing w = []
+argument_text argument.Byte w = codes " " ++ byte_text w.core.regs.e
+argument_text argument.Word w = codes " " ++ word_text (address_in w.core.regs)
+argument_text argument.File w = codes " " ++ file_text w 1
+argument_text argument.Renaming w = codes " " ++ file_text w 1 ++ codes " to " ++ file_text w 17
+argument_text argument.NextRecord w = codes " " ++ file_text w 1 ++ record_text w (place_of (block_in w))
+argument_text argument.ChosenRecord w = codes " " ++ file_text w 1 ++ record_text w (whole_place_of (block_in w))
+
+-- ---- what a call returns and prints
+
+abbrev pub returned_text : Returned → Regs → List ℕ
+returned_text returned.Nothing r = []
+returned_text returned.Byte r = codes " = " ++ byte_text r.a
+returned_text returned.Word r = codes " = " ++ word_text (word r.l r.h)
+
+-- The bytes that a call sent, the first 64 of them if there are more, and then their count.
+abbrev pub count_text : ℕ → List ℕ
+count_text n = if nat_lt 64 n then codes " of " ++ decimal n ++ codes " bytes" else []
+
+abbrev pub printed_text : List ℕ → List ℕ
+printed_text [] = []
+printed_text (b ∷ bs) = codes " \"" ++ escaped (take 64 (b ∷ bs)) ++ codes "\"" ++ count_text (length (b ∷ bs))
+
+-- ---- the line
+
+-- What a line shows before its call is executed, and after it. A call that stops the run returns and prints nothing.
+abbrev pub call_start : ℕ → PlainState → List ℕ
+call_start n w =
+    codes "step " ++ decimal n ++ codes " call " ++ decimal w.core.regs.c ++ codes " " ++ call_name w.core.regs.c
+    ++ argument_text (argument_of w.core.regs.c) w
+
+unfoldable pub call_end : PlainState → Outcome PlainState Cause → List ℕ
+call_end w (Step w') =
+    returned_text (returned_of w.core.regs.c) w'.core.regs
+    ++ printed_text (drop (length w.core.desk.text) w'.core.desk.text)
+call_end w (Stop cause) = []
+
+unfoldable pub call_line : ℕ → PlainState → Outcome PlainState Cause → List ℕ
+call_line n w next = line (call_start n w ++ call_end w next)

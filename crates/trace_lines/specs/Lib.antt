@@ -1,0 +1,5 @@
+pub mod CallForms
+pub mod CallLines
+pub mod Rows
+pub mod StepLines
+pub mod Codes

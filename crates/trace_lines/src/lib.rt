@@ -1,0 +1,16 @@
+//! The lines of a trace: of calls, and of instructions.
+//!
+//! - `forms`, `escapes`, `call_lines`: what the lines of calls show
+//! - `accesses`, `step_lines`: the cells that an instruction reads and writes; the lines of instructions
+#![tactic(auto)]
+
+mod accesses;
+mod call_lines;
+mod escapes;
+mod forms;
+mod step_lines;
+
+pub use accesses::Row;
+pub use call_lines::{block_at, call_end, call_start, drive_in};
+pub use forms::{Argument, argument_of};
+pub use step_lines::{Code, push_changes, step_start};

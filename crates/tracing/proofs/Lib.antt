@@ -1,0 +1,3 @@
+pub mod Walking
+pub mod LineLemmas
+pub mod TraceLemmas

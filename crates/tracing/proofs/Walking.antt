@@ -1,0 +1,316 @@
+-- The lines along a run.
+use Rattle.std.proofs.Common.{◌≡◌, ℕ, zero, suc, ◌+◌, ◌-◌, ◌<◌, ◌≤◌, Bool, true, false, List, [], ◌∷◌, ◌++◌, length, drop, take, ◌&&◌, ◌||◌, Option, Some, None, refl, sym, ◌∙◌, ap, arith, add-one, cond, append-nil, append_assoc, nat_le, subst, Ok, Err, IfOk, IfSome, OnOk, min, inl, inr, if◌then◌else◌, eqb, ◌==◌, ◌≢◌}
+use Rattle.std.specs.List.{concat}
+use Rattle.interaction_trees.specs.Outcome.{Outcome, Step, Stop}
+use Rattle.interaction_trees.specs.Steps as steps
+use Rattle.interaction_trees.proofs.RunLemmas.{step_before}
+use Rattle.console_calls.specs.declared.cause.Cause.{Cause}
+use Rattle.machine.specs.Inputs.{Session}
+use Rattle.std.proofs.lemmas.Bool.{and_parts, cases_lt, leb-false, leb-true, lt-leb, ne_eqb}
+use Rattle.std.proofs.Math.Bool.{and-false}
+use Rattle.std.specs.declared.result.Result.{Result}
+use Rattle.std.specs.declared.alloc.AllocError.{AllocError}
+use Rattle.machine.specs.Machine.{session_answers}
+use Rattle.machine.specs.PlainLaid.{plain_after}
+use Rattle.machine.specs.PlainState.{PlainState, plain_outcome}
+use Rattle.machine.specs.Runs.{EndsBy, IsAtCall, Leads, MakesNoCall, RunView, StopsBelow, StopsHere, state_of}
+use Rattle.machine.specs.Session.{IsSession}
+use Rattle.machine.proofs.PlainViews.{plain_at}
+use Rattle.trace_filters.specs.declared.choice.Choice.{Choice}
+use Rattle.tracing.specs.declared.lines.Lines.{Lines}
+use Rattle.std.proofs.Math.Seq.{take-append_seam}
+use Rattle.streams.specs.Streams.{Output, WritesPart, WritesWhole}
+use Rattle.streams.proofs.WrittenPieces.{part_more, part_then, whole_nil}
+use Rattle.tracing.specs.Trace.{BreaksTrace}
+use Rattle.tracing.specs.declared.fault.TraceFault.{TraceFault}
+use Rattle.tracing.specs.declared.fault.TraceFault.TheVariants.{CannotWrite, OutOfMemory}
+use Rattle.tracing.specs.Walks.{AddsLine, AddsLines, EndsAt, Flushes, GoesBy, kept_text, lines_left}
+use Rattle.trace_filters.specs.Chosen.{has_line, is_call, is_chosen}
+use Rattle.trace_lines.specs.CallLines.{call_line}
+use Rattle.trace_lines.specs.StepLines.{is_instruction, step_line}
+use Rattle.tracing.specs.Trace.{line_of, lines, next_lines}
+
+-- No step of a session from `from` on and below `upto` has a line.
+abbrev pub HasNoLine : Choice → Session → ℕ → ℕ → Type 0
+HasNoLine c s from upto = (i : ℕ) (w : PlainState) → from ≤ i → i < upto → plain_after s i ≡ Some w → has_line c s i w ≡ false
+
+module _ (c : Choice) (s : Session) where
+  -- The first line of some, if the first step has one.
+  pub first_line : (k n : ℕ) (w : PlainState) → has_line c s n w ≡ true → lines c s (suc k) n w ≡ line_of s n w ∷ next_lines (lines c s k) n (plain_outcome s w)
+  unfolding lines
+  first_line k n w has = rw has refl
+
+  pub no_line : (k n : ℕ) (w : PlainState) → has_line c s n w ≡ false → lines c s (suc k) n w ≡ next_lines (lines c s k) n (plain_outcome s w)
+  unfolding lines
+  no_line k n w none = rw none refl
+
+  -- Steps that have no lines.
+  pub lines_past : (d k k' n n' : ℕ) → k' ≡ d + k → n' ≡ d + n → (w w' : PlainState) → plain_after s n ≡ Some w → plain_after s n' ≡ Some w' → HasNoLine c s n n'
+      → lines c s k' n w ≡ lines c s k n' w'
+  unfolding steps.after
+  lines_past zero k k' n n' ek en w w' at at' none =
+      let same : n ≡ n' = omega (arith, en) in
+      let counts : k' ≡ k = omega (arith, ek) in
+      let both : Some w ≡ Some w' = sym at ∙ ap (plain_after s) same ∙ at' in
+      let state : w ≡ w' = cc in
+      cc
+  lines_past (suc d) k k' n n' ek en w w' at at' none =
+      let next : n' ≡ suc (d + n) = omega (arith, en) in
+      let (b, here, went) = step_before (plain_outcome s) (plain_after s (d + n)) w' (rw next at at') in
+      let last : n' ≡ d + n + 1 = omega (arith, en) in
+      lines_past d (suc k) k' n (d + n) (omega (arith, ek)) refl w b at here (λ i x low high. none i x low (omega (arith, high, en)))
+      ∙ no_line k (d + n) b (none (d + n) b (omega arith) (omega (arith, en)) here)
+      ∙ ap (next_lines (lines c s k) (d + n)) went ∙ ap (λ (i : ℕ). lines c s k i w') (sym last)
+
+  -- There are at most as many lines as steps.
+  pub lines_short : (k n : ℕ) (w : PlainState) → length (lines c s k n w) ≤ k
+  unfolding lines
+  lines_short zero n w = omega arith
+  lines_short (suc k) n w = pick (has_line c s n w) (next_short (λ w'. lines_short k (n + 1) w') (plain_outcome s w)) where
+    next_short : ((w' : PlainState) → length (lines c s k (n + 1) w') ≤ k) → (o : Outcome PlainState Cause) → length (next_lines (lines c s k) n o) ≤ k
+    next_short h (Step w') = h w'
+    next_short h (Stop cause) = omega arith
+
+    pick : (b : Bool) → length (next_lines (lines c s k) n (plain_outcome s w)) ≤ k
+        → length (if b then line_of s n w ∷ next_lines (lines c s k) n (plain_outcome s w) else next_lines (lines c s k) n (plain_outcome s w)) ≤ suc k
+    pick true h = omega (arith, h)
+    pick false h = omega (arith, h)
+
+  -- A step that stops the run and has no line.
+  pub stopped_past : (k n : ℕ) (w : PlainState) (cause : Cause) → has_line c s n w ≡ false → plain_outcome s w ≡ Stop cause → lines c s k n w ≡ []
+  unfolding lines
+  stopped_past zero n w cause none stops = refl
+  stopped_past (suc k) n w cause none stops = no_line k n w none ∙ ap (next_lines (lines c s k) n) stops
+
+-- ---- which steps have none
+
+module _ (c : Choice) (s : Session) (n : ℕ) (w : PlainState) where
+  pub early : n < c.from → has_line c s n w ≡ false
+  unfolding has_line is_chosen
+  early h = rw (lt-leb c.from n h) refl
+
+  pub late : c.to < n → has_line c s n w ≡ false
+  unfolding has_line is_chosen
+  late h = rw (lt-leb n c.to h, and-false (nat_le c.from n)) refl
+
+  pub silent : c.instructions ≡ false → is_call w ≡ false → has_line c s n w ≡ false
+  unfolding has_line is_chosen
+  silent h k = rw (h, k, and-false (nat_le c.from n && nat_le n c.to)) refl
+
+  -- A step with a line is a call or an instruction.
+  pub is_one : has_line c s n w ≡ true → is_call w ≡ false → is_instruction w ≡ true
+  unfolding has_line is_chosen
+  is_one has none =
+      let chosen : is_chosen c n w ≡ true = (and_parts _ _ (and_parts _ _ has).0).0 in
+      let kind : (is_call w || (c.instructions && is_instruction w)) ≡ true = (and_parts _ _ (and_parts _ _ (and_parts _ _ chosen).0).0).1 in
+      (and_parts c.instructions (is_instruction w) (rw none at kind)).1
+
+pub line_of_call : (s : Session) (n : ℕ) (w : PlainState) → is_call w ≡ true → line_of s n w ≡ call_line n w (plain_outcome s w)
+unfolding line_of
+line_of_call s n w is = rw is refl
+
+pub line_of_instruction : (s : Session) (n : ℕ) (w : PlainState) → is_call w ≡ false → line_of s n w ≡ step_line s n w (plain_outcome s w)
+unfolding line_of
+line_of_instruction s n w is = rw is refl
+
+-- ---- lines that were added
+
+pub adds_none : (l : Lines) (all left : List (List ℕ)) → all ≡ left → AddsLines l l all left
+adds_none l all left e = record {
+  text = ap (λ (t : List (List ℕ)). l.text.items ++ concat (drop (l.skip - l.chosen) t)) (sym e);
+  chosen = ap (λ (t : List (List ℕ)). l.chosen + length t) (sym e);
+  skip = refl;
+}
+
+pub adds_one : (old new : Lines) (line : List ℕ) (left : List (List ℕ)) → AddsLine old new line → AddsLines old new (line ∷ left) left
+adds_one old new line left w = record { text = pick (nat_le old.skip old.chosen) refl; chosen = rw w.chosen (omega arith); skip = w.skip } where
+  pick : (b : Bool) → nat_le old.skip old.chosen ≡ b → new.text.items ++ concat (drop (new.skip - new.chosen) left) ≡ old.text.items ++ concat (drop (old.skip - old.chosen) (line ∷ left))
+  pick true e =
+      let low : old.skip ≤ old.chosen = leb-true _ _ e in
+      let before : old.skip - old.chosen ≡ 0 = omega (arith, low) in
+      let after : new.skip - new.chosen ≡ 0 = omega (arith, low, w.skip, w.chosen) in
+      let text : new.text.items ≡ old.text.items ++ line = rw e at w.text in
+      ap (λ (k : ℕ). new.text.items ++ concat (drop k left)) after ∙ ap (λ (t : List ℕ). t ++ concat left) text
+      ∙ append_assoc old.text.items line (concat left) ∙ sym (ap (λ (k : ℕ). old.text.items ++ concat (drop k (line ∷ left))) before)
+  pick false e =
+      let high : old.chosen < old.skip = leb-false _ _ e in
+      let before : old.skip - old.chosen ≡ suc (new.skip - new.chosen) = omega (arith, high, w.skip, w.chosen) in
+      let text : new.text.items ≡ old.text.items = rw e at w.text in
+      ap (λ (t : List ℕ). t ++ concat (drop (new.skip - new.chosen) left)) text
+      ∙ sym (ap (λ (k : ℕ). old.text.items ++ concat (drop k (line ∷ left))) before)
+
+pub adds_then : (a b c : Lines) (all mid left : List (List ℕ)) → AddsLines a b all mid → AddsLines b c mid left → AddsLines a c all left
+adds_then a b c all mid left v w = record { text = w.text ∙ v.text; chosen = w.chosen ∙ v.chosen; skip = w.skip ∙ v.skip }
+
+-- ---- a step
+
+module _ (c : Choice) (old new : RunView) (same : new.session ≡ old.session) (below : old.step < old.session.limit) where
+  count : old.session.limit - old.step ≡ suc (old.session.limit - old.step - 1)
+  count = omega (arith, below)
+
+  after_step : (stop : Option Cause) → Leads old new stop
+      → next_lines (lines c old.session (old.session.limit - old.step - 1)) old.step (plain_outcome old.session (state_of old)) ≡ lines_left c new stop
+  after_step None (one, went) =
+      let limits : new.session.limit ≡ old.session.limit = ap (λ (s : Session). s.limit) same in
+      let left : old.session.limit - old.step - 1 ≡ new.session.limit - new.step = omega (arith, limits, one) in
+      ap (next_lines (lines c old.session (old.session.limit - old.step - 1)) old.step) went
+      ∙ ap (λ (k : ℕ). lines c old.session k (old.step + 1) (state_of new)) left
+      ∙ ap (λ (n : ℕ). lines c old.session (new.session.limit - new.step) n (state_of new)) (sym one)
+      ∙ ap (λ (s : Session). lines c s (new.session.limit - new.step) new.step (state_of new)) (sym same)
+  after_step (Some cause) (none, stops) = ap (next_lines (lines c old.session (old.session.limit - old.step - 1)) old.step) stops
+
+  pub unlined : (stop : Option Cause) → has_line c old.session old.step (state_of old) ≡ false → Leads old new stop → lines_left c old None ≡ lines_left c new stop
+  unlined stop none leads = ap (λ (k : ℕ). lines c old.session k old.step (state_of old)) count ∙ no_line c old.session (old.session.limit - old.step - 1) old.step (state_of old) none ∙ after_step stop leads
+
+  pub lined : (stop : Option Cause) → has_line c old.session old.step (state_of old) ≡ true → Leads old new stop
+      → lines_left c old None ≡ line_of old.session old.step (state_of old) ∷ lines_left c new stop
+  lined stop has leads =
+      ap (λ (k : ℕ). lines c old.session k old.step (state_of old)) count
+      ∙ first_line c old.session (old.session.limit - old.step - 1) old.step (state_of old) has
+      ∙ ap (λ (t : List (List ℕ)). line_of old.session old.step (state_of old) ∷ t) (after_step stop leads)
+
+  pub passes : (l : Lines) (result : Result (Option Cause) AllocError) → has_line c old.session old.step (state_of old) ≡ false → IfOk result (λ stop. Leads old new stop)
+      → IfOk result (λ stop. AddsLines l l (lines_left c old None) (lines_left c new stop))
+  passes l (Ok stop) none leads = adds_none l _ _ (unlined stop none leads)
+  passes l (Err e) none leads = tt
+
+  pub adds : (l l' : Lines) (line : List ℕ) (result : Result (Option Cause) AllocError) → has_line c old.session old.step (state_of old) ≡ true
+      → line_of old.session old.step (state_of old) ≡ line → IfOk result (λ stop. Leads old new stop) → OnOk result (AddsLine l l' line)
+      → IfOk result (λ stop. AddsLines l l' (lines_left c old None) (lines_left c new stop))
+  adds l l' line (Ok stop) has is leads added =
+      subst (λ (all : List (List ℕ)). AddsLines l l' all (lines_left c new stop)) (sym (lined stop has leads ∙ ap (λ (t : List ℕ). t ∷ lines_left c new stop) is))
+      (adds_one l l' line (lines_left c new stop) added)
+  adds l l' line (Err e) has is leads added = tt
+
+-- ---- steps without lines
+
+module _ (c : Choice) (old new : RunView) (same : new.session ≡ old.session) (up : old.step ≤ new.step) (is : IsSession old.session) (at : plain_after old.session old.step ≡ Some (state_of old))
+    (none : HasNoLine c old.session old.step new.step) where
+  -- A run went on.
+  pub goes_past : new.step ≤ old.session.limit → plain_after new.session new.step ≡ Some (state_of new) → lines_left c old None ≡ lines_left c new None
+  goes_past within at' =
+      let limits : new.session.limit ≡ old.session.limit = ap (λ (s : Session). s.limit) same in
+      lines_past c old.session (new.step - old.step) (new.session.limit - new.step) (old.session.limit - old.step) old.step new.step (omega (arith, limits, up, within)) (omega (arith, up))
+      (state_of old) (state_of new) at (subst (λ (s : Session). plain_after s new.step ≡ Some (state_of new)) same at') none
+      ∙ ap (λ (s : Session). lines c s (new.session.limit - new.step) new.step (state_of new)) (sym same)
+
+  -- It came to a stop that has none.
+  pub stops_past : (cause : Cause) → (end : ℕ) → end ≤ old.session.limit → StopsBelow (session_answers new.session) end new.step cause → StopsHere new cause
+      → has_line c old.session new.step (state_of new) ≡ false → lines_left c old None ≡ []
+  stops_past cause end high (below, st, there, stops) here silent =
+      let at' = plain_at new st (subst (λ (s : Session). IsSession s) (sym same) is) there in
+      goes_past (omega (arith, high, below)) at'
+      ∙ ap (λ (s : Session). lines c s (new.session.limit - new.step) new.step (state_of new)) same
+      ∙ stopped_past c old.session (new.session.limit - new.step) new.step (state_of new) cause silent (subst (λ (s : Session). plain_outcome s (state_of new) ≡ Stop cause) same here)
+
+-- A step at another PC is no call.
+pub is_no_call : (w : PlainState) → (w.core.regs.pc ≡ 0xfe06 → ⊥) → is_call w ≡ false
+is_no_call w apart = ne_eqb w.core.regs.pc 0xfe06 apart
+
+-- No step before a call has a line, if instructions have none.
+pub calls_alone : (c : Choice) (s : Session) (from upto : ℕ) → c.instructions ≡ false → MakesNoCall s from upto → HasNoLine c s from upto
+calls_alone c s from upto off calls i w low high at = silent c s i w off (is_no_call w (calls i w low high at))
+
+-- ---- the first and the last steps
+
+-- A run that starts is at the loaded machine.
+pub first_at : (r : RunView) → r.step ≡ 0 → plain_after r.session r.step ≡ Some (state_of r)
+unfolding steps.after
+first_at r first = rw first refl
+
+pub none_early : (c : Choice) (s : Session) (from upto : ℕ) → upto ≤ c.from → HasNoLine c s from upto
+none_early c s from upto low i w above below at = early c s i w (omega (arith, low, below))
+
+-- No step after the last one has a line.
+pub lines_late : (c : Choice) (s : Session) (k n : ℕ) (w : PlainState) → c.to < n → lines c s k n w ≡ []
+unfolding lines
+lines_late c s zero n w h = refl
+lines_late c s (suc k) n w h = no_line c s k n w (late c s n w h) ∙ rest (λ w'. lines_late c s k (n + 1) w' (omega (arith, h))) (plain_outcome s w) where
+  rest : ((w' : PlainState) → lines c s k (n + 1) w' ≡ []) → (o : Outcome PlainState Cause) → next_lines (lines c s k) n o ≡ []
+  rest e (Step w') = e w'
+  rest e (Stop cause) = refl
+
+-- ---- a walk
+
+-- A walk is at most at its last step, or a stop follows.
+abbrev pub Ends : RunView → ℕ → Option Cause → Type 0
+Ends r end None = r.step ≤ end
+Ends r end (Some cause) = (r.step < r.session.limit) × StopsHere r cause
+
+-- What is left of a walk.
+abbrev pub left_to : Option Cause → ℕ → ℕ → ℕ
+left_to None end step = suc (end - step)
+left_to (Some cause) end step = 0
+
+pub goes_up : (old new : RunView) (end : ℕ) (stop : Option Cause) → GoesBy old new end stop → old.step ≤ new.step
+goes_up old new end None w = omega (arith, w.0)
+goes_up old new end (Some cause) w = w.0
+
+pub ends_by : (old new : RunView) (end : ℕ) (stop : Option Cause) → GoesBy old new end stop → Ends new end stop
+ends_by old new end None w = w.1
+ends_by old new end (Some cause) w = (w.1, w.2)
+
+-- Nothing was written.
+pub breaks_none : (text : List ℕ) (a : Output) → BreaksTrace text OutOfMemory a a
+breaks_none text a = (0, whole_nil a)
+
+-- A beginning of the text was written.
+pub breaks_off : {a b : Output} (written rest text : List ℕ) → WritesWhole a b written → written ++ rest ≡ text → BreaksTrace text OutOfMemory a b
+breaks_off {a = a} {b = b} written rest text wrote e = (
+  length written,
+  subst (λ (t : List ℕ). WritesWhole a b t) (sym (ap (take (length written)) (sym e) ∙ take-append_seam written rest)) wrote,
+)
+
+pub cuts_off : {a b c : Output} (written kept rest text : List ℕ) → WritesWhole a b written → WritesPart b c kept → written ++ (kept ++ rest) ≡ text → BreaksTrace text CannotWrite a c
+cuts_off {a = a} {c = c} written kept rest text wrote part e =
+    subst (λ (t : List ℕ). WritesPart a c t) (append_assoc written kept rest ∙ e) (part_more (written ++ kept) rest (part_then written kept wrote part))
+
+-- Lines were added, and some of what is kept was written.
+pub keeps_on : (l m n : Lines) (all left : List (List ℕ)) (a b : Output) (written text : List ℕ) → AddsLines l m all left → (f : Flushes m n a b)
+    → written ++ (l.text.items ++ kept_text l all) ≡ text → (written ++ f.text) ++ (n.text.items ++ kept_text n left) ≡ text
+keeps_on l m n all left a b written text adds f e =
+    append_assoc written f.text (n.text.items ++ kept_text n left)
+    ∙ ap (λ (t : List ℕ). written ++ t) (sym (append_assoc f.text n.text.items (kept_text n left)) ∙ ap (λ (t : List ℕ). t ++ kept_text n left) f.rest
+    ∙ ap (λ (k : ℕ). m.text.items ++ concat (drop (k - n.chosen) left)) f.skip ∙ ap (λ (k : ℕ). m.text.items ++ concat (drop (m.skip - k) left)) f.chosen ∙ adds.text)
+    ∙ e
+
+-- A run that is not at its last step is where a stop follows.
+pub stops_early : (c : Choice) (old new : RunView) (to : ℕ) → new.session ≡ old.session → old.step ≡ 0 → to ≤ c.from → to ≤ old.session.limit → IsSession old.session → (new.step ≡ to → ⊥)
+    → (stop : Option Cause) → EndsBy new to stop → IfSome stop (StopsHere new) → EndsAt new to stop × (lines_left c old None ≡ lines_left c new stop)
+stops_early c old new to same first soon within is other None ends stops = absurd (other ends)
+stops_early c old new to same first soon within is other (Some cause) ends stops =
+    let low : new.step < to = ends.0 in
+    let limits : new.session.limit ≡ old.session.limit = ap (λ (s : Session). s.limit) same in (
+      (omega (arith, low, within, limits), stops),
+      stops_past c old new same (omega (arith, first)) is (first_at old first) (none_early c old.session old.step new.step (omega (arith, low, soon))) cause to within ends stops
+          (early c old.session new.step (state_of new) (omega (arith, low, soon))),
+    )
+
+pub goes_early : (c : Choice) (old new : RunView) (to : ℕ) → new.session ≡ old.session → old.step ≡ 0 → to ≤ c.from → to ≤ old.session.limit → IsSession old.session → new.step ≡ to
+    → plain_after new.session new.step ≡ Some (state_of new) → lines_left c old None ≡ lines_left c new None
+goes_early c old new to same first soon within is here at =
+    goes_past c old new same (omega (arith, first)) is (first_at old first) (none_early c old.session old.step new.step (omega (arith, here, soon))) (omega (arith, here, within)) at
+
+no_steps : (c : Choice) (s : Session) (n : ℕ) (w : PlainState) → lines c s 0 n w ≡ []
+unfolding lines
+no_steps c s n w = refl
+
+-- No line is left after the last step.
+pub none_left : (c : Choice) (r : RunView) (end : ℕ) → r.step ≡ end → end ≡ min r.session.limit (c.to + 1) → lines_left c r None ≡ []
+none_left c r end here last = elim (cases_lt c.to r.step) [
+  | inl past ↦ lines_late c r.session (r.session.limit - r.step) r.step (state_of r) past
+  | inr before ↦
+      let over : r.session.limit - r.step ≡ 0 = omega (arith, here, last, before) in
+      ap (λ (k : ℕ). lines c r.session k r.step (state_of r)) over ∙ no_steps c r.session r.step (state_of r)
+]
+
+drop_none : (n : ℕ) → drop {A = List ℕ} n [] ≡ []
+drop_none zero = refl
+drop_none (suc n) = refl
+
+pub nothing_kept : (l : Lines) (left : List (List ℕ)) → left ≡ [] → kept_text l left ≡ []
+nothing_kept l left none = ap (λ (t : List (List ℕ)). concat (drop (l.skip - l.chosen) t)) none ∙ ap concat (drop_none (l.skip - l.chosen))
+
+-- The same for an equal text.
+pub breaks_same : (x y : List ℕ) (fault : TraceFault) (a b : Output) → x ≡ y → BreaksTrace x fault a b → BreaksTrace y fault a b
+breaks_same x y fault a b e w = subst (λ (t : List ℕ). BreaksTrace t fault a b) e w
