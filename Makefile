@@ -1,10 +1,10 @@
-# make                          proves and builds cpmrun and cpmdeps
+# make                          proves and builds cpmrun, cpmdeps and cpmtrace
 # make check                    proves everything, and runs all tests
 # make install PREFIX=/usr/local DESTDIR=
-#                               installs both programs, their man pages, their completion for bash, and their pages and examples
+#                               installs the programs, their man pages, their completion for bash, and their pages and examples
 # make uninstall                removes these files
 # make dist                     packs them for machines without the Rattle kit
-# make bench                    measures how fast both programs are
+# make bench                    measures how fast cpmrun and cpmdeps are
 # make needs CRATE=replay       prints the crates that a crate needs
 # make pages                    writes the texts and options of --help into the man pages and the completion
 # make clean                    removes what was proved and built
@@ -12,17 +12,19 @@ PREFIX = /usr/local
 DESTDIR =
 PROGRAM = crates/executable/out/executable
 DEPENDENCIES_PROGRAM = crates/cpmdeps/out/cpmdeps
+TRACE_PROGRAM = crates/cpmtrace/out/cpmtrace
 # what is installed, as it lies below PREFIX
 STAGE = crates/executable/out/stage
 DOC = share/doc/cpmrun
 # An installed page says `cpmrun` for `./cpmrun`.
-PAGE = s,(\.\./)+(cpmrun|cpmdeps),\2,g; s,\./(cpmrun|cpmdeps),\1,g; s,tests/programs/,programs/,g
+PAGE = s,(\.\./)+(cpmrun|cpmdeps|cpmtrace),\2,g; s,\./(cpmrun|cpmdeps|cpmtrace),\1,g; s,tests/programs/,programs/,g
 
 .PHONY: all check stage install uninstall dist bench needs pages clean
 
 all:
 	@./cpmrun --build > /dev/null
 	@./cpmdeps --build > /dev/null
+	@./cpmtrace --build > /dev/null
 
 check:
 	@./check
@@ -32,7 +34,8 @@ stage: all
 	@rm -rf $(STAGE) && mkdir -p $(STAGE)/$(DOC)
 	@install -D $(PROGRAM) $(STAGE)/bin/cpmrun
 	@install -D $(DEPENDENCIES_PROGRAM) $(STAGE)/bin/cpmdeps
-	@for name in cpmrun cpmdeps; do \
+	@install -D $(TRACE_PROGRAM) $(STAGE)/bin/cpmtrace
+	@for name in cpmrun cpmdeps cpmtrace; do \
 	    install -D -m 644 docs/$$name.1 $(STAGE)/share/man/man1/$$name.1 && \
 	    install -D -m 644 scripts/completion $(STAGE)/share/bash-completion/completions/$$name || exit; done
 	@cp -R examples tests/programs $(STAGE)/$(DOC) && rm -rf $(STAGE)/$(DOC)/examples/built
@@ -43,7 +46,7 @@ stage: all
 
 install: stage
 	@umask 022 && mkdir -p '$(DESTDIR)$(PREFIX)' && cp -R --remove-destination $(STAGE)/. '$(DESTDIR)$(PREFIX)'
-	@echo 'installed bin/cpmrun, bin/cpmdeps, their man pages and completion for bash, and $(DOC) in $(DESTDIR)$(PREFIX)'
+	@echo 'installed bin/cpmrun, bin/cpmdeps, bin/cpmtrace, their man pages and completion for bash, and $(DOC) in $(DESTDIR)$(PREFIX)'
 
 uninstall: stage
 	@cd $(STAGE) && find . -type f | (cd '$(DESTDIR)$(PREFIX)' && xargs -d '\n' rm -f)
@@ -61,7 +64,7 @@ needs:
 	@tac crates.txt | awk -F '[: ]+' '$$1 == "$(CRATE)" || $$1 in used { print $$1; for (i = 2; i <= NF; i++) used[$$i] }' | tac
 
 pages: all
-	@scripts/pages $(PROGRAM) $(DEPENDENCIES_PROGRAM)
+	@scripts/pages $(PROGRAM) $(DEPENDENCIES_PROGRAM) $(TRACE_PROGRAM)
 
 clean:
 	@rm -rf crates/*/out

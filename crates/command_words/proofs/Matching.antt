@@ -1,6 +1,6 @@
 -- What is read of the matches of a parse.
 use Rattle.std.proofs.Common.{◌≡◌, ◌∙◌, ◌≤◌, ◌<◌, ◌^◌, ℕ, List, [], ◌∷◌, Bool, map, unwrap_or, Option, Some, None, sym, ap, subst, refl, true, false, codes}
-use Rattle.std.specs.Prelude.{IfNone, Result, Ok, Err, option_map}
+use Rattle.std.specs.Prelude.{IfNone, IfSome, Result, Ok, Err, option_map}
 use Rattle.std.specs.Borrow.{Bor}
 use Rattle.std.specs.Str.Parse.{ParsesBool, ParsesUnsigned}
 use Rattle.clap.specs.Words.{App, FailsBy, HasKind, Kinds, ReadsOne, Row, Text, fault_of, first_of, first_value, is_simple, matches_of, one_of, one_text, rows_of}
@@ -9,9 +9,10 @@ use Rattle.clap.specs.declared.error.Error.{Error}
 use Rattle.clap.specs.declared.parser.matches.Found.{Found}
 use Rattle.clap.proofs.OnLiterals.{clap_on_literals}
 use Rattle.clap.proofs.WalkLemmas.{first_value-rows, one_text-rows}
-use Rattle.command_words.specs.CommandLine.{IsNumberOf, text_of}
+use Rattle.command_words.specs.CommandLine.{HasNoNumberWithin, IsFlagOf, IsNumberIfAny, IsNumberOf, text_of}
 use Rattle.command_words.specs.RunLine.{run_faults, run_line, run_matches}
-use Rattle.command_words.specs.DependencyLine.{IsFlagOf, dependency_faults, dependency_line, dependency_matches}
+use Rattle.command_words.specs.DependencyLine.{dependency_faults, dependency_line, dependency_matches}
+use Rattle.command_words.specs.TraceLine.{trace_faults, trace_line, trace_matches}
 
 is_simple_run : is_simple run_line ≡ true
 unfolding clap_on_literals
@@ -28,6 +29,14 @@ is_simple_dependency = refl
 is_free_dependency : is_simple_and_free dependency_line ≡ true
 unfolding clap_on_literals
 is_free_dependency = refl
+
+is_simple_trace : is_simple trace_line ≡ true
+unfolding clap_on_literals
+is_simple_trace = refl
+
+is_free_trace : is_simple_and_free trace_line ≡ true
+unfolding clap_on_literals
+is_free_trace = refl
 
 -- The matches of a command equal to a command line are the matches of that command line, and so are the kinds of its errors.
 matches_at : (line a : App) (words : List Text) (rows : List Row) → is_simple line ≡ true → a ≡ line → (is_simple a ≡ true → rows ≡ matches_of a words)
@@ -57,6 +66,16 @@ pub fails_at_dependency_line : {T : Type 0} (a : App) (words : List Text) (r : R
 unfolding dependency_faults
 fails_at_dependency_line a words r = faults_at dependency_line a words r is_free_dependency
 
+pub at_trace_line : (a : App) (words : List Text) (rows : List Row) → a ≡ trace_line → (is_simple a ≡ true → rows ≡ matches_of a words)
+    → rows ≡ trace_matches words
+unfolding trace_matches
+at_trace_line a words rows = matches_at trace_line a words rows is_simple_trace
+
+pub fails_at_trace_line : {T : Type 0} (a : App) (words : List Text) (r : Result T Error) → a ≡ trace_line
+    → (is_simple_and_free a ≡ true → FailsBy (fault_of a words) r) → FailsBy (trace_faults words) r
+unfolding trace_faults
+fails_at_trace_line a words r = faults_at trace_line a words r is_free_trace
+
 -- A text that was read is the text of the row.
 pub text_said : (f : Found) (id : Text) (rows : List Row) (r : Option (Bor Text)) → rows_of f ≡ rows → option_map (λ s. s.now) r ≡ first_value f id
     → option_map (λ s. s.now) r ≡ first_of id rows
@@ -78,6 +97,12 @@ number_read {E = E} f id G r value parses n says fits = by_read r (value says.0 
   by_read : (r : Option ℕ) → ReadsOne G says.0 r → r ≡ Some n
   by_read (Some v) h = let read = parses says.0 (Ok v) h in ap Some (read.1 ∙ sym says.2.1)
   by_read None h = let unread = parses says.0 (Err h.0) h.1 in absurd (unread (says.2.0, subst (λ m. m < 2 ^ 64) says.2.1 fits))
+
+-- The number of an option that has no default.
+pub number_if_any : (rows : List Row) (id : Text) (least most : ℕ) (r : Option ℕ) → IfSome r (IsNumberOf rows id) → IfSome r (λ n. least ≤ n) → IfSome r (λ n. n ≤ most)
+    → IfNone r (HasNoNumberWithin rows id least most) → IsNumberIfAny rows id least most r
+number_if_any rows id least most None said low high none = none
+number_if_any rows id least most (Some n) said low high none = (said, low, high)
 
 -- A number that was read and is not within a range is none of the range.
 pub out_of_range : (n v least most : ℕ) → Some v ≡ Some n → least ≤ n → n ≤ most → (least ≤ v → v ≤ most → ⊥) → ⊥

@@ -1,5 +1,6 @@
 -- Words that ask for two things of which one excludes the other. (This project's profile.)
 use Rattle.std.specs.Prelude.{◌&&◌, ◌||◌, Bool, false, List, ◌∷◌, Option, is_some}
+use Rattle.command_words.specs.declared.trace_words.TraceWords.{TraceWords}
 use Rattle.command_words.specs.declared.words.DependencyWords.{DependencyWords}
 use Rattle.command_words.specs.declared.words.SessionWords.{SessionWords}
 use Rattle.command_words.specs.declared.words.Words.{Words}
@@ -23,3 +24,7 @@ run_clashes w = are_both w.console w.typed || (are_both w.edits w.deps || (any_b
 -- A rule for make and the listing by steps, or a file and a text for the script.
 abbrev pub dependency_clashes : DependencyWords → Bool
 dependency_clashes w = (is_some w.target && w.by_step) || session_clashes w.session
+
+-- A file and a text for the script.
+abbrev pub trace_clashes : TraceWords → Bool
+trace_clashes w = session_clashes w.session

@@ -1,16 +1,21 @@
--- The arguments of both `cpmrun` and `cpmdeps`, which describe a session, and what is read of their matches. (Over clap's own
--- definitions; the words: this project's own.)
-use Rattle.std.specs.Prelude.{◌≡◌, ◌≤◌, ◌⊎◌, ℕ, List, [], ◌∷◌, Option, Some, None, map, option_map, unwrap_or, codes, true}
+-- The arguments of all the programs, which describe a session, the forms of arguments, and what is read of their matches. (Over
+-- clap's own definitions; the words: this project's own.)
+use Rattle.std.specs.Prelude.{◌≡◌, ◌≢◌, ◌≤◌, ◌⊎◌, ℕ, List, [], ◌∷◌, Bool, MatchBool, MatchOption, Option, Some, None, map, option_map, unwrap_or, codes, true}
 use Rattle.std.specs.Borrow.{Bor}
 use Rattle.std.specs.Str.Parse.{IsNumeral, digits_value, without_leading_plus}
 use Rattle.clap.specs.Words.{App, Row, Rule, Text, first_of, new_app, new_rule, one_of, with_rule}
 use Rattle.clap.specs.Simple.{on_top}
+use Rattle.clap.specs.declared.builder.action.ArgAction.TheVariants as action
 use Rattle.clap.specs.declared.builder.value_parser.ValueParser.TheVariants as parser
 use Rattle.command_words.specs.declared.words.SessionWords.{SessionWords}
 
 -- An option with one value.
 abbrev pub option_rule : Text → Rule
 option_rule name = record (new_rule name) { long = Some name; value_names = 1 }
+
+-- An option without a value.
+abbrev pub flag_rule : Text → Rule
+flag_rule name = record (new_rule name) { long = Some name; action = Some action.SetTrue }
 
 -- A rule for an argument whose value is a path, and not empty.
 abbrev pub as_path : Rule → Rule
@@ -26,6 +31,10 @@ with_default rule default = record rule { defaults = default ∷ [] }
 -- An option whose value is a number within a range, with a default.
 abbrev pub number_rule : Text → ℕ → ℕ → Text → Rule
 number_rule name least most default = record (option_rule name) { parser = Some (parser.Unsigned least most); defaults = default ∷ [] }
+
+-- The same without a default.
+abbrev pub range_rule : Text → ℕ → ℕ → Rule
+range_rule name least most = record (option_rule name) { parser = Some (parser.Unsigned least most) }
 
 -- A command with arguments added one after the other.
 abbrev pub with_rules : App → List Rule → App
@@ -73,6 +82,16 @@ IsNumberOf rows id n = (text : Text) × (one_of id rows ≡ Some text) × IsDeci
 -- The text of the first value of an argument is no number within this range.
 abbrev pub HasNoNumberWithin : List Row → Text → ℕ → ℕ → Type 0
 HasNoNumberWithin rows id least most = (n : ℕ) → IsNumberOf rows id n → least ≤ n → n ≤ most → ⊥
+
+-- The number of an option that has no default: there is none exactly if the text is no number within the range.
+abbrev pub IsNumberIfAny : List Row → Text → ℕ → ℕ → Option ℕ → Type 0
+IsNumberIfAny rows id least most number =
+    MatchOption number (HasNoNumberWithin rows id least most) (λ n. IsNumberOf rows id n × (least ≤ n) × (n ≤ most))
+
+-- The flag is set exactly if the first value of the argument is "true". Clap gives it that value if the flag is among the words,
+-- and "false" if not.
+abbrev pub IsFlagOf : List Row → Text → Bool → Type 0
+IsFlagOf rows id flag = MatchBool flag (one_of id rows ≡ Some (codes "true")) (one_of id rows ≢ Some (codes "true"))
 
 -- The matches have no program, or no limit that is in its range.
 abbrev pub LacksSessionWords : List Row → Type 0

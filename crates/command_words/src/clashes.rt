@@ -3,6 +3,7 @@
 ghost use Rattle.std.specs.Prelude.{◌≡◌, ◌<◌, IfSome, is_some};
 ghost use Rattle.command_words.specs.Clashes as texts;
 
+use crate::trace_words::TraceWords;
 use crate::words::{DependencyWords, SessionWords, Words};
 
 /// Two options of which only one may be given, as a usage error names them.
@@ -110,6 +111,15 @@ impl DependencyWords<'_> {
                 second: "--by-step",
             });
         }
+        self.session.clash()
+    }
+}
+
+impl TraceWords<'_> {
+    /// Returns two options that exclude each other, if both are given.
+    pub fn clash(&self) -> Option<Clash>
+        ensures { is_some result ≡ texts.trace_clashes self.now }
+    {
         self.session.clash()
     }
 }

@@ -5,7 +5,7 @@ ghost use Rattle.command_words.specs.ErrorClass.{error_class};
 use clap::Error;
 use clap::error::ErrorKind;
 
-/// What a program is to do with an error of `read_words` or `read_dependency_words`.
+/// What a program is to do with an error of `read_words`, `read_dependency_words` or `read_trace_words`.
 #[derive(Clone, Copy, Debug, PartialEq, Eq)]
 pub enum ErrorClass {
     /// A request for help or the version. The error's text goes to standard output; the status is 0.

@@ -52,3 +52,26 @@ Exit status:
 
 The manual has every line of the listing and every message: docs/MANUAL.md,
 or share/doc/cpmrun/MANUAL.md of an installed program.";
+
+/// What `cpmtrace` does.
+pub const TRACE_ABOUT: &str =
+    "Prints the BDOS calls of a CP/M 2.2 program, and with --steps its instructions too.";
+
+/// The end of the help of `cpmtrace`.
+pub const TRACE_AFTER_HELP: &str = "\
+Example:
+  cpmtrace hello.com \"note.txt\" --files disk --file note.txt
+      runs hello.com with the tail note.txt and the host files in the folder disk, and prints
+      each call that names the file note.txt
+
+If several of --from to --file are given, a step must pass all of them.
+
+Quote a TAIL of several words: 'a.txt b.txt'. Put a TAIL that begins with '-' last, after '--'.
+
+Exit status:
+  0   the trace was printed, or help
+  1   usage error, I/O error, invalid host files, or a limit exceeded
+  12  out of memory
+
+The manual has every line of the trace and every message: docs/MANUAL.md,
+or share/doc/cpmrun/MANUAL.md of an installed program.";

@@ -1,99 +1,106 @@
 ghost use Rattle.std.specs.Prelude.{◌≡◌, false, codes, IfOk, map};
 ghost use Rattle.clap.specs.Words.{app_of, rule_of};
-ghost use Rattle.command_words.specs.CommandLine.{limit_rule, number_rule, option_rule, path_rule, plain_command};
+ghost use Rattle.command_words.specs.CommandLine.{flag_rule, limit_rule, number_rule, option_rule, path_rule, plain_command};
 ghost use Rattle.command_words.specs.CommandLine.{positional_rules, typed_rule, with_default, with_input_rules, with_rules};
 ghost use Rattle.command_words.specs.RunLine.{run_line, run_number_rules};
-ghost use Rattle.command_words.specs.DependencyLine.{dependency_line, flag_rule};
+ghost use Rattle.command_words.specs.DependencyLine.{dependency_line};
 
 use crate::help::{DEPENDENCY_ABOUT, DEPENDENCY_AFTER_HELP, RUN_ABOUT, RUN_AFTER_HELP, VERSION};
 use clap::builder::ValueParser;
 use clap::{Arg, ArgAction, Command, value_parser};
 use std::alloc::{AllocError, Global};
 
-/// An option whose value is a path, with the name of the value and the help text.
-struct PathOption<'a> {
-    name: &'a str,
-    value: &'a str,
-    help: &'a str,
+/// An option whose value is a text, with the name of the value and the help text.
+pub(crate) struct TextOption<'a> {
+    pub name: &'a str,
+    pub value: &'a str,
+    pub help: &'a str,
 }
 
 /// The options for the folders of the host files and for the script.
-const INPUT_PATHS: &[PathOption<'_>] = &[
-    PathOption {
+const INPUT_PATHS: &[TextOption<'_>] = &[
+    TextOption {
         name: "files",
         value: "DIR",
         help: "Directory with the host files of drive A [default: no files]",
     },
-    PathOption {
+    TextOption {
         name: "files-b",
         value: "DIR",
         help: "The same for drive B",
     },
-    PathOption {
+    TextOption {
         name: "files-c",
         value: "DIR",
         help: "The same for drive C",
     },
-    PathOption {
+    TextOption {
         name: "files-d",
         value: "DIR",
         help: "The same for drive D",
     },
-    PathOption {
+    TextOption {
         name: "console",
         value: "FILE",
         help: "The console input, at most 1,048,576 bytes [default: empty]",
     },
 ];
 
+/// The option for a script as typed text.
+const TYPED: TextOption<'_> = TextOption {
+    name: "typed",
+    value: "TEXT",
+    help: "The console input as text with \\r, \\n, \\t, \\\\ and \\xHH; a carriage return is added if none ends it",
+};
+
 /// The options of `cpmrun` for the edit lines, for the folders of changed files, for the disks, and for the file of the rule for make.
-const RUN_PATHS: &[PathOption<'_>] = &[
-    PathOption {
+const RUN_PATHS: &[TextOption<'_>] = &[
+    TextOption {
         name: "edits",
         value: "FILE",
         help: "The edit lines to replay, each answered on standard output [default: one run]",
     },
-    PathOption {
+    TextOption {
         name: "out",
         value: "DIR",
         help: "Directory for the changed files of drive A (ignored with --edits) [default: not written]",
     },
-    PathOption {
+    TextOption {
         name: "out-b",
         value: "DIR",
         help: "The same for drive B",
     },
-    PathOption {
+    TextOption {
         name: "out-c",
         value: "DIR",
         help: "The same for drive C",
     },
-    PathOption {
+    TextOption {
         name: "out-d",
         value: "DIR",
         help: "The same for drive D",
     },
-    PathOption {
+    TextOption {
         name: "disk",
         value: "DIR",
         help: "Directory that is drive A: read as by --files, and changed as the run changes it (only read with --edits)",
     },
-    PathOption {
+    TextOption {
         name: "disk-b",
         value: "DIR",
         help: "The same for drive B",
     },
-    PathOption {
+    TextOption {
         name: "disk-c",
         value: "DIR",
         help: "The same for drive C",
     },
-    PathOption {
+    TextOption {
         name: "disk-d",
         value: "DIR",
         help: "The same for drive D",
     },
-    PathOption {
+    TextOption {
         name: "deps",
         value: "FILE",
         help: "File for a rule for make: what is written to DIRs, and what it depends on (not with --edits)",
@@ -101,29 +108,36 @@ const RUN_PATHS: &[PathOption<'_>] = &[
 ];
 
 /// The option of `cpmdeps` for the target of a rule for make.
-const MAKE: PathOption<'_> = PathOption {
+const MAKE: TextOption<'_> = TextOption {
     name: "make",
     value: "TARGET",
     help: "Print a rule for make with this target instead of the listing",
 };
 
-/// Returns the argument for an option whose value is a path.
-fn path_argument<'a>(alloc: Global, option: &PathOption<'a>) -> Arg<'a>
-    ensures rule { rule_of result ≡ path_rule option.now.name.now }
+/// Returns the argument for an option whose value is any text.
+pub(crate) fn text_argument<'a>(alloc: Global, option: &TextOption<'a>) -> Arg<'a>
+    ensures rule { rule_of result ≡ option_rule option.now.name.now }
     ensures local { result.global ≡ false }
 {
     Arg::new(alloc, option.name)
         .long(option.name)
         .value_name(option.value)
-        .value_parser(ValueParser::NonEmptyString)
         .help(option.help)
+}
+
+/// Returns the argument for an option whose value is a path.
+fn path_argument<'a>(alloc: Global, option: &TextOption<'a>) -> Arg<'a>
+    ensures rule { rule_of result ≡ path_rule option.now.name.now }
+    ensures local { result.global ≡ false }
+{
+    text_argument(alloc, option).value_parser(ValueParser::NonEmptyString)
 }
 
 /// Adds the options whose values are paths to a command.
 fn with_paths<'a>(
     alloc: Global,
     mut command: Command<'a>,
-    options: &[PathOption<'a>],
+    options: &[TextOption<'a>],
 ) -> Result<Command<'a>, AllocError>
     ensures { IfOk result (λ c.
         app_of c ≡ with_rules (app_of command.entry) (map (λ o. path_rule o.name.now) options.now)) }
@@ -155,12 +169,7 @@ fn typed_option<'a>(alloc: Global) -> Arg<'a>
     ensures rule { rule_of result ≡ typed_rule }
     ensures local { result.global ≡ false }
 {
-    Arg::new(alloc, "typed")
-        .long("typed")
-        .value_name("TEXT")
-        .help(
-            "The console input as text with \\r, \\n, \\t, \\\\ and \\xHH; a carriage return is added if none ends it",
-        )
+    text_argument(alloc, &TYPED)
 }
 
 /// Returns the argument for an option whose value is a number, without a check of its value.
@@ -175,7 +184,7 @@ fn number_argument<'a>(alloc: Global, name: &'a str, default: &'a str) -> Arg<'a
 }
 
 /// Returns the option for the limit of steps.
-fn limit_option<'a>(alloc: Global) -> Arg<'a>
+pub(crate) fn limit_option<'a>(alloc: Global) -> Arg<'a>
     ensures rule { rule_of result ≡ limit_rule }
     ensures local { result.global ≡ false }
 {
@@ -216,19 +225,31 @@ fn with_run_numbers<'a>(alloc: Global, command: Command<'a>) -> Result<Command<'
         .arg(slots_option(alloc))
 }
 
+/// Returns the argument for an option without a value.
+pub(crate) fn flag_argument<'a>(alloc: Global, name: &'a str, help: &'a str) -> Arg<'a>
+    ensures rule { rule_of result ≡ flag_rule name.entry.now }
+    ensures local { result.global ≡ false }
+{
+    Arg::new(alloc, name)
+        .long(name)
+        .action(ArgAction::SetTrue)
+        .help(help)
+}
+
 /// Returns the flag that gives each step a line of its own.
 fn by_step_flag<'a>(alloc: Global) -> Arg<'a>
     ensures rule { rule_of result ≡ flag_rule (codes "by-step") }
     ensures local { result.global ≡ false }
 {
-    Arg::new(alloc, "by-step")
-        .long("by-step")
-        .action(ArgAction::SetTrue)
-        .help("Print neighbours that different steps asked for first on separate lines")
+    flag_argument(
+        alloc,
+        "by-step",
+        "Print neighbours that different steps asked for first on separate lines",
+    )
 }
 
 /// Returns a command without arguments, whose words begin after the program's name.
-fn plain_command<'a>(
+pub(crate) fn plain_command<'a>(
     alloc: Global,
     name: &'a str,
     about: &'a str,
@@ -244,7 +265,10 @@ fn plain_command<'a>(
 }
 
 /// Adds the arguments for the program, the tail, and what is read to a plain command.
-fn with_inputs<'a>(alloc: Global, command: Command<'a>) -> Result<Command<'a>, AllocError>
+pub(crate) fn with_inputs<'a>(
+    alloc: Global,
+    command: Command<'a>,
+) -> Result<Command<'a>, AllocError>
     ensures { IfOk result (λ c. app_of c ≡ with_input_rules (app_of command.entry)) }
 {
     let command = with_positionals(alloc, command)?;

@@ -1,8 +1,8 @@
 ghost use Rattle.std.specs.Prelude.{◌≤◌, IfOk, IfSome, IfNone, map, string_bytes};
 ghost use Rattle.clap.specs.Words.{FailsBy, found_of, rows_of};
-ghost use Rattle.command_words.specs.CommandLine.{AreSessionWordsOf, HasNoNumberWithin, IsNumberOf, LacksSessionWords};
+ghost use Rattle.command_words.specs.CommandLine.{AreSessionWordsOf, HasNoNumberWithin, IsFlagOf, IsNumberOf, LacksSessionWords};
 ghost use Rattle.command_words.specs.RunLine.{AreWordsOf, LacksWords, run_faults, run_matches};
-ghost use Rattle.command_words.specs.DependencyLine.{AreDependencyWordsOf, IsFlagOf, dependency_faults, dependency_matches};
+ghost use Rattle.command_words.specs.DependencyLine.{AreDependencyWordsOf, dependency_faults, dependency_matches};
 
 use crate::options::{dependency_command, run_command};
 use clap::{ArgMatches, Error};
@@ -90,7 +90,7 @@ pub struct DependencyWords<'a> {
 }
 
 /// Returns the number of an option, if the option is there and in its range.
-fn number(matches: &ArgMatches<'_>, id: &str, least: u64, most: u64) -> Option<u64>
+pub(crate) fn number(matches: &ArgMatches<'_>, id: &str, least: u64, most: u64) -> Option<u64>
     ensures said { IfSome result (IsNumberOf (rows_of (found_of matches.now)) id.now) }
     ensures low { IfSome result (λ n. least ≤ n) }
     ensures high { IfSome result (λ n. n ≤ most) }
@@ -103,14 +103,14 @@ fn number(matches: &ArgMatches<'_>, id: &str, least: u64, most: u64) -> Option<u
 }
 
 /// Returns whether a flag is set.
-fn flag(matches: &ArgMatches<'_>, id: &str) -> bool
+pub(crate) fn flag(matches: &ArgMatches<'_>, id: &str) -> bool
     ensures { IsFlagOf (rows_of (found_of matches.now)) id.now result }
 {
     matches.get_one::<bool>(id).unwrap_or(false)
 }
 
 /// Returns the words that describe a session, or `None` if the program is missing or the limit is out of its range.
-fn session_words_of<'a>(matches: &ArgMatches<'a>) -> Option<SessionWords<'a>>
+pub(crate) fn session_words_of<'a>(matches: &ArgMatches<'a>) -> Option<SessionWords<'a>>
     ensures says { IfSome result (AreSessionWordsOf (rows_of (found_of matches.now))) }
     ensures limit { IfSome result (λ w. w.limit ≤ 4000000000) }
     ensures none { IfNone result (LacksSessionWords (rows_of (found_of matches.now))) }

@@ -12,7 +12,7 @@ use Rattle.one_run.specs.declared.fault.RunFault.TheVariants as run
 use Rattle.requests.specs.declared.fault.Fault.{Fault}
 use Rattle.requests.specs.declared.fault.Fault.TheVariants.{Usage, BadEscape, NotText, CannotRead, CannotWrite, Folders, Refused, Malformed, TooLong, RulePath, OutOfMemory}
 use Rattle.requests.specs.declared.tool.Tool.{Tool}
-use Rattle.requests.specs.declared.tool.Tool.TheVariants.{Cpmrun, Cpmdeps}
+use Rattle.requests.specs.declared.tool.Tool.TheVariants.{Cpmrun, Cpmdeps, Cpmtrace}
 use Rattle.one_run.specs.World.{World}
 use Rattle.report_lines.specs.FirstLines.{line}
 use Rattle.streams.specs.Streams.{Output, WritesOrFails}
@@ -51,6 +51,7 @@ status_of fault = 1
 abbrev pub name_of : Tool → List ℕ
 name_of Cpmrun = codes "cpmrun"
 name_of Cpmdeps = codes "cpmdeps"
+name_of Cpmtrace = codes "cpmtrace"
 
 -- A line of a program's messages.
 abbrev pub message_line : Tool → List ℕ → List ℕ

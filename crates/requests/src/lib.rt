@@ -1,4 +1,4 @@
-//! What both programs make of their command lines: the request in the words, and the errors with which a program ends.
+//! What each program makes of its command line: the request in the words, and the errors with which it ends.
 //!
 //! - `request`: the request in the words of a command line
 //! - `fault`, `tool`: the errors, with their statuses and messages; the programs whose names the messages begin with

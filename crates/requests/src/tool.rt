@@ -7,6 +7,8 @@ pub enum Tool {
     Cpmrun,
     /// `cpmdeps`
     Cpmdeps,
+    /// `cpmtrace`
+    Cpmtrace,
 }
 
 // The messages of `clap` for a word that is not UTF-8. The command lines take only strings, so `clap` never returns them.
@@ -26,6 +28,14 @@ Usage: cpmdeps [OPTIONS] <PROGRAM> [TAIL]
 For more information, try '--help'.
 ";
 
+const TRACE_NOT_TEXT: &str = "\
+error: invalid UTF-8 was detected in one or more arguments
+
+Usage: cpmtrace [OPTIONS] <PROGRAM> [TAIL]
+
+For more information, try '--help'.
+";
+
 impl Tool {
     ghost use Rattle.std.specs.Prelude.{◌≡◌};
     ghost use Rattle.requests.specs.FaultReports.{message_of, name_of};
@@ -38,6 +48,7 @@ impl Tool {
         match self {
             Tool::Cpmrun => "cpmrun",
             Tool::Cpmdeps => "cpmdeps",
+            Tool::Cpmtrace => "cpmtrace",
         }
     }
 
@@ -48,6 +59,7 @@ impl Tool {
         match self {
             Tool::Cpmrun => RUN_NOT_TEXT,
             Tool::Cpmdeps => DEPENDENCY_NOT_TEXT,
+            Tool::Cpmtrace => TRACE_NOT_TEXT,
         }
     }
 
@@ -58,6 +70,7 @@ impl Tool {
         match self {
             Tool::Cpmrun => "cpmrun: cannot write standard output\n",
             Tool::Cpmdeps => "cpmdeps: cannot write standard output\n",
+            Tool::Cpmtrace => "cpmtrace: cannot write standard output\n",
         }
     }
 
@@ -68,6 +81,7 @@ impl Tool {
         match self {
             Tool::Cpmrun => "cpmrun: out of memory\n",
             Tool::Cpmdeps => "cpmdeps: out of memory\n",
+            Tool::Cpmtrace => "cpmtrace: out of memory\n",
         }
     }
 }

@@ -1,7 +1,7 @@
 //! The tests of the words of the command lines.
 //!
 //! - `options`, `numbers`, `faults`: tests of each option, of numbers at the ends of their ranges, of help and of usage errors
-//! - `dependency_words`: the same for `cpmdeps`
+//! - `dependency_words`, `trace_words`: the same for `cpmdeps` and for `cpmtrace`
 //! - `fixtures`: the results of words that a caller gives
 #![tactic(auto)]
 
@@ -15,3 +15,5 @@ mod fixtures;
 mod numbers;
 #[cfg(test)]
 mod options;
+#[cfg(test)]
+mod trace_words;

@@ -1,0 +1,3 @@
+mod Addresses
+mod Messages
+pub mod Answering

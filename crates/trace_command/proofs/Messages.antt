@@ -1,0 +1,6 @@
+-- The pieces of a message.
+use Rattle.std.proofs.Common.{◌≡◌, ◌++◌, ℕ, List, append_assoc, refl}
+
+-- Pieces that are joined from the last one on, or from the first one on.
+pub regrouped : (a b c d e f g : List ℕ) → a ++ (b ++ (c ++ (d ++ (e ++ (f ++ g))))) ≡ a ++ b ++ c ++ d ++ e ++ f ++ g
+regrouped a b c d e f g = simp append_assoc refl

@@ -1,0 +1,99 @@
+-- The choice of steps that the words describe. (This project's profile.)
+use Rattle.std.specs.Prelude.{◌≡◌, ◌==◌, ◌&&◌, ◌++◌, ℕ, Bool, nat_le, nat_lt, List, length, if◌then◌else◌, codes, Option, Some, None, option_map, unwrap_or}
+use Rattle.std.specs.Borrow.{Bor}
+use Rattle.std.specs.Char.{is_ascii_hexdigit}
+use Rattle.std.specs.List.{after_first, before_first, list_all, position_or_len}
+use Rattle.std.specs.Result.{result_ok}
+use Rattle.std.specs.Str.Parse.{digits_value}
+use Rattle.command_words.specs.declared.trace_words.TraceWords.{TraceWords}
+use Rattle.filenames.specs.Names.{Key, name_of}
+use Rattle.trials.specs.declared.ranges.CellRange.{CellRange}
+use Rattle.trace_filters.specs.declared.choice.Choice.{Choice}
+use Rattle.trace_command.specs.declared.choice.BadValue.{BadValue}
+use Rattle.trace_command.specs.declared.choice.Filter.{Filter}
+use Rattle.trace_command.specs.declared.choice.Filter.TheVariants.{At, Writes, Reads, File}
+
+-- The address of 1 to 4 hexadecimal digits, of either case.
+abbrev pub is_address : List ℕ → Bool
+is_address text = nat_lt 0 (length text) && nat_le (length text) 4 && list_all is_ascii_hexdigit text
+
+abbrev pub address_of : List ℕ → Option ℕ
+address_of text = if is_address text then Some (digits_value 16 text) else None
+
+-- The cells from one address to another, if the first is no greater than the last.
+abbrev pub cells_between : Option ℕ → Option ℕ → Option CellRange
+cells_between (Some first) (Some last) = if nat_le first last then Some (record { first = first; last = last }) else None
+cells_between first last = None
+
+abbrev pub is_hyphen : ℕ → Bool
+is_hyphen b = b == 45
+
+abbrev pub has_hyphen : List ℕ → Bool
+has_hyphen text = nat_lt (position_or_len is_hyphen text) (length text)
+
+-- The cells of an address, or of two with a hyphen between them.
+abbrev pub cells_of : List ℕ → Option CellRange
+cells_of text =
+    if has_hyphen text then cells_between (address_of (before_first is_hyphen text)) (address_of (after_first is_hyphen text))
+    else cells_between (address_of text) (address_of text)
+
+-- The key of a name.
+abbrev pub file_of : List ℕ → Option Key
+file_of text = result_ok (name_of text)
+
+-- The value of an option, which may be left out; `None` if its text has no meaning.
+abbrev pub value_of : {T : Type 0} → (List ℕ → Option T) → Option (Bor (List ℕ)) → Option (Option T)
+value_of meaning None = Some None
+value_of meaning (Some text) = option_map Some (meaning text.now)
+
+-- The choice with the values of the words, if each text has a meaning.
+abbrev pub choice_with : TraceWords → Option (Option ℕ) → Option (Option CellRange) → Option (Option CellRange) → Option (Option Key) → Option Choice
+choice_with w (Some address) (Some written) (Some read) (Some key) =
+    Some (record {
+      instructions = w.steps;
+      from = unwrap_or w.from 0;
+      to = unwrap_or w.to 18446744073709551615;
+      at = address;
+      writes = written;
+      reads = read;
+      file = key;
+      last = w.last;
+    })
+choice_with w address written read key = None
+
+abbrev pub choice_of : TraceWords → Option Choice
+choice_of w = choice_with w (value_of address_of w.at) (value_of cells_of w.writes) (value_of cells_of w.reads) (value_of file_of w.file)
+
+-- ---- values that options cannot have
+
+-- The option has this text, which has no meaning.
+abbrev pub IsUnread : {T : Type 0} → (List ℕ → Option T) → Option (Bor (List ℕ)) → Bor (List ℕ) → Type 0
+IsUnread meaning text value = (text ≡ Some value) × (meaning value.now ≡ None)
+
+abbrev pub HasNoMeaning : TraceWords → Filter → Bor (List ℕ) → Type 0
+HasNoMeaning w At value = IsUnread address_of w.at value
+HasNoMeaning w Writes value = IsUnread cells_of w.writes value
+HasNoMeaning w Reads value = IsUnread cells_of w.reads value
+HasNoMeaning w File value = IsUnread file_of w.file value
+
+-- The words have this value, which its option cannot have.
+abbrev pub IsBadValueOf : TraceWords → BadValue → Type 0
+IsBadValueOf w bad = HasNoMeaning w bad.filter bad.value
+
+abbrev pub option_text : Filter → List ℕ
+option_text At = codes "--at <ADDR>"
+option_text Writes = codes "--writes <RANGE>"
+option_text Reads = codes "--reads <RANGE>"
+option_text File = codes "--file <NAME>"
+
+abbrev pub mistake_text : Filter → List ℕ
+mistake_text At = codes "not an address of 1 to 4 hexadecimal digits"
+mistake_text Writes = codes "not ADDR or ADDR-ADDR with the lower address first"
+mistake_text Reads = codes "not ADDR or ADDR-ADDR with the lower address first"
+mistake_text File = codes "not a name of a file on the drives A to D"
+
+-- The message of such a value, worded as clap's.
+abbrev pub bad_value_text : BadValue → List ℕ
+bad_value_text bad =
+    codes "error: invalid value '" ++ bad.value.now ++ codes "' for '" ++ option_text bad.filter ++ codes "': " ++ mistake_text bad.filter
+    ++ codes "\n\nFor more information, try '--help'.\n"

@@ -1,0 +1,209 @@
+// The choice of steps that the words describe.
+
+ghost use Rattle.std.specs.Prelude.{◌≡◌, Some, None, IfErr, IfOk};
+ghost use Rattle.std.specs.Char.{is_ascii_hexdigit};
+ghost use Rattle.std.specs.List.{list_all};
+ghost use Rattle.trace_command.specs.Choices as texts;
+ghost use Rattle.trace_command.specs.Choices.{IsBadValueOf, IsUnread};
+
+use command_words::TraceWords;
+use filenames::{Key, Name};
+use std::alloc::{AllocError, Global};
+use tracing::{CellRange, Choice};
+
+/// An option that chooses steps, with a value that `clap` takes as any text.
+#[derive(Clone, Copy)]
+pub enum Filter {
+    /// `--at`
+    At,
+    /// `--writes`
+    Writes,
+    /// `--reads`
+    Reads,
+    /// `--file`
+    File,
+}
+
+/// A value that an option cannot have.
+#[derive(Clone, Copy)]
+pub struct BadValue<'a> {
+    /// The option.
+    pub filter: Filter,
+    /// Its value.
+    pub value: &'a str,
+}
+
+impl Filter {
+    ghost use Rattle.std.specs.Prelude.{◌≡◌};
+    ghost use Rattle.trace_command.specs.Choices as texts;
+
+    // Returns the option with the name of its value.
+    fn option(self) -> &'static str
+        ensures { result.now ≡ texts.option_text self }
+    {
+        match self {
+            Filter::At => "--at <ADDR>",
+            Filter::Writes => "--writes <RANGE>",
+            Filter::Reads => "--reads <RANGE>",
+            Filter::File => "--file <NAME>",
+        }
+    }
+
+    // Returns what is wrong with a value that the option cannot have.
+    fn mistake(self) -> &'static str
+        ensures { result.now ≡ texts.mistake_text self }
+    {
+        match self {
+            Filter::At => "not an address of 1 to 4 hexadecimal digits",
+            Filter::Writes | Filter::Reads => "not ADDR or ADDR-ADDR with the lower address first",
+            Filter::File => "not a name of a file on the drives A to D",
+        }
+    }
+}
+
+impl BadValue<'_> {
+    ghost use Rattle.std.specs.Prelude.{◌≡◌, IfOk, string_bytes};
+    ghost use Rattle.trace_command.specs.Choices as texts;
+
+    /// Returns the message, worded as `clap` words it.
+    pub fn message(&self, alloc: Global) -> Result<String, AllocError>
+        ensures { IfOk result (λ s. string_bytes s ≡ texts.bad_value_text self.now) }
+    {
+        let value = self.value;
+        let option = self.filter.option();
+        let mistake = self.filter.mistake();
+        format!(in alloc;
+            "error: invalid value '{value}' for '{option}': {mistake}\n\nFor more information, try '--help'.\n"
+        )
+    }
+}
+
+// Returns whether all bytes are hexadecimal digits.
+fn are_digits(text: &[u8]) -> bool
+    ensures { result ≡ list_all is_ascii_hexdigit text.now }
+{
+    text.iter().all(|b| b.is_ascii_hexdigit())
+}
+
+// Returns whether a text is 1 to 4 hexadecimal digits.
+fn is_address(text: &str) -> bool
+    ensures { result ≡ texts.is_address text.now }
+{
+    let digits = text.as_bytes();
+    !digits.is_empty() && digits.len() <= 4 && are_digits(digits)
+}
+
+// Returns the address of a text.
+fn address_of(text: &str) -> Option<u16>
+    ensures { result ≡ texts.address_of text.now }
+{
+    if !is_address(text) {
+        return None;
+    }
+    u16::from_str_radix(text, 16).ok()
+}
+
+// Returns the cells from the first address to the last.
+fn cells_between(first: Option<u16>, last: Option<u16>) -> Option<CellRange>
+    ensures { result ≡ texts.cells_between first last }
+{
+    match (first, last) {
+        (Some(first), Some(last)) if first <= last => Some(CellRange { first, last }),
+        _ => None,
+    }
+}
+
+// Returns the cells of a text with an address, or with two and a hyphen between them.
+fn cells_of(text: &str) -> Option<CellRange>
+    ensures { result ≡ texts.cells_of text.now }
+{
+    match text.split_once('-') {
+        Some((first, last)) => cells_between(address_of(first), address_of(last)),
+        None => cells_between(address_of(text), address_of(text)),
+    }
+}
+
+// Returns the key of a name.
+fn file_of(text: &str) -> Option<Key>
+    ensures { result ≡ texts.file_of text.now }
+{
+    match Name::parse(text) {
+        Ok(name) => Some(name.key()),
+        Err(_) => None,
+    }
+}
+
+// Returns the value of the option for an address.
+fn address_value<'a>(text: Option<&'a str>) -> Result<Option<u16>, BadValue<'a>>
+    ensures value { IfOk result (λ v. texts.value_of texts.address_of text.entry ≡ Some v) }
+    ensures bad { IfErr result
+        (λ bad. (bad.filter ≡ Filter.At) × IsUnread texts.address_of text.entry bad.value) }
+{
+    let Some(text) = text else {
+        return Ok(None);
+    };
+    match address_of(text) {
+        Some(address) => Ok(Some(address)),
+        None => Err(BadValue {
+            filter: Filter::At,
+            value: text,
+        }),
+    }
+}
+
+// Returns the value of an option for cells.
+fn cells_value<'a>(filter: Filter, text: Option<&'a str>) -> Result<Option<CellRange>, BadValue<'a>>
+    ensures value { IfOk result (λ v. texts.value_of texts.cells_of text.entry ≡ Some v) }
+    ensures bad { IfErr result
+        (λ bad. (bad.filter ≡ filter) × IsUnread texts.cells_of text.entry bad.value) }
+{
+    let Some(text) = text else {
+        return Ok(None);
+    };
+    match cells_of(text) {
+        Some(cells) => Ok(Some(cells)),
+        None => Err(BadValue {
+            filter,
+            value: text,
+        }),
+    }
+}
+
+// Returns the value of the option for a file.
+fn file_value<'a>(text: Option<&'a str>) -> Result<Option<Key>, BadValue<'a>>
+    ensures value { IfOk result (λ v. texts.value_of texts.file_of text.entry ≡ Some v) }
+    ensures bad { IfErr result
+        (λ bad. (bad.filter ≡ Filter.File) × IsUnread texts.file_of text.entry bad.value) }
+{
+    let Some(text) = text else {
+        return Ok(None);
+    };
+    match file_of(text) {
+        Some(key) => Ok(Some(key)),
+        None => Err(BadValue {
+            filter: Filter::File,
+            value: text,
+        }),
+    }
+}
+
+/// Returns the choice that the words describe.
+///
+/// # Errors
+///
+/// Returns `Err` if an option has a value that it cannot have.
+pub fn read_choice<'a>(words: &TraceWords<'a>) -> Result<Choice, BadValue<'a>>
+    ensures choice { IfOk result (λ choice. texts.choice_of words.now ≡ Some choice) }
+    ensures bad { IfErr result (IsBadValueOf words.now) }
+{
+    Ok(Choice {
+        instructions: words.steps,
+        from: words.from.unwrap_or(0),
+        to: words.to.unwrap_or(u64::MAX),
+        at: address_value(words.at)?,
+        writes: cells_value(Filter::Writes, words.writes)?,
+        reads: cells_value(Filter::Reads, words.reads)?,
+        file: file_value(words.file)?,
+        last: words.last,
+    })
+}
