@@ -1,4 +1,5 @@
-"""What the tests share. The environment variables PROGRAM and DEPENDENCIES_PROGRAM name the built programs, cpmrun and cpmdeps."""
+"""What the tests share. The environment variables PROGRAM, DEPENDENCIES_PROGRAM and TRACE_PROGRAM name the built programs, cpmrun, cpmdeps and
+cpmtrace."""
 import contextlib
 import os
 import shutil
@@ -15,6 +16,7 @@ from assembler import assemble
 TOP = Path(__file__).resolve().parents[2]
 PROGRAM = Path(os.environ.get('PROGRAM', TOP / 'crates/executable/out/executable')).resolve()
 DEPENDENCIES_PROGRAM = Path(os.environ.get('DEPENDENCIES_PROGRAM', TOP / 'crates/cpmdeps/out/cpmdeps')).resolve()
+TRACE_PROGRAM = Path(os.environ.get('TRACE_PROGRAM', TOP / 'crates/cpmtrace/out/cpmtrace')).resolve()
 HI = TOP / 'examples/hi/hi.com'
 OUT_OF_MEMORY = 'cpmrun: out of memory\n'
 

@@ -43,6 +43,7 @@ GROUPS = {
         ('edit_lines', 'stream', ['replay']),
     ],
     RULES: [('dependency_command', 'command_line', ['dependency_command']), ('cpmrun', 'command_line', ['command'])],
+    'What `cpmtrace` prints': [('trace_command', 'command_line', ['trace_command'])],
 }
 """The functions of each group, by crate, source and name. A key is the heading of a part of the page."""
 

@@ -2,9 +2,11 @@
 import re
 import shutil
 
-from helpers import DEPENDENCIES_PROGRAM, HI, PROGRAM, TOP, ProgramTest
+from helpers import DEPENDENCIES_PROGRAM, HI, PROGRAM, TOP, TRACE_PROGRAM, ProgramTest
 
-PROGRAMS = {'cpmrun': PROGRAM, 'cpmdeps': DEPENDENCIES_PROGRAM}
+PROGRAMS = {'cpmrun': PROGRAM, 'cpmdeps': DEPENDENCIES_PROGRAM, 'cpmtrace': TRACE_PROGRAM}
+NUMBERS = {'cpmrun': ['--limit', '--slots', '--spacing'], 'cpmdeps': ['--limit'], 'cpmtrace': ['--from', '--last', '--limit', '--to']}
+"""The options of each program whose values are numbers."""
 ENTRY = re.compile(r'^ {2,6}((?:-\w, )?--[\w-]+(?: <[A-Z]+>)?|[<\[][A-Z]+[>\]]|\d+) {2,}(\S.*)$', re.MULTILINE)
 """A line of the help about an argument or a status: its words, and its sentence."""
 RANGE = re.compile(r'(?P<least>[\d,]+) to (?P<most>[\d,]+)')
@@ -39,7 +41,7 @@ class HelpTextTest(ProgramTest):
     def test_make_pages_changes_nothing_and_writes_what_is_lost(self) -> None:
         for folder in 'docs', 'scripts':
             shutil.copytree(TOP / folder, self.work / folder)
-        for name in 'docs/cpmrun.1', 'docs/cpmdeps.1', 'scripts/completion':
+        for name in 'docs/cpmrun.1', 'docs/cpmdeps.1', 'docs/cpmtrace.1', 'scripts/completion':
             text = (TOP / name).read_text()
             with_losses = re.sub(r'The same for drive|[\d.]+(?=" "Vembrusk")| --limit=N', '', text)
             self.assertNotEqual(with_losses, text)
@@ -70,7 +72,7 @@ class HelpTextTest(ProgramTest):
     def test_the_ranges_of_the_help_are_the_ones_that_are_taken(self) -> None:
         for name, program in PROGRAMS.items():
             ranges = {words.split()[0]: RANGE.search(text) for words, text in self.help_of(name).items() if words.endswith(' N')}
-            self.assertEqual(sorted(ranges), ['--limit', '--slots', '--spacing'] if name == 'cpmrun' else ['--limit'])
+            self.assertEqual(sorted(ranges), NUMBERS[name])
             for option, told in ranges.items():
                 least, most = number(told['least']), number(told['most'])
                 for value, fits in (least, True), (most, True), (most + 1, False), *([(least - 1, False)] if least else []):

@@ -7,11 +7,11 @@ import tempfile
 import unittest
 from pathlib import Path
 
-from helpers import DEPENDENCIES_PROGRAM, PROGRAM, TOP, files_below
+from helpers import DEPENDENCIES_PROGRAM, PROGRAM, TOP, TRACE_PROGRAM, files_below
 from test_many import has_parallel, make_machines, smaller
 from test_pages import wrong_blocks
 
-PROGRAMS = {'cpmrun': PROGRAM, 'cpmdeps': DEPENDENCIES_PROGRAM}
+PROGRAMS = {'cpmrun': PROGRAM, 'cpmdeps': DEPENDENCIES_PROGRAM, 'cpmtrace': TRACE_PROGRAM}
 
 
 def run(*words, **how):
@@ -38,7 +38,7 @@ class Install(unittest.TestCase):
         for name, program in PROGRAMS.items():
             self.assertEqual((prefix / 'bin' / name).read_bytes(), program.read_bytes())
         for page in doc.rglob('*.md'):
-            self.assertNotRegex(page.read_text(), r'\./cpm(run|deps)|tests/programs', page)
+            self.assertNotRegex(page.read_text(), r'\./cpm(run|deps|trace)|tests/programs', page)
         env = {**os.environ, 'PATH': f'{prefix}/bin:{os.environ["PATH"]}'}
         found = []
         for page in 'WALKS.md', 'MANUAL.md', 'examples/README.md':
@@ -95,3 +95,5 @@ class Install(unittest.TestCase):
             self.assertEqual(shown, f'complete -F _{name} {name}\n')
         for option in '--make', '--by-step':
             self.assertEqual(self.completions('cpmdeps', option, 'dig'), ['digits.com'])
+        for option, wanted in ('--file', ['digits.com']), ('--at', []), ('--writes', []):
+            self.assertEqual(self.completions('cpmtrace', option, 'dig'), wanted)

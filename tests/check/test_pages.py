@@ -9,9 +9,9 @@ import shutil
 import subprocess
 from pathlib import Path
 
-from helpers import DEPENDENCIES_PROGRAM, PROGRAM, TOP, ProgramTest
+from helpers import DEPENDENCIES_PROGRAM, PROGRAM, TOP, TRACE_PROGRAM, ProgramTest
 
-PARTS = ['cpmrun', 'cpmdeps', 'crates.txt', 'scripts', 'examples', 'tests', 'docs']
+PARTS = ['cpmrun', 'cpmdeps', 'cpmtrace', 'crates.txt', 'scripts', 'examples', 'tests', 'docs']
 """What the commands may name. Of the crates they may name only the built programs."""
 
 
@@ -21,13 +21,13 @@ def blocks_of(page: str, fence: str = 'sh') -> list[re.Match[str]]:
 
 
 def copy_tree(copy: Path) -> None:
-    """Copies what the commands may name, and the programs to where `cpmrun` and `cpmdeps` look for them."""
+    """Copies what the commands may name, and the programs to where `cpmrun`, `cpmdeps` and `cpmtrace` look for them."""
     for part in PARTS:
         if (TOP / part).is_dir():
             shutil.copytree(TOP / part, copy / part, ignore=shutil.ignore_patterns('__pycache__', 'built'))
         else:
             shutil.copy2(TOP / part, copy / part)
-    for program, crate in (PROGRAM, 'executable'), (DEPENDENCIES_PROGRAM, 'cpmdeps'):
+    for program, crate in (PROGRAM, 'executable'), (DEPENDENCIES_PROGRAM, 'cpmdeps'), (TRACE_PROGRAM, 'cpmtrace'):
         (copy / 'crates' / crate / 'out').mkdir(parents=True)
         shutil.copy2(program, copy / 'crates' / crate / 'out' / crate)
 

@@ -109,8 +109,9 @@ CHECKPOINT = {
 """What a checkpoint holds, by the file of each type."""
 
 MAY_REPORT_OUT_OF_MEMORY = {
-    'command_words': 'error_class read_dependency_words read_words',
+    'command_words': 'error_class read_dependency_words read_trace_words read_words',
     'cpmdeps': 'main',
+    'cpmtrace': 'main',
     'cpmrun': 'replay_file',
     'dependency_command': 'write_listing write_rule',
     'edit_lines': 'execute_edit hex_bytes',
@@ -122,12 +123,12 @@ MAY_REPORT_OUT_OF_MEMORY = {
     'one_run': 'remove_one write_one',
     'replay': 'number',
     'requests': 'clash_fault fixed_message message report_fault request_of_error status',
+    'trace_command': 'choose write_answer',
 }
 """The functions of each crate that report out of memory themselves, not by `?` or in a `From`. Most turn one error into another, or into a
 number or a message."""
 
 ALLOWED = {
-    'filenames::Fcb::dr': 'the drive byte of a control block',
     'hostfiles::HostFiles::records_with': 'how many records a file has after a run',
     'hostfiles::HostFiles::record_with': 'a record of a file after a run',
     'hostfiles::HostFiles::next_with': 'the names after a run',
@@ -230,8 +231,9 @@ class SourcesTest(RuleTest):
         self.refuse(in_code(r'\bmacro_rules!'))
 
     def test_crates_above_replay_do_not_ask_what_was_looked_at(self) -> None:
-        """The state of a run that has ended is public; a reply is about what the run did, and not about its looks."""
-        self.refuse(in_code(r'\blooked\b', 'pagemem/', 'console_calls/', 'hostfiles/', 'machine/', 'replay/'))
+        """The state of a run that has ended is public; a reply is about what the run did, and not about its looks. A call that is tried has
+        looks of its own."""
+        self.refuse(in_code(r'\blooked\b', 'pagemem/', 'console_calls/', 'hostfiles/', 'machine/', 'replay/', 'trials/'))
 
     def test_a_checkpoint_holds_no_looks_and_no_text_and_shares_its_pages(self) -> None:
         """No contract says how much memory a value holds, and no other field would change a reply."""

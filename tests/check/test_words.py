@@ -3,7 +3,7 @@ import re
 import subprocess
 import unittest
 
-from helpers import DEPENDENCIES_PROGRAM, PROGRAM, TOP
+from helpers import DEPENDENCIES_PROGRAM, PROGRAM, TOP, TRACE_PROGRAM
 
 PLAINER = {
     r'(is|are|was|were) told|tells?|told': 'prints, returns, reports, shows',
@@ -51,6 +51,6 @@ class Words(unittest.TestCase):
             self.check(name, comments(name, path.read_text()))
 
     def test_help_has_plain_words(self) -> None:
-        for program in PROGRAM, DEPENDENCIES_PROGRAM:
+        for program in PROGRAM, DEPENDENCIES_PROGRAM, TRACE_PROGRAM:
             self.check('--help', subprocess.check_output([program, '--help'], text=True).splitlines())
 

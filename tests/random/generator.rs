@@ -57,6 +57,26 @@ pub struct Case {
     pub slots: usize,
 }
 
+impl Case {
+    // Returns the session after all edits, with its files. Only the tests of listings and of traces use it.
+    #[allow(dead_code)]
+    pub fn edited(&self) -> (Session, Vec<HostFile>) {
+        let mut session = self.session.clone();
+        for command in &self.commands {
+            if let Line::Edit(edit) = &command.line {
+                // A refused edit leaves the session as it is.
+                let _ = session.edit(edit);
+            }
+        }
+        let files = session
+            .hosts
+            .iter()
+            .map(|(key, file)| HostFile { key: *key, name: name_in_folder(key), bytes: file.bytes().to_vec() })
+            .collect();
+        (session, files)
+    }
+}
+
 // The case of a number: the same one each time.
 pub fn case(number: u64) -> Case {
     let random = &mut Random::new(number);

@@ -14,10 +14,10 @@ mod unlisted;
 
 use counts::Counts;
 use generator::random::Random;
-use generator::{Case, HostFile, Line};
+use generator::HostFile;
 use jobs::Words;
 use laid::Laid;
-use model::{changed_line, is_sayable, name_in_folder, Asked, Key, Origin, Question, Rows, Run, Session, RECORD};
+use model::{changed_line, is_sayable, Asked, Key, Origin, Question, Rows, Run, Session, RECORD};
 use std::collections::BTreeSet;
 use std::fs;
 use std::path::{Path, PathBuf};
@@ -30,21 +30,6 @@ const TARGETS: [&str; 5] = ["out.txt", "two words", "one\\ two\\\\ #$", "\\#\\$"
 type Listings = [String; 2];
 // The lines of a report about the run itself: stop, steps, registers and text.
 const LINES_OF_RUN: usize = 4;
-
-// The session of a case after all its edits, with its files.
-fn edited(case: &Case) -> (Session, Vec<HostFile>) {
-    let mut session = case.session.clone();
-    for command in &case.commands {
-        if let Line::Edit(edit) = &command.line {
-            // A refused edit leaves the session as it is.
-            let _ = session.edit(edit);
-        }
-    }
-    let host_files = session.hosts.iter();
-    let files =
-        host_files.map(|(key, file)| HostFile { key: *key, name: name_in_folder(key), bytes: file.bytes().to_vec() }).collect();
-    (session, files)
-}
 
 // A session to test, in a folder of its own, with the two built programs.
 struct Test<'a> {
@@ -214,7 +199,7 @@ fn check(words: &Words, number: u64, folder: &Path, counts: &mut Counts) -> Resu
         Test { words, folder, counts }.check(session, files, random).map_err(|what| format!("{name}: {what}"))
     };
     test("first", &case.session, &case.files)?;
-    let (session, files) = edited(&case);
+    let (session, files) = case.edited();
     test("edited", &session, &files)
 }
 

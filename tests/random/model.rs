@@ -10,11 +10,17 @@ mod processor;
 mod asked;
 #[allow(dead_code)]
 mod listing;
+// Only the trace uses the text of instructions.
+#[allow(dead_code)]
+mod mnemonics;
+#[allow(dead_code)]
+mod trace;
 #[allow(unused_imports)]
 pub use self::{
     asked::{Asked, Origin, Question},
     files::is_sayable,
     listing::Rows,
+    trace::{name_of_call, Choice, Step, Trace},
 };
 
 use asked::operand_bytes;

@@ -64,7 +64,7 @@ impl Origin {
     }
 }
 
-struct Notes<'a> {
+pub(super) struct Notes<'a> {
     script: &'a [u8],
     step: u64,
     first_steps: BTreeMap<Question, u64>,
@@ -74,14 +74,17 @@ struct Notes<'a> {
     origins: BTreeMap<Key, Origin>,
     // The names of files that the run made, deleted or renamed, both names of a rename.
     changed: BTreeSet<Key>,
+    // The cells that the step reads, whether it asks for them or not; a cell may be here twice.
+    pub(super) reads: Vec<u16>,
     // What the step writes if it is executed: these cells, or a record; or what the result of its call says.
-    writes: Vec<u16>,
+    pub(super) writes: Vec<u16>,
     record: Option<(Key, usize)>,
     call: Option<u8>,
 }
 
 impl Watch for Notes<'_> {
     fn tries(&mut self, state: &State) {
+        self.reads.clear();
         self.writes.clear();
         self.record = None;
         self.call = None;
@@ -98,15 +101,15 @@ impl Watch for Notes<'_> {
             self.writes = call_writes(number, state);
             self.files_after(number, state);
         }
-        for address in std::mem::take(&mut self.writes) {
-            self.is_settled[address as usize] = true;
+        for address in &self.writes {
+            self.is_settled[*address as usize] = true;
         }
         self.step += 1;
     }
 }
 
 impl<'a> Notes<'a> {
-    fn new(session: &'a Session) -> Notes<'a> {
+    pub(super) fn new(session: &'a Session) -> Notes<'a> {
         Notes {
             script: &session.script,
             step: 0,
@@ -114,6 +117,7 @@ impl<'a> Notes<'a> {
             is_settled: vec![false; 65536],
             origins: session.hosts.iter().map(|(key, file)| (*key, Origin::of_host(*key, file.length()))).collect(),
             changed: BTreeSet::new(),
+            reads: Vec::new(),
             writes: Vec::new(),
             record: None,
             call: None,
@@ -125,6 +129,7 @@ impl<'a> Notes<'a> {
     }
 
     fn cell(&mut self, address: u16) {
+        self.reads.push(address);
         if !self.is_settled[address as usize] {
             self.is_settled[address as usize] = true;
             self.ask(Question::Cell(address));
@@ -184,7 +189,7 @@ fn read_by(opcode: u8, processor: &Processor) -> Vec<u16> {
 fn written_by(opcode: u8, processor: &Processor) -> Vec<u16> {
     let word = processor.word(processor.next.wrapping_add(1));
     let top = processor.stack;
-    let pushed = || vec![top.wrapping_sub(1), top.wrapping_sub(2)];
+    let pushed = || vec![top.wrapping_sub(2), top.wrapping_sub(1)];
     match opcode {
         0x02 => vec![processor.pair(B)],
         0x12 => vec![processor.pair(D)],

@@ -25,7 +25,7 @@ pub struct Desk {
     pub text: Vec<u8>,
     column: u64,
     pub buffer: u16,
-    drive: u8,
+    pub drive: u8,
     pub search: Option<Search>,
 }
 
