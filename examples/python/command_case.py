@@ -1,4 +1,4 @@
-"""What the tests of `shrink.py`, `explore.py` and `snap.py` share: small programs, and how one is run."""
+"""What the tests of the programs share: small programs, and how one is run."""
 
 import subprocess
 import sys
@@ -60,10 +60,9 @@ class CommandCase(unittest.TestCase):
         self.addCleanup(folder.cleanup)
         self.room = Path(folder.name)
 
-    def outcome(self, *words: str | Path) -> tuple[int, bytes, str]:
-        """Returns the exit status, the standard output and the standard error of the command."""
-        run = subprocess.run([sys.executable, "-B", HERE / self.command, *words],
-                             capture_output=True)
+    def outcome(self, *words: str | Path, commands: bytes = b"") -> tuple[int, bytes, str]:
+        """Returns the exit status, the standard output and the standard error of the command, with this as its standard input."""
+        run = subprocess.run([sys.executable, "-B", HERE / self.command, *words], input=commands, capture_output=True)
         return run.returncode, run.stdout, run.stderr.decode()
 
     def faulty(self, status: int, message: str, *words: str | Path) -> None:

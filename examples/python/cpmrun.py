@@ -144,13 +144,15 @@ class Session:
         *,
         folders: Mapping[str, PathName] | None = None,
         script: PathName | None = None,
+        typed: str | None = None,
         limit: int | None = None,
         spacing: int | None = None,
         slots: int | None = None,
     ) -> None:
         """Starts the runner at this path on a `.COM` file with its command tail.
 
-        `folders` has the folder of host files for each drive `A` to `D` that has files; `script` is the path of the console input.
+        `folders` has the folder of host files for each drive `A` to `D` that has files; `script` is the path of the console input, or
+        `typed` has it as text with escapes such as `\\r`.
         `limit` is the step limit, `spacing` the steps between checkpoints, and `slots` the most checkpoints; None means the default.
         Raises OSError if the runner cannot be started, and KeyError for another drive.
         """
@@ -159,6 +161,8 @@ class Session:
             words.append(f"{FOLDER_OPTIONS[drive]}={os.fspath(folder)}")
         if script is not None:
             words.append(f"--console={os.fspath(script)}")
+        if typed is not None:
+            words.append(f"--typed={typed}")
         for option, number in (("--limit", limit), ("--spacing", spacing), ("--slots", slots)):
             if number is not None:
                 words.append(f"{option}={number}")

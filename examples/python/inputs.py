@@ -34,12 +34,12 @@ class Arguments(argparse.ArgumentParser):
             add(option, metavar="DIR", help=f"the folder of the host files of drive {drive}")
         add("--limit", type=int, metavar="N", help="the steps after which a run stops")
 
-    def add_runner(self, name: str) -> None:
+    def add_runner(self, name: str, option: str = "--runner") -> None:
         """Adds the argument that names the built program of this name."""
         here, variable = f"./{name}", name.upper()
         default = os.environ.get(variable) or (here if Path(here).exists() else shutil.which(name) or here)
-        self.add_argument("--runner", metavar="PATH", default=default,
-            help=f"the runner; by default the one that the variable {variable} names, else {here}, else the {name} on the PATH")
+        self.add_argument(option, metavar="PATH", default=default,
+            help=f"the {name} to run; by default the one that the variable {variable} names, else {here}, else the {name} on the PATH")
 
     def error(self, message: str) -> NoReturn:
         """Prints a usage error in one line, and ends with status 2."""
@@ -58,10 +58,10 @@ class Parser(Arguments):
         self.add_runner("cpmrun")
 
 
-def start(words: argparse.Namespace, **options: int) -> Session:
-    """Returns the session that the arguments name; `options` override them."""
-    numbers = {name: getattr(words, name) for name in ("limit", "spacing", "slots")}
-    return Session(words.runner, words.program, words.tail, script=words.console, folders=folders_of(words), **(numbers | options))
+def start(words: argparse.Namespace, typed: str | None = None, **options: int) -> Session:
+    """Returns the session that the arguments name; `options` override them. `typed` is the script as text."""
+    numbers = {name: getattr(words, name) for name in ("limit", "spacing", "slots")} | options
+    return Session(words.runner, words.program, words.tail, script=words.console, typed=typed, folders=folders_of(words), **numbers)
 
 
 def folders_of(words: argparse.Namespace) -> dict[str, str]:

@@ -9,7 +9,7 @@ import sys
 from collections.abc import Iterator
 from pathlib import Path
 
-from cpmrun import Refused, Report, Session
+from cpmrun import Refused, Registers, Report, Session
 from inputs import Parser, run_main, start
 
 LONGEST_SHOWN = 100
@@ -42,11 +42,15 @@ def file_lines(data: bytes) -> Iterator[str]:
         yield f"  {offset:06x}  {row.hex(' ')}  {escaped(row) if not row.strip(TEXT[:95]) else ''}".rstrip()
 
 
+def registers_line(registers: Registers) -> str:
+    """Returns the registers in the form of a report."""
+    return " ".join(f"{name.upper()}={value:0{4 if name in ('sp', 'pc') else 2}X}" for name, value in vars(registers).items())
+
+
 def report_lines(report: Report) -> Iterator[str]:
     """Yields a report in a form for people."""
     yield f"stop {report.cause} after {report.steps:,} steps"
-    yield " ".join(f"{name.upper()}={value:0{2 if value < 256 and name not in ('sp', 'pc') else 4}X}"
-                   for name, value in vars(report.registers).items())
+    yield registers_line(report.registers)
     yield from text_lines(report.text)
     for name, data in report.files.items():
         if data is None:
