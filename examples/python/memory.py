@@ -73,7 +73,7 @@ def _field(text: bytes, length: int) -> bytes:
 
 
 class Memory:
-    """The memory of a run after any of its steps, as far as it is known.
+    """The memory of a run after any of its steps, where it is known.
 
     A byte that a call wrote is known if the call read a record or a plain line of the console, if it is in a control block except its count
     of records and random record number, or if the next step that writes the cell is an instruction, since a trace shows the byte before it.

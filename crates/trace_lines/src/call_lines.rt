@@ -232,7 +232,7 @@ fn printed_text(alloc: Global, bytes: &[u8]) -> Result<Vec<u8>, AllocError>
     Ok(text)
 }
 
-/// Returns what the line of a call shows after the call was executed: what it returned, and the bytes after the first `sent`.
+/// Returns what the line of a call shows after the call was executed: what it returned, from the registers, and the bytes that it sent.
 ///
 /// # Errors
 ///

@@ -32,13 +32,13 @@ module _ (r : RunView) (at : plain_after r.session r.step ≡ Some (state_of r))
   unfolding plain_run
   limit_cause e = sym (ap (λ (x : RunResult PlainState Cause). x.cause) (run_limited (plain_outcome r.session) Limit (loaded_machine r.session) r.session.limit r.step (state_of r) at e))
 
-  -- Before it, it is that of the stop that follows.
+  -- Before it, it is the cause of the stop that follows.
   stop_cause : (cause : Cause) → r.step < r.session.limit → StopsHere r cause → cause ≡ (plain_run r.session).cause
   unfolding plain_run
   stop_cause cause below stops =
       sym (ap (λ (x : RunResult PlainState Cause). x.cause) (run_stops (plain_outcome r.session) Limit (loaded_machine r.session) r.session.limit r.step (state_of r) cause at below stops))
 
-  -- The same for a session that is that of the run.
+  -- The same for a session that equals the one of the run.
   pub limit_is : (s : Session) → r.session ≡ s → r.step ≡ s.limit → Limit ≡ (plain_run s).cause
   limit_is s same e = limit_cause (e ∙ ap (λ (x : Session). x.limit) (sym same)) ∙ ap (λ (x : Session). (plain_run x).cause) same
 

@@ -101,7 +101,7 @@ fn trace_step(
     trace_instruction(run, lines)
 }
 
-// Executes a step that may have a line, after those before it that have none; or a million of those.
+// Executes a step that may have a line, after the steps before it that have none; or at most a million steps without lines.
 fn trace_next(
     run: &mut Run<'_>,
     session: &Session,
