@@ -131,8 +131,8 @@ fn search_next_call<B: Bus>(
     apply_finding(&finding, regs, bus, table, desk, to)
 }
 
-// Returns the drive that the first byte of a control block names, if it names one.
-fn drive_of_byte(current: Drive, dr: u8) -> Option<Drive>
+/// Returns the drive that the first byte of a control block names, if it names one.
+pub fn drive_of_byte(current: Drive, dr: u8) -> Option<Drive>
     ensures { result ≡ drive_of_byte current dr }
 {
     match dr {

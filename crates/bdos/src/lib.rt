@@ -9,6 +9,6 @@ mod cells;
 mod findings;
 mod function;
 
-pub use calls::call;
+pub use calls::{call, drive_of_byte};
 pub use console_calls::{Cause, Desk, Served, Spot};
 pub use function::SystemFunction;

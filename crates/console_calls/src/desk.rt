@@ -150,6 +150,14 @@ impl Desk {
         Ok(Desk { spot, text, looks })
     }
 
+    /// Returns a desk at the same spot, whose text is only as long as its column: to try what a call does. `Err` means out of memory.
+    pub fn at_same_spot(&self) -> Result<Desk, AllocError>
+        ensures { IfOk result (λ d. d.desk.spot ≡ self.now.desk.spot) }
+    {
+        let text = Vec::from_slice(*self.text.allocator(), &self.text[..self.spot.column])?;
+        Ok(Desk::from_parts(self.spot, text))
+    }
+
     /// Returns whether the run looked at an offset of the script: at its byte, or that there is none.
     pub fn looked(&self, at: u64) -> bool
         ensures { result ≡ is_within self.now.looks at }
@@ -246,7 +254,7 @@ impl Desk {
     }
 
     /// Returns the allocator of the text.
-    pub(crate) fn allocator(&self) -> Global {
+    pub fn allocator(&self) -> Global {
         *self.text.allocator()
     }
 

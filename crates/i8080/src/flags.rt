@@ -54,9 +54,9 @@ impl Flags {
 }
 
 impl Condition {
-    // Returns whether the flags meet the condition.
+    /// Returns whether the flags meet the condition.
     #[inline(always)]
-    pub(crate) fn is_met(self, flags: Flags) -> bool
+    pub fn is_met(self, flags: Flags) -> bool
         ensures { result ≡ is_met self flags }
     {
         match self {

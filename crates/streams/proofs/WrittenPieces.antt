@@ -8,7 +8,7 @@ use Rattle.std.proofs.KnownBytes.{Appends-nil, Appends-trans}
 use Rattle.streams.specs.Streams.{Output, WritesWhole, WritesPart, WritesText, WritesOrFails}
 
 -- A prefix of a text is a prefix of a longer text.
-first_part : (n : ℕ) (x y : List ℕ) → (m : ℕ) × (take m (x ++ y) ≡ take n x)
+pub first_part : (n : ℕ) (x y : List ℕ) → (m : ℕ) × (take m (x ++ y) ≡ take n x)
 first_part n x y = elim (cases_lt n (length x)) [
   | inl below ↦ (n, take-append-le n x y (le_of_lt below))
   | inr past ↦ (length x, take-append_seam x y ∙ sym (take_all n x past))

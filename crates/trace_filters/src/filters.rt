@@ -11,11 +11,12 @@ ghost use Rattle.trace_lines.specs.StepLines.{is_instruction};
 ghost use Rattle.trace_filters.specs.Chosen.{call_names, has_line, is_call, is_chosen, names, names_file, passes_address, passes_file};
 
 use crate::choice::Choice;
+use bdos::drive_of_byte;
 use directory::is_match;
 use filenames::{Drive, Fcb, Key};
 use machine::{Run, Session};
 use std::alloc::AllocError;
-use trace_lines::{Argument, Code, Row, argument_of, block_at, drive_in};
+use trace_lines::{Argument, Code, Row, argument_of, block_at};
 use trials::{CellRange, call_passes};
 
 // Returns whether a cell is in a range.
@@ -77,7 +78,7 @@ fn call_names(run: &Run<'_>, key: &Key) -> bool
     ensures { result ≡ call_names (state_of run.now) key.now }
 {
     let block = block_at(run);
-    let drive = drive_in(run.drive(), block.dr());
+    let drive = drive_of_byte(run.drive(), block.dr());
     names_file(argument_of(run.regs().c), drive, &block, key)
 }
 

@@ -1,15 +1,15 @@
 // The cells that an instruction reads and writes.
 
 ghost use Rattle.std.specs.Prelude.{◌≡◌, ◌≤◌, ◌++◌, ℕ, map};
-ghost use Rattle.i8080.specs.Instruction.{base_of, is_met, operation};
+ghost use Rattle.i8080.specs.Instruction.{base_of, operation};
 ghost use Rattle.i8080.specs.Performs.{writes_of};
 ghost use Rattle.i8080.specs.Reading.{asked, end_of};
 ghost use Rattle.i8080.specs.Registers.{onward};
 ghost use Rattle.mnemonics.specs.Mnemonics.{operand_count};
 ghost use Rattle.trace_lines.specs.Rows.{operand_in, row};
 
-use i8080::opcode::{Base, Condition, Op, Pair, Place, Source};
-use i8080::{Flags, Regs};
+use i8080::Regs;
+use i8080::opcode::{Base, Op, Pair, Place, Source};
 
 /// Cells in a row: at most two, from an address on. The cell after 0FFFFH is 0000H.
 #[derive(Clone, Copy, Debug, PartialEq, Eq)]
@@ -34,22 +34,6 @@ impl Row {
         ensures count { result.count ≡ count }
     {
         Row { at, count }
-    }
-}
-
-// Returns whether a condition is met.
-fn is_met(condition: Condition, flags: Flags) -> bool
-    ensures { result ≡ is_met condition flags }
-{
-    match condition {
-        Condition::NotZero => !flags.z,
-        Condition::Zero => flags.z,
-        Condition::NoCarry => !flags.cy,
-        Condition::Carry => flags.cy,
-        Condition::ParityOdd => !flags.p,
-        Condition::ParityEven => flags.p,
-        Condition::Plus => !flags.s,
-        Condition::Minus => flags.s,
     }
 }
 
@@ -79,7 +63,7 @@ pub fn written_row(op: Op, regs: &Regs, operand: u16) -> Row
         Op::Shld => Row::new(operand, 2),
         Op::Xthl => Row::new(regs.sp, 2),
         Op::Call | Op::Rst(_) | Op::Push(_) => Row::new(below, 2),
-        Op::CallIf(condition) if is_met(condition, regs.flags) => Row::new(below, 2),
+        Op::CallIf(condition) if condition.is_met(regs.flags) => Row::new(below, 2),
         _ => Row::new(0, 0),
     }
 }
@@ -99,7 +83,7 @@ pub fn read_row(op: Op, regs: &Regs, operand: u16) -> Row
         Op::Lda => Row::new(operand, 1),
         Op::Lhld => Row::new(operand, 2),
         Op::Ret | Op::Pop(_) | Op::Xthl => Row::new(regs.sp, 2),
-        Op::RetIf(condition) if is_met(condition, regs.flags) => Row::new(regs.sp, 2),
+        Op::RetIf(condition) if condition.is_met(regs.flags) => Row::new(regs.sp, 2),
         _ => Row::new(0, 0),
     }
 }

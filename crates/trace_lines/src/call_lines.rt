@@ -4,12 +4,12 @@ ghost use Rattle.std.specs.Prelude.{◌≡◌, ◌≤◌, ◌+◌, ◌++◌, IfO
 ghost use Rattle.std.specs.List.{before_first};
 ghost use Rattle.filenames.specs.Names.{is_blank, type_text};
 ghost use Rattle.machine.specs.Runs.{state_of};
-ghost use Rattle.bdos.specs.FileCalls.{drive_of_byte};
 ghost use Rattle.trace_lines.specs.CallForms.{argument_of, returned_of};
 ghost use Rattle.trace_lines.specs.CallLines.{argument_text, block_in, call_start, count_text, drive_part, escaped, file_text, name_text, printed_text, record_text, returned_text, whole_place_of};
 
 use crate::escapes::{byte_digits, push_escaped, word_digits};
 use crate::forms::{Argument, Returned, argument_of, call_name, is_read, returned_of};
+use bdos::drive_of_byte;
 use filenames::{Drive, Fcb, find_byte};
 use i8080::word_of;
 use itoa::Buffer;
@@ -27,16 +27,6 @@ pub fn block_at(run: &Run<'_>) -> Fcb
         bytes[usize::from(i)] = run.byte(at.wrapping_add(i));
     }
     Fcb::from_bytes(&bytes)
-}
-
-/// Returns the drive that the first byte of a control block names, if there is one.
-pub fn drive_in(current: Drive, dr: u8) -> Option<Drive>
-    ensures { result ≡ drive_of_byte current dr }
-{
-    match dr {
-        0 => Some(current),
-        _ => Drive::from_number(dr - 1),
-    }
 }
 
 // Returns the letter and the colon before a name, if the drive is not A.
@@ -85,7 +75,7 @@ fn name_text(
     ensures { IfOk result (λ t. t.items ≡ name_text current block.now at) }
 {
     let mut text = Vec::new(alloc);
-    text.extend_from_slice(drive_part(drive_in(current, block[0])).as_bytes())?;
+    text.extend_from_slice(drive_part(drive_of_byte(current, block[0])).as_bytes())?;
     push_escaped(&mut text, trimmed(block, at, 8))?;
     text.extend_from_slice(type_part(alloc, trimmed(block, at + 8, 3))?.as_slice())?;
     Ok(text)

@@ -1,9 +1,7 @@
 -- The parts of the whole trace.
-use Rattle.std.proofs.Common.{◌≡◌, ℕ, ◌-◌, ◌<◌, ◌≤◌, List, [], ◌++◌, length, drop, take, Option, Some, None, Result, Ok, Err, IfErr, IfOk, OnOk, unwrap_or, refl, sym, ◌∙◌, ap, arith, append-nil, subst, inl, inr, le_of_lt}
+use Rattle.std.proofs.Common.{◌≡◌, ℕ, ◌-◌, ◌<◌, ◌≤◌, List, [], ◌++◌, length, drop, take, Option, Some, None, Result, Ok, Err, IfErr, IfOk, OnOk, unwrap_or, refl, sym, ◌∙◌, ap, arith, append-nil, subst}
 use Rattle.std.specs.List.{concat}
-use Rattle.std.proofs.lemmas.Bool.{cases_lt}
-use Rattle.std.proofs.lemmas.List.{drop_all, take-append-le, take_all}
-use Rattle.std.proofs.Math.Seq.{take-append_seam}
+use Rattle.std.proofs.lemmas.List.{drop_all}
 use Rattle.interaction_trees.specs.Run.{RunResult}
 use Rattle.interaction_trees.specs.Steps as steps
 use Rattle.interaction_trees.proofs.RunLemmas.{run_limited, run_stops}
@@ -15,7 +13,7 @@ use Rattle.machine.specs.PlainState.{PlainState, loaded_machine, plain_outcome, 
 use Rattle.machine.specs.Runs.{RunView, StopsHere, state_of}
 use Rattle.report_lines.specs.FirstLines.{stop_line}
 use Rattle.streams.specs.Streams.{Output, WritesPart, WritesWhole}
-use Rattle.streams.proofs.WrittenPieces.{part_more, part_then, whole_then}
+use Rattle.streams.proofs.WrittenPieces.{first_part, part_more, part_then, whole_then}
 use Rattle.tracing.specs.Trace.{BreaksTrace, all_lines, last_lines, lines, trace_text}
 use Rattle.tracing.specs.Walks.{IsEnd, kept_text, lines_left}
 use Rattle.trace_filters.specs.declared.choice.Choice.{Choice}
@@ -78,17 +76,10 @@ none_kept c s skip high =
 
 -- ---- what was written before an error
 
--- A beginning of a text is one of a longer text.
-begins_more : (n : ℕ) (x y : List ℕ) → (m : ℕ) × (take m (x ++ y) ≡ take n x)
-begins_more n x y = elim (cases_lt n (length x)) [
-  | inl below ↦ (n, take-append-le n x y (le_of_lt below))
-  | inr past ↦ (length x, take-append_seam x y ∙ sym (take_all n x past))
-]
-
 pub breaks_more : (a b : Output) (fault : TraceFault) (x y text : List ℕ) → x ++ y ≡ text → BreaksTrace x fault a b → BreaksTrace text fault a b
 breaks_more a b CannotWrite x y text e w = subst (λ (t : List ℕ). WritesPart a b t) e (part_more x y w)
 breaks_more a b OutOfMemory x y text e w =
-    let m = begins_more w.0 x y in
+    let m = first_part w.0 x y in
     (m.0, subst (λ (t : List ℕ). WritesWhole a b t) (sym (ap (take m.0) (sym e) ∙ m.1)) w.1)
 
 -- Before that, nothing was written.

@@ -22,10 +22,8 @@ fn tried_call(run: &Run<'_>, session: &Session) -> Result<Overlay, AllocError>
     ensures { IfOk result (λ o. NotesStep session.now (state_of run.now) (own_of o) (looks_of o)) }
 {
     let state = run.state();
-    // A desk needs a text that is at least as long as its column, so the text is copied too.
-    let text = state.desk.snapshot()?.into_text();
-    let tried = Overlay::new(*text.allocator())?;
-    let mut desk = Desk::from_parts(state.desk.spot(), text);
+    let mut desk = state.desk.at_same_spot()?;
+    let tried = Overlay::new(desk.allocator())?;
     let mut changes = state.changes.snapshot()?;
     let mut table = Table::new(session.files(), &mut changes);
     let mut regs = state.regs;
