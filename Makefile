@@ -4,7 +4,7 @@
 #                               installs the programs, their man pages, their completion for bash, and their pages and examples
 # make uninstall                removes these files
 # make dist                     packs them for machines without the Rattle kit
-# make bench                    measures how fast cpmrun and cpmdeps are
+# make bench                    measures how fast cpmrun, cpmdeps and cpmtrace are
 # make needs CRATE=replay       prints the crates that a crate needs
 # make pages                    writes the texts and options of --help into the man pages and the completion
 # make clean                    removes what was proved and built
@@ -56,7 +56,7 @@ dist: stage
 	@name=$$($(PROGRAM) --version | tr ' ' -)-linux-x86_64 && tar -C $(STAGE) --transform "s,^\.,$$name," -czf $$name.tar.gz . && echo $$name.tar.gz
 
 bench: all
-	@status=0; for script in benchmark instructions calls edits 'listings $(DEPENDENCIES_PROGRAM)'; do \
+	@status=0; for script in benchmark instructions calls edits 'listings $(DEPENDENCIES_PROGRAM)' 'traces $(TRACE_PROGRAM)'; do \
 	    tests/measure/$$script $(PROGRAM) || status=1; done; exit "$$status"
 
 # the crates that a crate needs, itself included: the lines of crates.txt that name them

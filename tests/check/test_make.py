@@ -3,7 +3,7 @@ import shutil
 
 from helpers import TOP, ProgramTest, read_crates
 
-SCRIPTS = ['benchmark', 'instructions', 'calls', 'edits', 'listings']
+SCRIPTS = ['benchmark', 'instructions', 'calls', 'edits', 'listings', 'traces']
 
 
 class MakeTest(ProgramTest):
@@ -15,11 +15,12 @@ class MakeTest(ProgramTest):
         for name in *SCRIPTS, '../../cpmrun', '../../cpmdeps', '../../cpmtrace':
             script = self.put(f'tests/measure/{name}', f'#!/bin/sh\necho {name} "$@"\nexit {int(name in failing)}\n')
             script.chmod(0o755)
-        done = self.run_with_children('make', '-s', '-C', self.work, 'bench', 'PROGRAM=one', 'DEPENDENCIES_PROGRAM=two')
+        done = self.run_with_children('make', '-s', '-C', self.work, 'bench', 'PROGRAM=one', 'DEPENDENCIES_PROGRAM=two',
+                                      'TRACE_PROGRAM=three')
         return done.returncode, done.stdout.decode().splitlines()
 
     def test_all_that_measures_runs_and_the_status_tells(self) -> None:
-        lines = ['benchmark one', 'instructions one', 'calls one', 'edits one', 'listings two one']
+        lines = ['benchmark one', 'instructions one', 'calls one', 'edits one', 'listings two one', 'traces three one']
         self.assertEqual(self.bench(), (0, lines))
         for name in SCRIPTS:
             self.assertEqual(self.bench(name), (2, lines), name)

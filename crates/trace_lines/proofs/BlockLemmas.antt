@@ -1,9 +1,13 @@
--- The bytes of a control block, one after the other.
-use Rattle.std.proofs.Common.{◌≡◌, ℕ, ◌+◌, ◌<◌, ◌≤◌, List, [], ◌∷◌, ◌++◌, length, map, take, set, sym, ◌∙◌, arith}
+-- The bytes of a control block, one after the other, and what is shown of it.
+use Rattle.std.proofs.Common.{◌≡◌, ◌⊎◌, ℕ, ◌+◌, ◌<◌, ◌≤◌, List, [], ◌∷◌, ◌++◌, codes, length, map, take, set, sym, ◌∙◌, ap, append_assoc, arith, inl, inr, refl}
 use Rattle.std.specs.List.{range_with_len}
 use Rattle.std.proofs.lemmas.List.{take_all, take_more_set}
 use Rattle.std.proofs.lemmas.List.FromFn.{map-range_with_len_more}
 use Rattle.i8080.specs.Registers.{onward}
+use Rattle.machine.specs.PlainState.{PlainState}
+use Rattle.trace_lines.specs.CallLines.{argument_text, block_text, file_text}
+use Rattle.trace_lines.specs.declared.forms.Argument.{Argument}
+use Rattle.trace_lines.specs.declared.forms.Argument.TheVariants.{ChosenRecord, File, NextRecord, Renaming}
 
 pub read_more : (f : ℕ → ℕ) (xs : List ℕ) (i j v : ℕ) → i < length xs → j ≡ i → v ≡ f i → take i xs ≡ map f (range_with_len 0 i) → take (i + 1) (set xs j v) ≡ map f (range_with_len 0 (i + 1))
 read_more f xs i j v within at value before =
@@ -13,3 +17,14 @@ read_more f xs i j v within at value before =
 pub read_all : (byte : ℕ → ℕ) (xs : List ℕ) (i n at to : ℕ) → i ≡ n → length xs ≤ i → at ≡ to
     → take i xs ≡ map (λ k. byte (onward at k)) (range_with_len 0 i) → xs ≡ map (λ k. byte (onward to k)) (range_with_len 0 n)
 read_all byte xs i n at to all few same read = sym (take_all i xs few) ∙ read ∙ (λ j. map (λ k. byte (onward (same j) k)) (range_with_len 0 (all j)))
+
+-- A text with parts after it.
+pub two_more : (a b c d : List ℕ) → ((a ++ b) ++ c) ++ d ≡ a ++ ((b ++ c) ++ d)
+two_more a b c d = ap (λ (t : List ℕ). t ++ d) (append_assoc a b c) ∙ append_assoc a (b ++ c) d
+
+-- What is shown if there is a control block.
+pub with_block : (a : Argument) (w : PlainState) → (a ≡ File) ⊎ ((a ≡ Renaming) ⊎ ((a ≡ NextRecord) ⊎ (a ≡ ChosenRecord))) → argument_text a w ≡ codes " " ++ file_text w 1 ++ block_text a w
+with_block a w (inl e) = rw e refl
+with_block a w (inr (inl e)) = rw e refl
+with_block a w (inr (inr (inl e))) = rw e refl
+with_block a w (inr (inr (inr e))) = rw e refl

@@ -66,14 +66,18 @@ record_text w number =
 abbrev pub whole_place_of : List ℕ → ℕ
 whole_place_of block = slice_index block 33 + 256 * slice_index block 34 + 65536 * slice_index block 35
 
+-- What is shown of a control block after its file.
+abbrev pub block_text : Argument → PlainState → List ℕ
+block_text argument.Renaming w = codes " to " ++ file_text w 17
+block_text argument.NextRecord w = record_text w (place_of (block_in w))
+block_text argument.ChosenRecord w = record_text w (whole_place_of (block_in w))
+block_text other w = []
+
 abbrev pub argument_text : Argument → PlainState → List ℕ
 argument_text argument.Nothing w = []
 argument_text argument.Byte w = codes " " ++ byte_text w.core.regs.e
 argument_text argument.Word w = codes " " ++ word_text (address_in w.core.regs)
-argument_text argument.File w = codes " " ++ file_text w 1
-argument_text argument.Renaming w = codes " " ++ file_text w 1 ++ codes " to " ++ file_text w 17
-argument_text argument.NextRecord w = codes " " ++ file_text w 1 ++ record_text w (place_of (block_in w))
-argument_text argument.ChosenRecord w = codes " " ++ file_text w 1 ++ record_text w (whole_place_of (block_in w))
+argument_text other w = codes " " ++ file_text w 1 ++ block_text other w
 
 -- ---- what a call returns and prints
 

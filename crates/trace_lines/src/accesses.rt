@@ -52,7 +52,7 @@ pub fn written_row(op: Op, regs: &Regs, operand: u16) -> Row
     ensures { (byte : ℕ → ℕ) → operand ≡ operand_in byte regs.now
         → map (λ c. c.0) (writes_of (end_of (operation op regs.now) byte)) ≡ row result.at result.count }
 {
-    let below = regs.sp.wrapping_add(65534);
+    let below = regs.sp.wrapping_sub(2);
     match op {
         Op::MovToMemory(_)
         | Op::Mvi(Place::Memory)

@@ -11,6 +11,6 @@ mod forms;
 mod step_lines;
 
 pub use accesses::Row;
-pub use call_lines::{block_at, call_end, call_start};
+pub use call_lines::{block_at, push_call_end, push_call_start};
 pub use forms::{Argument, argument_of};
 pub use step_lines::{Code, push_changes, step_start};

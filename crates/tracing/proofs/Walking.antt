@@ -1,5 +1,5 @@
 -- The lines along a run.
-use Rattle.std.proofs.Common.{◌≡◌, ℕ, zero, suc, ◌+◌, ◌-◌, ◌<◌, ◌≤◌, Bool, true, false, List, [], ◌∷◌, ◌++◌, length, drop, take, ◌&&◌, ◌||◌, Option, Some, None, refl, sym, ◌∙◌, ap, arith, add-one, cond, append-nil, append_assoc, nat_le, subst, Ok, Err, IfOk, IfSome, OnOk, min, inl, inr, if◌then◌else◌, eqb, ◌==◌, ◌≢◌}
+use Rattle.std.proofs.Common.{◌≡◌, ℕ, zero, suc, ◌+◌, ◌-◌, ◌<◌, ◌≤◌, Bool, true, false, List, [], ◌∷◌, ◌++◌, length, drop, take, ◌&&◌, ◌||◌, Option, Some, None, refl, sym, ◌∙◌, ap, arith, append_assoc, nat_le, subst, Ok, Err, IfOk, IfSome, OnOk, min, inl, inr, if◌then◌else◌}
 use Rattle.std.specs.List.{concat}
 use Rattle.interaction_trees.specs.Outcome.{Outcome, Step, Stop}
 use Rattle.interaction_trees.specs.Steps as steps
@@ -13,7 +13,7 @@ use Rattle.std.specs.declared.alloc.AllocError.{AllocError}
 use Rattle.machine.specs.Machine.{session_answers}
 use Rattle.machine.specs.PlainLaid.{plain_after}
 use Rattle.machine.specs.PlainState.{PlainState, plain_outcome}
-use Rattle.machine.specs.Runs.{EndsBy, IsAtCall, Leads, MakesNoCall, RunView, StopsBelow, StopsHere, state_of}
+use Rattle.machine.specs.Runs.{EndsBy, Leads, MakesNoCall, RunView, StopsBelow, StopsHere, state_of}
 use Rattle.machine.specs.Session.{IsSession}
 use Rattle.machine.proofs.PlainViews.{plain_at}
 use Rattle.trace_filters.specs.declared.choice.Choice.{Choice}
@@ -122,6 +122,12 @@ adds_none l all left e = record {
   skip = refl;
 }
 
+-- A line that is kept.
+pub keeps_line : {X E : Type 0} (old new : Lines) (before line : List ℕ) (result : Result X E) → nat_le old.skip old.chosen ≡ true → before ≡ old.text.items
+    → OnOk result (new.text.items ≡ before ++ line) → new.chosen ≡ old.chosen + 1 → new.skip ≡ old.skip → OnOk result (AddsLine old new line)
+keeps_line old new before line (Ok x) kept same text chosen skip = record { text = rw kept (text ∙ ap (λ (t : List ℕ). t ++ line) same); chosen = chosen; skip = skip }
+keeps_line old new before line (Err e) kept same text chosen skip = tt
+
 pub adds_one : (old new : Lines) (line : List ℕ) (left : List (List ℕ)) → AddsLine old new line → AddsLines old new (line ∷ left) left
 adds_one old new line left w = record { text = pick (nat_le old.skip old.chosen) refl; chosen = rw w.chosen (omega arith); skip = w.skip } where
   pick : (b : Bool) → nat_le old.skip old.chosen ≡ b → new.text.items ++ concat (drop (new.skip - new.chosen) left) ≡ old.text.items ++ concat (drop (old.skip - old.chosen) (line ∷ left))
@@ -174,13 +180,10 @@ module _ (c : Choice) (old new : RunView) (same : new.session ≡ old.session) (
   passes l (Ok stop) none leads = adds_none l _ _ (unlined stop none leads)
   passes l (Err e) none leads = tt
 
-  pub adds : (l l' : Lines) (line : List ℕ) (result : Result (Option Cause) AllocError) → has_line c old.session old.step (state_of old) ≡ true
-      → line_of old.session old.step (state_of old) ≡ line → IfOk result (λ stop. Leads old new stop) → OnOk result (AddsLine l l' line)
-      → IfOk result (λ stop. AddsLines l l' (lines_left c old None) (lines_left c new stop))
-  adds l l' line (Ok stop) has is leads added =
-      subst (λ (all : List (List ℕ)). AddsLines l l' all (lines_left c new stop)) (sym (lined stop has leads ∙ ap (λ (t : List ℕ). t ∷ lines_left c new stop) is))
-      (adds_one l l' line (lines_left c new stop) added)
-  adds l l' line (Err e) has is leads added = tt
+  pub adds : (l l' : Lines) (result : Result (Option Cause) AllocError) → has_line c old.session old.step (state_of old) ≡ true → IfOk result (λ stop. Leads old new stop)
+      → OnOk result (AddsLine l l' (line_of old.session old.step (state_of old))) → IfOk result (λ stop. AddsLines l l' (lines_left c old None) (lines_left c new stop))
+  adds l l' (Ok stop) has leads added = subst (λ (all : List (List ℕ)). AddsLines l l' all (lines_left c new stop)) (sym (lined stop has leads)) (adds_one l l' _ (lines_left c new stop) added)
+  adds l l' (Err e) has leads added = tt
 
 -- ---- steps without lines
 

@@ -1,10 +1,10 @@
 // The lines that are kept until they are written.
 
-ghost use Rattle.std.specs.Prelude.{◌≡◌, ◌+◌, ◌<◌, ◌^◌, [], OnErr, OnOk};
+ghost use Rattle.std.specs.Prelude.{◌≡◌, ◌+◌, ◌<◌, ◌^◌, [], OnErr, OnOk, nat_le};
 ghost use Rattle.streams.specs.Streams.{WritesPart, WritesText};
-ghost use Rattle.tracing.specs.Walks.{AddsLine, Flushes};
+ghost use Rattle.tracing.specs.Walks.{Flushes};
 
-use std::alloc::{AllocError, Global};
+use std::alloc::Global;
 use streams::{Failed, Writer, write_all};
 
 /// As soon as this many bytes are kept, they are written.
@@ -32,20 +32,17 @@ impl Lines {
         }
     }
 
-    /// Adds a line of a chosen step.
-    ///
-    /// # Errors
-    ///
-    /// `Err` means out of memory.
-    pub fn add(&mut self, line: &[u8]) -> Result<(), AllocError>
+    /// Counts a line, and returns whether it is kept: whether it is none of the first ones, which are left out.
+    pub fn count(&mut self) -> bool
         requires { self.old.chosen + 1 < 2 ^ 64 }
-        ensures { OnOk result (AddsLine self.old self.new line.now) }
+        ensures kept { result ≡ nat_le self.old.skip self.old.chosen }
+        ensures chosen { self.new.chosen ≡ self.old.chosen + 1 }
+        ensures skip { self.new.skip ≡ self.old.skip }
+        ensures text { self.new.text ≡ self.old.text }
     {
-        if self.skip <= self.chosen {
-            self.text.extend_from_slice(line)?;
-        }
+        let is_kept = self.skip <= self.chosen;
         self.chosen += 1;
-        Ok(())
+        is_kept
     }
 
     /// Writes what is kept if that is due, or if it is as long as a piece.

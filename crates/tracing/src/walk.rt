@@ -1,11 +1,12 @@
 // A walk along a run, which adds the line of each chosen step.
 
-ghost use Rattle.std.specs.Prelude.{◌≡◌, ◌+◌, ◌<◌, ◌≤◌, [], IfErr, IfOk, None, OnOk, drop, length, true};
+ghost use Rattle.std.specs.Prelude.{◌≡◌, ◌+◌, ◌<◌, ◌≤◌, ◌++◌, [], IfErr, IfOk, None, OnOk, drop, length, false, true};
 ghost use Rattle.machine.specs.PlainState.{plain_outcome};
 ghost use Rattle.machine.specs.Runs.{Leads, state_of};
 ghost use Rattle.trace_lines.specs.CallLines.{call_line};
 ghost use Rattle.trace_lines.specs.StepLines.{is_instruction, step_line};
-ghost use Rattle.tracing.specs.Trace.{BreaksTrace};
+ghost use Rattle.trace_filters.specs.Chosen.{is_call};
+ghost use Rattle.tracing.specs.Trace.{BreaksTrace, line_of};
 ghost use Rattle.tracing.specs.Walks.{AddsLine, AddsLines, EndsAt, EndsWalk, GoesBy, IsEnd, WritesLines, all_from, left_after, lines_left};
 
 use crate::fault::TraceFault;
@@ -14,7 +15,7 @@ use machine::{Cause, Run, STEP_LIMIT, Session};
 use std::alloc::AllocError;
 use streams::Writer;
 use trace_filters::{Choice, has_line};
-use trace_lines::{Code, call_end, call_start, push_changes, step_start};
+use trace_lines::{Code, push_call_end, push_call_start, push_changes, step_start};
 
 /// After this many steps, the lines that are there are written.
 const STEPS_UNTIL_TEXT: u64 = 1_000_000;
@@ -27,40 +28,35 @@ fn after(text: &[u8], count: usize) -> &[u8]
     &text[count..]
 }
 
-// Executes a call, and adds its line.
-fn trace_call(run: &mut Run<'_>, lines: &mut Lines) -> Result<Option<Cause>, AllocError>
+// Executes a call, and appends its line.
+fn trace_call(run: &mut Run<'_>, text: &mut Vec<u8>) -> Result<Option<Cause>, AllocError>
     requires below { run.old.step < run.old.session.limit }
     requires most { run.old.session.limit ≤ STEP_LIMIT }
-    requires room { lines.old.chosen ≤ STEP_LIMIT }
     ensures session { run.new.session ≡ run.old.session }
     ensures leads { IfOk result (λ stop. Leads run.old run.new stop) }
-    ensures line { let w = state_of run.old in OnOk result (AddsLine lines.old lines.new
-        (call_line run.old.step w (plain_outcome run.old.session w))) }
+    ensures line { let w = state_of run.old in OnOk result (text.new.items
+        ≡ text.old.items ++ call_line run.old.step w (plain_outcome run.old.session w)) }
 {
-    let alloc = *lines.text.allocator();
-    let mut line = call_start(alloc, run)?;
+    push_call_start(text, run)?;
     let number = run.regs().c;
     let sent = run.text().len();
     let stop = run.take_step()?;
     if stop.is_none() {
-        let end = call_end(alloc, number, run.regs(), after(run.text(), sent))?;
-        line.extend_from_slice(end.as_slice())?;
+        push_call_end(text, number, run.regs(), after(run.text(), sent))?;
     }
-    line.push(b'\n')?;
-    lines.add(line.as_slice())?;
+    text.push(b'\n')?;
     Ok(stop)
 }
 
-// Executes an instruction, and adds its line.
-fn trace_instruction(run: &mut Run<'_>, lines: &mut Lines) -> Result<Option<Cause>, AllocError>
+// Executes an instruction, and appends its line.
+fn trace_instruction(run: &mut Run<'_>, text: &mut Vec<u8>) -> Result<Option<Cause>, AllocError>
     requires below { run.old.step < run.old.session.limit }
     requires most { run.old.session.limit ≤ STEP_LIMIT }
-    requires room { lines.old.chosen ≤ STEP_LIMIT }
     requires instruction { is_instruction (state_of run.old) ≡ true }
     ensures session { run.new.session ≡ run.old.session }
     ensures leads { IfOk result (λ stop. Leads run.old run.new stop) }
-    ensures line { let w = state_of run.old in OnOk result (AddsLine lines.old lines.new
-        (step_line run.old.session run.old.step w (plain_outcome run.old.session w))) }
+    ensures line { let w = state_of run.old in OnOk result (text.new.items
+        ≡ text.old.items ++ step_line run.old.session run.old.step w (plain_outcome run.old.session w)) }
 {
     let code = Code::at(run);
     let row = code.written(run);
@@ -72,8 +68,28 @@ fn trace_instruction(run: &mut Run<'_>, lines: &mut Lines) -> Result<Option<Caus
         push_changes(&mut line, run, row, old);
     }
     line.push_str("\n");
-    lines.add(line.as_bytes())?;
+    text.extend_from_slice(line.as_bytes())?;
     Ok(stop)
+}
+
+// Executes a chosen step, and adds its line if it is kept.
+fn trace_chosen(run: &mut Run<'_>, lines: &mut Lines) -> Result<Option<Cause>, AllocError>
+    requires below { run.old.step < run.old.session.limit }
+    requires most { run.old.session.limit ≤ STEP_LIMIT }
+    requires room { lines.old.chosen ≤ STEP_LIMIT }
+    requires kind { let w = state_of run.old in is_call w ≡ false → is_instruction w ≡ true }
+    ensures session { run.new.session ≡ run.old.session }
+    ensures leads { IfOk result (λ stop. Leads run.old run.new stop) }
+    ensures line { let w = state_of run.old in OnOk result (AddsLine lines.old lines.new
+        (line_of run.old.session run.old.step w)) }
+{
+    if !lines.count() {
+        return run.take_step();
+    }
+    if run.is_at_call() {
+        return trace_call(run, &mut lines.text);
+    }
+    trace_instruction(run, &mut lines.text)
 }
 
 // Executes a step, and adds its line if it is chosen.
@@ -92,13 +108,10 @@ fn trace_step(
     ensures lines { IfOk result (λ stop. AddsLines lines.old lines.new
         (lines_left choice.now run.old None) (lines_left choice.now run.new stop)) }
 {
-    if !has_line(run, session, choice)? {
-        return run.take_step();
+    if has_line(run, session, choice)? {
+        return trace_chosen(run, lines);
     }
-    if run.is_at_call() {
-        return trace_call(run, lines);
-    }
-    trace_instruction(run, lines)
+    run.take_step()
 }
 
 // Executes a step that may have a line, after the steps before it that have none; or at most a million steps without lines.

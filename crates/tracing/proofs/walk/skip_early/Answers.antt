@@ -1,4 +1,4 @@
-use Rattle.std.proofs.Common.{◌≡◌, ◌∙◌, subst, sym}
+use Rattle.std.proofs.Common.{◌∙◌, subst, sym}
 use Rattle.machine.specs.Inputs.{Session}
 use Rattle.machine.specs.Session.{IsSession}
 use Rattle.tracing.proofs.Walking.{goes_early, stops_early}

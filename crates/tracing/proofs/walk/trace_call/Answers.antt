@@ -1,12 +1,11 @@
-use Rattle.std.proofs.Common.{◌≡◌, ◌≤◌, ◌∙◌, ◌++◌, ◌∷◌, [], List, ℕ, None, Some, ap, drop, length, rules, subst, sym}
+use Rattle.std.proofs.Common.{◌≡◌, ◌∙◌, ◌++◌, ◌∷◌, [], List, ℕ, None, ap, append_assoc, drop, length, rules}
 use Rattle.machine.specs.PlainState.{plain_outcome}
 use Rattle.machine.specs.Regs.{Regs}
-use Rattle.machine.specs.Runs.{Leads, state_of}
+use Rattle.machine.specs.Runs.{state_of}
 use Rattle.trace_lines.specs.CallForms.{returned_of}
 use Rattle.trace_lines.specs.CallLines.{call_line, printed_text, returned_text}
-use Rattle.tracing.specs.Walks.{AddsLine}
 use Rattle.tracing.proofs.LineLemmas.{call_ended, call_went, text_grows}
-use Rattle.tracing.proofs.walk.trace_call.Goals.{then-is_none+in_ok-end+in_ok-extend_from_slice, else-is_none}
+use Rattle.tracing.proofs.walk.trace_call.Goals.{then-is_none+in_ok-push_call_end, else-is_none}
 use Rattle.tracing.proofs.walk.trace_call.Goals as goal
 
 pub after-requires : goal.after-requires
@@ -21,22 +20,24 @@ returns-clause-line c =
     let new = c.take_step.new.self in
     let w = state_of run in
     let w' = state_of new in
-    let line : List ℕ = c.in_ok-line.line.items in
-    let text : c.if-is_none.line.items ++ 10 ∷ [] ≡ call_line run.step w (plain_outcome run.session w) = elim c.if-is_none.branch [
-      | then-is_none+in_ok-end+in_ok-extend_from_slice b ↦
+    let before : List ℕ = c.args.text.now.items in
+    let line : c.if-is_none.text.items ++ 10 ∷ [] ≡ before ++ call_line run.step w (plain_outcome run.session w) = elim c.if-is_none.branch [
+      | then-is_none+in_ok-push_call_end b ↦
           let none : c.in_ok-stop.stop ≡ None = search rules in
           let leads = rw none at c.in_ok-stop.ensures.leads in
-          let end : b.in_ok-end.end.items ≡ returned_text (returned_of w.core.regs.c) w'.core.regs ++ printed_text (drop (length w.core.desk.text) w'.core.desk.text) =
-          b.in_ok-end.ensures
-          ∙ ap (λ (r : Regs). returned_text (returned_of r.c) b.regs.result ++ printed_text b.after.result.now) c.regs-number.ensures
+          let returned : List ℕ = returned_text (returned_of c.regs-number.result.c) b.regs.result in
+          let printed : List ℕ = printed_text b.after.result.now in
+          let given : List ℕ = returned ++ printed in
+          let end : given ≡ returned_text (returned_of w.core.regs.c) w'.core.regs ++ printed_text (drop (length w.core.desk.text) w'.core.desk.text) =
+          ap (λ (r : Regs). returned_text (returned_of r.c) b.regs.result ++ printed_text b.after.result.now) c.regs-number.ensures
           ∙ ap (λ (r : Regs). returned_text (returned_of w.core.regs.c) r ++ printed_text b.after.result.now) b.regs.ensures
           ∙ ap (λ (t : List ℕ). returned_text (returned_of w.core.regs.c) w'.core.regs ++ printed_text t)
           (b.after.ensures ∙ ap (λ (t : List ℕ). drop (length t) b.text.result.now) c.text-sent.ensures.now ∙ ap (drop (length w.core.desk.text)) b.text.ensures.now) in
-          ap (λ l. l.items ++ 10 ∷ []) b.line-is
-          ∙ ap (λ (t : List ℕ). t ++ 10 ∷ []) (b.in_ok-extend_from_slice.ensures.items ∙ ap (λ (t : List ℕ). line ++ t) b.as_slice.ensures.value)
-          ∙ call_went run.session run.step w w' line b.in_ok-end.end.items leads.1 c.in_ok-line.ensures end
+          ap (λ t. t.items ++ 10 ∷ []) b.text-is
+          ∙ ap (λ (t : List ℕ). t ++ 10 ∷ []) (b.in_ok-push_call_end.ensures ∙ append_assoc _ returned printed ∙ ap (λ (t : List ℕ). t ++ given) c.in_ok-push_call_start.ensures)
+          ∙ call_went run.session run.step w w' before given leads.1 end
       | else-is_none b ↦
-          ap (λ l. l.items ++ 10 ∷ []) b.line-is
-          ∙ call_ended run new c.in_ok-stop.stop line c.in_ok-stop.ensures.leads b.if-is_none.ensures c.in_ok-line.ensures
+          ap (λ t. t.items ++ 10 ∷ []) b.text-is ∙ ap (λ (t : List ℕ). t ++ 10 ∷ []) c.in_ok-push_call_start.ensures
+          ∙ call_ended run new c.in_ok-stop.stop before c.in_ok-stop.ensures.leads b.if-is_none.ensures
     ] in
-    subst (AddsLine c.args.lines.now c.add.new.self) (c.as_slice-2.ensures.value ∙ c.in_ok-push.ensures.items ∙ text) c.in_ok-add.ensures
+    c.in_ok-push.ensures.items ∙ line

@@ -1,8 +1,7 @@
-use Rattle.std.proofs.Common.{◌≡◌, ◌≤◌, ◌∙◌, ◌++◌, ◌∷◌, [], List, ℕ, None, Some, ap, flat_map, rules, subst, sym}
+use Rattle.std.proofs.Common.{◌≡◌, ◌∙◌, ◌++◌, ◌∷◌, [], List, ℕ, None, ap, flat_map, rules, sym}
 use Rattle.machine.specs.PlainState.{plain_outcome}
-use Rattle.machine.specs.Runs.{Leads, state_of}
+use Rattle.machine.specs.Runs.{state_of}
 use Rattle.trace_lines.specs.StepLines.{change_text, step_line}
-use Rattle.tracing.specs.Walks.{AddsLine}
 use Rattle.tracing.proofs.LineLemmas.{rows_are, step_ended, step_went}
 use Rattle.tracing.proofs.walk.trace_instruction.Goals.{then-is_none, else-is_none}
 use Rattle.tracing.proofs.walk.trace_instruction.Goals as goal
@@ -27,4 +26,4 @@ returns-clause-line c =
           ap (λ l. l.bytes ++ 10 ∷ []) b.line-is
           ∙ step_ended run new c.in_ok-stop.stop line c.in_ok-stop.ensures.leads b.if-is_none.ensures c.step_start-line.ensures.text
     ] in
-    subst (AddsLine c.args.lines.now c.add.new.self) (c.as_bytes.ensures.value ∙ c.deref.ensures.0 ∙ c.push_str.ensures.bytes ∙ text) c.in_ok-add.ensures
+    c.in_ok-extend_from_slice.ensures.items ∙ ap (λ (t : List ℕ). c.args.text.now.items ++ t) (c.as_bytes.ensures.value ∙ c.deref.ensures.0 ∙ c.push_str.ensures.bytes ∙ text)

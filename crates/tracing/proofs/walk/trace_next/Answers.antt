@@ -1,4 +1,4 @@
-use Rattle.std.proofs.Common.{◌≡◌, ◌∙◌, ◌<◌, ◌≤◌, Ok, None, Some, true, false, IfOk, List, ℕ, ap, refl, sym, subst, arith}
+use Rattle.std.proofs.Common.{◌≡◌, ◌∙◌, None, IfOk, List, ℕ, ap, sym, subst, arith}
 use Rattle.machine.specs.Inputs.{Session}
 use Rattle.machine.specs.Runs.{MakesNoCall, RunView, state_of}
 use Rattle.tracing.specs.Walks.{AddsLines, lines_left}

@@ -1,9 +1,9 @@
-use Rattle.std.proofs.Common.{◌≡◌, ◌+◌, ◌-◌, ◌≤◌, ◌++◌, ◌∙◌, List, ℕ, [], None, Some, Option, ap, append-nil, arith, length, min, refl, subst, sym}
+use Rattle.std.proofs.Common.{◌≡◌, ◌+◌, ◌-◌, ◌++◌, ◌∙◌, List, ℕ, [], None, ap, arith, length, min, refl, sym}
 use Rattle.std.proofs.lemmas.Result.{err_from_is_err_and}
 use Rattle.streams.proofs.WrittenPieces.{whole_nil}
 use Rattle.machine.specs.Inputs.{Session}
-use Rattle.machine.specs.Runs.{RunView, state_of}
-use Rattle.tracing.specs.Walks.{LinesText, WritesLines, all_from, kept_text, left_after, lines_left}
+use Rattle.machine.specs.Runs.{state_of}
+use Rattle.tracing.specs.Walks.{kept_text, lines_left}
 use Rattle.tracing.proofs.Walking.{breaks_off, breaks_same, lines_short, none_left, nothing_kept}
 use Rattle.tracing.proofs.walk.walk.Goals as goal
 

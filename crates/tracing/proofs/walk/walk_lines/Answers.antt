@@ -1,8 +1,8 @@
-use Rattle.std.proofs.Common.{◌≡◌, ◌+◌, ◌-◌, ◌≤◌, ◌++◌, ◌∙◌, List, ℕ, None, ap, append_assoc, arith, drop, length, rules, sym}
+use Rattle.std.proofs.Common.{◌≡◌, ◌+◌, ◌-◌, ◌++◌, ◌∙◌, List, ℕ, None, ap, append_assoc, arith, drop, length, rules}
 use Rattle.std.specs.List.{concat}
 use Rattle.std.proofs.lemmas.Result.{err_from_is_err_and}
 use Rattle.streams.proofs.WrittenPieces.{whole_then}
-use Rattle.tracing.specs.Walks.{all_from, kept_text, lines_left}
+use Rattle.tracing.specs.Walks.{kept_text, lines_left}
 use Rattle.tracing.proofs.Walking.{breaks_off, cuts_off, ends_by, goes_up, keeps_on}
 use Rattle.tracing.proofs.walk.walk_lines.Goals.{then-due, else-due}
 use Rattle.tracing.proofs.walk.walk_lines.Goals as goal

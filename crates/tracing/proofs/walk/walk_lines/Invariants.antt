@@ -1,4 +1,4 @@
-use Rattle.std.proofs.Common.{◌≡◌, ◌+◌, ◌≤◌, ◌++◌, List, ℕ, None, length}
+use Rattle.std.proofs.Common.{◌≡◌, ◌+◌, ◌≤◌, ◌++◌, List, ℕ, length}
 use Rattle.streams.specs.Streams.{WritesWhole}
 use Rattle.tracing.specs.Walks.{all_from, kept_text, lines_left}
 use Rattle.tracing.proofs.Walking.{Ends, left_to}
