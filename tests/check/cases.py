@@ -262,5 +262,5 @@ def read_cases(path: Path) -> list[Case]:
 
 
 def session_files() -> list[Path]:
-    """Returns the files of cases that are sessions; those of `command` are words of a command line."""
-    return [path for path in sorted(FOLDER.glob('*/*.txt')) if path.parent.name != 'command']
+    """Returns the files of cases that are sessions; those of `command` and `trace` are words of a command line."""
+    return [path for path in sorted(FOLDER.glob('*/*.txt')) if path.parent.name not in ('command', 'trace')]

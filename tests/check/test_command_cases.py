@@ -1,11 +1,11 @@
-"""Plays the cases of tests/cases/command: the built program with the words of a command line, in a folder of its own; its status, its two outputs
-and the files that it leaves."""
+"""Plays the cases of tests/cases/command and tests/cases/trace: the built cpmrun, or cpmtrace, with the words of a command line, in a folder of
+its own; its status, its two outputs and the files that it leaves."""
 import shlex
 from pathlib import Path
 
 from assembler import assemble
 from cases import FOLDER, common_programs, parse_bytes, programs_in, rows_of, sections_of
-from helpers import PROGRAM, ProgramTest
+from helpers import PROGRAM, TRACE_PROGRAM, ProgramTest
 
 
 class Wanted:
@@ -42,8 +42,14 @@ class Wanted:
 
 class CommandCasesTest(ProgramTest):
 
-    def test_cases(self) -> None:
-        paths = sorted((FOLDER / 'command').glob('*.txt'))
+    def test_command(self) -> None:
+        self.play_folder('command', PROGRAM)
+
+    def test_trace(self) -> None:
+        self.play_folder('trace', TRACE_PROGRAM)
+
+    def play_folder(self, folder: str, program: Path) -> None:
+        paths = sorted((FOLDER / folder).glob('*.txt'))
         self.assertTrue(paths)
         for path in paths:
             head, *sections = sections_of(path)
@@ -53,9 +59,9 @@ class CommandCasesTest(ProgramTest):
                     with self.subTest(case=f'{path.name}: {lines[0][3:]}'):
                         self.remove_work()
                         self.work.mkdir()
-                        self.play(lines[1:])
+                        self.play(program, lines[1:])
 
-    def play(self, lines: list[str]) -> None:
+    def play(self, program: Path, lines: list[str]) -> None:
         commands: list[Wanted] = []
         for line in lines:
             word, _, rest = line.partition(' ')
@@ -66,7 +72,7 @@ class CommandCasesTest(ProgramTest):
             else:
                 self.prepare(word, *rest.partition(' ')[::2])
         for wanted in commands:
-            done = self.run_command(PROGRAM, *wanted.words, cwd=self.work)
+            done = self.run_command(program, *wanted.words, cwd=self.work)
             self.assertEqual(done.returncode, wanted.status, (wanted.words, done.stderr))
             self.assertTrue(wanted.is_met('|', done.stdout) and wanted.is_met('!', done.stderr), (wanted.words, done.stdout, done.stderr))
             for folder, *names in wanted.names:
