@@ -74,8 +74,9 @@ class PieceTest(TextTest):
             self.assertEqual((pieces, process.stderr.read()), ([b'AB', b'CD', b'EF'], WARM_BOOT))
 
     def test_an_interrupt_loses_no_text(self) -> None:
-        with subprocess.Popen(self.words(assemble([PRINT.format(65), 'spin: JMP spin'])), stdin=subprocess.DEVNULL, stdout=subprocess.PIPE,
-                              stderr=subprocess.PIPE, env=self.environment) as process:
+        """The program spins. It may be that whoever calls the tests ignores interrupts."""
+        words = ['env', '--default-signal', *self.words(assemble([PRINT.format(65), 'spin: JMP spin']))]
+        with subprocess.Popen(words, stdin=subprocess.DEVNULL, stdout=subprocess.PIPE, stderr=subprocess.PIPE, env=self.environment) as process:
             self.assertEqual(process.stdout.read(1), b'A')
             process.send_signal(signal.SIGINT)
             self.assertEqual((process.stdout.read(), process.stderr.read()), (b'', b''))
