@@ -17,7 +17,7 @@ use filenames::{Drive, Fcb, Key};
 use machine::{Run, Session};
 use std::alloc::AllocError;
 use trace_lines::{Argument, Code, Row, argument_of, block_at};
-use trials::{CellRange, call_passes};
+use trials::{CellRange, Trials, call_passes};
 
 // Returns whether a cell is in a range.
 fn is_in_range(range: CellRange, at: u16) -> bool
@@ -163,7 +163,12 @@ fn reads_pass(reads: Option<CellRange>, pc: u16, count: u16, cells: Row) -> bool
 /// # Errors
 ///
 /// `Err` means out of memory.
-pub fn has_line(run: &Run<'_>, session: &Session, choice: &Choice) -> Result<bool, AllocError>
+pub fn has_line(
+    run: &Run<'_>,
+    session: &Session,
+    choice: &Choice,
+    trials: &mut Trials,
+) -> Result<bool, AllocError>
     requires { run.now.session ≡ session.now }
     ensures { IfOk result (λ b. b ≡ has_line choice.now session.now run.now.step (state_of run.now)) }
 {
@@ -174,7 +179,7 @@ pub fn has_line(run: &Run<'_>, session: &Session, choice: &Choice) -> Result<boo
         return Ok(true);
     }
     if run.is_at_call() {
-        return call_passes(run, session, choice.writes, choice.reads);
+        return call_passes(run, session, choice.writes, choice.reads, trials);
     }
     Ok(instruction_passes(run, choice))
 }

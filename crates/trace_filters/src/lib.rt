@@ -9,4 +9,4 @@ mod filters;
 
 pub use choice::Choice;
 pub use filters::has_line;
-pub use trials::CellRange;
+pub use trials::{CellRange, Trials};

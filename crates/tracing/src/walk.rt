@@ -14,7 +14,7 @@ use crate::lines::Lines;
 use machine::{Cause, Run, STEP_LIMIT, Session};
 use std::alloc::AllocError;
 use streams::Writer;
-use trace_filters::{Choice, has_line};
+use trace_filters::{Choice, Trials, has_line};
 use trace_lines::{Code, push_call_end, push_call_start, push_changes, step_start};
 
 /// After this many steps, the lines that are there are written.
@@ -98,6 +98,7 @@ fn trace_step(
     session: &Session,
     choice: &Choice,
     lines: &mut Lines,
+    trials: &mut Trials,
 ) -> Result<Option<Cause>, AllocError>
     requires session { run.old.session ≡ session.now }
     requires below { run.old.step < run.old.session.limit }
@@ -108,7 +109,7 @@ fn trace_step(
     ensures lines { IfOk result (λ stop. AddsLines lines.old lines.new
         (lines_left choice.now run.old None) (lines_left choice.now run.new stop)) }
 {
-    if has_line(run, session, choice)? {
+    if has_line(run, session, choice, trials)? {
         return trace_chosen(run, lines);
     }
     run.take_step()
@@ -121,6 +122,7 @@ fn trace_next(
     choice: &Choice,
     end: u64,
     lines: &mut Lines,
+    trials: &mut Trials,
 ) -> Result<Option<Cause>, AllocError>
     requires session { run.old.session ≡ session.now }
     requires below { (run.old.step < end) × (end ≤ run.old.session.limit) }
@@ -140,7 +142,7 @@ fn trace_next(
             return Ok(None);
         }
     }
-    trace_step(run, session, choice, lines)
+    trace_step(run, session, choice, lines, trials)
 }
 
 // Walks on up to step `end` or to a stop, and writes the lines of the chosen steps.
@@ -164,8 +166,9 @@ fn walk_lines<W: Writer>(
 {
     let mut stop = None;
     let mut shown = run.step();
+    let mut trials = Trials::new();
     while stop.is_none() && run.step() < end {
-        stop = trace_next(run, session, choice, end, lines)?;
+        stop = trace_next(run, session, choice, end, lines, &mut trials)?;
         let due = run.step() - shown >= STEPS_UNTIL_TEXT;
         if due {
             shown = run.step();

@@ -9,5 +9,5 @@ mod call;
 mod ranges;
 mod trial;
 
-pub use call::call_passes;
+pub use call::{Trials, call_passes};
 pub use ranges::CellRange;
