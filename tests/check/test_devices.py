@@ -1,11 +1,13 @@
 """Runs the built program with each of its system calls failing in turn, also when each read and each write moves one byte. It names the file or
 folder that failed, or standard output; its output is a prefix, and each file that it wrote is whole. At the path of a file is the older file,
 if there was one, or the whole new one."""
+from assembler import assemble
 from failures import FailureTest, Wanted
 from helpers import PROGRAM, TOP, report_of_hi
 
 GREETING = 'examples/greeting/greeting.com'
 EDITS = 'examples/greeting/edits.txt'
+PRINT = 'MVI E,120; MVI C,2; CALL 5'
 
 
 class Devices(FailureTest):
@@ -43,6 +45,20 @@ class Devices(FailureTest):
     def test_each_read_or_write_of_one_byte_fails(self) -> None:
         self.environment = {'FAIL_CALLS': 'rw', 'FAIL_PIECES': '1'}
         self.each_call_fails()
+
+    def test_no_line_is_executed_after_a_failed_reply(self) -> None:
+        """The program spins. A run of 4,000,000,000 steps takes much longer than the time that is given."""
+        self.environment = {'FAIL_CALLS': 'w'}
+        spin, edits = self.put('spin.com', b'\xc3\x00\x01'), self.put('edits', 'limit 4000000000\nrun\n')
+        done = self.run_with_failure(1, PROGRAM, spin, '--edits', edits, timeout=8)
+        self.assertEqual((done.returncode, done.stdout, done.stderr), (1, b'', b'cpmrun: cannot write standard output\n'))
+
+    def test_a_run_ends_soon_after_its_text_fails(self) -> None:
+        """The program prints a byte and spins. Without the failure it would run 4,000,000,000 steps."""
+        self.environment = {'FAIL_CALLS': 'w'}
+        program = self.put('spin.com', assemble([PRINT, 'spin: JMP spin']))
+        done = self.run_with_failure(1, PROGRAM, program, '--limit', '4000000000', timeout=8)
+        self.assertEqual((done.returncode, done.stdout, done.stderr), (1, b'', b'cpmrun: cannot write standard output\n'))
 
     def test_edit_lines_are_read_up_to_a_failure(self) -> None:
         """The program of twelve bytes is read in thirteen calls, and then the edit lines byte by byte."""

@@ -63,12 +63,20 @@ class DeviceTest(TraceFailures):
         self.environment = {'FAIL_CALLS': 'rw', 'FAIL_PIECES': '1'}
         self.each_call_fails()
 
+    def test_a_trace_ends_soon_after_a_failure(self) -> None:
+        """The program spins. A trace of 4,000,000,000 steps takes minutes."""
+        self.environment = {'FAIL_CALLS': 'w'}
+        spin = self.put('spin.com', b'\xc3\x00\x01')
+        done = self.run_with_failure(2, TRACE_PROGRAM, spin, '--steps', '--limit', '4000000000', timeout=8)
+        self.assertEqual((done.returncode, done.stderr), (1, b'cpmtrace: cannot write standard output\n'))
+        self.assertTrue(done.stdout and len(done.stdout) <= 4_096, len(done.stdout))
+
     def test_a_longer_trace_is_cut_where_it_fails(self) -> None:
-        """Two pieces of about 16,384 bytes are written, and a third fails."""
+        """Two pieces of about 4,096 bytes are written, and a third fails."""
         self.environment = {'FAIL_CALLS': 'w'}
         words = [*SORTING, '--steps']
         whole = self.wanted(*words).out
-        self.assertGreater(len(whole), 3 * 16_384)
+        self.assertGreater(len(whole), 3 * 4_096)
         done = self.run_with_failure(3, TRACE_PROGRAM, *words)
         self.assertEqual((done.returncode, done.stderr), (1, b'cpmtrace: cannot write standard output\n'))
-        self.assertTrue(whole.startswith(done.stdout) and 2 * 16_384 <= len(done.stdout) < 3 * 16_384, len(done.stdout))
+        self.assertTrue(whole.startswith(done.stdout) and 2 * 4_000 <= len(done.stdout) <= 2 * 4_096, len(done.stdout))

@@ -21,9 +21,9 @@ use loading::load;
 use machine::{Noting, Session, WholeRun};
 use make_rules::{RuleFault, check_paths, rule_of_run};
 use one_run::{RunFault, report_stop, run_to_end, stop_status, update_files, written_paths};
-use report_lines::Writer;
 use requests::Fault;
 use std::alloc::{AllocError, Global};
+use streams::Writer;
 
 // Returns these targets, or this path if there are none.
 fn targets_or(

@@ -21,9 +21,10 @@ use folders::FileSystem;
 use loading::load;
 use machine::{Cause, Session, WholeRun};
 use make_rules::{RuleFault, check_paths, rule_of_run};
-use report_lines::{Writer, stop_line, write_all};
+use report_lines::stop_line;
 use requests::{Fault, Request, Tool, print_information, report_fault};
 use std::alloc::{AllocError, Global};
+use streams::{Writer, write_all};
 
 /// Returns which neighbours the words put into one row.
 fn joining(words: &DependencyWords<'_>) -> Joining

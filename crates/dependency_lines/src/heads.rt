@@ -2,17 +2,18 @@
 
 ghost use Rattle.std.specs.Prelude.{◌≡◌, ◌++◌, false};
 ghost use Rattle.filenames.specs.Names.{is_sayable};
-ghost use Rattle.streams.specs.Streams.{WritesText};
+ghost use Rattle.streams.specs.Pushing.{more};
 ghost use Rattle.dependency_lines.specs.Heads.{head_text, name_text, step_line};
 
-use crate::words::write_step;
+use crate::words::push_step;
 use filenames::{Key, Name};
-use report_lines::{Failed, Writer, write_all, write_hex};
+use report_lines::{push_hex, push_named};
+use streams::Text;
 
 /// The beginning of a line: a word, and the name that it is about, if it is about one.
 #[derive(Clone, Copy)]
 pub struct Head<'a> {
-    /// The word, with a blank behind it before a name.
+    /// The word, with a blank after it before a name.
     pub word: &'a [u8],
     /// The key of the name.
     pub key: Option<Key>,
@@ -37,41 +38,38 @@ impl<'a> Head<'a> {
     }
 }
 
-/// Writes a head. If the writer fails, a prefix of it is written.
-pub fn write_head<W: Writer>(writer: &mut W, head: &Head<'_>) -> Result<(), Failed>
-    ensures { WritesText (W.output writer.old) (W.output writer.new) (head_text head.now) result }
+/// Appends a head.
+pub fn push_head<X: Text>(text: &mut X, head: &Head<'_>)
+    ensures { X.pushed text.new ≡ more (X.pushed text.old) (head_text head.now) }
 {
     let Some(key) = head.key else {
-        return write_all(writer, head.word);
+        text.push(head.word);
+        return;
     };
     match Name::from_key(&key) {
-        Some(name) => report_lines::write_head(writer, head.word, &name),
-        None => write_key(writer, head.word, &key),
+        Some(name) => push_named(text, head.word, &name),
+        None => push_key(text, head.word, &key),
     }
 }
 
-// Writes a word, and then the bytes of a key that is not the key of a name.
-fn write_key<W: Writer>(writer: &mut W, word: &[u8], key: &Key) -> Result<(), Failed>
+// Appends a word, and then the bytes of a key that is not the key of a name.
+fn push_key<X: Text>(text: &mut X, word: &[u8], key: &Key)
     requires { is_sayable key.now ≡ false }
-    ensures { WritesText (W.output writer.old) (W.output writer.new) (word.now ++ name_text key.now) result }
+    ensures { X.pushed text.new ≡ more (X.pushed text.old) (word.now ++ name_text key.now) }
 {
-    write_all(writer, word)?;
-    write_all(writer, b"=")?;
-    write_hex(writer, key)
+    text.push(word);
+    text.push(b"=");
+    push_hex(text, key)
 }
 
-/// Writes a line that ends with the first step, or nothing without a step. If the writer fails, a prefix of it is written.
-pub fn write_step_line<W: Writer>(
-    writer: &mut W,
-    head: &Head<'_>,
-    step: Option<u64>,
-) -> Result<(), Failed>
-    ensures { WritesText (W.output writer.old) (W.output writer.new)
-        (step_line (head_text head.now) step) result }
+/// Appends a line that ends with the first step, or nothing without a step.
+pub fn push_step_line<X: Text>(text: &mut X, head: &Head<'_>, step: Option<u64>)
+    ensures { X.pushed text.new ≡ more (X.pushed text.old)
+        (step_line (head_text head.now) step) }
 {
     let Some(step) = step else {
-        return Ok(());
+        return;
     };
-    write_head(writer, head)?;
-    write_step(writer, step)
+    push_head(text, head);
+    push_step(text, step)
 }

@@ -2,19 +2,21 @@
 
 ghost use Rattle.std.specs.Prelude.{◌≡◌, ◌+◌, ◌++◌, ◌∷◌, [], codes, length, take, Option, ℕ, List};
 ghost use Rattle.report_lines.specs.FirstLines as first_lines;
+ghost use Rattle.streams.specs.Pushing.{more};
 ghost use Rattle.streams.specs.Streams.{WritesText};
 ghost use Rattle.filenames.specs.Drives.{drive_number};
 ghost use Rattle.dependency_lines.specs.Listing as texts;
 
-use crate::heads::{Head, write_step_line};
-use crate::names::{Kind, write_kind};
-use crate::places::write_places;
+use crate::heads::{Head, push_step_line};
+use crate::names::{Kind, push_kind};
+use crate::places::push_places;
 use crate::words::IndexFormat;
 use dependencies::{Dependencies, Joining, StepTable, next_row};
 use filenames::Drive;
 use first_looks::{FileSteps, FirstLooks};
 use machine::{PROGRAM_START, Session};
-use report_lines::{Failed, Writer, stop_line, write_all};
+use report_lines::stop_line;
+use streams::{Failed, Text, TextOver, Writer};
 
 // The first indexes of a table.
 #[derive(Drop)]
@@ -51,50 +53,44 @@ pub fn write_dependencies<W: Writer>(
     ensures { WritesText (W.output writer.old) (W.output writer.new)
         (texts.listing joining session.now dependencies.now.looks dependencies.now.cause) result }
 {
-    write_asked(writer, joining, session, &dependencies.looks)?;
-    write_all(writer, stop_line(dependencies.cause).as_bytes())
+    let mut text = TextOver::new(writer);
+    push_asked(&mut text, joining, session, &dependencies.looks);
+    text.push(stop_line(dependencies.cause).as_bytes());
+    text.flush();
+    text.finish()
 }
 
-// Writes the lines of all that was asked for.
-fn write_asked<W: Writer>(
-    writer: &mut W,
-    joining: Joining,
-    session: &Session,
-    looks: &FirstLooks,
-) -> Result<(), Failed>
-    ensures { WritesText (W.output writer.old) (W.output writer.new)
-        (texts.asked_lines joining session.now looks.now) result }
+// Appends the lines of all that was asked for.
+fn push_asked<X: Text>(text: &mut X, joining: Joining, session: &Session, looks: &FirstLooks)
+    ensures { X.pushed text.new ≡ more (X.pushed text.old)
+        (texts.asked_lines joining session.now looks.now) }
 {
-    write_memory(writer, joining, looks)?;
-    write_script(writer, joining, session, looks)?;
-    write_files(writer, joining, session, looks)?;
-    write_directories(writer, looks.files())
+    push_memory(text, joining, looks);
+    push_script(text, joining, session, looks);
+    push_files(text, joining, session, looks);
+    push_directories(text, looks.files())
 }
 
-// Writes the lines of page zero and of the program.
-fn write_memory<W: Writer>(
-    writer: &mut W,
-    joining: Joining,
-    looks: &FirstLooks,
-) -> Result<(), Failed>
-    ensures { WritesText (W.output writer.old) (W.output writer.new)
-        (texts.memory_lines joining looks.now) result }
+// Appends the lines of page zero and of the program.
+fn push_memory<X: Text>(text: &mut X, joining: Joining, looks: &FirstLooks)
+    ensures { X.pushed text.new ≡ more (X.pushed text.old)
+        (texts.memory_lines joining looks.now) }
 {
     let page = FirstIndexes {
         table: looks.cells(),
         count: PROGRAM_START,
     };
-    write_places(
-        writer,
+    push_places(
+        text,
         joining,
         IndexFormat::Cell,
         &Head::alone(b"page"),
         &page,
         0,
-    )?;
+    );
     let head = Head::alone(b"program");
-    write_places(
-        writer,
+    push_places(
+        text,
         joining,
         IndexFormat::Cell,
         &head,
@@ -103,34 +99,25 @@ fn write_memory<W: Writer>(
     )
 }
 
-// Writes the lines of the script and of its end.
-fn write_script<W: Writer>(
-    writer: &mut W,
-    joining: Joining,
-    session: &Session,
-    looks: &FirstLooks,
-) -> Result<(), Failed>
-    ensures { WritesText (W.output writer.old) (W.output writer.new)
-        (texts.script_lines joining session.now looks.now) result }
+// Appends the lines of the script and of its end.
+fn push_script<X: Text>(text: &mut X, joining: Joining, session: &Session, looks: &FirstLooks)
+    ensures { X.pushed text.new ≡ more (X.pushed text.old)
+        (texts.script_lines joining session.now looks.now) }
 {
     let length = session.script().len();
     let bytes = FirstIndexes {
         table: looks.offsets(),
         count: length,
     };
-    write_places(
-        writer,
+    push_places(
+        text,
         joining,
         IndexFormat::Number,
         &Head::alone(b"script"),
         &bytes,
         0,
-    )?;
-    write_step_line(
-        writer,
-        &Head::alone(b"script end"),
-        first_step(looks, length),
-    )
+    );
+    push_step_line(text, &Head::alone(b"script end"), first_step(looks, length))
 }
 
 // Returns the step of the first row of offsets from `from` on, if there is one.
@@ -143,30 +130,25 @@ fn first_step(looks: &FirstLooks, from: usize) -> Option<u64>
     }
 }
 
-// Writes the lines of files by their names.
-fn write_files<W: Writer>(
-    writer: &mut W,
-    joining: Joining,
-    session: &Session,
-    looks: &FirstLooks,
-) -> Result<(), Failed>
-    ensures { WritesText (W.output writer.old) (W.output writer.new)
-        (texts.file_lines joining session.now looks.now) result }
+// Appends the lines of files by their names.
+fn push_files<X: Text>(text: &mut X, joining: Joining, session: &Session, looks: &FirstLooks)
+    ensures { X.pushed text.new ≡ more (X.pushed text.old)
+        (texts.file_lines joining session.now looks.now) }
 {
     let (host, asked) = (session.files(), looks.files());
-    write_kind(writer, joining, host, asked, Kind::There)?;
-    write_kind(writer, joining, host, asked, Kind::Absent)?;
-    write_kind(writer, joining, host, asked, Kind::Length)?;
-    write_kind(writer, joining, host, asked, Kind::Records)
+    push_kind(text, joining, host, asked, Kind::There);
+    push_kind(text, joining, host, asked, Kind::Absent);
+    push_kind(text, joining, host, asked, Kind::Length);
+    push_kind(text, joining, host, asked, Kind::Records)
 }
 
-// Writes the lines of the directories of the drives A to D.
-fn write_directories<W: Writer>(writer: &mut W, asked: &FileSteps) -> Result<(), Failed>
-    ensures { WritesText (W.output writer.old) (W.output writer.new)
-        (texts.directory_lines asked.now) result }
+// Appends the lines of the directories of the drives A to D.
+fn push_directories<X: Text>(text: &mut X, asked: &FileSteps)
+    ensures { X.pushed text.new ≡ more (X.pushed text.old)
+        (texts.directory_lines asked.now) }
 {
-    write_step_line(writer, &Head::alone(b"directory A"), asked.directories[0])?;
-    write_step_line(writer, &Head::alone(b"directory B"), asked.directories[1])?;
-    write_step_line(writer, &Head::alone(b"directory C"), asked.directories[2])?;
-    write_step_line(writer, &Head::alone(b"directory D"), asked.directories[3])
+    push_step_line(text, &Head::alone(b"directory A"), asked.directories[0]);
+    push_step_line(text, &Head::alone(b"directory B"), asked.directories[1]);
+    push_step_line(text, &Head::alone(b"directory C"), asked.directories[2]);
+    push_step_line(text, &Head::alone(b"directory D"), asked.directories[3])
 }

@@ -2,19 +2,19 @@
 
 ghost use Rattle.std.specs.Prelude.{◌≡◌, length, option_copied, option_map};
 ghost use Rattle.keymaps.specs.Order.{IsLeastAbove};
-ghost use Rattle.streams.specs.Streams.{WritesText};
+ghost use Rattle.streams.specs.Pushing.{more};
 ghost use Rattle.dependency_lines.specs.Names as texts;
 ghost use Rattle.dependency_lines.specs.Names.{is_asked, lines_of_kind, lines_of_name};
 
-use crate::heads::{Head, write_head, write_step_line};
-use crate::places::write_places;
-use crate::words::{IndexFormat, write_step};
+use crate::heads::{Head, push_head, push_step_line};
+use crate::places::push_places;
+use crate::words::{IndexFormat, push_step};
 use arrayvec::ArrayString;
 use dependencies::Joining;
 use first_looks::FileSteps;
 use hostfiles::{HostFile, HostFiles, Key};
 use itoa::Buffer;
-use report_lines::{Failed, Writer, write_all};
+use streams::Text;
 
 /// What is asked about a file.
 #[derive(Clone, Copy)]
@@ -29,23 +29,22 @@ pub enum Kind {
     Records,
 }
 
-/// Writes the lines of one kind, in the order of the keys. If the writer fails, a prefix of them is written.
-pub fn write_kind<W: Writer>(
-    writer: &mut W,
+/// Appends the lines of one kind, in the order of the keys.
+pub fn push_kind<X: Text>(
+    text: &mut X,
     joining: Joining,
     host: &HostFiles,
     asked: &FileSteps,
     kind: Kind,
-) -> Result<(), Failed>
-    ensures { WritesText (W.output writer.old) (W.output writer.new)
-        (lines_of_kind joining host.now asked.now kind) result }
+)
+    ensures { X.pushed text.new ≡ more (X.pushed text.old)
+        (lines_of_kind joining host.now asked.now kind) }
 {
     let mut after: Option<Key> = None;
     while let Some(key) = next_key(asked, kind, after) {
-        write_name(writer, joining, host, asked, kind, &key)?;
+        push_name(text, joining, host, asked, kind, &key);
         after = Some(key);
     }
-    Ok(())
 }
 
 // Returns the least key above `after` about which this was asked, or `None` if there is none. Every key is above `None`.
@@ -62,55 +61,50 @@ fn next_key(asked: &FileSteps, kind: Kind, after: Option<Key>) -> Option<Key>
     }
 }
 
-// Writes the lines of one kind about a file.
-fn write_name<W: Writer>(
-    writer: &mut W,
+// Appends the lines of one kind about a file.
+fn push_name<X: Text>(
+    text: &mut X,
     joining: Joining,
     host: &HostFiles,
     asked: &FileSteps,
     kind: Kind,
     key: &Key,
-) -> Result<(), Failed>
-    ensures { WritesText (W.output writer.old) (W.output writer.new)
-        (lines_of_name joining host.now asked.now kind key.now) result }
+)
+    ensures { X.pushed text.new ≡ more (X.pushed text.old)
+        (lines_of_name joining host.now asked.now kind key.now) }
 {
     match kind {
         Kind::There if host.has(key) => {
-            write_step_line(
-                writer,
+            push_step_line(
+                text,
                 &Head::about(b"file ", key),
                 asked.has.get(key).copied(),
             )
         }
         Kind::Absent if !host.has(key) => {
-            write_step_line(
-                writer,
+            push_step_line(
+                text,
                 &Head::about(b"none ", key),
                 asked.has.get(key).copied(),
             )
         }
-        Kind::There | Kind::Absent => Ok(()),
-        Kind::Length => write_length(writer, host.file(key), asked.lengths.get(key).copied(), key),
-        Kind::Records => write_records(writer, joining, asked, key),
+        Kind::There | Kind::Absent => (),
+        Kind::Length => push_length(text, host.file(key), asked.lengths.get(key).copied(), key),
+        Kind::Records => push_records(text, joining, asked, key),
     }
 }
 
-// Writes the line of the length of a file.
-fn write_length<W: Writer>(
-    writer: &mut W,
-    file: Option<&HostFile>,
-    step: Option<u64>,
-    key: &Key,
-) -> Result<(), Failed>
-    ensures { WritesText (W.output writer.old) (W.output writer.new)
-        (texts.length_line (option_map length (option_copied file.entry)) step key.now) result }
+// Appends the line of the length of a file.
+fn push_length<X: Text>(text: &mut X, file: Option<&HostFile>, step: Option<u64>, key: &Key)
+    ensures { X.pushed text.new ≡ more (X.pushed text.old)
+        (texts.length_line (option_map length (option_copied file.entry)) step key.now) }
 {
     let Some(step) = step else {
-        return Ok(());
+        return;
     };
-    write_head(writer, &Head::about(b"length ", key))?;
-    write_count(writer, file)?;
-    write_step(writer, step)
+    push_head(text, &Head::about(b"length ", key));
+    push_count(text, file);
+    push_step(text, step)
 }
 
 // Returns the number of records of a file, after a blank.
@@ -128,29 +122,24 @@ fn count_text(file: Option<&HostFile>) -> ArrayString<64>
     text
 }
 
-// Writes the number of records of a file, after a blank.
-fn write_count<W: Writer>(writer: &mut W, file: Option<&HostFile>) -> Result<(), Failed>
-    ensures { WritesText (W.output writer.old) (W.output writer.new)
-        (texts.count_text (option_map length (option_copied file.entry))) result }
+// Appends the number of records of a file, after a blank.
+fn push_count<X: Text>(text: &mut X, file: Option<&HostFile>)
+    ensures { X.pushed text.new ≡ more (X.pushed text.old)
+        (texts.count_text (option_map length (option_copied file.entry))) }
 {
-    write_all(writer, count_text(file).as_bytes())
+    text.push(count_text(file).as_bytes())
 }
 
-// Writes the lines of the records of a file.
-fn write_records<W: Writer>(
-    writer: &mut W,
-    joining: Joining,
-    asked: &FileSteps,
-    key: &Key,
-) -> Result<(), Failed>
-    ensures { WritesText (W.output writer.old) (W.output writer.new)
-        (texts.record_lines joining asked.now key.now) result }
+// Appends the lines of the records of a file.
+fn push_records<X: Text>(text: &mut X, joining: Joining, asked: &FileSteps, key: &Key)
+    ensures { X.pushed text.new ≡ more (X.pushed text.old)
+        (texts.record_lines joining asked.now key.now) }
 {
     let Some(steps) = asked.records.file(key) else {
-        return Ok(());
+        return;
     };
-    write_places(
-        writer,
+    push_places(
+        text,
         joining,
         IndexFormat::Number,
         &Head::about(b"record ", key),

@@ -2,13 +2,14 @@
 
 ghost use Rattle.std.specs.Prelude.{◌≡◌, ◌+◌, ◌≤◌, ◌++◌};
 ghost use Rattle.arrayvec.specs.ArrayString.{array_string_len};
-ghost use Rattle.streams.specs.Streams.{WritesText};
+ghost use Rattle.streams.specs.Pushing.{more};
 ghost use Rattle.dependency_lines.specs.Words as texts;
 
 use arrayvec::ArrayString;
 use dependencies::Row;
 use itoa::Buffer;
-use report_lines::{Failed, Writer, push_word, write_all};
+use report_lines::push_word;
+use streams::Text;
 
 /// How a place is printed.
 #[derive(Clone, Copy)]
@@ -57,16 +58,16 @@ fn step_end(step: u64) -> ArrayString<64>
     text
 }
 
-/// Writes a row, after a blank: its first place, and its last one if it has more. If the writer fails, a prefix of this is written.
-pub fn write_row<W: Writer>(writer: &mut W, format: IndexFormat, row: Row) -> Result<(), Failed>
-    ensures { WritesText (W.output writer.old) (W.output writer.new) (texts.row_text format row) result }
+/// Appends a row, after a blank: its first place, and its last one if it has more.
+pub fn push_row<X: Text>(text: &mut X, format: IndexFormat, row: Row)
+    ensures { X.pushed text.new ≡ more (X.pushed text.old) (texts.row_text format row) }
 {
-    write_all(writer, row_text(format, row).as_bytes())
+    text.push(row_text(format, row).as_bytes())
 }
 
-/// Writes the end of a line: the first step, with the line's end. If the writer fails, a prefix of this is written.
-pub fn write_step<W: Writer>(writer: &mut W, step: u64) -> Result<(), Failed>
-    ensures { WritesText (W.output writer.old) (W.output writer.new) (texts.step_end step) result }
+/// Appends the end of a line: the first step, with the line's end.
+pub fn push_step<X: Text>(text: &mut X, step: u64)
+    ensures { X.pushed text.new ≡ more (X.pushed text.old) (texts.step_end step) }
 {
-    write_all(writer, step_end(step).as_bytes())
+    text.push(step_end(step).as_bytes())
 }

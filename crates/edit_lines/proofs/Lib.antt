@@ -5,4 +5,3 @@ pub mod Breaking
 pub mod Grammar
 pub mod Once
 pub mod ValidNames
-pub mod Reporting

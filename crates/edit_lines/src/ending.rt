@@ -1,4 +1,5 @@
 use std::alloc::AllocError;
+use streams::Failed;
 use thiserror::Error;
 
 /// How a replay ends without an error.
@@ -38,5 +39,16 @@ impl From<AllocError> for ReplayFault {
 
     fn from(_: AllocError) -> Self {
         Self::OutOfMemory
+    }
+}
+
+impl From<Failed> for ReplayFault {
+    ghost use Rattle.std.specs.Prelude.{◌≡◌};
+    ghost use Rattle.edit_lines.specs.declared.ending.ReplayFault.TheVariants.{Write};
+
+    ghost from_gives = { λ _ fault. fault ≡ Write };
+
+    fn from(_: Failed) -> Self {
+        Self::Write
     }
 }

@@ -3,28 +3,24 @@ ghost use Rattle.replay.specs.Report.{run_of, session_of};
 ghost use Rattle.edit_lines.specs.Progress.{ExecutesCommand, ExecutesLine, replay_state};
 ghost use Rattle.edit_lines.specs.Reports.{report_text};
 ghost use Rattle.edit_lines.specs.Replies.{Replies};
-ghost use Rattle.streams.specs.Streams.{WritesText};
+ghost use Rattle.streams.specs.Pushing.{more};
 
 use crate::ending::ReplayFault;
 use crate::limits::LINES_LIMIT;
 use crate::line::{Command, parse_line};
 use crate::reply::refused_line;
-use arrayvec::ArrayVec;
 use machine::{Meter, STEP_LIMIT};
 use replay::{Edit, EditError, Report, Runner};
-use report_lines::{
-    Failed, FileFilter, Over, Writer, report_head, write_all, write_changed_files, write_text,
-};
+use report_lines::{FileFilter, push_changed_files, push_text, report_head};
 use std::alloc::Global;
+use streams::{Text, TextOver, Writer, write_all};
 
 /// Writes a reply. If the writer fails, a prefix of the reply is written.
 fn write_reply<W: Writer>(writer: &mut W, text: &[u8]) -> Result<(), ReplayFault>
     ensures { Replies (W.output writer.old) (W.output writer.new) text.now result }
 {
-    match write_all(writer, text) {
-        Ok(()) => Ok(()),
-        Err(Failed) => Err(ReplayFault::Write),
-    }
+    write_all(writer, text)?;
+    Ok(())
 }
 
 /// Applies an edit and writes its reply. Exactly the checkpoints that it does not touch are left, or all if it is refused. Memory
@@ -59,29 +55,27 @@ fn drop_oldest<W: Writer>(
     write_reply(writer, b"ok\n")
 }
 
-/// Writes a report: its first lines, the line of its text, the lines of the changed files, and `end`. It is written in pieces; no
-/// memory is allocated.
-fn write_report<W: Writer>(report: &Report<'_>, writer: &mut W) -> Result<(), Failed>
-    ensures { WritesText (W.output writer.old) (W.output writer.new)
-        (report_text (session_of report.now) (run_of report.now)) result }
+/// Appends a report: its first lines, the line of its text, the lines of the changed files, and `end`.
+fn push_report<X: Text>(text: &mut X, report: &Report<'_>)
+    ensures { X.pushed text.new
+        ≡ more (X.pushed text.old) (report_text (session_of report.now) (run_of report.now)) }
 {
-    let head = report_head(report.cause(), report.steps(), report.regs());
-    write_all(writer, head.as_bytes())?;
-    write_text(writer, report.text())?;
-    write_changed_files(writer, FileFilter::All, report.files(), report.journal())?;
-    write_all(writer, b"end\n")
+    text.push(report_head(report.cause(), report.steps(), report.regs()).as_bytes());
+    push_text(text, report.text());
+    push_changed_files(text, FileFilter::All, report.files(), report.journal());
+    text.push(b"end\n")
 }
 
-/// Writes a report as `write_report` does, but in a single piece if it has at most 1024 bytes.
-fn write_short_at_once<W: Writer>(report: &Report<'_>, writer: &mut W) -> Result<(), Failed>
-    ensures { WritesText (W.output writer.old) (W.output writer.new)
+/// Writes a report as a reply. No memory is allocated, and a report of at most 4096 bytes is written in a single piece.
+fn write_report<W: Writer>(writer: &mut W, report: &Report<'_>) -> Result<(), ReplayFault>
+    ensures { Replies (W.output writer.old) (W.output writer.new)
         (report_text (session_of report.now) (run_of report.now)) result }
 {
-    let mut whole = Over::new(ArrayVec::<u8, 1024>::new());
-    if write_report(report, &mut whole).is_err() {
-        return write_report(report, writer);
-    }
-    write_all(writer, whole.into_inner().as_slice())
+    let mut text = TextOver::new(writer);
+    push_report(&mut text, report);
+    text.flush();
+    text.finish()?;
+    Ok(())
 }
 
 /// Runs the session from the step where the runner begins a rerun, and writes its report. Only the steps from there on are added
@@ -93,10 +87,7 @@ fn run<W: Writer>(runner: &mut Runner, meter: &mut Meter, writer: &mut W) -> Res
     ensures meter { meter.new ≤ meter.old + STEP_LIMIT }
 {
     let report = runner.rerun(meter)?;
-    match write_short_at_once(&report, writer) {
-        Ok(()) => Ok(()),
-        Err(Failed) => Err(ReplayFault::Write),
-    }
+    write_report(writer, &report)
 }
 
 /// Executes the line with this number. The runner and the meter change only as its command says, and not at all if the line is

@@ -21,5 +21,5 @@ pub use ending::{Ending, ReplayFault};
 pub use limits::{LINE_LIMIT, LINES_LIMIT};
 pub use line::{Command, lines_have_one_command, parse_line};
 pub use reply::refused_line;
-pub use report_lines::{Failed, Over, Reader, Writer};
 pub use stream::{replay, replays_are_equal};
+pub use streams::{Failed, Over, Reader, Writer};

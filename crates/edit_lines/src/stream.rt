@@ -13,8 +13,8 @@ use crate::execute::execute_line;
 use machine::{Meter, STEP_LIMIT};
 use memchr::memchr;
 use replay::Runner;
-use report_lines::{Reader, Writer};
 use std::alloc::Global;
+use streams::{Reader, Writer};
 
 /// Executes the line that was read, and begins the next one.
 fn end_line<W: Writer>(

@@ -5,6 +5,7 @@ ghost use Rattle.std.specs.FinMap.{contains_key, insert, remove};
 ghost use Rattle.std.specs.Io.KnownBytes.{Appends};
 ghost use Rattle.folders.specs.Failures.{AddsPaths, KeepsFiles, ReportsPaths, io_paths};
 ghost use Rattle.folders.specs.FileSystem.{Becomes, ChangesAt, Opens, ReadsFile, StoredFiles, files_after_rename};
+ghost use Rattle.streams.specs.Trails.{paths};
 
 use std::alloc::Global;
 use std::fs::{OpenFile, OpenOptions, Permissions, read_dir};
@@ -130,7 +131,7 @@ pub struct SystemFiles<'a, R> {
 impl<'a, R> SystemFiles<'a, R> {
     /// Returns the files that a runtime reaches, with no failure yet.
     pub fn new(rt: &'a R) -> SystemFiles<'a, R>
-        ensures { result.failed.paths ≡ [] }
+        ensures { paths result.failed ≡ [] }
     {
         SystemFiles {
             rt,
@@ -141,7 +142,8 @@ impl<'a, R> SystemFiles<'a, R> {
     // Adds the path of a call, if the call failed.
     fn note<T>(&mut self, path: &str, answer: io::Result<T>) -> io::Result<T>
         ensures same { result ≡ answer }
-        ensures failed { AddsPaths (io_paths path.now) result self.old.failed.paths self.new.failed.paths }
+        ensures failed { AddsPaths (io_paths path.now) result
+            (paths self.old.failed) (paths self.new.failed) }
     {
         if let Err(error) = &answer
             && error.kind() != ErrorKind::OutOfMemory
@@ -199,7 +201,7 @@ impl<R: Files + AllocGlobal + Clone + Drop> SystemFiles<'_, R> {
 impl<R: Files + AllocGlobal + Clone + Drop> FileSystem for SystemFiles<'_, R> {
     type Input = Over<R::File>;
 
-    ghost files = { λ system. record { bytes = None; names = λ _. []; failed = system.failed.paths } };
+    ghost files = { λ system. record { bytes = None; names = λ _. []; failed = paths system.failed } };
 
     fn alloc(&self) -> Global {
         self.rt.alloc()

@@ -1,40 +1,41 @@
--- The console text of a run, written piece by piece.
-use Rattle.std.proofs.Common.{◌≡◌, ℕ, ◌+◌, ◌-◌, ◌≤◌, max, List, ◌++◌, length, take, drop, Option, Some, None, IfSome, ap, sym, subst, ◌∙◌, arith, append-nil, refl, inl, inr, le_of_lt}
+-- The console text of a run, pushed piece by piece.
+use Rattle.std.proofs.Common.{◌≡◌, ℕ, ◌+◌, ◌-◌, ◌≤◌, max, List, ◌++◌, length, take, drop, Option, Some, None, IfSome, ap, sym, ◌∙◌, arith, append-nil, inl, inr, le_of_lt}
 use Rattle.std.proofs.lemmas.Bool.{cases_lt}
 use Rattle.std.proofs.lemmas.List.{drop_all, take-append-drop, take-take, take_all}
 use Rattle.machine.specs.Cause.{Cause}
 use Rattle.machine.specs.Machine.{session_answers}
 use Rattle.machine.specs.Runs.{EndsBy, RunView, StopsBelow, asked_by}
-use Rattle.streams.specs.Streams.{Output, WritesPart, WritesWhole}
-use Rattle.streams.proofs.WrittenPieces.{part_more, part_then, whole_then}
+use Rattle.streams.specs.Pushing.{Pushed, PushesPart, more}
+use Rattle.streams.proofs.Pushes.{more_more, next_pushed}
 
--- ---- a beginning of a text, and more of it
+-- ---- a prefix of a text, and more of it
 
-module _ (whole text : List ℕ) (written : ℕ) (begins : text ≡ take (length text) whole) where
-  joined : (n : ℕ) → n ≡ max written (length text) → take written whole ++ drop written text ≡ take n whole
-  joined n most = elim (cases_lt written (length text)) [
+module _ (whole text : List ℕ) (pushed : ℕ) (begins : text ≡ take (length text) whole) where
+  joined : (n : ℕ) → n ≡ max pushed (length text) → take pushed whole ++ drop pushed text ≡ take n whole
+  joined n most = elim (cases_lt pushed (length text)) [
     | inl below ↦
-        ap (λ t. t ++ drop written text) (sym (take-take written (length text) whole (le_of_lt below)) ∙ ap (take written) (sym begins))
-        ∙ take-append-drop written text ∙ begins ∙ ap (λ k. take k whole) (omega (arith, below, most))
+        ap (λ t. t ++ drop pushed text) (sym (take-take pushed (length text) whole (le_of_lt below)) ∙ ap (take pushed) (sym begins))
+        ∙ take-append-drop pushed text ∙ begins ∙ ap (λ k. take k whole) (omega (arith, below, most))
     | inr past ↦
-        ap (λ t. take written whole ++ t) (drop_all written text past) ∙ append-nil (take written whole) ∙ ap (λ k. take k whole) (omega (arith, past, most))
+        ap (λ t. take pushed whole ++ t) (drop_all pushed text past) ∙ append-nil (take pushed whole) ∙ ap (λ k. take k whole) (omega (arith, past, most))
   ]
 
-  pub more_written : {a b c : Output} (n : ℕ) → n ≡ max written (length text) → WritesWhole a b (take written whole) → WritesWhole b c (drop written text) → WritesWhole a c (take n whole)
-  more_written {a = a} {c = c} n most p q = subst (WritesWhole a c) (joined n most) (whole_then (take written whole) (drop written text) p q)
+  pub more_pushed : (p q r : Pushed) (n : ℕ) → n ≡ max pushed (length text) → q ≡ more p (take pushed whole) → r ≡ more q (drop pushed text) → r ≡ more p (take n whole)
+  more_pushed p q r n most e f = next_pushed p q r (take pushed whole) (drop pushed text) (take n whole) e f (joined n most)
 
-  pub cut_off : {a b c : Output} → WritesWhole a b (take written whole) → WritesPart b c (drop written text) → WritesPart a c whole
-  cut_off {a = a} {c = c} p q =
-      let n = max written (length text) in
-      let part : WritesPart a c (take n whole) = subst (WritesPart a c) (joined n refl) (part_then (take written whole) (drop written text) p q) in
-      subst (WritesPart a c) (take-append-drop n whole) (part_more (take n whole) (drop n whole) part)
+-- The rest of it is left.
+pub rest_left : (p q : Pushed) (whole : List ℕ) (n : ℕ) → q ≡ more p (take n whole) → PushesPart p q whole
+rest_left p q whole n e = record {
+  rest = drop n whole;
+  split = ap (λ q. more q (drop n whole)) e ∙ more_more p (take n whole) (drop n whole) ∙ ap (more p) (take-append-drop n whole);
+}
 
--- The whole text is a beginning of itself.
+-- The whole text is a prefix of itself.
 pub itself : (whole text : List ℕ) → text ≡ whole → text ≡ take (length text) whole
 itself whole text is = is ∙ sym (take_all (length text) whole (omega (arith, ap length is)))
 
-pub all_written : {a c : Output} (whole text : List ℕ) (written n : ℕ) → text ≡ whole → n ≡ max written (length text) → WritesWhole a c (take n whole) → WritesWhole a c whole
-all_written {a = a} {c = c} whole text written n is most w = subst (WritesWhole a c) (take_all n whole (omega (arith, most, ap length is))) w
+pub all_pushed : (p q : Pushed) (whole text : List ℕ) (pushed n : ℕ) → text ≡ whole → n ≡ max pushed (length text) → q ≡ more p (take n whole) → q ≡ more p whole
+all_pushed p q whole text pushed n is most e = e ∙ ap (more p) (take_all n whole (omega (arith, most, ap length is)))
 
 -- ---- the end of a run
 

@@ -1,5 +1,6 @@
 use folders::{Failure, Fault};
 use std::alloc::AllocError;
+use streams::Failed;
 
 /// Why a run was not reported in full.
 #[derive(Drop)]
@@ -34,5 +35,16 @@ impl From<AllocError> for RunFault {
 
     fn from(_: AllocError) -> Self {
         RunFault::OutOfMemory
+    }
+}
+
+impl From<Failed> for RunFault {
+    ghost use Rattle.std.specs.Prelude.{◌≡◌};
+    ghost use Rattle.one_run.specs.declared.fault.RunFault.TheVariants.{CannotWrite};
+
+    ghost from_gives = { λ _ fault. fault ≡ CannotWrite };
+
+    fn from(_: Failed) -> Self {
+        RunFault::CannotWrite
     }
 }

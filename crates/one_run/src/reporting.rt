@@ -1,11 +1,8 @@
 // One run of a session, without edits.
 
-ghost use Rattle.std.specs.Prelude.{◌≡◌, ◌++◌, IfOk, IfErr, OnErr};
+ghost use Rattle.std.specs.Prelude.{◌≡◌, IfOk, IfErr, OnErr};
 ghost use Rattle.folders.specs.Failures.{ReportsPaths};
-ghost use Rattle.hostfiles.specs.Files.{files};
-ghost use Rattle.machine.specs.PlainState.{plain_run};
-ghost use Rattle.report_lines.specs.ChangedLines.{gone_lines};
-ghost use Rattle.report_lines.specs.FirstLines.{stop_line};
+ghost use Rattle.streams.specs.Pushing.{more};
 ghost use Rattle.streams.specs.Streams.{WritesOrFails, WritesText};
 ghost use Rattle.one_run.specs.Faults.{run_paths};
 ghost use Rattle.one_run.specs.RunsOnce.{BreaksRun, RunsOnce, stop_status, stop_text};
@@ -15,9 +12,9 @@ use crate::fault::RunFault;
 use crate::running::run_to_end;
 use crate::updating::update_files;
 use folders::{FileSystem, Places};
-use hostfiles::{HostFiles, Journal};
 use machine::{Cause, Noting, Session, WholeRun};
-use report_lines::{Failed, FileFilter, Writer, stop_line, write_all, write_changed_files};
+use report_lines::{FileFilter, push_changed_files, stop_line};
+use streams::{Failed, Text, TextOver, Writer};
 
 /// Returns the exit status for a run that stopped by this cause.
 pub fn stop_status(cause: Cause) -> u8
@@ -36,19 +33,27 @@ pub fn stop_status(cause: Cause) -> u8
     }
 }
 
-/// Writes the line of a stop, and then the lines of the changed files that are gone. If the writer fails, a prefix of this is
-/// written.
-fn write_stop_lines<E: Writer>(
-    err: &mut E,
-    cause: Cause,
-    host: &HostFiles,
-    journal: &Journal,
-) -> Result<(), Failed>
-    ensures { WritesText (E.output err.old) (E.output err.new)
-        (stop_line cause ++ gone_lines host.now (files host.now journal.now.entries)) result }
+// Appends the line of the stop of a run, and then the lines of the changed files that are gone.
+fn push_stop<X: Text>(text: &mut X, run: &WholeRun<'_>)
+    ensures { X.pushed text.new ≡ more (X.pushed text.old) (stop_text run.now.session.now) }
 {
-    write_all(err, stop_line(cause).as_bytes())?;
-    write_changed_files(err, FileFilter::GoneOnly, host, journal)
+    text.push(stop_line(run.cause()).as_bytes());
+    push_changed_files(
+        text,
+        FileFilter::GoneOnly,
+        run.session.files(),
+        run.journal(),
+    );
+}
+
+// Writes the line of the stop of a run, and then the lines of the changed files that are gone.
+fn write_stop<E: Writer>(run: &WholeRun<'_>, err: &mut E) -> Result<(), Failed>
+    ensures { WritesText (E.output err.old) (E.output err.new) (stop_text run.now.session.now) result }
+{
+    let mut text = TextOver::new(err);
+    push_stop(&mut text, run);
+    text.flush();
+    text.finish()
 }
 
 /// Reports on standard error why the run stopped, and which of the changed files are gone. A failure of the writer ends this, and is
@@ -56,7 +61,7 @@ fn write_stop_lines<E: Writer>(
 pub fn report_stop<E: Writer>(run: &WholeRun<'_>, err: &mut E)
     ensures { WritesOrFails (E.output err.old) (E.output err.new) (stop_text run.now.session.now) }
 {
-    let _ = write_stop_lines(err, run.cause(), run.session.files(), run.journal());
+    let _ = write_stop(run, err);
 }
 
 /// Runs a session once. Its console text is written to `out` while it runs. Then each changed file that is there when the run stops is

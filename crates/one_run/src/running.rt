@@ -1,49 +1,97 @@
 // A run whose console text is written while it runs.
 
-ghost use Rattle.std.specs.Prelude.{◌≡◌, ◌≤◌, IfErr, IfOk, OnOk, Some, drop, length, max};
+ghost use Rattle.std.specs.Prelude.{◌≡◌, ◌≤◌, IfErr, IfOk, OnErr, OnOk, Some, drop, false, length, max};
 ghost use Rattle.machine.specs.Machine.{cold_run};
 ghost use Rattle.machine.specs.Runs.{EndsBy, NotesWholeRun, asked_by};
 ghost use Rattle.machine.specs.declared.noting.Noting.TheVariants.{Looks};
-ghost use Rattle.streams.specs.Streams.{WritesPart, WritesWhole};
+ghost use Rattle.streams.specs.Pushing.{PushesPart, more};
+ghost use Rattle.streams.specs.Streams.{WritesWhole};
 ghost use Rattle.one_run.specs.RunsOnce.{BreaksText, console_text};
 
 use crate::fault::RunFault;
 use machine::{Cause, Noting, Run, STEP_LIMIT, Session, WholeRun};
-use report_lines::{Writer, write_all};
-use std::alloc::Global;
+use std::alloc::{AllocError, Global};
+use streams::{Names, Text, TextOver, Writer};
 
-/// After this many steps, the console text that is there is written.
+/// After this many steps, the console text that is there is sent.
 const STEPS_UNTIL_TEXT: u64 = 50_000_000;
 
-// Writes the bytes of a text after its first ones, which were written. If there are none, the steps of the run are shown instead. Returns
-// how many bytes are written then.
-fn write_more<O: Writer, E: Writer>(
-    text: &[u8],
-    written: usize,
+// What is left of the console text of a run, after its first bytes.
+#[derive(Drop)]
+struct RestOfText<'a, 's> {
+    run: &'a Run<'s>,
+    pushed: usize,
+}
+
+struct TextBytes;
+
+impl<'a, 's> Names<RestOfText<'a, 's>> for TextBytes {
+    ghost use Rattle.std.specs.Prelude.{drop};
+    ghost use Rattle.one_run.specs.RunsOnce.{console_text};
+
+    ghost numbers = { λ r. drop r.pushed (console_text r.run.now.session) };
+}
+
+// Pushes and sends the bytes of a console text after its first ones, which were pushed. If there are none, the steps of the run are shown
+// instead. Returns how many bytes are pushed then.
+fn push_more<X: Text, E: Writer>(
+    console: &[u8],
+    pushed: usize,
     steps: u64,
-    out: &mut O,
+    text: &mut X,
     err: &mut E,
-) -> Result<usize, RunFault>
-    ensures count { IfOk result (λ n. n ≡ max written (length text.now)) }
-    ensures written { OnOk result
-        (WritesWhole (O.output out.old) (O.output out.new) (drop written text.now)) }
-    ensures fault { IfErr result (λ f. (f ≡ RunFault.CannotWrite)
-        × WritesPart (O.output out.old) (O.output out.new) (drop written text.now)) }
+) -> usize
+    ensures count { result ≡ max pushed (length console.now) }
+    ensures text { X.pushed text.new ≡ more (X.pushed text.old) (drop pushed console.now) }
     ensures err { E.output err.new ≡ E.output err.old }
 {
-    if written < text.len() {
+    if pushed < console.len() {
         err.hide_steps();
-        let Ok(()) = write_all(out, &text[written..]) else {
-            return Err(RunFault::CannotWrite);
-        };
+        text.push(&console[pushed..]);
+        text.flush();
     } else {
         err.show_steps(steps);
     }
-    Ok(written.max(text.len()))
+    pushed.max(console.len())
 }
 
-// Runs to a stop, which it returns, or to the limit, and writes the text.
-fn advance_writing<O: Writer, E: Writer>(
+// Runs to a stop, which it returns, or to the limit, and pushes and sends the console text. If sending fails, the run ends early.
+fn push_console<X: Text, E: Writer>(
+    run: &mut Run<'_>,
+    limit: u64,
+    text: &mut X,
+    err: &mut E,
+) -> Result<Option<Cause>, AllocError>
+    requires low { run.old.step ≤ limit }
+    requires limit { limit ≡ run.old.session.limit }
+    requires most { limit ≤ STEP_LIMIT }
+    ensures session { run.new.session ≡ run.old.session }
+    ensures ends { IfOk result (λ stop. X.failed text.new ≡ false → EndsBy run.new limit stop) }
+    ensures noted { run.old.seen ≡ Some run.old.step
+        → IfOk result (λ stop. run.new.seen ≡ Some (asked_by run.new.step stop)) }
+    ensures text { OnOk result (X.pushed text.new
+        ≡ more (X.pushed text.old) (console_text run.old.session)) }
+    ensures part { OnErr result (PushesPart (X.pushed text.old) (X.pushed text.new)
+        (console_text run.old.session)) }
+    ensures err { E.output err.new ≡ E.output err.old }
+{
+    let mut pushed = 0;
+    let mut stop = None;
+    while stop.is_none() && run.step() < limit && !text.has_failed() {
+        pushed = push_more(run.text(), pushed, run.step(), text, err);
+        stop = run.advance(limit.min(run.step() + STEPS_UNTIL_TEXT))?;
+    }
+    if text.has_failed() {
+        let rest = RestOfText { run: &*run, pushed };
+        text.skip::<RestOfText<'_, '_>, TextBytes>(&rest);
+        return Ok(stop);
+    }
+    push_more(run.text(), pushed, run.step(), text, err);
+    Ok(stop)
+}
+
+// Runs to a stop, which it returns, or to the limit, and writes the console text.
+fn write_console<O: Writer, E: Writer>(
     run: &mut Run<'_>,
     limit: u64,
     out: &mut O,
@@ -62,13 +110,11 @@ fn advance_writing<O: Writer, E: Writer>(
         (BreaksText (console_text run.old.session) (O.output out.old) (O.output out.new)) }
     ensures err { E.output err.new ≡ E.output err.old }
 {
-    let mut written = 0;
-    let mut stop = None;
-    while stop.is_none() && run.step() < limit {
-        written = write_more(run.text(), written, run.step(), out, err)?;
-        stop = run.advance(limit.min(run.step() + STEPS_UNTIL_TEXT))?;
-    }
-    write_more(run.text(), written, run.step(), out, err)?;
+    let mut text = TextOver::new(out);
+    let ended = push_console(run, limit, &mut text, err);
+    text.flush();
+    text.finish()?;
+    let stop = ended?;
     Ok(stop)
 }
 
@@ -77,7 +123,7 @@ fn advance_writing<O: Writer, E: Writer>(
 ///
 /// # Errors
 ///
-/// Returns `Err` if writing to `out` fails, or an allocation: a beginning of the text is then written.
+/// Returns `Err` if writing to `out` fails, or an allocation: a prefix of the text is then written.
 pub fn run_to_end<'s, O: Writer, E: Writer>(
     alloc: Global,
     session: &'s Session,
@@ -97,6 +143,6 @@ pub fn run_to_end<'s, O: Writer, E: Writer>(
     ensures err { E.output err.new ≡ E.output err.old }
 {
     let mut run = Run::start(alloc, session, noting)?;
-    let stop = advance_writing(&mut run, session.limit(), out, err)?;
+    let stop = write_console(&mut run, session.limit(), out, err)?;
     Ok(run.ended(stop))
 }

@@ -1,17 +1,16 @@
-// The lines of the changed files, written in pieces.
+// The lines of the changed files.
 
 ghost use Rattle.std.specs.Prelude.{◌≡◌, ◌++◌, [], length, unwrap_or};
 ghost use Rattle.filenames.specs.Names.{display_text};
 ghost use Rattle.hostfiles.specs.Files.{files};
 ghost use Rattle.hostfiles.specs.FileView.{view_contents};
 ghost use Rattle.report_lines.specs.ChangedLines.{records_text, changed_line, gone_line, line_of_file, lines_of_files};
-ghost use Rattle.streams.specs.Streams.{WritesText};
+ghost use Rattle.streams.specs.Pushing.{more};
 
-use crate::hex_writer::write_hex;
-use arrayvec::ArrayVec;
+use crate::hex_digits::push_hex;
 use filenames::Pieces;
 use hostfiles::{ChangedFile, FileView, HostFiles, Journal, Name, next_changed};
-use streams::{Failed, Writer, write_all};
+use streams::Text;
 
 /// Which changed files are reported.
 #[derive(Clone, Copy, Debug, PartialEq, Eq)]
@@ -22,78 +21,65 @@ pub enum FileFilter {
     GoneOnly,
 }
 
-/// Writes the lines of the changed files that pass the filter, in the order of their names: `file NAME HEX` with all records of a file
-/// that is there, `gone NAME` for one that is gone. If the writer fails, a prefix of them is written.
-pub fn write_changed_files<W: Writer>(
-    writer: &mut W,
+/// Appends the lines of the changed files that pass the filter, in the order of their names: `file NAME HEX` with all records of a file
+/// that is there, `gone NAME` for one that is gone.
+pub fn push_changed_files<X: Text>(
+    text: &mut X,
     filter: FileFilter,
     host: &HostFiles,
     journal: &Journal,
-) -> Result<(), Failed>
-    ensures { WritesText (W.output writer.old) (W.output writer.new)
-        (lines_of_files filter host.now (files host.now journal.now.entries)) result }
+)
+    ensures { X.pushed text.new ≡ more (X.pushed text.old)
+        (lines_of_files filter host.now (files host.now journal.now.entries)) }
 {
     let mut after: Option<Name> = None;
     while let Some(changed) = next_changed(host, journal, after.as_ref()) {
-        write_filtered(writer, filter, &changed)?;
+        push_filtered(text, filter, &changed);
         after = Some(changed.name);
     }
-    Ok(())
 }
 
-// Writes the line of a changed file if it passes the filter.
-fn write_filtered<W: Writer>(
-    writer: &mut W,
-    filter: FileFilter,
-    changed: &ChangedFile<'_>,
-) -> Result<(), Failed>
-    ensures { WritesText (W.output writer.old) (W.output writer.new)
-        (line_of_file filter changed.now.name (view_contents changed.now.file)) result }
+// Appends the line of a changed file if it passes the filter.
+fn push_filtered<X: Text>(text: &mut X, filter: FileFilter, changed: &ChangedFile<'_>)
+    ensures { X.pushed text.new ≡ more (X.pushed text.old)
+        (line_of_file filter changed.now.name (view_contents changed.now.file)) }
 {
     match filter {
-        FileFilter::All => write_changed(writer, changed),
-        FileFilter::GoneOnly => write_gone(writer, changed),
+        FileFilter::All => push_changed(text, changed),
+        FileFilter::GoneOnly => push_gone(text, changed),
     }
 }
 
-// Writes the line of a file that is gone, and nothing for a file that is there.
-fn write_gone<W: Writer>(writer: &mut W, changed: &ChangedFile<'_>) -> Result<(), Failed>
-    ensures { WritesText (W.output writer.old) (W.output writer.new)
-        (gone_line changed.now.name (view_contents changed.now.file)) result }
+// Appends the line of a file that is gone, and nothing for a file that is there.
+fn push_gone<X: Text>(text: &mut X, changed: &ChangedFile<'_>)
+    ensures { X.pushed text.new ≡ more (X.pushed text.old)
+        (gone_line changed.now.name (view_contents changed.now.file)) }
 {
     if changed.file.records().is_some() {
-        return Ok(());
+        return;
     }
-    write_changed(writer, changed)
+    push_changed(text, changed)
 }
 
-// Writes the line of a changed file.
-fn write_changed<W: Writer>(writer: &mut W, changed: &ChangedFile<'_>) -> Result<(), Failed>
-    ensures { WritesText (W.output writer.old) (W.output writer.new)
-        (changed_line changed.now.name (view_contents changed.now.file)) result }
+// Appends the line of a changed file.
+fn push_changed<X: Text>(text: &mut X, changed: &ChangedFile<'_>)
+    ensures { X.pushed text.new ≡ more (X.pushed text.old)
+        (changed_line changed.now.name (view_contents changed.now.file)) }
 {
     let Some(count) = changed.file.records() else {
-        write_head(writer, b"gone ", &changed.name)?;
-        return write_all(writer, b"\n");
+        push_named(text, b"gone ", &changed.name);
+        text.push(b"\n");
+        return;
     };
-    write_head(writer, b"file ", &changed.name)?;
-    write_all(writer, b" ")?;
-    write_records(writer, &changed.file, count)?;
-    write_all(writer, b"\n")
+    push_named(text, b"file ", &changed.name);
+    text.push(b" ");
+    push_records(text, &changed.file, count);
+    text.push(b"\n")
 }
 
-/// Writes a word with its blank, and then a name. If the writer fails, a prefix of this is written.
-pub fn write_head<W: Writer>(writer: &mut W, word: &[u8], name: &Name) -> Result<(), Failed>
-    ensures { WritesText (W.output writer.old) (W.output writer.new)
-        (word.now ++ display_text name.now) result }
-{
-    write_all(writer, word)?;
-    write_name(writer, name)
-}
-
-// Writes a name in its printed form.
-fn write_name<W: Writer>(writer: &mut W, name: &Name) -> Result<(), Failed>
-    ensures { WritesText (W.output writer.old) (W.output writer.new) (display_text name.now) result }
+/// Appends a word with its blank, and then a name in its printed form.
+pub fn push_named<X: Text>(text: &mut X, word: &[u8], name: &Name)
+    ensures { X.pushed text.new ≡ more (X.pushed text.old) (word.now ++ display_text name.now) }
 {
     let Pieces {
         drive,
@@ -101,33 +87,27 @@ fn write_name<W: Writer>(writer: &mut W, name: &Name) -> Result<(), Failed>
         dot,
         kind,
     } = name.pieces();
-    write_all(writer, drive.as_bytes())?;
-    write_all(writer, name.as_bytes())?;
-    write_all(writer, dot.as_bytes())?;
-    write_all(writer, kind.as_bytes())
+    text.push(word);
+    text.push(drive.as_bytes());
+    text.push(name.as_bytes());
+    text.push(dot.as_bytes());
+    text.push(kind.as_bytes())
 }
 
-// Writes all records of a file, with zeros in its holes, or `-` if it has none.
-fn write_records<W: Writer>(writer: &mut W, file: &FileView<'_>, count: u32) -> Result<(), Failed>
+// Appends all records of a file, with zeros in its holes, or `-` if it has none.
+fn push_records<X: Text>(text: &mut X, file: &FileView<'_>, count: u32)
     requires { count ≡ length (unwrap_or (view_contents file.now) []) }
-    ensures { WritesText (W.output writer.old) (W.output writer.new)
-        (records_text (unwrap_or (view_contents file.now) [])) result }
+    ensures { X.pushed text.new ≡ more (X.pushed text.old)
+        (records_text (unwrap_or (view_contents file.now) [])) }
 {
     if count == 0 {
-        return write_all(writer, b"-");
+        text.push(b"-");
+        return;
     }
-    let mut block = ArrayVec::<u8, 2048>::new();
     for number in 0..count {
         let Some(record) = file.contents_record(number).copied() else {
             unreachable!();
         };
-        if block.remaining_capacity() < record.len() {
-            write_hex(writer, block.as_slice())?;
-            block.clear();
-        }
-        if block.try_extend_from_slice(record.as_slice()).is_err() {
-            unreachable!();
-        }
+        push_hex(text, record.as_slice());
     }
-    write_hex(writer, block.as_slice())
 }

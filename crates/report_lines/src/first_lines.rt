@@ -5,13 +5,13 @@ ghost use Rattle.arrayvec.specs.ArrayString.{array_string_len};
 ghost use Rattle.hex.specs.Hex.{upper_digits};
 ghost use Rattle.report_lines.specs.FirstLines as texts;
 ghost use Rattle.report_lines.specs.FirstLines.{byte_text, word_text, regs_text, text_line};
-ghost use Rattle.streams.specs.Streams.{WritesText};
+ghost use Rattle.streams.specs.Pushing.{more};
 
-use crate::hex_writer::write_hex;
+use crate::hex_digits::push_hex;
 use arrayvec::ArrayString;
 use itoa::Buffer;
 use machine::{Cause, Regs};
-use streams::{Failed, Writer, write_all};
+use streams::Text;
 
 /// Returns a digit in upper case.
 fn digit(value: u8) -> char
@@ -137,15 +137,15 @@ pub fn report_head(cause: Cause, steps: u64, regs: Regs) -> ArrayString<256>
     text
 }
 
-/// Writes the line of a report with the console text: two lower-case digits for each byte, or `-` for none. If the writer fails, a prefix
-/// of the line is written.
-pub fn write_text<W: Writer>(writer: &mut W, text: &[u8]) -> Result<(), Failed>
-    ensures { WritesText (W.output writer.old) (W.output writer.new) (text_line text.now) result }
+/// Appends the line of the console text: two lower-case hexadecimal digits for each byte, or `-` for no byte.
+pub fn push_text<X: Text>(text: &mut X, console: &[u8])
+    ensures { X.pushed text.new ≡ more (X.pushed text.old) (text_line console.now) }
 {
-    write_all(writer, b"text ")?;
-    if text.is_empty() {
-        return write_all(writer, b"-\n");
+    text.push(b"text ");
+    if console.is_empty() {
+        text.push(b"-\n");
+        return;
     }
-    write_hex(writer, text)?;
-    write_all(writer, b"\n")
+    push_hex(text, console);
+    text.push(b"\n")
 }

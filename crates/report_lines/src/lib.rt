@@ -1,14 +1,13 @@
-//! The lines of a report, written in pieces to any writer. No memory is allocated.
+//! The lines of a report, appended to a text. No memory is allocated.
 //!
 //! - `first_lines`: the lines of the stop, the steps and the registers, and the line of the console text
-//! - `changed_lines`, `hex_writer`: the lines of the changed files; bytes written as hexadecimal digits
+//! - `changed_lines`, `hex_digits`: the lines of the changed files; bytes as hexadecimal digits
 #![tactic(auto)]
 
 mod changed_lines;
 mod first_lines;
-mod hex_writer;
+mod hex_digits;
 
-pub use changed_lines::{FileFilter, write_changed_files, write_head};
-pub use first_lines::{push_byte, push_regs, push_word, report_head, stop_line, write_text};
-pub use hex_writer::write_hex;
-pub use streams::{Failed, Over, Reader, Writer, write_all};
+pub use changed_lines::{FileFilter, push_changed_files, push_named};
+pub use first_lines::{push_byte, push_regs, push_text, push_word, report_head, stop_line};
+pub use hex_digits::push_hex;

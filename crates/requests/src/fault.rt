@@ -7,8 +7,8 @@ use folders::Failure;
 use loading::LoadFault;
 use make_rules::RuleFault;
 use one_run::RunFault;
-use report_lines::{Writer, write_all};
 use std::alloc::{AllocError, Global};
+use streams::{Writer, write_all};
 
 /// The error with which a program ends, if its status is 1, 2 or 12.
 #[derive(Drop)]

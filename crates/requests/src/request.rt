@@ -6,8 +6,8 @@ ghost use Rattle.requests.specs.Requests.{FailsToParse, IsRequestOf, WritesSomeT
 use crate::fault::Fault;
 use crate::tool::Tool;
 use command_words::{Clash, ErrorClass};
-use report_lines::{Writer, write_all};
 use std::alloc::{AllocError, Global};
+use streams::{Writer, write_all};
 
 /// The request in words that are no usage error.
 #[derive(Drop)]

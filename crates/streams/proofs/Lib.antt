@@ -1,3 +1,3 @@
-pub mod Walks
-mod Parts
 pub mod WrittenPieces
+mod Texts
+pub mod Pushes

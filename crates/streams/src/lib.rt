@@ -1,6 +1,7 @@
 //! Readers and writers whose failures contracts see.
 //!
 //! - `streams`: `Reader` and `Writer`, whose failures are counted
+//! - `text`: `Text`, which grows by what is pushed onto it and remembers a failure, and `TextOver`, a text that is written to a writer
 //! - `terminal`: `Terminal`, standard error, which shows the steps of a long run if it is a terminal
 //! - `trail`: `Trail`, a list of paths without memory, for the paths at which files failed and for counts of failures
 //!
@@ -11,8 +12,11 @@
 
 mod streams;
 mod terminal;
+mod text;
 mod trail;
 
-pub use streams::{Failed, Over, Reader, Writer, write_all};
+pub use boxcar::tag::Names;
+pub use streams::{Failed, Over, Reader, Writer};
 pub use terminal::Terminal;
+pub use text::{Text, TextOver, write_all};
 pub use trail::Trail;

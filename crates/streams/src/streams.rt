@@ -1,6 +1,7 @@
 ghost use Rattle.std.specs.Prelude.{◌≡◌, ◌+◌, ◌<◌, ◌≤◌, length, IfOk, OnOk, OnErr};
 ghost use Rattle.std.specs.Io.KnownBytes.{ReadConsumes, WriteAppends};
-ghost use Rattle.streams.specs.Streams.{Input, Output, WritesText};
+ghost use Rattle.streams.specs.Streams.{Input, Output};
+ghost use Rattle.streams.specs.Trails.{paths};
 
 use crate::trail::Trail;
 use std::io;
@@ -66,7 +67,7 @@ pub struct Over<T> {
 impl<T> Over<T> {
     /// Wraps a reader or writer that has not failed yet.
     pub fn new(inner: T) -> Over<T>
-        ensures none { length result.failures.paths ≡ 0 }
+        ensures none { length (paths result.failures) ≡ 0 }
         ensures same { result.inner ≡ inner }
     {
         Over {
@@ -85,7 +86,7 @@ impl<T> Over<T> {
 }
 
 impl<T: io::Read> Reader for Over<T> {
-    ghost input = { λ o. record { left = T.remaining o.inner; failures = length o.failures.paths } };
+    ghost input = { λ o. record { left = T.remaining o.inner; failures = length (paths o.failures) } };
 
     fn read(&mut self, piece: &mut [u8]) -> Result<usize, Failed> {
         match self.inner.read(piece) {
@@ -99,7 +100,7 @@ impl<T: io::Read> Reader for Over<T> {
 }
 
 impl<T: io::Write> Writer for Over<T> {
-    ghost output = { λ o. record { holds = T.contents o.inner; failures = length o.failures.paths } };
+    ghost output = { λ o. record { holds = T.contents o.inner; failures = length (paths o.failures) } };
 
     fn write(&mut self, piece: &[u8]) -> Result<usize, Failed> {
         match self.inner.write(piece) {
@@ -110,20 +111,4 @@ impl<T: io::Write> Writer for Over<T> {
             }
         }
     }
-}
-
-/// Writes a text.
-///
-/// # Errors
-///
-/// The writer failed: a prefix of the text was written. A failed write is not tried again.
-pub fn write_all<W: Writer>(writer: &mut W, text: &[u8]) -> Result<(), Failed>
-    ensures { WritesText (W.output writer.old) (W.output writer.new) text.now result }
-{
-    let mut rest = text;
-    while !rest.is_empty() {
-        let n = writer.write(rest)?;
-        rest = &rest[n..];
-    }
-    Ok(())
 }

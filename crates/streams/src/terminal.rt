@@ -52,10 +52,11 @@ fn is_terminal<R: Alloc + Env + Files>(rt: &R) -> bool {
 
 impl<R: Alloc + Clock + Env + Files, W: Write> Writer for Terminal<'_, R, W> {
     ghost use Rattle.std.specs.Prelude.{None, if◌then◌else◌, length};
+    ghost use Rattle.streams.specs.Trails.{paths};
 
     ghost output = { λ t. record {
       holds = if t.is_terminal then None else W.contents t.over.inner;
-      failures = length t.over.failures.paths;
+      failures = length (paths t.over.failures);
     } };
 
     fn write(&mut self, piece: &[u8]) -> Result<usize, Failed> {

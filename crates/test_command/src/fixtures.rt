@@ -1,6 +1,7 @@
 // Acts in the folder of a test, and the results of the command for words there.
 
 ghost use Rattle.std.specs.Prelude.{None, length};
+ghost use Rattle.streams.specs.Trails.{paths};
 
 use cpmrun::{Failed, Over, SystemFiles, Writer, command, metered_command};
 use machine::Meter;
@@ -53,7 +54,7 @@ struct Screen {
 }
 
 impl Writer for Screen {
-    ghost output = { λ s. record { holds = None; failures = length s.failures.paths } };
+    ghost output = { λ s. record { holds = None; failures = length (paths s.failures) } };
 
     fn write(&mut self, piece: &[u8]) -> Result<usize, Failed> {
         let count = piece.len().min(self.room);

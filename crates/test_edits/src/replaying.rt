@@ -1,6 +1,7 @@
 // Replays of edit texts, with readers and writers that may fail.
 
 ghost use Rattle.std.specs.Prelude.{None, vec_len, ◌≤◌, length};
+ghost use Rattle.streams.specs.Trails.{paths};
 
 use edit_lines::{Failed, Reader, ReplayFault, Writer, replay};
 use machine::Meter;
@@ -35,7 +36,7 @@ struct Pieces<'a> {
 }
 
 impl Reader for Pieces<'_> {
-    ghost input = { λ p. record { left = None; failures = length p.failures.paths } };
+    ghost input = { λ p. record { left = None; failures = length (paths p.failures) } };
 
     fn read(&mut self, piece: &mut [u8]) -> Result<usize, Failed> {
         if self.rest.is_empty() && self.fails {
@@ -59,7 +60,7 @@ struct Screen {
 }
 
 impl Writer for Screen {
-    ghost output = { λ s. record { holds = None; failures = length s.failures.paths } };
+    ghost output = { λ s. record { holds = None; failures = length (paths s.failures) } };
 
     fn write(&mut self, piece: &[u8]) -> Result<usize, Failed> {
         let count = piece.len().min(self.room);

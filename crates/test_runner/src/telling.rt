@@ -2,10 +2,9 @@
 
 use crate::trouble::Trouble;
 use replay::Report;
-use report_lines::{
-    FileFilter, Over, report_head, write_all, write_changed_files, write_hex, write_text,
-};
+use report_lines::{FileFilter, push_changed_files, push_hex, push_text, report_head};
 use std::io;
+use streams::{Over, Text, TextOver};
 
 /// Prints a line.
 pub fn write_line(rt: &impl Print, text: &str) -> Result<(), Trouble> {
@@ -20,7 +19,11 @@ pub fn write_bytes(rt: &impl Print, word: &str, bytes: &[u8]) -> Result<(), Trou
         return Ok(());
     }
     print!(rt; "{word} ")?;
-    let Ok(()) = write_hex(&mut Over::new(io::writer(rt)), bytes) else {
+    let mut out = Over::new(io::writer(rt));
+    let mut text = TextOver::new(&mut out);
+    push_hex(&mut text, bytes);
+    text.flush();
+    let Ok(()) = text.finish() else {
         return Err(Trouble::Device);
     };
     println!(rt)?;
@@ -31,13 +34,17 @@ pub fn write_bytes(rt: &impl Print, word: &str, bytes: &[u8]) -> Result<(), Trou
 pub fn write_report(rt: &impl Print, report: &Report<'_>) -> Result<(), Trouble> {
     let head = report_head(report.cause(), report.steps(), report.regs());
     let mut out = Over::new(io::writer(rt));
-    let Ok(()) = write_all(&mut out, head.as_bytes()) else {
-        return Err(Trouble::Device);
-    };
-    let Ok(()) = write_text(&mut out, report.text()) else {
-        return Err(Trouble::Device);
-    };
-    match write_changed_files(&mut out, FileFilter::All, report.files(), report.journal()) {
+    let mut text = TextOver::new(&mut out);
+    text.push(head.as_bytes());
+    push_text(&mut text, report.text());
+    push_changed_files(
+        &mut text,
+        FileFilter::All,
+        report.files(),
+        report.journal(),
+    );
+    text.flush();
+    match text.finish() {
         Ok(()) => Ok(()),
         Err(_) => Err(Trouble::Device),
     }

@@ -15,9 +15,9 @@ use command_words::TraceWords;
 use folders::FileSystem;
 use loading::load;
 use machine::Session;
-use report_lines::Writer;
 use requests::{Fault, Request, Tool, print_information, report_fault};
 use std::alloc::Global;
+use streams::Writer;
 use tracing::{Choice, TraceFault, write_trace};
 
 /// Returns the choice of steps that the words describe.

@@ -18,10 +18,6 @@ pub read_all : (byte : ℕ → ℕ) (xs : List ℕ) (i n at to : ℕ) → i ≡ 
     → take i xs ≡ map (λ k. byte (onward at k)) (range_with_len 0 i) → xs ≡ map (λ k. byte (onward to k)) (range_with_len 0 n)
 read_all byte xs i n at to all few same read = sym (take_all i xs few) ∙ read ∙ (λ j. map (λ k. byte (onward (same j) k)) (range_with_len 0 (all j)))
 
--- A text with parts after it.
-pub two_more : (a b c d : List ℕ) → ((a ++ b) ++ c) ++ d ≡ a ++ ((b ++ c) ++ d)
-two_more a b c d = ap (λ (t : List ℕ). t ++ d) (append_assoc a b c) ∙ append_assoc a (b ++ c) d
-
 -- What is shown if there is a control block.
 pub with_block : (a : Argument) (w : PlainState) → (a ≡ File) ⊎ ((a ≡ Renaming) ⊎ ((a ≡ NextRecord) ⊎ (a ≡ ChosenRecord))) → argument_text a w ≡ codes " " ++ file_text w 1 ++ block_text a w
 with_block a w (inl e) = rw e refl

@@ -1,9 +1,10 @@
 // The lines of calls.
 
-ghost use Rattle.std.specs.Prelude.{◌≡◌, ◌≤◌, ◌+◌, ◌++◌, OnOk, codes, drop, take};
+ghost use Rattle.std.specs.Prelude.{◌≡◌, ◌≤◌, ◌+◌, ◌++◌, codes, drop, take};
 ghost use Rattle.std.specs.List.{before_first};
 ghost use Rattle.filenames.specs.Names.{is_blank, type_text};
 ghost use Rattle.machine.specs.Runs.{state_of};
+ghost use Rattle.streams.specs.Pushing.{more};
 ghost use Rattle.trace_lines.specs.CallForms.{argument_of, returned_of};
 ghost use Rattle.trace_lines.specs.CallLines.{argument_text, block_in, block_text, call_start, count_text, drive_part, escaped, file_text, name_text, printed_text, record_text, returned_text, whole_place_of};
 
@@ -14,7 +15,7 @@ use filenames::{Drive, Fcb, find_byte};
 use i8080::word_of;
 use itoa::Buffer;
 use machine::{Regs, Run};
-use std::alloc::AllocError;
+use streams::Text;
 
 /// Returns the control block at DE.
 pub fn block_at(run: &Run<'_>) -> Fcb
@@ -52,43 +53,43 @@ fn trimmed(block: &[u8; 36], at: usize, count: usize) -> &[u8]
 }
 
 // Appends a type with a dot before it, if it is not empty.
-fn push_type(text: &mut Vec<u8>, kind: &[u8]) -> Result<(), AllocError>
-    ensures { OnOk result (text.new.items ≡ text.old.items ++ escaped (type_text kind.now)) }
+fn push_type<X: Text>(text: &mut X, kind: &[u8])
+    ensures { X.pushed text.new ≡ more (X.pushed text.old) (escaped (type_text kind.now)) }
 {
     if kind.is_empty() {
-        return Ok(());
+        return;
     }
-    text.push(b'.')?;
+    text.push(b".");
     push_escaped(text, kind)
 }
 
 // Appends the name of a file in a control block, from an index on.
-fn push_name(
-    text: &mut Vec<u8>,
+fn push_name<X: Text>(
+    text: &mut X,
     current: Drive,
     block: &[u8; 36],
     at: usize,
-) -> Result<(), AllocError>
+)
     requires { at ≤ 17 }
-    ensures { OnOk result (text.new.items ≡ text.old.items ++ name_text current block.now at) }
+    ensures { X.pushed text.new ≡ more (X.pushed text.old) (name_text current block.now at) }
 {
-    text.extend_from_slice(drive_part(drive_of_byte(current, block[0])).as_bytes())?;
-    push_escaped(text, trimmed(block, at, 8))?;
+    text.push(drive_part(drive_of_byte(current, block[0])).as_bytes());
+    push_escaped(text, trimmed(block, at, 8));
     push_type(text, trimmed(block, at + 8, 3))
 }
 
 // Appends a record number, and the buffer that gets the record or has it.
-fn push_record(text: &mut Vec<u8>, run: &Run<'_>, number: u32) -> Result<(), AllocError>
-    ensures { OnOk result (text.new.items ≡ text.old.items ++ record_text (state_of run.now) number) }
+fn push_record<X: Text>(text: &mut X, run: &Run<'_>, number: u32)
+    ensures { X.pushed text.new ≡ more (X.pushed text.old) (record_text (state_of run.now) number) }
 {
-    text.extend_from_slice(b" record ")?;
-    text.extend_from_slice(Buffer::new().format(number).as_bytes())?;
-    text.extend_from_slice(if is_read(run.regs().c) {
+    text.push(b" record ");
+    text.push(Buffer::new().format(number).as_bytes());
+    text.push(if is_read(run.regs().c) {
         b" to "
     } else {
         b" from "
-    })?;
-    text.extend_from_slice(&word_digits(run.buffer()))
+    });
+    text.push(&word_digits(run.buffer()))
 }
 
 // Returns the random record number, with its overflow byte.
@@ -99,62 +100,62 @@ fn whole_place(block: &Fcb) -> u32
 }
 
 // Appends the name of a file in the control block at DE, from an index on.
-fn push_file(text: &mut Vec<u8>, run: &Run<'_>, block: &Fcb, at: usize) -> Result<(), AllocError>
+fn push_file<X: Text>(text: &mut X, run: &Run<'_>, block: &Fcb, at: usize)
     requires index { at ≤ 17 }
     requires block { block.now ≡ block_in (state_of run.now) }
-    ensures { OnOk result (text.new.items ≡ text.old.items ++ file_text (state_of run.now) at) }
+    ensures { X.pushed text.new ≡ more (X.pushed text.old) (file_text (state_of run.now) at) }
 {
     push_name(text, run.drive(), &block.to_bytes(), at)
 }
 
 // Appends what the line shows of the control block at DE after its file.
-fn push_rest(
-    text: &mut Vec<u8>,
+fn push_rest<X: Text>(
+    text: &mut X,
     run: &Run<'_>,
     block: &Fcb,
     argument: Argument,
-) -> Result<(), AllocError>
+)
     requires { block.now ≡ block_in (state_of run.now) }
-    ensures { OnOk result (text.new.items ≡ text.old.items ++ block_text argument (state_of run.now)) }
+    ensures { X.pushed text.new ≡ more (X.pushed text.old) (block_text argument (state_of run.now)) }
 {
     match argument {
         Argument::Renaming => {
-            text.extend_from_slice(b" to ")?;
+            text.push(b" to ");
             push_file(text, run, block, 17)
         }
         Argument::NextRecord => push_record(text, run, block.place()),
         Argument::ChosenRecord => push_record(text, run, whole_place(block)),
-        Argument::Nothing | Argument::Byte | Argument::Word | Argument::File => Ok(()),
+        Argument::Nothing | Argument::Byte | Argument::Word | Argument::File => (),
     }
 }
 
 // Appends what the line shows of the control block at DE.
-fn push_block(text: &mut Vec<u8>, run: &Run<'_>, argument: Argument) -> Result<(), AllocError>
-    ensures { let w = state_of run.now in OnOk result (text.new.items
-        ≡ text.old.items ++ codes " " ++ file_text w 1 ++ block_text argument w) }
+fn push_block<X: Text>(text: &mut X, run: &Run<'_>, argument: Argument)
+    ensures { let w = state_of run.now in X.pushed text.new
+        ≡ more (X.pushed text.old) (codes " " ++ file_text w 1 ++ block_text argument w) }
 {
     let block = block_at(run);
-    text.push(b' ')?;
-    push_file(text, run, &block, 1)?;
+    text.push(b" ");
+    push_file(text, run, &block, 1);
     push_rest(text, run, &block, argument)
 }
 
 // Appends what the line shows of what a call is given.
-fn push_argument(text: &mut Vec<u8>, run: &Run<'_>) -> Result<(), AllocError>
-    ensures { let w = state_of run.now in OnOk result (text.new.items
-        ≡ text.old.items ++ argument_text (argument_of w.core.regs.c) w) }
+fn push_argument<X: Text>(text: &mut X, run: &Run<'_>)
+    ensures { let w = state_of run.now in X.pushed text.new
+        ≡ more (X.pushed text.old) (argument_text (argument_of w.core.regs.c) w) }
 {
     let regs = run.regs();
     let argument = argument_of(regs.c);
     match argument {
-        Argument::Nothing => Ok(()),
+        Argument::Nothing => (),
         Argument::Byte => {
-            text.push(b' ')?;
-            text.extend_from_slice(&byte_digits(regs.e))
+            text.push(b" ");
+            text.push(&byte_digits(regs.e))
         }
         Argument::Word => {
-            text.push(b' ')?;
-            text.extend_from_slice(&word_digits(word_of(regs.e, regs.d)))
+            text.push(b" ");
+            text.push(&word_digits(word_of(regs.e, regs.d)))
         }
         Argument::File | Argument::Renaming | Argument::NextRecord | Argument::ChosenRecord => {
             push_block(text, run, argument)
@@ -164,36 +165,33 @@ fn push_argument(text: &mut Vec<u8>, run: &Run<'_>) -> Result<(), AllocError>
 
 /// Appends what the line of a call shows before the call is executed.
 ///
-/// # Errors
-///
-/// `Err` means out of memory. A prefix may then be appended.
-pub fn push_call_start(text: &mut Vec<u8>, run: &Run<'_>) -> Result<(), AllocError>
-    ensures { OnOk result (text.new.items
-        ≡ text.old.items ++ call_start run.now.step (state_of run.now)) }
+pub fn push_call_start<X: Text>(text: &mut X, run: &Run<'_>)
+    ensures { X.pushed text.new
+        ≡ more (X.pushed text.old) (call_start run.now.step (state_of run.now)) }
 {
     let number = run.regs().c;
-    text.extend_from_slice(b"step ")?;
-    text.extend_from_slice(Buffer::new().format(run.step()).as_bytes())?;
-    text.extend_from_slice(b" call ")?;
-    text.extend_from_slice(Buffer::new().format(number).as_bytes())?;
-    text.push(b' ')?;
-    text.extend_from_slice(call_name(number).as_bytes())?;
+    text.push(b"step ");
+    text.push(Buffer::new().format(run.step()).as_bytes());
+    text.push(b" call ");
+    text.push(Buffer::new().format(number).as_bytes());
+    text.push(b" ");
+    text.push(call_name(number).as_bytes());
     push_argument(text, run)
 }
 
 // Appends what the line shows of what a call returned.
-fn push_returned(text: &mut Vec<u8>, number: u8, regs: Regs) -> Result<(), AllocError>
-    ensures { OnOk result (text.new.items ≡ text.old.items ++ returned_text (returned_of number) regs) }
+fn push_returned<X: Text>(text: &mut X, number: u8, regs: Regs)
+    ensures { X.pushed text.new ≡ more (X.pushed text.old) (returned_text (returned_of number) regs) }
 {
     match returned_of(number) {
-        Returned::Nothing => Ok(()),
+        Returned::Nothing => (),
         Returned::Byte => {
-            text.extend_from_slice(b" = ")?;
-            text.extend_from_slice(&byte_digits(regs.a))
+            text.push(b" = ");
+            text.push(&byte_digits(regs.a))
         }
         Returned::Word => {
-            text.extend_from_slice(b" = ")?;
-            text.extend_from_slice(&word_digits(word_of(regs.l, regs.h)))
+            text.push(b" = ");
+            text.push(&word_digits(word_of(regs.l, regs.h)))
         }
     }
 }
@@ -206,44 +204,41 @@ fn first_bytes(bytes: &[u8]) -> &[u8]
 }
 
 // Appends how many bytes a call sent, if they are not all shown.
-fn push_count(text: &mut Vec<u8>, count: usize) -> Result<(), AllocError>
-    ensures { OnOk result (text.new.items ≡ text.old.items ++ count_text count) }
+fn push_count<X: Text>(text: &mut X, count: usize)
+    ensures { X.pushed text.new ≡ more (X.pushed text.old) (count_text count) }
 {
     if count <= 64 {
-        return Ok(());
+        return;
     }
-    text.extend_from_slice(b" of ")?;
-    text.extend_from_slice(Buffer::new().format(count).as_bytes())?;
-    text.extend_from_slice(b" bytes")
+    text.push(b" of ");
+    text.push(Buffer::new().format(count).as_bytes());
+    text.push(b" bytes")
 }
 
 // Appends what the line shows of the bytes that a call sent.
-fn push_printed(text: &mut Vec<u8>, bytes: &[u8]) -> Result<(), AllocError>
-    ensures { OnOk result (text.new.items ≡ text.old.items ++ printed_text bytes.now) }
+fn push_printed<X: Text>(text: &mut X, bytes: &[u8])
+    ensures { X.pushed text.new ≡ more (X.pushed text.old) (printed_text bytes.now) }
 {
     if bytes.is_empty() {
-        return Ok(());
+        return;
     }
-    text.extend_from_slice(b" \"")?;
-    push_escaped(text, first_bytes(bytes))?;
-    text.push(b'"')?;
+    text.push(b" \"");
+    push_escaped(text, first_bytes(bytes));
+    text.push(b"\"");
     push_count(text, bytes.len())
 }
 
 /// Appends what the line of a call shows after the call was executed: what it returned, from the registers, and the bytes that it sent.
 ///
-/// # Errors
-///
-/// `Err` means out of memory. A prefix may then be appended.
-pub fn push_call_end(
-    text: &mut Vec<u8>,
+pub fn push_call_end<X: Text>(
+    text: &mut X,
     number: u8,
     regs: Regs,
     sent: &[u8],
-) -> Result<(), AllocError>
-    ensures { OnOk result (text.new.items
-        ≡ text.old.items ++ returned_text (returned_of number) regs ++ printed_text sent.now) }
+)
+    ensures { X.pushed text.new
+        ≡ more (X.pushed text.old) (returned_text (returned_of number) regs ++ printed_text sent.now) }
 {
-    push_returned(text, number, regs)?;
+    push_returned(text, number, regs);
     push_printed(text, sent)
 }

@@ -1,11 +1,12 @@
 // Texts with escapes, and digits.
 
-ghost use Rattle.std.specs.Prelude.{◌≡◌, ◌<◌, ◌++◌, OnOk, slice_index};
+ghost use Rattle.std.specs.Prelude.{◌≡◌, ◌<◌, ◌++◌, slice_index};
 ghost use Rattle.hex.specs.Hex.{upper_digits};
 ghost use Rattle.report_lines.specs.FirstLines.{byte_text, word_text};
+ghost use Rattle.streams.specs.Pushing.{more};
 ghost use Rattle.trace_lines.specs.CallLines.{escaped, escaped_byte};
 
-use std::alloc::AllocError;
+use streams::Text;
 
 // Returns a digit in upper case.
 fn digit(value: u8) -> u8
@@ -34,32 +35,27 @@ pub fn word_digits(value: u16) -> [u8; 4]
 }
 
 // Appends a byte with its escape.
-fn push_escaped_byte(text: &mut Vec<u8>, byte: u8) -> Result<(), AllocError>
-    ensures { OnOk result (text.new.items ≡ text.old.items ++ escaped_byte byte) }
+fn push_escaped_byte<X: Text>(text: &mut X, byte: u8)
+    ensures { X.pushed text.new ≡ more (X.pushed text.old) (escaped_byte byte) }
 {
     match byte {
-        b'"' | b'\\' => text.extend_from_slice(&[b'\\', byte]),
-        b'\r' => text.extend_from_slice(b"\\r"),
-        b'\n' => text.extend_from_slice(b"\\n"),
-        b'\t' => text.extend_from_slice(b"\\t"),
-        0x20..=0x7e => text.extend_from_slice(&[byte]),
+        b'"' | b'\\' => text.push(&[b'\\', byte]),
+        b'\r' => text.push(b"\\r"),
+        b'\n' => text.push(b"\\n"),
+        b'\t' => text.push(b"\\t"),
+        0x20..=0x7e => text.push(&[byte]),
         _ => {
             let [high, low] = byte_digits(byte);
-            text.extend_from_slice(&[b'\\', b'x', high, low])
+            text.push(&[b'\\', b'x', high, low])
         }
     }
 }
 
 /// Appends a text with escapes.
-///
-/// # Errors
-///
-/// `Err` means out of memory.
-pub fn push_escaped(text: &mut Vec<u8>, bytes: &[u8]) -> Result<(), AllocError>
-    ensures { OnOk result (text.new.items ≡ text.old.items ++ escaped bytes.now) }
+pub fn push_escaped<X: Text>(text: &mut X, bytes: &[u8])
+    ensures { X.pushed text.new ≡ more (X.pushed text.old) (escaped bytes.now) }
 {
     for byte in bytes {
-        push_escaped_byte(text, *byte)?;
+        push_escaped_byte(text, *byte);
     }
-    Ok(())
 }

@@ -1,5 +1,5 @@
 -- The lines of a call and of an instruction, from their parts.
-use Rattle.std.proofs.Common.{◌≡◌, ℕ, ◌≤◌, List, [], ◌∷◌, ◌++◌, length, drop, refl, sym, ◌∙◌, ap, subst, arith, append-nil, flat_map, length-append, inl, inr, Option, Some, None, is_some, true}
+use Rattle.std.proofs.Common.{◌≡◌, ℕ, ◌≤◌, List, [], ◌∷◌, ◌++◌, length, drop, refl, sym, ◌∙◌, ap, subst, arith, append-nil, append_assoc, flat_map, length-append, inl, inr, Option, Some, None, is_some, true}
 use Rattle.std.proofs.lemmas.Bool.{cases_lt}
 use Rattle.std.specs.Prelude.{slice_index}
 use Rattle.interaction_trees.specs.Outcome.{Step, Stop}
@@ -11,7 +11,6 @@ use Rattle.machine.specs.PlainState.{PlainState, plain_answers, plain_outcome, p
 use Rattle.machine.specs.Step.{StepEnd, Went, Stopped, desk_with, next}
 use Rattle.machine.specs.Runs.{Leads, RunView, state_of}
 use Rattle.trials.specs.Accesses.{written_cells}
-use Rattle.trace_lines.proofs.BlockLemmas.{two_more}
 use Rattle.trace_lines.specs.CallForms.{returned_of}
 use Rattle.trace_lines.specs.CallLines.{call_end, call_line, call_start, printed_text, returned_text}
 use Rattle.trace_lines.specs.Codes.{row_text}
@@ -21,15 +20,20 @@ use Rattle.trace_lines.specs.declared.accesses.Row.{Row}
 
 module _ (s : Session) (n : ℕ) (w : PlainState) where
   -- A call that was executed, and one that stopped the run.
-  pub call_went : (w' : PlainState) (before end : List ℕ) → plain_outcome s w ≡ Step w'
+  pub call_went : (w' : PlainState) (end : List ℕ) → plain_outcome s w ≡ Step w'
       → end ≡ returned_text (returned_of w.core.regs.c) w'.core.regs ++ printed_text (drop (length w.core.desk.text) w'.core.desk.text)
-      → ((before ++ call_start n w) ++ end) ++ 10 ∷ [] ≡ before ++ call_line n w (plain_outcome s w)
+      → (call_start n w ++ end) ++ 10 ∷ [] ≡ call_line n w (plain_outcome s w)
   unfolding call_line call_end
-  call_went w' before end went e = rw (went, e) (two_more before (call_start n w) _ (10 ∷ []))
+  call_went w' end went e = rw (went, e) refl
 
-  call_stopped : (cause : Cause) (before : List ℕ) → plain_outcome s w ≡ Stop cause → (before ++ call_start n w) ++ 10 ∷ [] ≡ before ++ call_line n w (plain_outcome s w)
+  call_stopped : (cause : Cause) → plain_outcome s w ≡ Stop cause → call_start n w ++ 10 ∷ [] ≡ call_line n w (plain_outcome s w)
   unfolding call_line call_end
-  call_stopped cause before stops = rw stops (ap (λ (t : List ℕ). t ++ 10 ∷ []) (sym (append-nil (before ++ call_start n w))) ∙ two_more before (call_start n w) [] (10 ∷ []))
+  call_stopped cause stops = rw stops (ap (λ (t : List ℕ). t ++ 10 ∷ []) (sym (append-nil (call_start n w))))
+
+  -- A call that is not executed yet.
+  pub call_begun : call_start n w ++ (call_end w (plain_outcome s w) ++ 10 ∷ []) ≡ call_line n w (plain_outcome s w)
+  unfolding call_line
+  call_begun = sym (append_assoc (call_start n w) (call_end w (plain_outcome s w)) (10 ∷ []))
 
   -- An instruction that was executed, and one that stopped the run.
   pub step_went : (w' : PlainState) (start end : List ℕ) → plain_outcome s w ≡ Step w' → start ≡ step_start n w → end ≡ flat_map (change_text w w') (written_cells s w)
@@ -42,10 +46,10 @@ module _ (s : Session) (n : ℕ) (w : PlainState) where
   step_stopped cause start stops e = rw stops (ap (λ (t : List ℕ). t ++ 10 ∷ []) (e ∙ sym (append-nil (step_start n w))))
 
 -- The line of a call, and of an instruction, that stopped the run.
-pub call_ended : (old new : RunView) (stop : Option Cause) (before : List ℕ) → Leads old new stop → is_some stop ≡ true
-    → (before ++ call_start old.step (state_of old)) ++ 10 ∷ [] ≡ before ++ call_line old.step (state_of old) (plain_outcome old.session (state_of old))
-call_ended old new None before leads some = absurd (cc)
-call_ended old new (Some cause) before leads some = call_stopped old.session old.step (state_of old) cause before leads.1
+pub call_ended : (old new : RunView) (stop : Option Cause) → Leads old new stop → is_some stop ≡ true
+    → call_start old.step (state_of old) ++ 10 ∷ [] ≡ call_line old.step (state_of old) (plain_outcome old.session (state_of old))
+call_ended old new None leads some = absurd (cc)
+call_ended old new (Some cause) leads some = call_stopped old.session old.step (state_of old) cause leads.1
 
 pub step_ended : (old new : RunView) (stop : Option Cause) (start : List ℕ) → Leads old new stop → is_some stop ≡ true → start ≡ step_start old.step (state_of old)
     → start ++ 10 ∷ [] ≡ step_line old.session old.step (state_of old) (plain_outcome old.session (state_of old))

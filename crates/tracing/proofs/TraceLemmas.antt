@@ -1,5 +1,5 @@
 -- The parts of the whole trace.
-use Rattle.std.proofs.Common.{◌≡◌, ℕ, ◌-◌, ◌<◌, ◌≤◌, List, [], ◌++◌, length, drop, take, Option, Some, None, Result, Ok, Err, IfErr, IfOk, OnOk, unwrap_or, refl, sym, ◌∙◌, ap, arith, append-nil, subst}
+use Rattle.std.proofs.Common.{◌≡◌, ℕ, Bool, true, false, ◌+◌, ◌-◌, ◌<◌, ◌≤◌, List, [], ◌++◌, length, drop, take, Option, Some, None, Result, Ok, Err, IfErr, IfOk, OnOk, unwrap_or, refl, sym, ◌∙◌, ap, arith, append-nil, subst}
 use Rattle.std.specs.List.{concat}
 use Rattle.std.proofs.lemmas.List.{drop_all}
 use Rattle.interaction_trees.specs.Run.{RunResult}
@@ -12,15 +12,11 @@ use Rattle.machine.specs.PlainLaid.{plain_after}
 use Rattle.machine.specs.PlainState.{PlainState, loaded_machine, plain_outcome, plain_run}
 use Rattle.machine.specs.Runs.{RunView, StopsHere, state_of}
 use Rattle.report_lines.specs.FirstLines.{stop_line}
-use Rattle.streams.specs.Streams.{Output, WritesPart, WritesWhole}
-use Rattle.streams.proofs.WrittenPieces.{first_part, part_more, part_then, whole_then}
-use Rattle.tracing.specs.Trace.{BreaksTrace, all_lines, last_lines, lines, trace_text}
-use Rattle.tracing.specs.Walks.{IsEnd, kept_text, lines_left}
+use Rattle.streams.specs.Pushing.{Pushed, as_count, more}
+use Rattle.streams.proofs.Pushes.{more_more}
+use Rattle.tracing.specs.Trace.{all_lines, last_lines, lines, trace_text}
+use Rattle.tracing.specs.Walks.{IsEnd, Walked, kept_text, lines_left, text_after, with_lines}
 use Rattle.trace_filters.specs.declared.choice.Choice.{Choice}
-use Rattle.tracing.specs.declared.fault.TraceFault.{TraceFault}
-use Rattle.tracing.specs.declared.fault.TraceFault.TheVariants.{CannotWrite, OutOfMemory}
-use Rattle.tracing.specs.declared.lines.Lines.{Lines}
-use Rattle.tracing.proofs.Walking.{lines_short}
 
 -- ---- why a run ended
 
@@ -59,60 +55,31 @@ all_left c r s same first =
     ∙ ap (λ (w : PlainState). lines c r.session r.session.limit 0 w) (first_state r.session)
     ∙ ap (λ (x : Session). all_lines c x) same
 
--- Without the first ones.
-pub start_text : (c : Choice) (r : RunView) (l : Lines) (s : Session) (skip : ℕ) → r.session ≡ s → r.step ≡ 0 → l.chosen ≡ 0 → l.text.items ≡ [] → l.skip ≡ skip
-    → l.text.items ++ kept_text l (lines_left c r None) ≡ concat (drop skip (all_lines c s))
-start_text c r l s skip same first none empty e =
-    let count : l.skip - l.chosen ≡ skip = omega (arith, none, e) in
-    ap (λ (t : List ℕ). t ++ kept_text l (lines_left c r None)) empty
-    ∙ ap (λ (n : ℕ). concat (drop n (lines_left c r None))) count
-    ∙ ap (λ (t : List (List ℕ)). concat (drop skip t)) (all_left c r s same first)
+-- ---- how many lines there are
 
--- No line is left if more are left out than there are steps.
-pub none_kept : (c : Choice) (s : Session) (skip : ℕ) → s.limit ≤ skip → concat (drop skip (all_lines c s)) ≡ []
-none_kept c s skip high =
-    let short : length (all_lines c s) ≤ s.limit = lines_short c s s.limit 0 (loaded_machine s) in
-    ap concat (drop_all skip (all_lines c s) (omega (arith, short, high)))
-
--- ---- what was written before an error
-
-pub breaks_more : (a b : Output) (fault : TraceFault) (x y text : List ℕ) → x ++ y ≡ text → BreaksTrace x fault a b → BreaksTrace text fault a b
-breaks_more a b CannotWrite x y text e w = subst (λ (t : List ℕ). WritesPart a b t) e (part_more x y w)
-breaks_more a b OutOfMemory x y text e w =
-    let m = first_part w.0 x y in
-    (m.0, subst (λ (t : List ℕ). WritesWhole a b t) (sym (ap (take m.0) (sym e) ∙ m.1)) w.1)
-
--- Before that, nothing was written.
-pub breaks_then : (a b c : Output) (fault : TraceFault) (text : List ℕ) → WritesWhole a b [] → BreaksTrace text fault b c → BreaksTrace text fault a c
-breaks_then a b c CannotWrite text none w = part_then [] text none w
-breaks_then a b c OutOfMemory text none w = (w.0, whole_then [] (take w.0 text) none w.1)
-
--- A text that is none.
-pub wrote_none : (a b : Output) (written left text : List ℕ) → WritesWhole a b written → written ++ left ≡ text → left ≡ [] → text ≡ [] → WritesWhole a b []
-wrote_none a b written left text wrote e none empty =
-    subst (λ (t : List ℕ). WritesWhole a b t) (sym (append-nil written) ∙ ap (λ (t : List ℕ). written ++ t) (sym none) ∙ e ∙ empty) wrote
-
--- ---- the whole text
+-- A writer that never failed.
+pub none_failed : (failed : Bool) → 0 ≡ 0 + as_count failed → failed ≡ false
+none_failed true e = absurd (cc)
+none_failed false e = refl
 
 pub skip_is : {E : Type 0} (r : Result ℕ E) (last : Option ℕ) (n : ℕ) (all : List (List ℕ)) → last ≡ Some n → IfOk r (λ k. k ≡ length all - n) → IfOk r (λ k. last_lines last all ≡ drop k all)
 skip_is (Ok k) last n all is e = ap (λ (l : Option ℕ). last_lines l all) is ∙ ap (λ (i : ℕ). drop i all) (sym e)
 skip_is (Err e) last n all is h = tt
 
+-- ---- the whole text
+
+-- The text of a run that starts.
+pub from_start : (c : Choice) (r : RunView) (s : Session) (skip skip' : ℕ) → r.session ≡ s → r.step ≡ 0 → skip' ≡ skip
+    → kept_text skip' (lines_left c r None) ++ stop_line (plain_run s).cause ≡ text_after c s skip
+from_start c r s skip skip' same first e = λ i. kept_text (e i) (all_left c r s same first i) ++ stop_line (plain_run s).cause
+
 pub trace_is : (c : Choice) (s : Session) (skip : ℕ) → last_lines c.last (all_lines c s) ≡ drop skip (all_lines c s)
-    → concat (drop skip (all_lines c s)) ++ stop_line (plain_run s).cause ≡ trace_text c s
+    → text_after c s skip ≡ trace_text c s
 unfolding trace_text
 trace_is c s skip e = ap (λ (t : List (List ℕ)). concat t ++ stop_line (plain_run s).cause) (sym e)
 
--- Nothing was written, and then the text.
-pub done_then : {X : Type 0} (a b d : Output) (text whole : List ℕ) (r : Result X TraceFault) → text ≡ whole → WritesWhole a b [] → OnOk r (WritesWhole b d text) → OnOk r (WritesWhole a d whole)
-done_then a b d text whole (Ok u) e none w = subst (λ (t : List ℕ). WritesWhole a d t) e (whole_then [] text none w)
-done_then a b d text whole (Err x) e none w = tt
-
-pub fault_then : {X : Type 0} (a b d : Output) (text whole : List ℕ) (r : Result X TraceFault) → text ≡ whole → WritesWhole a b [] → IfErr r (λ fault. BreaksTrace text fault b d)
-    → IfErr r (λ fault. BreaksTrace whole fault a d)
-fault_then a b d text whole (Ok u) e none w = tt
-fault_then a b d text whole (Err x) e none w = subst (λ (t : List ℕ). BreaksTrace t x a d) e (breaks_then a b d x text none w)
-
--- The lines were written, and then the line of the stop.
-pub ends_with : (written text rest bytes line : List ℕ) → written ++ [] ≡ text → text ≡ rest → bytes ≡ line → written ++ bytes ≡ rest ++ line
-ends_with written text rest bytes line e kept is = ap (λ (t : List ℕ). t ++ bytes) (sym (append-nil written) ∙ e ∙ kept) ∙ ap (λ (t : List ℕ). rest ++ t) is
+-- The lines that are left are pushed, and then the line of the stop.
+pub rest_pushed : (p q : Pushed) (skip skip' : ℕ) (all left : List (List ℕ)) (line : List ℕ) → with_lines q skip' left ≡ with_lines p skip all
+    → more q (kept_text skip' left ++ line) ≡ more p (kept_text skip all ++ line)
+rest_pushed p q skip skip' all left line e =
+    sym (more_more q (kept_text skip' left) line) ∙ ap (λ (w : Walked). more w.pushed line) e ∙ more_more p (kept_text skip all) line

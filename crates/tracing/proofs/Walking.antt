@@ -1,5 +1,5 @@
 -- The lines along a run.
-use Rattle.std.proofs.Common.{◌≡◌, ℕ, zero, suc, ◌+◌, ◌-◌, ◌<◌, ◌≤◌, Bool, true, false, List, [], ◌∷◌, ◌++◌, length, drop, take, ◌&&◌, ◌||◌, Option, Some, None, refl, sym, ◌∙◌, ap, arith, append_assoc, nat_le, subst, Ok, Err, IfOk, IfSome, OnOk, min, inl, inr, if◌then◌else◌}
+use Rattle.std.proofs.Common.{◌≡◌, ℕ, zero, suc, ◌+◌, ◌-◌, ◌<◌, ◌≤◌, Bool, true, false, List, [], ◌∷◌, ◌++◌, length, drop, take, ◌&&◌, ◌||◌, Option, Some, None, refl, sym, ◌∙◌, ap, arith, append_assoc, nat_le, subst, Ok, Err, IfOk, IfSome, OnErr, OnOk, min, inl, inr, if◌then◌else◌}
 use Rattle.std.specs.List.{concat}
 use Rattle.interaction_trees.specs.Outcome.{Outcome, Step, Stop}
 use Rattle.interaction_trees.specs.Steps as steps
@@ -17,14 +17,9 @@ use Rattle.machine.specs.Runs.{EndsBy, Leads, MakesNoCall, RunView, StopsBelow, 
 use Rattle.machine.specs.Session.{IsSession}
 use Rattle.machine.proofs.PlainViews.{plain_at}
 use Rattle.trace_filters.specs.declared.choice.Choice.{Choice}
-use Rattle.tracing.specs.declared.lines.Lines.{Lines}
-use Rattle.std.proofs.Math.Seq.{take-append_seam}
-use Rattle.streams.specs.Streams.{Output, WritesPart, WritesWhole}
-use Rattle.streams.proofs.WrittenPieces.{part_more, part_then, whole_nil}
-use Rattle.tracing.specs.Trace.{BreaksTrace}
-use Rattle.tracing.specs.declared.fault.TraceFault.{TraceFault}
-use Rattle.tracing.specs.declared.fault.TraceFault.TheVariants.{CannotWrite, OutOfMemory}
-use Rattle.tracing.specs.Walks.{AddsLine, AddsLines, EndsAt, Flushes, GoesBy, kept_text, lines_left}
+use Rattle.streams.specs.Pushing.{Pushed, PushesPart, more}
+use Rattle.streams.proofs.Pushes.{part_longer, part_pushed}
+use Rattle.tracing.specs.Walks.{EndsAt, GoesBy, IsEnd, IsWithin, kept_line, kept_text, lines_left, with_lines}
 use Rattle.trace_filters.specs.Chosen.{has_line, is_call, is_chosen}
 use Rattle.trace_lines.specs.CallLines.{call_line}
 use Rattle.trace_lines.specs.StepLines.{is_instruction, step_line}
@@ -113,40 +108,20 @@ pub line_of_instruction : (s : Session) (n : ℕ) (w : PlainState) → is_call w
 unfolding line_of
 line_of_instruction s n w is = rw is refl
 
--- ---- lines that were added
+-- ---- lines that are walked over
 
-pub adds_none : (l : Lines) (all left : List (List ℕ)) → all ≡ left → AddsLines l l all left
-adds_none l all left e = record {
-  text = ap (λ (t : List (List ℕ)). l.text.items ++ concat (drop (l.skip - l.chosen) t)) (sym e);
-  chosen = ap (λ (t : List (List ℕ)). l.chosen + length t) (sym e);
-  skip = refl;
-}
+kept_next : (skip : ℕ) (line : List ℕ) (left : List (List ℕ)) → kept_line skip line ++ kept_text (skip - 1) left ≡ kept_text skip (line ∷ left)
+kept_next zero line left = refl
+kept_next (suc n) line left = ap (λ k. concat (drop k left)) (let e : suc n - 1 ≡ n = omega arith in e)
 
--- A line that is kept.
-pub keeps_line : {X E : Type 0} (old new : Lines) (before line : List ℕ) (result : Result X E) → nat_le old.skip old.chosen ≡ true → before ≡ old.text.items
-    → OnOk result (new.text.items ≡ before ++ line) → new.chosen ≡ old.chosen + 1 → new.skip ≡ old.skip → OnOk result (AddsLine old new line)
-keeps_line old new before line (Ok x) kept same text chosen skip = record { text = rw kept (text ∙ ap (λ (t : List ℕ). t ++ line) same); chosen = chosen; skip = skip }
-keeps_line old new before line (Err e) kept same text chosen skip = tt
-
-pub adds_one : (old new : Lines) (line : List ℕ) (left : List (List ℕ)) → AddsLine old new line → AddsLines old new (line ∷ left) left
-adds_one old new line left w = record { text = pick (nat_le old.skip old.chosen) refl; chosen = rw w.chosen (omega arith); skip = w.skip } where
-  pick : (b : Bool) → nat_le old.skip old.chosen ≡ b → new.text.items ++ concat (drop (new.skip - new.chosen) left) ≡ old.text.items ++ concat (drop (old.skip - old.chosen) (line ∷ left))
-  pick true e =
-      let low : old.skip ≤ old.chosen = leb-true _ _ e in
-      let before : old.skip - old.chosen ≡ 0 = omega (arith, low) in
-      let after : new.skip - new.chosen ≡ 0 = omega (arith, low, w.skip, w.chosen) in
-      let text : new.text.items ≡ old.text.items ++ line = rw e at w.text in
-      ap (λ (k : ℕ). new.text.items ++ concat (drop k left)) after ∙ ap (λ (t : List ℕ). t ++ concat left) text
-      ∙ append_assoc old.text.items line (concat left) ∙ sym (ap (λ (k : ℕ). old.text.items ++ concat (drop k (line ∷ left))) before)
-  pick false e =
-      let high : old.chosen < old.skip = leb-false _ _ e in
-      let before : old.skip - old.chosen ≡ suc (new.skip - new.chosen) = omega (arith, high, w.skip, w.chosen) in
-      let text : new.text.items ≡ old.text.items = rw e at w.text in
-      ap (λ (t : List ℕ). t ++ concat (drop (new.skip - new.chosen) left)) text
-      ∙ sym (ap (λ (k : ℕ). old.text.items ++ concat (drop k (line ∷ left))) before)
-
-pub adds_then : (a b c : Lines) (all mid left : List (List ℕ)) → AddsLines a b all mid → AddsLines b c mid left → AddsLines a c all left
-adds_then a b c all mid left v w = record { text = w.text ∙ v.text; chosen = w.chosen ∙ v.chosen; skip = w.skip ∙ v.skip }
+-- One line, and then the lines after it.
+with_next : (p q : Pushed) (skip skip' : ℕ) (line : List ℕ) (left : List (List ℕ)) → q ≡ more p (kept_line skip line) → skip' ≡ skip - 1
+    → with_lines q skip' left ≡ with_lines p skip (line ∷ left)
+with_next p q skip skip' line left e f =
+    let text : more q (kept_text skip' left) ≡ more p (kept_text skip (line ∷ left)) =
+        part_pushed p q _ (kept_line skip line) (kept_text skip' left) _ e (ap (λ k. kept_line skip line ++ kept_text k left) f ∙ kept_next skip line left) refl in
+    let count : skip' - length left ≡ skip - suc (length left) = omega (arith, f) in
+    λ i. record { pushed = text i; skip = count i }
 
 -- ---- a step
 
@@ -175,15 +150,28 @@ module _ (c : Choice) (old new : RunView) (same : new.session ≡ old.session) (
       ∙ first_line c old.session (old.session.limit - old.step - 1) old.step (state_of old) has
       ∙ ap (λ (t : List (List ℕ)). line_of old.session old.step (state_of old) ∷ t) (after_step stop leads)
 
-  pub passes : (l : Lines) (result : Result (Option Cause) AllocError) → has_line c old.session old.step (state_of old) ≡ false → IfOk result (λ stop. Leads old new stop)
-      → IfOk result (λ stop. AddsLines l l (lines_left c old None) (lines_left c new stop))
-  passes l (Ok stop) none leads = adds_none l _ _ (unlined stop none leads)
-  passes l (Err e) none leads = tt
+  -- The first line, whatever the step leads to.
+  lined_first : has_line c old.session old.step (state_of old) ≡ true → (left : List (List ℕ)) × (lines_left c old None ≡ line_of old.session old.step (state_of old) ∷ left)
+  lined_first has = (
+    next_lines (lines c old.session (old.session.limit - old.step - 1)) old.step (plain_outcome old.session (state_of old)),
+    ap (λ (k : ℕ). lines c old.session k old.step (state_of old)) count ∙ first_line c old.session (old.session.limit - old.step - 1) old.step (state_of old) has,
+  )
 
-  pub adds : (l l' : Lines) (result : Result (Option Cause) AllocError) → has_line c old.session old.step (state_of old) ≡ true → IfOk result (λ stop. Leads old new stop)
-      → OnOk result (AddsLine l l' (line_of old.session old.step (state_of old))) → IfOk result (λ stop. AddsLines l l' (lines_left c old None) (lines_left c new stop))
-  adds l l' (Ok stop) has leads added = subst (λ (all : List (List ℕ)). AddsLines l l' all (lines_left c new stop)) (sym (lined stop has leads)) (adds_one l l' _ (lines_left c new stop) added)
-  adds l l' (Err e) has leads added = tt
+  pub passes : (p : Pushed) (skip : ℕ) (result : Result (Option Cause) AllocError) → has_line c old.session old.step (state_of old) ≡ false → IfOk result (λ stop. Leads old new stop)
+      → IfOk result (λ stop. with_lines p skip (lines_left c new stop) ≡ with_lines p skip (lines_left c old None))
+  passes p skip (Ok stop) none leads = ap (with_lines p skip) (sym (unlined stop none leads))
+  passes p skip (Err e) none leads = tt
+
+  pub adds : (p q : Pushed) (skip skip' : ℕ) (result : Result (Option Cause) AllocError) → has_line c old.session old.step (state_of old) ≡ true → IfOk result (λ stop. Leads old new stop)
+      → OnOk result (q ≡ more p (kept_line skip (line_of old.session old.step (state_of old)))) → skip' ≡ skip - 1
+      → IfOk result (λ stop. with_lines q skip' (lines_left c new stop) ≡ with_lines p skip (lines_left c old None))
+  adds p q skip skip' (Ok stop) has leads e f = with_next p q skip skip' _ (lines_left c new stop) e f ∙ ap (with_lines p skip) (sym (lined stop has leads))
+  adds p q skip skip' (Err e) has leads text f = tt
+
+  pub adds_part : (p q : Pushed) (skip : ℕ) (result : Result (Option Cause) AllocError) → has_line c old.session old.step (state_of old) ≡ true
+      → OnErr result (PushesPart p q (kept_line skip (line_of old.session old.step (state_of old)))) → OnErr result (PushesPart p q (kept_text skip (lines_left c old None)))
+  adds_part p q skip (Ok stop) has part = tt
+  adds_part p q skip (Err e) has part = let first = lined_first has in rw first.1 (part_longer _ part (kept_next skip _ first.0))
 
 -- ---- steps without lines
 
@@ -235,47 +223,35 @@ lines_late c s (suc k) n w h = no_line c s k n w (late c s n w h) ∙ rest (λ w
 
 -- ---- a walk
 
--- A walk is at most at its last step, or a stop follows.
-abbrev pub Ends : RunView → ℕ → Option Cause → Type 0
-Ends r end None = r.step ≤ end
-Ends r end (Some cause) = (r.step < r.session.limit) × StopsHere r cause
-
 -- What is left of a walk.
 abbrev pub left_to : Option Cause → ℕ → ℕ → ℕ
 left_to None end step = suc (end - step)
 left_to (Some cause) end step = 0
 
+-- The same by whether sending failed.
+abbrev pub left_unless : Bool → Option Cause → ℕ → ℕ → ℕ
+left_unless true stop end step = 0
+left_unless false stop end step = left_to stop end step
+
 pub goes_up : (old new : RunView) (end : ℕ) (stop : Option Cause) → GoesBy old new end stop → old.step ≤ new.step
 goes_up old new end None w = omega (arith, w.0)
 goes_up old new end (Some cause) w = w.0
 
-pub ends_by : (old new : RunView) (end : ℕ) (stop : Option Cause) → GoesBy old new end stop → Ends new end stop
+pub ends_by : (old new : RunView) (end : ℕ) (stop : Option Cause) → GoesBy old new end stop → IsWithin new end stop
 ends_by old new end None w = w.1
 ends_by old new end (Some cause) w = (w.1, w.2)
 
--- Nothing was written.
-pub breaks_none : (text : List ℕ) (a : Output) → BreaksTrace text OutOfMemory a a
-breaks_none text a = (0, whole_nil a)
+-- A piece of a walk ended, unless sending failed in it or after it.
+pub piece_smaller : (before after : Bool) (r : RunView) (stop : Option Cause) (end pause step : ℕ) → (before ≡ true → after ≡ true)
+    → (before ≡ false → EndsAt r pause stop) → step < pause → pause ≤ end → left_unless after stop end r.step < left_unless false None end step
+piece_smaller before true r stop end pause step keeps ends up within = omega arith
+piece_smaller true false r stop end pause step keeps ends up within = let no : false ≡ true = keeps refl in absurd (cc)
+piece_smaller false false r None end pause step keeps ends up within = let here : r.step ≡ pause = ends refl in omega (arith, here, up, within)
+piece_smaller false false r (Some cause) end pause step keeps ends up within = omega arith
 
--- A beginning of the text was written.
-pub breaks_off : {a b : Output} (written rest text : List ℕ) → WritesWhole a b written → written ++ rest ≡ text → BreaksTrace text OutOfMemory a b
-breaks_off {a = a} {b = b} written rest text wrote e = (
-  length written,
-  subst (λ (t : List ℕ). WritesWhole a b t) (sym (ap (take (length written)) (sym e) ∙ take-append_seam written rest)) wrote,
-)
-
-pub cuts_off : {a b c : Output} (written kept rest text : List ℕ) → WritesWhole a b written → WritesPart b c kept → written ++ (kept ++ rest) ≡ text → BreaksTrace text CannotWrite a c
-cuts_off {a = a} {c = c} written kept rest text wrote part e =
-    subst (λ (t : List ℕ). WritesPart a c t) (append_assoc written kept rest ∙ e) (part_more (written ++ kept) rest (part_then written kept wrote part))
-
--- Lines were added, and some of what is kept was written.
-pub keeps_on : (l m n : Lines) (all left : List (List ℕ)) (a b : Output) (written text : List ℕ) → AddsLines l m all left → (f : Flushes m n a b)
-    → written ++ (l.text.items ++ kept_text l all) ≡ text → (written ++ f.text) ++ (n.text.items ++ kept_text n left) ≡ text
-keeps_on l m n all left a b written text adds f e =
-    append_assoc written f.text (n.text.items ++ kept_text n left)
-    ∙ ap (λ (t : List ℕ). written ++ t) (sym (append_assoc f.text n.text.items (kept_text n left)) ∙ ap (λ (t : List ℕ). t ++ kept_text n left) f.rest
-    ∙ ap (λ (k : ℕ). m.text.items ++ concat (drop (k - n.chosen) left)) f.skip ∙ ap (λ (k : ℕ). m.text.items ++ concat (drop (m.skip - k) left)) f.chosen ∙ adds.text)
-    ∙ e
+pub within_more : (r : RunView) (end pause : ℕ) (stop : Option Cause) → pause ≤ end → IsWithin r pause stop → IsWithin r end stop
+within_more r end pause None most low = omega (arith, most, low)
+within_more r end pause (Some cause) most stops = stops
 
 -- A run that is not at its last step is where a stop follows.
 pub stops_early : (c : Choice) (old new : RunView) (to : ℕ) → new.session ≡ old.session → old.step ≡ 0 → to ≤ c.from → to ≤ old.session.limit → IsSession old.session → (new.step ≡ to → ⊥)
@@ -311,9 +287,25 @@ drop_none : (n : ℕ) → drop {A = List ℕ} n [] ≡ []
 drop_none zero = refl
 drop_none (suc n) = refl
 
-pub nothing_kept : (l : Lines) (left : List (List ℕ)) → left ≡ [] → kept_text l left ≡ []
-nothing_kept l left none = ap (λ (t : List (List ℕ)). concat (drop (l.skip - l.chosen) t)) none ∙ ap concat (drop_none (l.skip - l.chosen))
+pub nothing_kept : (skip : ℕ) → kept_text skip [] ≡ []
+nothing_kept skip = ap concat (drop_none skip)
 
--- The same for an equal text.
-pub breaks_same : (x y : List ℕ) (fault : TraceFault) (a b : Output) → x ≡ y → BreaksTrace x fault a b → BreaksTrace y fault a b
-breaks_same x y fault a b e w = subst (λ (t : List ℕ). BreaksTrace t fault a b) e w
+-- No line is left at the end of a run.
+pub end_left : (c : Choice) (r : RunView) (stop : Option Cause) → IsEnd r stop → lines_left c r stop ≡ []
+end_left c r None here =
+    let over : r.session.limit - r.step ≡ 0 = omega (arith, here) in
+    ap (λ (k : ℕ). lines c r.session k r.step (state_of r)) over ∙ no_steps c r.session r.step (state_of r)
+end_left c r (Some cause) here = refl
+
+-- A run that was not stopped before the limit, or stopped there, is at its end.
+pub ended : (r : RunView) (limit : ℕ) (result : Result (Option Cause) AllocError) → r.session.limit ≡ limit → IfOk result (EndsBy r limit)
+    → IfOk result (λ stop. IfSome stop (StopsHere r)) → IfOk result (IsEnd r)
+ended r limit (Ok None) e ends stops = ends ∙ sym e
+ended r limit (Ok (Some cause)) e ends stops = (let low : r.step < limit = ends.0 in omega (arith, low, e), stops)
+ended r limit (Err x) e ends stops = tt
+
+-- No line is left, and none at the end.
+pub none_more : (c : Choice) (p q : Pushed) (skip skip' : ℕ) (all left : List (List ℕ)) (r : RunView) (result : Result (Option Cause) AllocError) → IfOk result (IsEnd r)
+    → left ≡ [] → with_lines q skip' left ≡ with_lines p skip all → IfOk result (λ stop. with_lines q skip' (lines_left c r stop) ≡ with_lines p skip all)
+none_more c p q skip skip' all left r (Ok stop) end none e = ap (with_lines q skip') (end_left c r stop end ∙ sym none) ∙ e
+none_more c p q skip skip' all left r (Err x) end none e = tt

@@ -1,11 +1,10 @@
 //! The trace of a session: a line for each chosen step of its run, and its stop.
 //!
-//! - `lines`, `walk`: the lines that are kept until they are written; a walk along a run
+//! - `walk`: a walk along a run, which pushes the lines of its chosen steps
 //! - `trace`, `fault`: the whole trace; why a trace is not whole
 #![tactic(auto)]
 
 mod fault;
-mod lines;
 mod trace;
 mod walk;
 

@@ -1,21 +1,50 @@
 // The whole trace.
 
-ghost use Rattle.std.specs.Prelude.{◌≡◌, ◌-◌, ◌++◌, [], IfErr, IfOk, OnOk, drop, length};
-ghost use Rattle.std.specs.List.{concat};
+ghost use Rattle.std.specs.Prelude.{◌≡◌, ◌-◌, IfErr, IfOk, OnErr, OnOk, drop, length};
 ghost use Rattle.machine.specs.PlainState.{plain_run};
-ghost use Rattle.report_lines.specs.FirstLines as texts;
+ghost use Rattle.streams.specs.Pushing.{PushesPart, more};
 ghost use Rattle.streams.specs.Streams.{WritesWhole};
 ghost use Rattle.tracing.specs.Trace.{BreaksTrace, all_lines, last_lines, trace_text};
-ghost use Rattle.tracing.specs.Walks.{IsEnd};
+ghost use Rattle.tracing.specs.Walks.{IsEnd, text_after};
 
 use crate::fault::TraceFault;
-use crate::lines::Lines;
-use crate::walk::walk;
+use crate::walk::{Walker, walk};
 use machine::{Cause, Noting, Run, Session};
 use report_lines::stop_line;
-use std::alloc::Global;
-use streams::{Writer, write_all};
+use std::alloc::{AllocError, Global};
+use streams::{Failed, Names, Text, TextOver, Writer};
 use trace_filters::Choice;
+
+// A writer that takes everything and keeps nothing.
+#[derive(Drop)]
+struct Nowhere;
+
+impl Writer for Nowhere {
+    ghost use Rattle.std.specs.Prelude.{None};
+
+    ghost output = { λ _. record { holds = None; failures = 0 } };
+
+    fn write(&mut self, piece: &[u8]) -> Result<usize, Failed> {
+        Ok(piece.len())
+    }
+}
+
+// What is left of a trace: the lines from the step of a run on, without the next `skip` ones, and the line of its stop.
+#[derive(Drop)]
+struct RestOfTrace<'a, 's> {
+    run: &'a Run<'s>,
+    choice: &'a Choice,
+    stop: Option<Cause>,
+    skip: u64,
+}
+
+struct TraceBytes;
+
+impl<'a, 's> Names<RestOfTrace<'a, 's>> for TraceBytes {
+    ghost use Rattle.tracing.specs.Walks.{text_left};
+
+    ghost numbers = { λ r. text_left r.choice.now r.run.now r.stop r.skip };
+}
 
 // Returns why a run ended that is at its limit, or where a stop follows.
 fn cause_of(run: &Run<'_>, session: &Session, stop: Option<Cause>) -> Cause
@@ -29,73 +58,89 @@ fn cause_of(run: &Run<'_>, session: &Session, stop: Option<Cause>) -> Cause
     stop.unwrap_or(Cause::Limit)
 }
 
-// Returns how many lines come before the last ones. To count the lines, a run that starts is walked without writing any: as many
+// Returns how many lines come before the last ones. To count the lines, a run that starts is walked without pushing any: as many
 // are left out as there can be steps.
-fn lines_before_last<W: Writer>(
-    alloc: Global,
+fn lines_before_last(
     run: &mut Run<'_>,
     session: &Session,
     choice: &Choice,
     last: u64,
-    out: &mut W,
-) -> Result<u64, TraceFault>
+) -> Result<u64, AllocError>
     requires session { run.old.session ≡ session.now }
     requires first { run.old.step ≡ 0 }
-    ensures count { IfOk result (λ n. n ≡ length (all_lines choice.now session.now) - last) }
-    ensures written { OnOk result (WritesWhole (W.output out.old) (W.output out.new) []) }
-    ensures fault { IfErr result (λ fault.
-        BreaksTrace [] fault (W.output out.old) (W.output out.new)) }
+    ensures { IfOk result (λ n. n ≡ length (all_lines choice.now session.now) - last) }
 {
-    let mut lines = Lines::new(alloc, session.limit());
-    walk(run, session, choice, &mut lines, out)?;
-    Ok(lines.chosen.saturating_sub(last))
+    let mut nowhere = Nowhere;
+    let mut text = TextOver::new(&mut nowhere);
+    let mut walker = Walker::new(session.limit());
+    walk(run, session, choice, &mut walker, &mut text)?;
+    let count = session.limit().saturating_sub(walker.skip);
+    Ok(count.saturating_sub(last))
 }
 
 // Returns how many lines at the start are left out.
-fn lines_to_skip<W: Writer>(
-    alloc: Global,
-    session: &Session,
-    choice: &Choice,
-    out: &mut W,
-) -> Result<u64, TraceFault>
-    ensures skip { let all = all_lines choice.now session.now in
+fn lines_to_skip(alloc: Global, session: &Session, choice: &Choice) -> Result<u64, AllocError>
+    ensures { let all = all_lines choice.now session.now in
         IfOk result (λ n. last_lines choice.now.last all ≡ drop n all) }
-    ensures written { OnOk result (WritesWhole (W.output out.old) (W.output out.new) []) }
-    ensures fault { IfErr result (λ fault.
-        BreaksTrace [] fault (W.output out.old) (W.output out.new)) }
 {
     let Some(last) = choice.last else {
         return Ok(0);
     };
     let mut run = Run::start(alloc, session, Noting::Nothing)?;
-    lines_before_last(alloc, &mut run, session, choice, last, out)
+    lines_before_last(&mut run, session, choice, last)
 }
 
-// Writes the lines of a run that starts, without the first `skip` ones, and then the line of its stop.
-fn write_rest<W: Writer>(
-    alloc: Global,
+// Pushes the lines of a run that starts, without the first `skip` ones, and then the line of its stop. If sending fails, the rest is not
+// pushed but skipped.
+fn push_rest<X: Text>(
     run: &mut Run<'_>,
     session: &Session,
     choice: &Choice,
     skip: u64,
-    out: &mut W,
-) -> Result<(), TraceFault>
+    text: &mut X,
+) -> Result<(), AllocError>
     requires session { run.old.session ≡ session.now }
     requires first { run.old.step ≡ 0 }
-    ensures done { let text = concat (drop skip (all_lines choice.now session.now))
-        ++ texts.stop_line (plain_run session.now).cause in
-        OnOk result (WritesWhole (W.output out.old) (W.output out.new) text) }
-    ensures fault { let text = concat (drop skip (all_lines choice.now session.now))
-        ++ texts.stop_line (plain_run session.now).cause in
-        IfErr result (λ fault. BreaksTrace text fault (W.output out.old) (W.output out.new)) }
+    ensures done { OnOk result (X.pushed text.new
+        ≡ more (X.pushed text.old) (text_after choice.now session.now skip)) }
+    ensures part { OnErr result (PushesPart (X.pushed text.old) (X.pushed text.new)
+        (text_after choice.now session.now skip)) }
 {
-    let mut lines = Lines::new(alloc, skip);
-    let stop = walk(run, session, choice, &mut lines, out)?;
-    write_all(out, stop_line(cause_of(run, session, stop)).as_bytes())?;
+    let mut walker = Walker::new(skip);
+    let stop = walk(run, session, choice, &mut walker, text)?;
+    if text.has_failed() {
+        let rest = RestOfTrace {
+            run: &*run,
+            choice,
+            stop,
+            skip: walker.skip,
+        };
+        text.skip::<RestOfTrace<'_, '_>, TraceBytes>(&rest);
+        return Ok(());
+    }
+    text.push(stop_line(cause_of(run, session, stop)).as_bytes());
     Ok(())
 }
 
-/// Writes the lines of the chosen steps of a session, in order, and then the line of its stop.
+// Pushes the lines of the chosen steps of a session, in order, and then the line of its stop.
+fn push_trace<X: Text>(
+    alloc: Global,
+    session: &Session,
+    choice: &Choice,
+    text: &mut X,
+) -> Result<(), AllocError>
+    ensures done { OnOk result (X.pushed text.new
+        ≡ more (X.pushed text.old) (trace_text choice.now session.now)) }
+    ensures part { OnErr result (PushesPart (X.pushed text.old) (X.pushed text.new)
+        (trace_text choice.now session.now)) }
+{
+    let skip = lines_to_skip(alloc, session, choice)?;
+    let mut run = Run::start(alloc, session, Noting::Nothing)?;
+    push_rest(&mut run, session, choice, skip, text)
+}
+
+/// Writes the lines of the chosen steps of a session, in order, and then the line of its stop. The lines are sent at the latest after each
+/// 1,000,000 steps.
 ///
 /// # Errors
 ///
@@ -111,7 +156,10 @@ pub fn write_trace<W: Writer>(
     ensures fault { IfErr result (λ fault.
         BreaksTrace (trace_text choice.now session.now) fault (W.output out.old) (W.output out.new)) }
 {
-    let skip = lines_to_skip(alloc, session, choice, out)?;
-    let mut run = Run::start(alloc, session, Noting::Nothing)?;
-    write_rest(alloc, &mut run, session, choice, skip, out)
+    let mut text = TextOver::new(out);
+    let pushed = push_trace(alloc, session, choice, &mut text);
+    text.flush();
+    text.finish()?;
+    pushed?;
+    Ok(())
 }

@@ -1,24 +1,43 @@
-// A walk along a run, which adds the line of each chosen step.
+// A walk along a run, which pushes the line of each chosen step.
 
-ghost use Rattle.std.specs.Prelude.{◌≡◌, ◌+◌, ◌<◌, ◌≤◌, ◌++◌, [], IfErr, IfOk, None, OnOk, drop, length, false, true};
+ghost use Rattle.std.specs.Prelude.{◌≡◌, ◌+◌, ◌-◌, ◌<◌, ◌≤◌, IfOk, None, OnErr, OnOk, drop, length, false, true};
 ghost use Rattle.machine.specs.PlainState.{plain_outcome};
 ghost use Rattle.machine.specs.Runs.{Leads, state_of};
+ghost use Rattle.streams.specs.Pushing.{PushesPart, more};
 ghost use Rattle.trace_lines.specs.CallLines.{call_line};
 ghost use Rattle.trace_lines.specs.StepLines.{is_instruction, step_line};
 ghost use Rattle.trace_filters.specs.Chosen.{is_call};
-ghost use Rattle.tracing.specs.Trace.{BreaksTrace, line_of};
-ghost use Rattle.tracing.specs.Walks.{AddsLine, AddsLines, EndsAt, EndsWalk, GoesBy, IsEnd, WritesLines, all_from, left_after, lines_left};
+ghost use Rattle.tracing.specs.Trace.{line_of};
+ghost use Rattle.tracing.specs.Walks.{EndsAt, GoesBy, IsEnd, IsWithin, kept_line, kept_text, lines_left, with_lines};
 
-use crate::fault::TraceFault;
-use crate::lines::Lines;
 use machine::{Cause, Run, STEP_LIMIT, Session};
 use std::alloc::AllocError;
-use streams::Writer;
+use streams::Text;
 use trace_filters::{Choice, Trials, has_line};
 use trace_lines::{Code, push_call_end, push_call_start, push_changes, step_start};
 
-/// After this many steps, the lines that are there are written.
+/// After this many steps, the lines that are there are sent.
 const STEPS_UNTIL_TEXT: u64 = 1_000_000;
+
+/// What a walk keeps from step to step.
+#[derive(Drop)]
+pub struct Walker {
+    /// How many of the next chosen lines are left out.
+    pub skip: u64,
+    trials: Trials,
+}
+
+impl Walker {
+    /// Returns a walker that leaves out the first `skip` chosen lines.
+    pub fn new(skip: u64) -> Walker
+        ensures { result.skip ≡ skip }
+    {
+        Walker {
+            skip,
+            trials: Trials::new(),
+        }
+    }
+}
 
 // Returns a text without its first bytes.
 fn after(text: &[u8], count: usize) -> &[u8]
@@ -28,35 +47,42 @@ fn after(text: &[u8], count: usize) -> &[u8]
     &text[count..]
 }
 
-// Executes a call, and appends its line.
-fn trace_call(run: &mut Run<'_>, text: &mut Vec<u8>) -> Result<Option<Cause>, AllocError>
+// Executes a call, and pushes its line.
+fn push_call<X: Text>(run: &mut Run<'_>, text: &mut X) -> Result<Option<Cause>, AllocError>
     requires below { run.old.step < run.old.session.limit }
     requires most { run.old.session.limit ≤ STEP_LIMIT }
     ensures session { run.new.session ≡ run.old.session }
     ensures leads { IfOk result (λ stop. Leads run.old run.new stop) }
-    ensures line { let w = state_of run.old in OnOk result (text.new.items
-        ≡ text.old.items ++ call_line run.old.step w (plain_outcome run.old.session w)) }
+    ensures line { let w = state_of run.old in OnOk result (X.pushed text.new
+        ≡ more (X.pushed text.old) (call_line run.old.step w (plain_outcome run.old.session w))) }
+    ensures part { let w = state_of run.old in OnErr result
+        (PushesPart (X.pushed text.old) (X.pushed text.new)
+        (call_line run.old.step w (plain_outcome run.old.session w))) }
 {
-    push_call_start(text, run)?;
+    push_call_start(text, run);
     let number = run.regs().c;
     let sent = run.text().len();
     let stop = run.take_step()?;
     if stop.is_none() {
-        push_call_end(text, number, run.regs(), after(run.text(), sent))?;
+        push_call_end(text, number, run.regs(), after(run.text(), sent));
     }
-    text.push(b'\n')?;
+    text.push(b"\n");
     Ok(stop)
 }
 
-// Executes an instruction, and appends its line.
-fn trace_instruction(run: &mut Run<'_>, text: &mut Vec<u8>) -> Result<Option<Cause>, AllocError>
+// Executes an instruction, and pushes its line.
+fn push_instruction<X: Text>(
+    run: &mut Run<'_>,
+    text: &mut X,
+) -> Result<Option<Cause>, AllocError>
     requires below { run.old.step < run.old.session.limit }
     requires most { run.old.session.limit ≤ STEP_LIMIT }
     requires instruction { is_instruction (state_of run.old) ≡ true }
     ensures session { run.new.session ≡ run.old.session }
     ensures leads { IfOk result (λ stop. Leads run.old run.new stop) }
-    ensures line { let w = state_of run.old in OnOk result (text.new.items
-        ≡ text.old.items ++ step_line run.old.session run.old.step w (plain_outcome run.old.session w)) }
+    ensures line { let w = state_of run.old in OnOk result (X.pushed text.new ≡ more (X.pushed text.old)
+        (step_line run.old.session run.old.step w (plain_outcome run.old.session w))) }
+    ensures none { OnErr result (X.pushed text.new ≡ X.pushed text.old) }
 {
     let code = Code::at(run);
     let row = code.written(run);
@@ -68,114 +94,166 @@ fn trace_instruction(run: &mut Run<'_>, text: &mut Vec<u8>) -> Result<Option<Cau
         push_changes(&mut line, run, row, old);
     }
     line.push_str("\n");
-    text.extend_from_slice(line.as_bytes())?;
+    text.push(line.as_bytes());
     Ok(stop)
 }
 
-// Executes a chosen step, and adds its line if it is kept.
-fn trace_chosen(run: &mut Run<'_>, lines: &mut Lines) -> Result<Option<Cause>, AllocError>
+// Executes a chosen step, and pushes its line if it is not left out.
+fn push_chosen<X: Text>(
+    run: &mut Run<'_>,
+    skip: &mut u64,
+    text: &mut X,
+) -> Result<Option<Cause>, AllocError>
     requires below { run.old.step < run.old.session.limit }
     requires most { run.old.session.limit ≤ STEP_LIMIT }
-    requires room { lines.old.chosen ≤ STEP_LIMIT }
     requires kind { let w = state_of run.old in is_call w ≡ false → is_instruction w ≡ true }
     ensures session { run.new.session ≡ run.old.session }
     ensures leads { IfOk result (λ stop. Leads run.old run.new stop) }
-    ensures line { let w = state_of run.old in OnOk result (AddsLine lines.old lines.new
-        (line_of run.old.session run.old.step w)) }
+    ensures line { let line = line_of run.old.session run.old.step (state_of run.old) in
+        OnOk result (X.pushed text.new ≡ more (X.pushed text.old) (kept_line skip.old line)) }
+    ensures part { let line = line_of run.old.session run.old.step (state_of run.old) in
+        OnErr result (PushesPart (X.pushed text.old) (X.pushed text.new) (kept_line skip.old line)) }
+    ensures skip { skip.new ≡ skip.old - 1 }
 {
-    if !lines.count() {
+    if *skip > 0 {
+        *skip -= 1;
         return run.take_step();
     }
     if run.is_at_call() {
-        return trace_call(run, &mut lines.text);
+        return push_call(run, text);
     }
-    trace_instruction(run, &mut lines.text)
+    push_instruction(run, text)
 }
 
-// Executes a step, and adds its line if it is chosen.
-fn trace_step(
+// Executes a step, and pushes its line if it is chosen and not left out.
+fn push_step<X: Text>(
     run: &mut Run<'_>,
     session: &Session,
     choice: &Choice,
-    lines: &mut Lines,
-    trials: &mut Trials,
+    walker: &mut Walker,
+    text: &mut X,
 ) -> Result<Option<Cause>, AllocError>
     requires session { run.old.session ≡ session.now }
     requires below { run.old.step < run.old.session.limit }
     requires most { run.old.session.limit ≤ STEP_LIMIT }
-    requires room { lines.old.chosen ≤ STEP_LIMIT }
     ensures session { run.new.session ≡ run.old.session }
     ensures steps { IfOk result (λ stop. GoesBy run.old run.new (run.old.step + 1) stop) }
-    ensures lines { IfOk result (λ stop. AddsLines lines.old lines.new
-        (lines_left choice.now run.old None) (lines_left choice.now run.new stop)) }
+    ensures lines { IfOk result (λ stop.
+        with_lines (X.pushed text.new) walker.new.skip (lines_left choice.now run.new stop)
+        ≡ with_lines (X.pushed text.old) walker.old.skip (lines_left choice.now run.old None)) }
+    ensures part { OnErr result (PushesPart (X.pushed text.old) (X.pushed text.new)
+        (kept_text walker.old.skip (lines_left choice.now run.old None))) }
 {
-    if has_line(run, session, choice, trials)? {
-        return trace_chosen(run, lines);
+    if has_line(run, session, choice, &mut walker.trials)? {
+        return push_chosen(run, &mut walker.skip, text);
     }
     run.take_step()
 }
 
-// Executes a step that may have a line, after the steps before it that have none; or at most a million steps without lines.
-fn trace_next(
+// Goes on to a step that may have a line, or to step `end`. Without instructions only calls have lines.
+fn to_next(run: &mut Run<'_>, choice: &Choice, end: u64) -> Result<Option<Cause>, AllocError>
+    requires below { (run.old.step < end) × (end ≤ run.old.session.limit) }
+    requires most { run.old.session.limit ≤ STEP_LIMIT }
+    ensures session { run.new.session ≡ run.old.session }
+    ensures low { run.old.step ≤ run.new.step }
+    ensures within { IfOk result (IsWithin run.new end) }
+    ensures lines { IfOk result (λ stop.
+        lines_left choice.now run.old None ≡ lines_left choice.now run.new stop) }
+{
+    if choice.instructions {
+        return Ok(None);
+    }
+    let _ = run.step();
+    if let Some(cause) = run.advance_to_call(end)? {
+        return Ok(Some(cause));
+    }
+    let _ = run.step();
+    Ok(None)
+}
+
+// Executes a step that may have a line, after the steps before it that have none; or goes on to step `end` without a line.
+fn push_next<X: Text>(
     run: &mut Run<'_>,
     session: &Session,
     choice: &Choice,
     end: u64,
-    lines: &mut Lines,
-    trials: &mut Trials,
+    walker: &mut Walker,
+    text: &mut X,
 ) -> Result<Option<Cause>, AllocError>
     requires session { run.old.session ≡ session.now }
     requires below { (run.old.step < end) × (end ≤ run.old.session.limit) }
     requires most { run.old.session.limit ≤ STEP_LIMIT }
-    requires room { lines.old.chosen ≤ STEP_LIMIT }
     ensures session { run.new.session ≡ run.old.session }
     ensures steps { IfOk result (λ stop. GoesBy run.old run.new end stop) }
-    ensures lines { IfOk result (λ stop. AddsLines lines.old lines.new
-        (lines_left choice.now run.old None) (lines_left choice.now run.new stop)) }
+    ensures lines { IfOk result (λ stop.
+        with_lines (X.pushed text.new) walker.new.skip (lines_left choice.now run.new stop)
+        ≡ with_lines (X.pushed text.old) walker.old.skip (lines_left choice.now run.old None)) }
+    ensures part { OnErr result (PushesPart (X.pushed text.old) (X.pushed text.new)
+        (kept_text walker.old.skip (lines_left choice.now run.old None))) }
 {
-    if !choice.instructions {
-        let pause = end.min(run.step() + STEPS_UNTIL_TEXT);
-        if let Some(cause) = run.advance_to_call(pause)? {
-            return Ok(Some(cause));
-        }
-        if run.step() == pause {
-            return Ok(None);
-        }
+    if let Some(cause) = to_next(run, choice, end)? {
+        return Ok(Some(cause));
     }
-    trace_step(run, session, choice, lines, trials)
+    if run.step() == end {
+        return Ok(None);
+    }
+    push_step(run, session, choice, walker, text)
 }
 
-// Walks on up to step `end` or to a stop, and writes the lines of the chosen steps.
-fn walk_lines<W: Writer>(
+// Walks on up to step `end` or to a stop, and pushes the lines of the chosen steps. If sending fails, it ends early.
+fn push_piece<X: Text>(
     run: &mut Run<'_>,
     session: &Session,
     choice: &Choice,
     end: u64,
-    lines: &mut Lines,
-    out: &mut W,
-) -> Result<Option<Cause>, TraceFault>
+    walker: &mut Walker,
+    text: &mut X,
+) -> Result<Option<Cause>, AllocError>
     requires session { run.old.session ≡ session.now }
     requires within { (run.old.step ≤ end) × (end ≤ run.old.session.limit) }
     requires most { run.old.session.limit ≤ STEP_LIMIT }
-    requires room { lines.old.chosen + length (lines_left choice.now run.old None) ≤ STEP_LIMIT }
-    ensures ends { IfOk result (EndsWalk run.old run.new end) }
-    ensures wrote { IfOk result (λ stop. WritesLines (all_from choice.now run.old lines.old)
-        (left_after choice.now run.new stop lines.new) (W.output out.old) (W.output out.new)) }
-    ensures fault { let text = (all_from choice.now run.old lines.old).text in
-        IfErr result (λ fault. BreaksTrace text fault (W.output out.old) (W.output out.new)) }
+    ensures session { run.new.session ≡ run.old.session }
+    ensures within { IfOk result (IsWithin run.new end) }
+    ensures ends { IfOk result (λ stop. X.failed text.new ≡ false → EndsAt run.new end stop) }
+    ensures lines { IfOk result (λ stop.
+        with_lines (X.pushed text.new) walker.new.skip (lines_left choice.now run.new stop)
+        ≡ with_lines (X.pushed text.old) walker.old.skip (lines_left choice.now run.old None)) }
+    ensures part { OnErr result (PushesPart (X.pushed text.old) (X.pushed text.new)
+        (kept_text walker.old.skip (lines_left choice.now run.old None))) }
 {
     let mut stop = None;
-    let mut shown = run.step();
-    let mut trials = Trials::new();
-    while stop.is_none() && run.step() < end {
-        stop = trace_next(run, session, choice, end, lines, &mut trials)?;
-        let due = run.step() - shown >= STEPS_UNTIL_TEXT;
-        if due {
-            shown = run.step();
-        }
-        lines.flush_if(due, out)?;
+    while stop.is_none() && run.step() < end && !text.has_failed() {
+        stop = push_next(run, session, choice, end, walker, text)?;
     }
-    lines.flush(out)?;
+    Ok(stop)
+}
+
+// Walks on up to step `end` or to a stop, and pushes and sends the lines of the chosen steps. If sending fails, it ends early.
+fn push_lines<X: Text>(
+    run: &mut Run<'_>,
+    session: &Session,
+    choice: &Choice,
+    end: u64,
+    walker: &mut Walker,
+    text: &mut X,
+) -> Result<Option<Cause>, AllocError>
+    requires session { run.old.session ≡ session.now }
+    requires within { (run.old.step ≤ end) × (end ≤ run.old.session.limit) }
+    requires most { run.old.session.limit ≤ STEP_LIMIT }
+    ensures session { run.new.session ≡ run.old.session }
+    ensures ends { IfOk result (λ stop. X.failed text.new ≡ false → EndsAt run.new end stop) }
+    ensures lines { IfOk result (λ stop.
+        with_lines (X.pushed text.new) walker.new.skip (lines_left choice.now run.new stop)
+        ≡ with_lines (X.pushed text.old) walker.old.skip (lines_left choice.now run.old None)) }
+    ensures part { OnErr result (PushesPart (X.pushed text.old) (X.pushed text.new)
+        (kept_text walker.old.skip (lines_left choice.now run.old None))) }
+{
+    let mut stop = None;
+    while stop.is_none() && run.step() < end && !text.has_failed() {
+        let pause = end.min(run.step() + STEPS_UNTIL_TEXT);
+        stop = push_piece(run, session, choice, pause, walker, text)?;
+        text.flush();
+    }
     Ok(stop)
 }
 
@@ -197,35 +275,39 @@ fn skip_early(run: &mut Run<'_>, choice: &Choice, to: u64) -> Result<Option<Caus
     Ok(stop)
 }
 
-/// Walks along a run to its end, and writes the lines of the chosen steps. Returns the cause of a stop before the limit.
+/// Walks along a run to its end, and pushes and sends the lines of the chosen steps. Returns the cause of a stop before the limit. If
+/// sending fails, the walk ends early: the lines of the steps that are left are not pushed.
 ///
 /// # Errors
 ///
-/// Returns `Err` if the writer or an allocation fails. A prefix of the lines is then written.
-pub fn walk<W: Writer>(
+/// Returns `Err` if an allocation fails. A prefix of the lines is then pushed.
+pub fn walk<X: Text>(
     run: &mut Run<'_>,
     session: &Session,
     choice: &Choice,
-    lines: &mut Lines,
-    out: &mut W,
-) -> Result<Option<Cause>, TraceFault>
+    walker: &mut Walker,
+    text: &mut X,
+) -> Result<Option<Cause>, AllocError>
     requires session { run.old.session ≡ session.now }
     requires first { run.old.step ≡ 0 }
-    requires none { (lines.old.chosen ≡ 0) × (lines.old.text.items ≡ []) }
-    ensures ends { IfOk result (λ stop. (run.new.session ≡ run.old.session) × IsEnd run.new stop) }
-    ensures wrote { OnOk result (WritesLines (all_from choice.now run.old lines.old)
-        (record { text = []; count = lines.new.chosen }) (W.output out.old) (W.output out.new)) }
-    ensures fault { let text = (all_from choice.now run.old lines.old).text in
-        IfErr result (λ fault. BreaksTrace text fault (W.output out.old) (W.output out.new)) }
+    ensures session { run.new.session ≡ run.old.session }
+    ensures ends { IfOk result (λ stop. X.failed text.new ≡ false → IsEnd run.new stop) }
+    ensures lines { IfOk result (λ stop.
+        with_lines (X.pushed text.new) walker.new.skip (lines_left choice.now run.new stop)
+        ≡ with_lines (X.pushed text.old) walker.old.skip (lines_left choice.now run.old None)) }
+    ensures part { OnErr result (PushesPart (X.pushed text.old) (X.pushed text.new)
+        (kept_text walker.old.skip (lines_left choice.now run.old None))) }
 {
     let limit = session.limit();
     let end = limit.min(choice.to.saturating_add(1));
     if let Some(cause) = skip_early(run, choice, end.min(choice.from))? {
         return Ok(Some(cause));
     }
-    if let Some(cause) = walk_lines(run, session, choice, end, lines, out)? {
+    if let Some(cause) = push_lines(run, session, choice, end, walker, text)? {
         return Ok(Some(cause));
     }
-    let stop = run.advance(limit)?;
-    Ok(stop)
+    if text.has_failed() {
+        return Ok(None);
+    }
+    run.advance(limit)
 }

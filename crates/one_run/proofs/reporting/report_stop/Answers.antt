@@ -2,4 +2,4 @@ use Rattle.streams.proofs.WrittenPieces.{writes_or_fails}
 use Rattle.one_run.proofs.reporting.report_stop.Goals as goal
 
 pub returns : goal.returns
-returns g c = writes_or_fails _ _ _ c.write_stop_lines.result (rw (c.cause.ensures, c.files.ensures, c.journal.ensures) at c.write_stop_lines.ensures)
+returns g c = writes_or_fails _ _ _ c.write_stop.result c.write_stop.ensures

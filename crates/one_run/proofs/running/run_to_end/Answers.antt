@@ -12,4 +12,4 @@ returns-in_err-stop-clause-fault g c =
 pub returns-clause-looks : goal.returns-clause-looks
 returns-clause-looks g c noting =
     let started : c.in_ok-run.run'.seen ≡ Some c.in_ok-run.run'.step = rw c.in_ok-run.ensures (ap (λ (n : Noting). seen_by n 0) noting) in
-    rw (c.advance_writing.ensures.session, c.in_ok-run.ensures) at (c.ended.ensures.looks (c.in_ok-stop.ensures.noted started))
+    rw (c.write_console.ensures.session, c.in_ok-run.ensures) at (c.ended.ensures.looks (c.in_ok-stop.ensures.noted started))

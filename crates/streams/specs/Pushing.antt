@@ -1,0 +1,33 @@
+-- What was pushed onto a text. (This project's own.)
+use mathlib.Core.HLevel.{⊥_prop}
+use Rattle.std.specs.Prelude.{◌≡◌, ℕ, List, ◌++◌, Bool, true, false, Option, None, Some}
+use Rattle.std.specs.Coded.{Unit-prop, Coded-set, coded_list, coded_ℕ}
+use Rattle.std.specs.Io.KnownBytes.{Appends}
+use Rattle.std.specs.Borrow.{GName}
+use Rattle.streams.specs.Streams.{Output}
+
+-- All that was pushed, what the writer held before, and the reference that lends the writer.
+pub record Pushed : Type 0 where
+  pub text : List ℕ
+  pub start : Output
+  pub lender : GName
+
+-- The same with a piece after the text.
+abbrev pub more : Pushed → List ℕ → Pushed
+more p piece = record p { text = p.text ++ piece }
+
+-- A prefix of a text was pushed: with the rest of it, all of it would be.
+pub record PushesPart (old new : Pushed) (text : List ℕ) : Type 0 where
+  pub rest : List ℕ
+  pub split : more new rest ≡ more old text
+
+-- The number of failures.
+abbrev pub as_count : Bool → ℕ
+as_count true = 1
+as_count false = 0
+
+-- Two proofs that known bytes grow are the same.
+pub Appends-prop : (a b : Option (List ℕ)) (t : List ℕ) → IsProp (Appends a b t)
+Appends-prop None b t = Unit-prop
+Appends-prop (Some x) None t = ⊥_prop
+Appends-prop (Some x) (Some y) t = Coded-set (coded_list coded_ℕ) y (x ++ t)
