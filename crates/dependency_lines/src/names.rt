@@ -9,7 +9,6 @@ ghost use Rattle.dependency_lines.specs.Names.{is_asked, lines_of_kind, lines_of
 use crate::heads::{Head, push_head, push_step_line};
 use crate::places::push_places;
 use crate::words::{IndexFormat, push_step};
-use arrayvec::ArrayString;
 use dependencies::Joining;
 use first_looks::FileSteps;
 use hostfiles::{HostFile, HostFiles, Key};
@@ -107,27 +106,18 @@ fn push_length<X: Text>(text: &mut X, file: Option<&HostFile>, step: Option<u64>
     push_step(text, step)
 }
 
-// Returns the number of records of a file, after a blank.
-fn count_text(file: Option<&HostFile>) -> ArrayString<64>
-    ensures { result.bytes ≡ texts.count_text (option_map length (option_copied file.entry)) }
-{
-    let mut text = ArrayString::new();
-    match file {
-        Some(file) => {
-            text.push_str(" ");
-            text.push_str(Buffer::new().format(file.len()));
-        }
-        None => text.push_str(" -"),
-    }
-    text
-}
-
 // Appends the number of records of a file, after a blank.
 fn push_count<X: Text>(text: &mut X, file: Option<&HostFile>)
     ensures { X.pushed text.new ≡ more (X.pushed text.old)
         (texts.count_text (option_map length (option_copied file.entry))) }
 {
-    text.push(count_text(file).as_bytes())
+    match file {
+        Some(file) => {
+            text.push(b" ");
+            text.push(Buffer::new().format(file.len()).as_bytes());
+        }
+        None => text.push(b" -"),
+    }
 }
 
 // Appends the lines of the records of a file.

@@ -1,36 +1,20 @@
 // A run whose console text is written while it runs.
 
-ghost use Rattle.std.specs.Prelude.{◌≡◌, ◌≤◌, IfErr, IfOk, OnErr, OnOk, Some, drop, false, length, max};
+ghost use Rattle.std.specs.Prelude.{◌≡◌, ◌≤◌, IfErr, IfOk, OnOk, Some, drop, false, length, max};
 ghost use Rattle.machine.specs.Machine.{cold_run};
 ghost use Rattle.machine.specs.Runs.{EndsBy, NotesWholeRun, asked_by};
 ghost use Rattle.machine.specs.declared.noting.Noting.TheVariants.{Looks};
-ghost use Rattle.streams.specs.Pushing.{PushesPart, more};
+ghost use Rattle.streams.specs.Pushing.{PushesUnless, more};
 ghost use Rattle.streams.specs.Streams.{WritesWhole};
 ghost use Rattle.one_run.specs.RunsOnce.{BreaksText, console_text};
 
 use crate::fault::RunFault;
 use machine::{Cause, Noting, Run, STEP_LIMIT, Session, WholeRun};
 use std::alloc::{AllocError, Global};
-use streams::{Names, Text, TextOver, Writer};
+use streams::{Text, TextOver, Writer};
 
 /// After this many steps, the console text that is there is sent.
 const STEPS_UNTIL_TEXT: u64 = 50_000_000;
-
-// What is left of the console text of a run, after its first bytes.
-#[derive(Drop)]
-struct RestOfText<'a, 's> {
-    run: &'a Run<'s>,
-    pushed: usize,
-}
-
-struct TextBytes;
-
-impl<'a, 's> Names<RestOfText<'a, 's>> for TextBytes {
-    ghost use Rattle.std.specs.Prelude.{drop};
-    ghost use Rattle.one_run.specs.RunsOnce.{console_text};
-
-    ghost numbers = { λ r. drop r.pushed (console_text r.run.now.session) };
-}
 
 // Pushes and sends the bytes of a console text after its first ones, which were pushed. If there are none, the steps of the run are shown
 // instead. Returns how many bytes are pushed then.
@@ -55,42 +39,7 @@ fn push_more<X: Text, E: Writer>(
     pushed.max(console.len())
 }
 
-// Runs to a stop, which it returns, or to the limit, and pushes and sends the console text. If sending fails, the run ends early.
-fn push_console<X: Text, E: Writer>(
-    run: &mut Run<'_>,
-    limit: u64,
-    text: &mut X,
-    err: &mut E,
-) -> Result<Option<Cause>, AllocError>
-    requires low { run.old.step ≤ limit }
-    requires limit { limit ≡ run.old.session.limit }
-    requires most { limit ≤ STEP_LIMIT }
-    ensures session { run.new.session ≡ run.old.session }
-    ensures ends { IfOk result (λ stop. X.failed text.new ≡ false → EndsBy run.new limit stop) }
-    ensures noted { run.old.seen ≡ Some run.old.step
-        → IfOk result (λ stop. run.new.seen ≡ Some (asked_by run.new.step stop)) }
-    ensures text { OnOk result (X.pushed text.new
-        ≡ more (X.pushed text.old) (console_text run.old.session)) }
-    ensures part { OnErr result (PushesPart (X.pushed text.old) (X.pushed text.new)
-        (console_text run.old.session)) }
-    ensures err { E.output err.new ≡ E.output err.old }
-{
-    let mut pushed = 0;
-    let mut stop = None;
-    while stop.is_none() && run.step() < limit && !text.has_failed() {
-        pushed = push_more(run.text(), pushed, run.step(), text, err);
-        stop = run.advance(limit.min(run.step() + STEPS_UNTIL_TEXT))?;
-    }
-    if text.has_failed() {
-        let rest = RestOfText { run: &*run, pushed };
-        text.skip::<RestOfText<'_, '_>, TextBytes>(&rest);
-        return Ok(stop);
-    }
-    push_more(run.text(), pushed, run.step(), text, err);
-    Ok(stop)
-}
-
-// Runs to a stop, which it returns, or to the limit, and writes the console text.
+// Runs to a stop, which it returns, or to the limit, and writes the console text. If writing fails, the run ends early.
 fn write_console<O: Writer, E: Writer>(
     run: &mut Run<'_>,
     limit: u64,
@@ -115,6 +64,37 @@ fn write_console<O: Writer, E: Writer>(
     text.flush();
     text.finish()?;
     let stop = ended?;
+    Ok(stop)
+}
+
+// Runs to a stop, which it returns, or to the limit, and pushes and sends the console text. If sending fails, the run ends early.
+fn push_console<X: Text, E: Writer>(
+    run: &mut Run<'_>,
+    limit: u64,
+    text: &mut X,
+    err: &mut E,
+) -> Result<Option<Cause>, AllocError>
+    requires low { run.old.step ≤ limit }
+    requires limit { limit ≡ run.old.session.limit }
+    requires most { limit ≤ STEP_LIMIT }
+    ensures session { run.new.session ≡ run.old.session }
+    ensures ends { X.failed text.new ≡ false → IfOk result (λ stop. EndsBy run.new limit stop) }
+    ensures noted { run.old.seen ≡ Some run.old.step
+        → IfOk result (λ stop. run.new.seen ≡ Some (asked_by run.new.step stop)) }
+    ensures text { PushesUnless (X.failed text.new) (X.pushed text.old) (X.pushed text.new)
+        (console_text run.old.session) result }
+    ensures err { E.output err.new ≡ E.output err.old }
+{
+    let mut pushed = 0;
+    let mut stop = None;
+    while stop.is_none() && run.step() < limit && !text.has_failed() {
+        pushed = push_more(run.text(), pushed, run.step(), text, err);
+        stop = run.advance(limit.min(run.step() + STEPS_UNTIL_TEXT))?;
+    }
+    if text.has_failed() {
+        return Ok(stop);
+    }
+    push_more(run.text(), pushed, run.step(), text, err);
     Ok(stop)
 }
 

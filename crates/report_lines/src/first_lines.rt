@@ -13,13 +13,31 @@ use itoa::Buffer;
 use machine::{Cause, Regs};
 use streams::Text;
 
-/// Returns a digit in upper case.
-fn digit(value: u8) -> char
+// Returns a digit in upper case.
+fn digit(value: u8) -> u8
     requires { value < 16 }
     ensures value { result ≡ slice_index upper_digits value }
     ensures ascii { result < 128 }
 {
-    char::from(b"0123456789ABCDEF"[usize::from(value)])
+    b"0123456789ABCDEF"[usize::from(value)]
+}
+
+/// Returns the two digits of a byte.
+#[tactic(auto, unfolding(hex::specs::Hex::encode_with))]
+pub fn byte_digits(value: u8) -> [u8; 2]
+    ensures { result ≡ byte_text value }
+{
+    [digit(value / 16), digit(value % 16)]
+}
+
+/// Returns the four digits of a word, the high byte first.
+#[tactic(auto, unfolding(hex::specs::Hex::encode_with))]
+pub fn word_digits(value: u16) -> [u8; 4]
+    ensures { result ≡ word_text value }
+{
+    let [a, b] = byte_digits((value / 256) as u8);
+    let [c, d] = byte_digits((value % 256) as u8);
+    [a, b, c, d]
 }
 
 /// Appends the two digits of a byte.
@@ -28,8 +46,8 @@ pub fn push_byte<const N: usize>(text: &mut ArrayString<N>, value: u8)
     ensures digits { text.new.bytes ≡ text.old.bytes ++ byte_text value }
     ensures len { array_string_len text.new ≡ array_string_len text.old + 2 }
 {
-    text.push(digit(value / 16));
-    text.push(digit(value % 16));
+    text.push(char::from(digit(value / 16)));
+    text.push(char::from(digit(value % 16)));
 }
 
 /// Appends the four digits of a word, the high byte first.

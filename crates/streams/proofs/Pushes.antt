@@ -1,6 +1,6 @@
 -- A text that is pushed in parts.
-use Rattle.std.proofs.Common.{◌≡◌, ℕ, List, [], ◌++◌, ap, sym, ◌∙◌, append_assoc, append-nil, Result, Ok, Err, OnOk, OnErr}
-use Rattle.streams.specs.Pushing.{Pushed, PushesPart, more}
+use Rattle.std.proofs.Common.{◌≡◌, ℕ, Bool, List, [], ◌++◌, ap, sym, ◌∙◌, append_assoc, append-nil, Result, Ok, Err, IsErr, subst}
+use Rattle.streams.specs.Pushing.{Pushed, PushesPart, PushesText, PushesUnless, more}
 
 -- Nothing is pushed.
 pub none_pushed : (p : Pushed) (z : List ℕ) → z ≡ [] → p ≡ more p z
@@ -40,21 +40,22 @@ part_then left w = record { rest = w.rest; split = w.split ∙ left }
 pub no_part : (p : Pushed) (text : List ℕ) → PushesPart p p text
 no_part p text = record { rest = text; split = λ _. more p text }
 
--- By the result: nothing of it, if it failed.
-pub unpushed : {T E : Type 0} (p q : Pushed) (text : List ℕ) (r : Result T E) → OnErr r (q ≡ p) → OnErr r (PushesPart p q text)
-unpushed p q text (Ok u) same = tt
-unpushed p q text (Err e) same = record { rest = text; split = ap (λ (x : Pushed). more x text) same }
-
 -- A prefix of a longer text.
 pub part_longer : {p q : Pushed} {x text : List ℕ} (z : List ℕ) → PushesPart p q x → x ++ z ≡ text → PushesPart p q text
 part_longer {p = p} {q = q} {x = x} z w e =
     record { rest = w.rest ++ z; split = sym (more_more q w.rest z) ∙ ap (λ (r : Pushed). more r z) w.split ∙ more_more p x z ∙ ap (more p) e }
 
--- By the result: all of it, or a prefix.
-pub part_of : {T E : Type 0} {p q : Pushed} {text : List ℕ} (r : Result T E) → OnOk r (q ≡ more p text) → OnErr r (PushesPart p q text) → PushesPart p q text
-part_of (Ok u) all part = whole_part all
-part_of (Err e) all part = part
+-- ---- by a result
 
-pub on_err : {T E P : Type 0} (r : Result T E) → P → OnErr r P
-on_err (Ok u) p = tt
-on_err (Err e) p = p
+pub pushes_part : {T E : Type 0} {p q : Pushed} {text : List ℕ} (r : Result T E) → IsErr r → PushesPart p q text → PushesText p q text r
+pushes_part (Ok u) h part = absurd (cc)
+pushes_part (Err e) h part = part
+
+-- An error, whether sending failed or not.
+pub unless_failed : {T E : Type 0} {failed : Bool} {p q : Pushed} {text : List ℕ} (r : Result T E) → IsErr r → PushesPart p q text → PushesUnless failed p q text r
+unless_failed (Ok u) h part = absurd (cc)
+unless_failed (Err e) h part = record { part = part; whole = λ sound. tt }
+
+-- The same for an equal text.
+pub pushes_same : {T E : Type 0} (p q : Pushed) (x y : List ℕ) (r : Result T E) → x ≡ y → PushesText p q x r → PushesText p q y r
+pushes_same p q x y r e w = subst (λ t. PushesText p q t r) e w

@@ -23,9 +23,3 @@ prefix_more sent piece n h =
 
 pub all_more : (sent piece : List ℕ) (n : ℕ) → n ≡ length piece → sent ++ take n piece ≡ sent ++ piece
 all_more sent piece n e = ap (λ t. sent ++ t) (take_all n piece (omega (arith, e)))
-
--- What was sent, if the buffer and the next piece are written as far as possible.
-pub spilled : (sent buffer piece first x y : List ℕ) (n m : ℕ) → first ≡ buffer → x ≡ sent ++ take n first → y ≡ x ++ take m piece
-    → take (n + m) (first ++ piece) ≡ take n first ++ take m piece → y ≡ sent ++ take (n + m) (buffer ++ piece)
-spilled sent buffer piece first x y n m b f g part =
-    g ∙ ap (λ t. t ++ take m piece) f ∙ append_assoc sent (take n first) (take m piece) ∙ ap (λ t. sent ++ t) (sym part) ∙ ap (λ t. sent ++ take (n + m) (t ++ piece)) b

@@ -1,6 +1,6 @@
 -- What was pushed onto a text. (This project's own.)
 use mathlib.Core.HLevel.{⊥_prop}
-use Rattle.std.specs.Prelude.{◌≡◌, ℕ, List, ◌++◌, Bool, true, false, Option, None, Some}
+use Rattle.std.specs.Prelude.{◌≡◌, ℕ, List, ◌++◌, Bool, true, false, Option, None, Some, Result, Ok, Err, OnOk}
 use Rattle.std.specs.Coded.{Unit-prop, Coded-set, coded_list, coded_ℕ}
 use Rattle.std.specs.Io.KnownBytes.{Appends}
 use Rattle.std.specs.Borrow.{GName}
@@ -20,6 +20,16 @@ more p piece = record p { text = p.text ++ piece }
 pub record PushesPart (old new : Pushed) (text : List ℕ) : Type 0 where
   pub rest : List ℕ
   pub split : more new rest ≡ more old text
+
+-- A text was pushed, or a prefix of it if the result is an error.
+abbrev pub PushesText : {T E : Type 0} → Pushed → Pushed → List ℕ → Result T E → Type 0
+PushesText old new text (Ok u) = new ≡ more old text
+PushesText old new text (Err e) = PushesPart old new text
+
+-- The same, but it may also be a prefix if sending failed.
+pub record PushesUnless {T E : Type 0} (failed : Bool) (old new : Pushed) (text : List ℕ) (result : Result T E) : Type 0 where
+  pub part : PushesPart old new text
+  pub whole : failed ≡ false → OnOk result (new ≡ more old text)
 
 -- The number of failures.
 abbrev pub as_count : Bool → ℕ

@@ -15,7 +15,6 @@ mod terminal;
 mod text;
 mod trail;
 
-pub use boxcar::tag::Names;
 pub use streams::{Failed, Over, Reader, Writer};
 pub use terminal::Terminal;
 pub use text::{Text, TextOver, write_all};

@@ -36,51 +36,26 @@ pub trait Text {
     /// Returns whether sending failed. Then nothing more is sent.
     fn has_failed(&self) -> bool
         ensures { result ≡ failed self.now };
-
-    /// Appends a piece that is never sent, since sending failed. The piece need not be made: nothing is done when the program runs.
-    fn skip<Z, M: Names<Z>>(&mut self, piece: &Z)
-        requires { failed self.old ≡ true }
-        ensures piece { pushed self.new ≡ more (pushed self.old) (M.numbers piece.now) }
-        ensures remembers { failed self.new ≡ true };
 }
-
-// How a list of bytes is read off its two parts.
-struct Bytes;
 
 // A list of bytes that only contracts see, and a piece after it.
 #[derive(Drop)]
-struct WithPiece<'a> {
+struct Longer<'a> {
     front: &'a Tag,
     piece: &'a [u8],
 }
 
-impl<'a> Names<WithPiece<'a>> for Bytes {
+struct Bytes;
+
+impl<'a> Names<Longer<'a>> for Bytes {
     ghost numbers = { λ l. l.front.now.numbers ++ l.piece.now };
 }
 
 // Returns a list of bytes with a piece after it.
-fn longer(front: &Tag, piece: &[u8]) -> Tag
+fn with_piece(front: &Tag, piece: &[u8]) -> Tag
     ensures { result.numbers ≡ front.now.numbers ++ piece.now }
 {
-    Tag::of::<WithPiece<'_>, Bytes>(&WithPiece { front, piece })
-}
-
-// Two lists of bytes that only contracts see.
-#[derive(Drop)]
-struct Both<'a> {
-    front: &'a Tag,
-    back: &'a Tag,
-}
-
-impl<'a> Names<Both<'a>> for Bytes {
-    ghost numbers = { λ l. l.front.now.numbers ++ l.back.now.numbers };
-}
-
-// Returns a list of bytes with another one after it.
-fn joined(front: &Tag, back: &Tag) -> Tag
-    ensures { result.numbers ≡ front.now.numbers ++ back.now.numbers }
-{
-    Tag::of::<Both<'_>, Bytes>(&Both { front, back })
+    Tag::of::<Longer<'_>, Bytes>(&Longer { front, piece })
 }
 
 // Writes a text. Returns how many of its bytes were written, and whether the writer failed. A failed write is not tried again.
@@ -98,25 +73,6 @@ fn write_counted<W: Writer>(writer: &mut W, text: &[u8]) -> (usize, bool)
         }
     }
     (done, false)
-}
-
-// Writes two texts, one after the other. Returns how many bytes of each were written, and whether the writer failed.
-fn write_both<W: Writer>(writer: &mut W, first: &[u8], second: &[u8]) -> (usize, usize, bool)
-    ensures first { result.0 ≤ length first.now }
-    ensures second { result.1 ≤ length second.now }
-    ensures prefix { take (result.0 + result.1) (first.now ++ second.now)
-        ≡ take result.0 first.now ++ take result.1 second.now }
-    ensures bytes { Appends (W.output writer.old).holds (W.output writer.new).holds
-        (take result.0 first.now ++ take result.1 second.now) }
-    ensures failures { (W.output writer.new).failures ≡ (W.output writer.old).failures + as_count result.2 }
-    ensures all { result.2 ≡ false → result.0 + result.1 ≡ length first.now + length second.now }
-{
-    let (count, failed) = write_counted(writer, first);
-    if failed {
-        return (count, 0, true);
-    }
-    let (more, failed) = write_counted(writer, second);
-    (count, more, failed)
 }
 
 /// A text that is written to a borrowed writer, up to its first failure. Up to 4,096 bytes are kept before they are written.
@@ -153,6 +109,25 @@ impl<'w, W: Writer> TextOver<'w, W> {
         }
     }
 
+    // Appends a piece for which the buffer has no room. This is rare, so it is not inlined as `push` is.
+    #[inline(never)]
+    fn push_apart(&mut self, piece: &[u8])
+        ensures same_reference { self.new.writer.ghost_name ≡ self.old.writer.ghost_name }
+        ensures start { W.output self.new.start.value ≡ W.output self.old.start.value }
+        ensures said { self.new.said.numbers ≡ self.old.said.numbers ++ piece.now }
+        ensures remembers { self.old.failed ≡ true → self.new.failed ≡ true }
+    {
+        self.flush();
+        if self.failed {
+            self.said = with_piece(&self.said, piece);
+            return;
+        }
+        let (count, failed) = write_counted(self.writer, piece);
+        self.sent = with_piece(&self.sent, &piece[..count]);
+        self.said = with_piece(&self.said, piece);
+        self.failed = failed;
+    }
+
     /// Ends a text that is flushed.
     ///
     /// # Errors
@@ -183,44 +158,29 @@ impl<W: Writer> Text for TextOver<'_, W> {
 
     ghost failed = { λ t. t.failed };
 
+    #[inline(always)]
     fn push(&mut self, piece: &[u8]) {
-        if self.failed {
-            self.said = longer(&self.said, piece);
+        if self.buffer.try_extend_from_slice(piece).is_ok() {
+            self.said = with_piece(&self.said, piece);
             return;
         }
-        match self.buffer.try_extend_from_slice(piece) {
-            Ok(()) => {
-                self.said = longer(&self.said, piece);
-                return;
-            }
-            Err(_) => (),
-        }
-        let (count, more, failed) = write_both(self.writer, self.buffer.as_slice(), piece);
-        let sent = longer(&self.sent, &self.buffer.as_slice()[..count]);
-        self.sent = longer(&sent, &piece[..more]);
-        self.buffer.clear();
-        self.said = longer(&self.said, piece);
-        self.failed = failed;
+        self.push_apart(piece);
     }
 
+    // What is kept after a failure is never sent.
     fn flush(&mut self) {
         if self.failed {
             self.buffer.clear();
             return;
         }
         let (count, failed) = write_counted(self.writer, self.buffer.as_slice());
-        self.sent = longer(&self.sent, &self.buffer.as_slice()[..count]);
+        self.sent = with_piece(&self.sent, &self.buffer.as_slice()[..count]);
         self.buffer.clear();
         self.failed = failed;
     }
 
     fn has_failed(&self) -> bool {
         self.failed
-    }
-
-    fn skip<Z, M: Names<Z>>(&mut self, piece: &Z) {
-        let piece = Tag::of::<Z, M>(piece);
-        self.said = joined(&self.said, &piece);
     }
 }
 

@@ -8,13 +8,14 @@ ghost use Rattle.streams.specs.Pushing.{more};
 ghost use Rattle.trace_lines.specs.CallForms.{argument_of, returned_of};
 ghost use Rattle.trace_lines.specs.CallLines.{argument_text, block_in, block_text, call_start, count_text, drive_part, escaped, file_text, name_text, printed_text, record_text, returned_text, whole_place_of};
 
-use crate::escapes::{byte_digits, push_escaped, word_digits};
+use crate::escapes::push_escaped;
 use crate::forms::{Argument, Returned, argument_of, call_name, is_read, returned_of};
 use bdos::drive_of_byte;
 use filenames::{Drive, Fcb, find_byte};
 use i8080::word_of;
 use itoa::Buffer;
 use machine::{Regs, Run};
+use report_lines::{byte_digits, word_digits};
 use streams::Text;
 
 /// Returns the control block at DE.

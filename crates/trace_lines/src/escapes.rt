@@ -1,38 +1,11 @@
-// Texts with escapes, and digits.
+// Texts with escapes.
 
-ghost use Rattle.std.specs.Prelude.{◌≡◌, ◌<◌, ◌++◌, slice_index};
-ghost use Rattle.hex.specs.Hex.{upper_digits};
-ghost use Rattle.report_lines.specs.FirstLines.{byte_text, word_text};
+ghost use Rattle.std.specs.Prelude.{◌≡◌};
 ghost use Rattle.streams.specs.Pushing.{more};
 ghost use Rattle.trace_lines.specs.CallLines.{escaped, escaped_byte};
 
+use report_lines::byte_digits;
 use streams::Text;
-
-// Returns a digit in upper case.
-fn digit(value: u8) -> u8
-    requires { value < 16 }
-    ensures { result ≡ slice_index upper_digits value }
-{
-    b"0123456789ABCDEF"[usize::from(value)]
-}
-
-/// Returns the two digits of a byte.
-#[tactic(auto, unfolding(hex::specs::Hex::encode_with))]
-pub fn byte_digits(value: u8) -> [u8; 2]
-    ensures { result ≡ byte_text value }
-{
-    [digit(value / 16), digit(value % 16)]
-}
-
-/// Returns the four digits of a word, the high byte first.
-#[tactic(auto, unfolding(hex::specs::Hex::encode_with))]
-pub fn word_digits(value: u16) -> [u8; 4]
-    ensures { result ≡ word_text value }
-{
-    let [a, b] = byte_digits((value / 256) as u8);
-    let [c, d] = byte_digits((value % 256) as u8);
-    [a, b, c, d]
-}
 
 // Appends a byte with its escape.
 fn push_escaped_byte<X: Text>(text: &mut X, byte: u8)

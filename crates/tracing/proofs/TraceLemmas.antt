@@ -15,7 +15,7 @@ use Rattle.report_lines.specs.FirstLines.{stop_line}
 use Rattle.streams.specs.Pushing.{Pushed, as_count, more}
 use Rattle.streams.proofs.Pushes.{more_more}
 use Rattle.tracing.specs.Trace.{all_lines, last_lines, lines, trace_text}
-use Rattle.tracing.specs.Walks.{IsEnd, Walked, kept_text, lines_left, text_after, with_lines}
+use Rattle.tracing.specs.Walks.{IsEnd, Walked, kept_text, lines_left, text_after, walked, with_lines}
 use Rattle.trace_filters.specs.declared.choice.Choice.{Choice}
 
 -- ---- why a run ended
@@ -79,7 +79,7 @@ unfolding trace_text
 trace_is c s skip e = ap (λ (t : List (List ℕ)). concat t ++ stop_line (plain_run s).cause) (sym e)
 
 -- The lines that are left are pushed, and then the line of the stop.
-pub rest_pushed : (p q : Pushed) (skip skip' : ℕ) (all left : List (List ℕ)) (line : List ℕ) → with_lines q skip' left ≡ with_lines p skip all
+pub rest_pushed : (p q : Pushed) (skip skip' : ℕ) (all left : List (List ℕ)) (line : List ℕ) → with_lines (walked q skip') left ≡ with_lines (walked p skip) all
     → more q (kept_text skip' left ++ line) ≡ more p (kept_text skip all ++ line)
 rest_pushed p q skip skip' all left line e =
     sym (more_more q (kept_text skip' left) line) ∙ ap (λ (w : Walked). more w.pushed line) e ∙ more_more p (kept_text skip all) line

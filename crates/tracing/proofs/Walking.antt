@@ -1,5 +1,5 @@
 -- The lines along a run.
-use Rattle.std.proofs.Common.{◌≡◌, ℕ, zero, suc, ◌+◌, ◌-◌, ◌<◌, ◌≤◌, Bool, true, false, List, [], ◌∷◌, ◌++◌, length, drop, take, ◌&&◌, ◌||◌, Option, Some, None, refl, sym, ◌∙◌, ap, arith, append_assoc, nat_le, subst, Ok, Err, IfOk, IfSome, OnErr, OnOk, min, inl, inr, if◌then◌else◌}
+use Rattle.std.proofs.Common.{◌≡◌, ℕ, zero, suc, ◌+◌, ◌-◌, ◌<◌, ◌≤◌, Bool, true, false, List, [], ◌∷◌, ◌++◌, length, drop, take, ◌&&◌, ◌||◌, Option, Some, None, refl, sym, ◌∙◌, ap, arith, append_assoc, nat_le, subst, Ok, Err, IfOk, IfSome, IsErr, min, inl, inr, if◌then◌else◌}
 use Rattle.std.specs.List.{concat}
 use Rattle.interaction_trees.specs.Outcome.{Outcome, Step, Stop}
 use Rattle.interaction_trees.specs.Steps as steps
@@ -17,9 +17,9 @@ use Rattle.machine.specs.Runs.{EndsBy, Leads, MakesNoCall, RunView, StopsBelow, 
 use Rattle.machine.specs.Session.{IsSession}
 use Rattle.machine.proofs.PlainViews.{plain_at}
 use Rattle.trace_filters.specs.declared.choice.Choice.{Choice}
-use Rattle.streams.specs.Pushing.{Pushed, PushesPart, more}
-use Rattle.streams.proofs.Pushes.{part_longer, part_pushed}
-use Rattle.tracing.specs.Walks.{EndsAt, GoesBy, IsEnd, IsWithin, kept_line, kept_text, lines_left, with_lines}
+use Rattle.streams.specs.Pushing.{PushesPart, PushesText, more}
+use Rattle.streams.proofs.Pushes.{no_part, part_longer, part_pushed, part_then}
+use Rattle.tracing.specs.Walks.{EndsAt, GoesBy, IsEnd, IsWithin, WalksOn, Walked, kept_line, kept_text, lines_left, walked, with_lines}
 use Rattle.trace_filters.specs.Chosen.{has_line, is_call, is_chosen}
 use Rattle.trace_lines.specs.CallLines.{call_line}
 use Rattle.trace_lines.specs.StepLines.{is_instruction, step_line}
@@ -115,13 +115,24 @@ kept_next zero line left = refl
 kept_next (suc n) line left = ap (λ k. concat (drop k left)) (let e : suc n - 1 ≡ n = omega arith in e)
 
 -- One line, and then the lines after it.
-with_next : (p q : Pushed) (skip skip' : ℕ) (line : List ℕ) (left : List (List ℕ)) → q ≡ more p (kept_line skip line) → skip' ≡ skip - 1
-    → with_lines q skip' left ≡ with_lines p skip (line ∷ left)
-with_next p q skip skip' line left e f =
-    let text : more q (kept_text skip' left) ≡ more p (kept_text skip (line ∷ left)) =
-        part_pushed p q _ (kept_line skip line) (kept_text skip' left) _ e (ap (λ k. kept_line skip line ++ kept_text k left) f ∙ kept_next skip line left) refl in
-    let count : skip' - length left ≡ skip - suc (length left) = omega (arith, f) in
-    λ i. record { pushed = text i; skip = count i }
+with_next : (v w : Walked) (line : List ℕ) (left : List (List ℕ)) → w.pushed ≡ more v.pushed (kept_line v.skip line) → w.skip ≡ v.skip - 1 → with_lines w left ≡ with_lines v (line ∷ left)
+with_next v w line left e f =
+    let text : more w.pushed (kept_text w.skip left) ≡ more v.pushed (kept_text v.skip (line ∷ left)) =
+        part_pushed v.pushed w.pushed _ (kept_line v.skip line) (kept_text w.skip left) _ e (ap (λ k. kept_line v.skip line ++ kept_text k left) f ∙ kept_next v.skip line left) refl in
+    let count : w.skip - length left ≡ v.skip - suc (length left) = omega (arith, f) in
+    λ i. walked (text i) (count i)
+
+-- An allocation failed.
+pub walk_fails : (c : Choice) (old new : RunView) (before after : Walked) (result : Result (Option Cause) AllocError) → IsErr result
+    → PushesPart before.pushed after.pushed (kept_text before.skip (lines_left c old None)) → WalksOn c old before new after result
+walk_fails c old new before after (Ok stop) failed part = absurd (cc)
+walk_fails c old new before after (Err e) failed part = part
+
+-- The lines from an earlier step on are the same.
+pub walks_from : (c : Choice) (first old new : RunView) (before after : Walked) (result : Result (Option Cause) AllocError) → lines_left c first None ≡ lines_left c old None
+    → WalksOn c old before new after result → WalksOn c first before new after result
+walks_from c first old new before after (Ok stop) same w = w ∙ ap (with_lines before) (sym same)
+walks_from c first old new before after (Err e) same w = subst (λ (ls : List (List ℕ)). PushesPart before.pushed after.pushed (kept_text before.skip ls)) (sym same) w
 
 -- ---- a step
 
@@ -157,21 +168,14 @@ module _ (c : Choice) (old new : RunView) (same : new.session ≡ old.session) (
     ap (λ (k : ℕ). lines c old.session k old.step (state_of old)) count ∙ first_line c old.session (old.session.limit - old.step - 1) old.step (state_of old) has,
   )
 
-  pub passes : (p : Pushed) (skip : ℕ) (result : Result (Option Cause) AllocError) → has_line c old.session old.step (state_of old) ≡ false → IfOk result (λ stop. Leads old new stop)
-      → IfOk result (λ stop. with_lines p skip (lines_left c new stop) ≡ with_lines p skip (lines_left c old None))
-  passes p skip (Ok stop) none leads = ap (with_lines p skip) (sym (unlined stop none leads))
-  passes p skip (Err e) none leads = tt
+  pub passes : (w : Walked) (result : Result (Option Cause) AllocError) → has_line c old.session old.step (state_of old) ≡ false → IfOk result (λ stop. Leads old new stop) → WalksOn c old w new w result
+  passes w (Ok stop) none leads = ap (with_lines w) (sym (unlined stop none leads))
+  passes w (Err e) none leads = no_part w.pushed _
 
-  pub adds : (p q : Pushed) (skip skip' : ℕ) (result : Result (Option Cause) AllocError) → has_line c old.session old.step (state_of old) ≡ true → IfOk result (λ stop. Leads old new stop)
-      → OnOk result (q ≡ more p (kept_line skip (line_of old.session old.step (state_of old)))) → skip' ≡ skip - 1
-      → IfOk result (λ stop. with_lines q skip' (lines_left c new stop) ≡ with_lines p skip (lines_left c old None))
-  adds p q skip skip' (Ok stop) has leads e f = with_next p q skip skip' _ (lines_left c new stop) e f ∙ ap (with_lines p skip) (sym (lined stop has leads))
-  adds p q skip skip' (Err e) has leads text f = tt
-
-  pub adds_part : (p q : Pushed) (skip : ℕ) (result : Result (Option Cause) AllocError) → has_line c old.session old.step (state_of old) ≡ true
-      → OnErr result (PushesPart p q (kept_line skip (line_of old.session old.step (state_of old)))) → OnErr result (PushesPart p q (kept_text skip (lines_left c old None)))
-  adds_part p q skip (Ok stop) has part = tt
-  adds_part p q skip (Err e) has part = let first = lined_first has in rw first.1 (part_longer _ part (kept_next skip _ first.0))
+  pub adds : (v w : Walked) (result : Result (Option Cause) AllocError) → has_line c old.session old.step (state_of old) ≡ true → IfOk result (λ stop. Leads old new stop)
+      → PushesText v.pushed w.pushed (kept_line v.skip (line_of old.session old.step (state_of old))) result → w.skip ≡ v.skip - 1 → WalksOn c old v new w result
+  adds v w (Ok stop) has leads e f = with_next v w _ (lines_left c new stop) e f ∙ ap (with_lines v) (sym (lined stop has leads))
+  adds v w (Err e) has leads part f = let first = lined_first has in rw first.1 (part_longer _ part (kept_next v.skip _ first.0))
 
 -- ---- steps without lines
 
@@ -305,7 +309,8 @@ ended r limit (Ok (Some cause)) e ends stops = (let low : r.step < limit = ends.
 ended r limit (Err x) e ends stops = tt
 
 -- No line is left, and none at the end.
-pub none_more : (c : Choice) (p q : Pushed) (skip skip' : ℕ) (all left : List (List ℕ)) (r : RunView) (result : Result (Option Cause) AllocError) → IfOk result (IsEnd r)
-    → left ≡ [] → with_lines q skip' left ≡ with_lines p skip all → IfOk result (λ stop. with_lines q skip' (lines_left c r stop) ≡ with_lines p skip all)
-none_more c p q skip skip' all left r (Ok stop) end none e = ap (with_lines q skip') (end_left c r stop end ∙ sym none) ∙ e
-none_more c p q skip skip' all left r (Err x) end none e = tt
+pub none_more : (c : Choice) (old r new : RunView) (before after : Walked) (result : Result (Option Cause) AllocError) → IfOk result (IsEnd new)
+    → lines_left c r None ≡ [] → with_lines after (lines_left c r None) ≡ with_lines before (lines_left c old None) → WalksOn c old before new after result
+none_more c old r new before after (Ok stop) end none e = ap (with_lines after) (end_left c new stop end ∙ sym none) ∙ e
+none_more c old r new before after (Err x) end none e =
+    part_then (ap (λ (w : Walked). w.pushed) e) (no_part after.pushed _)

@@ -1,12 +1,12 @@
 -- A walk along a run, and the lines that it pushes. (This project's own.)
-use Rattle.std.specs.Prelude.{◌≡◌, ℕ, zero, suc, ◌-◌, ◌<◌, ◌≤◌, List, [], ◌++◌, length, drop, Option, Some, None}
+use Rattle.std.specs.Prelude.{◌≡◌, ℕ, zero, suc, ◌-◌, ◌<◌, ◌≤◌, List, [], ◌++◌, length, drop, Option, Some, None, Result, Ok, Err}
 use Rattle.std.specs.List.{concat}
 use Rattle.console_calls.specs.declared.cause.Cause.{Cause}
 use Rattle.machine.specs.Inputs.{Session}
 use Rattle.machine.specs.PlainState.{plain_run}
 use Rattle.machine.specs.Runs.{RunView, StopsHere, state_of}
 use Rattle.report_lines.specs.FirstLines.{stop_line}
-use Rattle.streams.specs.Pushing.{Pushed, more}
+use Rattle.streams.specs.Pushing.{Pushed, PushesPart, more}
 use Rattle.tracing.specs.Trace.{all_lines, lines}
 use Rattle.trace_filters.specs.declared.choice.Choice.{Choice}
 
@@ -29,13 +29,17 @@ pub record Walked : Type 0 where
   pub pushed : Pushed
   pub skip : ℕ
 
--- The same once these lines are walked over.
-abbrev pub with_lines : Pushed → ℕ → List (List ℕ) → Walked
-with_lines p skip ls = record { pushed = more p (kept_text skip ls); skip = skip - length ls }
+abbrev pub walked : Pushed → ℕ → Walked
+walked pushed skip = record { pushed = pushed; skip = skip }
 
--- The text of the lines from the step of a run on, and of the line of its stop.
-abbrev pub text_left : Choice → RunView → Option Cause → ℕ → List ℕ
-text_left c r stop skip = kept_text skip (lines_left c r stop) ++ stop_line (plain_run r.session).cause
+-- The same once these lines are walked over.
+abbrev pub with_lines : Walked → List (List ℕ) → Walked
+with_lines w ls = walked (more w.pushed (kept_text w.skip ls)) (w.skip - length ls)
+
+-- A run went on, and what is left to walk over gives what was left; or an allocation failed after a prefix was pushed.
+abbrev pub WalksOn : {E : Type 0} → Choice → RunView → Walked → RunView → Walked → Result (Option Cause) E → Type 0
+WalksOn c old before new after (Ok stop) = with_lines after (lines_left c new stop) ≡ with_lines before (lines_left c old None)
+WalksOn c old before new after (Err e) = PushesPart before.pushed after.pushed (kept_text before.skip (lines_left c old None))
 
 -- The text of all lines of a session, without the first ones, and of the line of its stop.
 abbrev pub text_after : Choice → Session → ℕ → List ℕ

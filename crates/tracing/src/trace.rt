@@ -1,8 +1,8 @@
 // The whole trace.
 
-ghost use Rattle.std.specs.Prelude.{◌≡◌, ◌-◌, IfErr, IfOk, OnErr, OnOk, drop, length};
+ghost use Rattle.std.specs.Prelude.{◌≡◌, ◌-◌, IfErr, IfOk, OnOk, drop, length};
 ghost use Rattle.machine.specs.PlainState.{plain_run};
-ghost use Rattle.streams.specs.Pushing.{PushesPart, more};
+ghost use Rattle.streams.specs.Pushing.{PushesUnless};
 ghost use Rattle.streams.specs.Streams.{WritesWhole};
 ghost use Rattle.tracing.specs.Trace.{BreaksTrace, all_lines, last_lines, trace_text};
 ghost use Rattle.tracing.specs.Walks.{IsEnd, text_after};
@@ -12,7 +12,7 @@ use crate::walk::{Walker, walk};
 use machine::{Cause, Noting, Run, Session};
 use report_lines::stop_line;
 use std::alloc::{AllocError, Global};
-use streams::{Failed, Names, Text, TextOver, Writer};
+use streams::{Failed, Text, TextOver, Writer};
 use trace_filters::Choice;
 
 // A writer that takes everything and keeps nothing.
@@ -27,23 +27,6 @@ impl Writer for Nowhere {
     fn write(&mut self, piece: &[u8]) -> Result<usize, Failed> {
         Ok(piece.len())
     }
-}
-
-// What is left of a trace: the lines from the step of a run on, without the next `skip` ones, and the line of its stop.
-#[derive(Drop)]
-struct RestOfTrace<'a, 's> {
-    run: &'a Run<'s>,
-    choice: &'a Choice,
-    stop: Option<Cause>,
-    skip: u64,
-}
-
-struct TraceBytes;
-
-impl<'a, 's> Names<RestOfTrace<'a, 's>> for TraceBytes {
-    ghost use Rattle.tracing.specs.Walks.{text_left};
-
-    ghost numbers = { λ r. text_left r.choice.now r.run.now r.stop r.skip };
 }
 
 // Returns why a run ended that is at its limit, or where a stop follows.
@@ -90,8 +73,7 @@ fn lines_to_skip(alloc: Global, session: &Session, choice: &Choice) -> Result<u6
     lines_before_last(&mut run, session, choice, last)
 }
 
-// Pushes the lines of a run that starts, without the first `skip` ones, and then the line of its stop. If sending fails, the rest is not
-// pushed but skipped.
+// Pushes the lines of a run that starts, without the first `skip` ones, and then the line of its stop. If sending fails, it ends early.
 fn push_rest<X: Text>(
     run: &mut Run<'_>,
     session: &Session,
@@ -101,38 +83,27 @@ fn push_rest<X: Text>(
 ) -> Result<(), AllocError>
     requires session { run.old.session ≡ session.now }
     requires first { run.old.step ≡ 0 }
-    ensures done { OnOk result (X.pushed text.new
-        ≡ more (X.pushed text.old) (text_after choice.now session.now skip)) }
-    ensures part { OnErr result (PushesPart (X.pushed text.old) (X.pushed text.new)
-        (text_after choice.now session.now skip)) }
+    ensures { PushesUnless (X.failed text.new) (X.pushed text.old) (X.pushed text.new)
+        (text_after choice.now session.now skip) result }
 {
     let mut walker = Walker::new(skip);
     let stop = walk(run, session, choice, &mut walker, text)?;
     if text.has_failed() {
-        let rest = RestOfTrace {
-            run: &*run,
-            choice,
-            stop,
-            skip: walker.skip,
-        };
-        text.skip::<RestOfTrace<'_, '_>, TraceBytes>(&rest);
         return Ok(());
     }
     text.push(stop_line(cause_of(run, session, stop)).as_bytes());
     Ok(())
 }
 
-// Pushes the lines of the chosen steps of a session, in order, and then the line of its stop.
+// Pushes the lines of the chosen steps of a session, in order, and then the line of its stop. If sending fails, it ends early.
 fn push_trace<X: Text>(
     alloc: Global,
     session: &Session,
     choice: &Choice,
     text: &mut X,
 ) -> Result<(), AllocError>
-    ensures done { OnOk result (X.pushed text.new
-        ≡ more (X.pushed text.old) (trace_text choice.now session.now)) }
-    ensures part { OnErr result (PushesPart (X.pushed text.old) (X.pushed text.new)
-        (trace_text choice.now session.now)) }
+    ensures { PushesUnless (X.failed text.new) (X.pushed text.old) (X.pushed text.new)
+        (trace_text choice.now session.now) result }
 {
     let skip = lines_to_skip(alloc, session, choice)?;
     let mut run = Run::start(alloc, session, Noting::Nothing)?;

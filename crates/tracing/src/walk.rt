@@ -1,14 +1,14 @@
 // A walk along a run, which pushes the line of each chosen step.
 
-ghost use Rattle.std.specs.Prelude.{◌≡◌, ◌+◌, ◌-◌, ◌<◌, ◌≤◌, IfOk, None, OnErr, OnOk, drop, length, false, true};
+ghost use Rattle.std.specs.Prelude.{◌≡◌, ◌+◌, ◌-◌, ◌<◌, ◌≤◌, IfOk, None, drop, length, false, true};
 ghost use Rattle.machine.specs.PlainState.{plain_outcome};
 ghost use Rattle.machine.specs.Runs.{Leads, state_of};
-ghost use Rattle.streams.specs.Pushing.{PushesPart, more};
+ghost use Rattle.streams.specs.Pushing.{PushesText};
 ghost use Rattle.trace_lines.specs.CallLines.{call_line};
 ghost use Rattle.trace_lines.specs.StepLines.{is_instruction, step_line};
 ghost use Rattle.trace_filters.specs.Chosen.{is_call};
 ghost use Rattle.tracing.specs.Trace.{line_of};
-ghost use Rattle.tracing.specs.Walks.{EndsAt, GoesBy, IsEnd, IsWithin, kept_line, kept_text, lines_left, with_lines};
+ghost use Rattle.tracing.specs.Walks.{EndsAt, GoesBy, IsEnd, IsWithin, WalksOn, kept_line, lines_left, walked};
 
 use machine::{Cause, Run, STEP_LIMIT, Session};
 use std::alloc::AllocError;
@@ -53,11 +53,8 @@ fn push_call<X: Text>(run: &mut Run<'_>, text: &mut X) -> Result<Option<Cause>, 
     requires most { run.old.session.limit ≤ STEP_LIMIT }
     ensures session { run.new.session ≡ run.old.session }
     ensures leads { IfOk result (λ stop. Leads run.old run.new stop) }
-    ensures line { let w = state_of run.old in OnOk result (X.pushed text.new
-        ≡ more (X.pushed text.old) (call_line run.old.step w (plain_outcome run.old.session w))) }
-    ensures part { let w = state_of run.old in OnErr result
-        (PushesPart (X.pushed text.old) (X.pushed text.new)
-        (call_line run.old.step w (plain_outcome run.old.session w))) }
+    ensures line { let w = state_of run.old in PushesText (X.pushed text.old) (X.pushed text.new)
+        (call_line run.old.step w (plain_outcome run.old.session w)) result }
 {
     push_call_start(text, run);
     let number = run.regs().c;
@@ -80,9 +77,8 @@ fn push_instruction<X: Text>(
     requires instruction { is_instruction (state_of run.old) ≡ true }
     ensures session { run.new.session ≡ run.old.session }
     ensures leads { IfOk result (λ stop. Leads run.old run.new stop) }
-    ensures line { let w = state_of run.old in OnOk result (X.pushed text.new ≡ more (X.pushed text.old)
-        (step_line run.old.session run.old.step w (plain_outcome run.old.session w))) }
-    ensures none { OnErr result (X.pushed text.new ≡ X.pushed text.old) }
+    ensures line { let w = state_of run.old in PushesText (X.pushed text.old) (X.pushed text.new)
+        (step_line run.old.session run.old.step w (plain_outcome run.old.session w)) result }
 {
     let code = Code::at(run);
     let row = code.written(run);
@@ -109,10 +105,8 @@ fn push_chosen<X: Text>(
     requires kind { let w = state_of run.old in is_call w ≡ false → is_instruction w ≡ true }
     ensures session { run.new.session ≡ run.old.session }
     ensures leads { IfOk result (λ stop. Leads run.old run.new stop) }
-    ensures line { let line = line_of run.old.session run.old.step (state_of run.old) in
-        OnOk result (X.pushed text.new ≡ more (X.pushed text.old) (kept_line skip.old line)) }
-    ensures part { let line = line_of run.old.session run.old.step (state_of run.old) in
-        OnErr result (PushesPart (X.pushed text.old) (X.pushed text.new) (kept_line skip.old line)) }
+    ensures line { PushesText (X.pushed text.old) (X.pushed text.new)
+        (kept_line skip.old (line_of run.old.session run.old.step (state_of run.old))) result }
     ensures skip { skip.new ≡ skip.old - 1 }
 {
     if *skip > 0 {
@@ -138,11 +132,8 @@ fn push_step<X: Text>(
     requires most { run.old.session.limit ≤ STEP_LIMIT }
     ensures session { run.new.session ≡ run.old.session }
     ensures steps { IfOk result (λ stop. GoesBy run.old run.new (run.old.step + 1) stop) }
-    ensures lines { IfOk result (λ stop.
-        with_lines (X.pushed text.new) walker.new.skip (lines_left choice.now run.new stop)
-        ≡ with_lines (X.pushed text.old) walker.old.skip (lines_left choice.now run.old None)) }
-    ensures part { OnErr result (PushesPart (X.pushed text.old) (X.pushed text.new)
-        (kept_text walker.old.skip (lines_left choice.now run.old None))) }
+    ensures lines { WalksOn choice.now run.old (walked (X.pushed text.old) walker.old.skip)
+        run.new (walked (X.pushed text.new) walker.new.skip) result }
 {
     if has_line(run, session, choice, &mut walker.trials)? {
         return push_chosen(run, &mut walker.skip, text);
@@ -185,11 +176,8 @@ fn push_next<X: Text>(
     requires most { run.old.session.limit ≤ STEP_LIMIT }
     ensures session { run.new.session ≡ run.old.session }
     ensures steps { IfOk result (λ stop. GoesBy run.old run.new end stop) }
-    ensures lines { IfOk result (λ stop.
-        with_lines (X.pushed text.new) walker.new.skip (lines_left choice.now run.new stop)
-        ≡ with_lines (X.pushed text.old) walker.old.skip (lines_left choice.now run.old None)) }
-    ensures part { OnErr result (PushesPart (X.pushed text.old) (X.pushed text.new)
-        (kept_text walker.old.skip (lines_left choice.now run.old None))) }
+    ensures lines { WalksOn choice.now run.old (walked (X.pushed text.old) walker.old.skip)
+        run.new (walked (X.pushed text.new) walker.new.skip) result }
 {
     if let Some(cause) = to_next(run, choice, end)? {
         return Ok(Some(cause));
@@ -215,11 +203,8 @@ fn push_piece<X: Text>(
     ensures session { run.new.session ≡ run.old.session }
     ensures within { IfOk result (IsWithin run.new end) }
     ensures ends { IfOk result (λ stop. X.failed text.new ≡ false → EndsAt run.new end stop) }
-    ensures lines { IfOk result (λ stop.
-        with_lines (X.pushed text.new) walker.new.skip (lines_left choice.now run.new stop)
-        ≡ with_lines (X.pushed text.old) walker.old.skip (lines_left choice.now run.old None)) }
-    ensures part { OnErr result (PushesPart (X.pushed text.old) (X.pushed text.new)
-        (kept_text walker.old.skip (lines_left choice.now run.old None))) }
+    ensures lines { WalksOn choice.now run.old (walked (X.pushed text.old) walker.old.skip)
+        run.new (walked (X.pushed text.new) walker.new.skip) result }
 {
     let mut stop = None;
     while stop.is_none() && run.step() < end && !text.has_failed() {
@@ -242,11 +227,8 @@ fn push_lines<X: Text>(
     requires most { run.old.session.limit ≤ STEP_LIMIT }
     ensures session { run.new.session ≡ run.old.session }
     ensures ends { IfOk result (λ stop. X.failed text.new ≡ false → EndsAt run.new end stop) }
-    ensures lines { IfOk result (λ stop.
-        with_lines (X.pushed text.new) walker.new.skip (lines_left choice.now run.new stop)
-        ≡ with_lines (X.pushed text.old) walker.old.skip (lines_left choice.now run.old None)) }
-    ensures part { OnErr result (PushesPart (X.pushed text.old) (X.pushed text.new)
-        (kept_text walker.old.skip (lines_left choice.now run.old None))) }
+    ensures lines { WalksOn choice.now run.old (walked (X.pushed text.old) walker.old.skip)
+        run.new (walked (X.pushed text.new) walker.new.skip) result }
 {
     let mut stop = None;
     while stop.is_none() && run.step() < end && !text.has_failed() {
@@ -292,11 +274,8 @@ pub fn walk<X: Text>(
     requires first { run.old.step ≡ 0 }
     ensures session { run.new.session ≡ run.old.session }
     ensures ends { IfOk result (λ stop. X.failed text.new ≡ false → IsEnd run.new stop) }
-    ensures lines { IfOk result (λ stop.
-        with_lines (X.pushed text.new) walker.new.skip (lines_left choice.now run.new stop)
-        ≡ with_lines (X.pushed text.old) walker.old.skip (lines_left choice.now run.old None)) }
-    ensures part { OnErr result (PushesPart (X.pushed text.old) (X.pushed text.new)
-        (kept_text walker.old.skip (lines_left choice.now run.old None))) }
+    ensures lines { WalksOn choice.now run.old (walked (X.pushed text.old) walker.old.skip)
+        run.new (walked (X.pushed text.new) walker.new.skip) result }
 {
     let limit = session.limit();
     let end = limit.min(choice.to.saturating_add(1));

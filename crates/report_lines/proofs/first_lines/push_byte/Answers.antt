@@ -12,7 +12,7 @@ two_digits b high low h l = rw (h, l) refl
 pub returns-clause-digits : goal.returns-clause-digits
 returns-clause-digits g c =
     let old = c.args.text.now.bytes in
-    c.push-2.ensures.ascii c.digit-2.ensures.ascii
-    ∙ ap (λ (t : List ℕ). t ++ c.digit-2.result ∷ []) (c.push.ensures.ascii c.digit.ensures.ascii)
+    (rw c.from-2.ensures at c.push-2.ensures.ascii) c.digit-2.ensures.ascii
+    ∙ ap (λ (t : List ℕ). t ++ c.digit-2.result ∷ []) ((rw c.from.ensures at c.push.ensures.ascii) c.digit.ensures.ascii)
     ∙ append_assoc old (c.digit.result ∷ []) (c.digit-2.result ∷ [])
     ∙ ap (λ (t : List ℕ). old ++ t) (two_digits c.args.value c.digit.result c.digit-2.result c.digit.ensures.value c.digit-2.ensures.value)

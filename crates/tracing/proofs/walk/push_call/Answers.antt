@@ -3,17 +3,17 @@ use Rattle.machine.specs.PlainState.{plain_outcome}
 use Rattle.machine.specs.Regs.{Regs}
 use Rattle.machine.specs.Runs.{state_of}
 use Rattle.streams.specs.Pushing.{more}
-use Rattle.streams.proofs.Pushes.{next_pushed, on_err, part_longer, whole_part}
+use Rattle.streams.proofs.Pushes.{next_pushed, part_longer, pushes_part, whole_part}
 use Rattle.trace_lines.specs.CallForms.{returned_of}
 use Rattle.trace_lines.specs.CallLines.{call_line, call_start, printed_text, returned_text}
 use Rattle.tracing.proofs.LineLemmas.{call_begun, call_ended, call_went, text_grows}
 use Rattle.tracing.proofs.walk.push_call.Goals.{then-is_none, else-is_none}
 use Rattle.tracing.proofs.walk.push_call.Goals as goal
 
-pub returns-in_err-stop-clause-part : goal.returns-in_err-stop-clause-part
-returns-in_err-stop-clause-part g c =
+pub returns-in_err-stop-clause-line : goal.returns-in_err-stop-clause-line
+returns-in_err-stop-clause-line g c =
     let run = c.args.run.now in
-    on_err c.from_residual.result (part_longer _ (whole_part c.push_call_start.ensures) (call_begun run.session run.step (state_of run)))
+    pushes_part c.from_residual.result c.from_residual.ensures.0 (part_longer _ (whole_part c.push_call_start.ensures) (call_begun run.session run.step (state_of run)))
 
 pub after-requires : goal.after-requires
 after-requires g c =

@@ -1,7 +1,6 @@
-use Rattle.std.proofs.Common.{◌≡◌, ◌∙◌, false, List, OnErr, OnOk, ap, arith, subst, sym, true, ℕ}
+use Rattle.std.proofs.Common.{◌≡◌, ◌∙◌, false, ap, arith, sym, true}
 use Rattle.machine.specs.Runs.{state_of}
-use Rattle.streams.specs.Pushing.{PushesPart, more}
-use Rattle.streams.proofs.Pushes.{unpushed}
+use Rattle.streams.proofs.Pushes.{pushes_same}
 use Rattle.trace_filters.specs.Chosen.{is_call}
 use Rattle.tracing.specs.Trace.{line_of}
 use Rattle.tracing.specs.Walks.{kept_line}
@@ -14,15 +13,7 @@ returns-then-is_at_call-clause-line g c =
     let none : c.args.skip.now ≡ 0 = omega (arith, c.if-skip-gt0.false) in
     let call : is_call (state_of run) ≡ true = sym c.is_at_call.ensures ∙ c.if-is_at_call.true in
     let line = ap (λ k. kept_line k (line_of run.session run.step (state_of run))) none ∙ line_of_call run.session run.step (state_of run) call in
-    subst (λ (l : List ℕ). OnOk c.push_call.result (g.X.Text.pushed c.push_call.new.text ≡ more (g.X.Text.pushed c.args.text.now) l)) (sym line) c.push_call.ensures.line
-
-pub returns-then-is_at_call-clause-part : goal.returns-then-is_at_call-clause-part
-returns-then-is_at_call-clause-part g c =
-    let run = c.args.run.now in
-    let none : c.args.skip.now ≡ 0 = omega (arith, c.if-skip-gt0.false) in
-    let call : is_call (state_of run) ≡ true = sym c.is_at_call.ensures ∙ c.if-is_at_call.true in
-    let line = ap (λ k. kept_line k (line_of run.session run.step (state_of run))) none ∙ line_of_call run.session run.step (state_of run) call in
-    subst (λ (l : List ℕ). OnErr c.push_call.result (PushesPart (g.X.Text.pushed c.args.text.now) (g.X.Text.pushed c.push_call.new.text) l)) (sym line) c.push_call.ensures.part
+    pushes_same _ _ _ _ c.push_call.result (sym line) c.push_call.ensures.line
 
 pub returns-clause-line : goal.returns-clause-line
 returns-clause-line g c =
@@ -30,8 +21,4 @@ returns-clause-line g c =
     let none : c.args.skip.now ≡ 0 = omega (arith, c.if-skip-gt0.false) in
     let call : is_call (state_of run) ≡ false = sym c.is_at_call.ensures ∙ c.if-is_at_call.false in
     let line = ap (λ k. kept_line k (line_of run.session run.step (state_of run))) none ∙ line_of_instruction run.session run.step (state_of run) call in
-    subst (λ (l : List ℕ). OnOk c.push_instruction.result (g.X.Text.pushed c.push_instruction.new.text ≡ more (g.X.Text.pushed c.args.text.now) l)) (sym line)
-    c.push_instruction.ensures.line
-
-pub returns-clause-part : goal.returns-clause-part
-returns-clause-part g c = unpushed _ _ _ c.push_instruction.result c.push_instruction.ensures.none
+    pushes_same _ _ _ _ c.push_instruction.result (sym line) c.push_instruction.ensures.line

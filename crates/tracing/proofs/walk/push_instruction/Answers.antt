@@ -2,10 +2,14 @@ use Rattle.std.proofs.Common.{◌≡◌, ◌∙◌, ◌++◌, ◌∷◌, [], Lis
 use Rattle.machine.specs.PlainState.{plain_outcome}
 use Rattle.machine.specs.Runs.{state_of}
 use Rattle.streams.specs.Pushing.{more}
+use Rattle.streams.proofs.Pushes.{no_part, pushes_part}
 use Rattle.trace_lines.specs.StepLines.{change_text, step_line}
 use Rattle.tracing.proofs.LineLemmas.{rows_are, step_ended, step_went}
 use Rattle.tracing.proofs.walk.push_instruction.Goals.{then-is_none, else-is_none}
 use Rattle.tracing.proofs.walk.push_instruction.Goals as goal
+
+pub returns-in_err-stop-clause-line : goal.returns-in_err-stop-clause-line
+returns-in_err-stop-clause-line g c = pushes_part c.from_residual.result c.from_residual.ensures.0 (no_part _ _)
 
 pub returns-clause-line : goal.returns-clause-line
 returns-clause-line g c =

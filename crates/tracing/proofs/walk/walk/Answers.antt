@@ -1,13 +1,12 @@
-use Rattle.std.proofs.Common.{◌≡◌, ◌+◌, ◌∙◌, List, OnErr, None, ap, arith, false, min, rules, subst, sym, ℕ}
+use Rattle.std.proofs.Common.{◌≡◌, ◌+◌, ◌∙◌, None, ap, arith, false, min, rules, sym}
 use Rattle.machine.specs.Inputs.{Session}
-use Rattle.streams.specs.Pushing.{PushesPart}
-use Rattle.streams.proofs.Pushes.{no_part, on_err}
-use Rattle.tracing.specs.Walks.{kept_text, lines_left, with_lines}
-use Rattle.tracing.proofs.Walking.{ended, none_left, none_more}
+use Rattle.streams.proofs.Pushes.{no_part}
+use Rattle.tracing.specs.Walks.{lines_left, walked, with_lines}
+use Rattle.tracing.proofs.Walking.{ended, none_left, none_more, walk_fails}
 use Rattle.tracing.proofs.walk.walk.Goals as goal
 
-pub returns-in_err-cause-clause-part : goal.returns-in_err-cause-clause-part
-returns-in_err-cause-clause-part g c = on_err c.from_residual.result (no_part _ _)
+pub returns-in_err-cause-clause-lines : goal.returns-in_err-cause-clause-lines
+returns-in_err-cause-clause-lines g c = walk_fails _ c.args.run.now c.skip_early.new.run _ _ c.from_residual.result c.from_residual.ensures.0 (no_part _ _)
 
 pub returns-clause-lines : goal.returns-clause-lines
 returns-clause-lines g c =
@@ -19,8 +18,7 @@ returns-clause-lines g c =
     let limits : r.session.limit ≡ c.args.session.now.limit = ap (λ (s : Session). s.limit) (c.in_ok-cause-2.ensures.session ∙ c.in_ok-cause.ensures.session ∙ c.requires.session) in
     let last : c.min-end.result ≡ min r.session.limit (ch.to + 1) = omega (arith, limits, c.min-end.ensures, c.saturating_add.ensures, c.limit-limit.ensures.value, c.limit-limit.ensures.within) in
     let none = none_left ch r c.min-end.result at last in
-    let lines = (rw c.in_default-2.is at c.in_ok-cause-2.ensures.lines)
-        ∙ ap (with_lines (g.X.Text.pushed c.args.text.now) c.args.walker.now.skip) (sym same) in
+    let lines = (rw c.in_default-2.is at c.in_ok-cause-2.ensures.lines) ∙ ap (with_lines (walked (g.X.Text.pushed c.args.text.now) c.args.walker.now.skip)) (sym same) in
     let limit : c.advance.new.self.session.limit ≡ c.limit-limit.result =
         ap (λ (s : Session). s.limit) c.advance.ensures.goes.session ∙ limits ∙ sym c.limit-limit.ensures.value in
-    none_more ch _ _ _ _ _ _ c.advance.new.self c.advance.result (ended c.advance.new.self c.limit-limit.result c.advance.result limit c.advance.ensures.ends c.advance.ensures.stops) none lines
+    none_more ch c.args.run.now r c.advance.new.self _ _ c.advance.result (ended c.advance.new.self c.limit-limit.result c.advance.result limit c.advance.ensures.ends c.advance.ensures.stops) none lines

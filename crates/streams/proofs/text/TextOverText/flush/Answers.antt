@@ -14,7 +14,7 @@ invariant_of-self-2 g c =
     let size = ap length c.as_slice.ensures.value in
     let within : n ≤ length buffer = omega (arith, w.ensures.count, size) in
     let whole : w.result.1 ≡ false → n ≡ length buffer = λ h. omega (arith, w.ensures.all h, size) in
-    let sent : c.longer.result.numbers ≡ s.sent.numbers ++ take n buffer = rw c.as_slice-2.ensures.value at c.longer.ensures in
+    let sent : c.with_piece.result.numbers ≡ s.sent.numbers ++ take n buffer = rw c.as_slice-2.ensures.value at c.with_piece.ensures in
     record {
       bytes = rw sent (Appends-trans _ _ _ _ _ s.bytes (rw c.as_slice.ensures.value at w.ensures.bytes));
       failures = omega (arith, w.ensures.failures, none);

@@ -1,0 +1,21 @@
+use Rattle.std.proofs.Common.{◌≡◌, ◌++◌, false, ap, arith, append-nil, sym, take, ◌∙◌}
+use Rattle.std.proofs.KnownBytes.{Appends-trans}
+use Rattle.streams.proofs.Texts.{all_more, prefix_more}
+use Rattle.streams.proofs.text.TextOver.push_apart.Goals as goal
+
+pub invariant_of-self-2 : goal.invariant_of-self-2
+invariant_of-self-2 g c =
+    let s = c.flush.new.self in
+    let w = c.write_counted-count in
+    let piece = c.args.piece.now in
+    let n = w.result.0 in
+    let none = rw c.if-self.false at s.failures in
+    let said : s.said.numbers ≡ s.sent.numbers = sym (s.all c.if-self.false) ∙ ap (λ b. s.sent.numbers ++ b) c.flush.ensures.sent ∙ append-nil s.sent.numbers in
+    let sent : c.with_piece-2.result.numbers ≡ s.sent.numbers ++ take n piece = c.with_piece-2.ensures in
+    let whole : c.with_piece-3.result.numbers ≡ s.sent.numbers ++ piece = c.with_piece-3.ensures ∙ ap (λ t. t ++ piece) said in
+    record {
+      bytes = rw sent (Appends-trans _ _ _ _ _ s.bytes w.ensures.bytes);
+      failures = omega (arith, w.ensures.failures, none);
+      prefix = rw (sent, whole) (prefix_more s.sent.numbers piece n w.ensures.count);
+      all = λ h. rw (c.flush.ensures.sent, append-nil, sent, whole) (all_more s.sent.numbers piece n (w.ensures.all h));
+    }
