@@ -166,7 +166,7 @@ impl State {
         if self.changes.looks.is_empty() {
             return None;
         }
-        match self.changes.looks.take() {
+        match self.changes.take_look() {
             Some(ask) => Some(Question::Host(ask)),
             None => None,
         }
