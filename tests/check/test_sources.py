@@ -236,6 +236,11 @@ class SourcesTest(RuleTest):
         self.expect_count(2, STEPS, LOOP)
         self.expect_count(1, r'\brun_from\(', LOOP)
 
+    def test_a_file_is_only_written_where_there_is_none(self) -> None:
+        """What is at a path is not written through, be it a file or a link: no contract says how a file is opened."""
+        self.refuse(in_code(r'\b(create|truncate|append)\((true|false)\)|\bFile::create\b|\bfs::write\b'))
+        self.expect_count(1, r'\bcreate_new\(true\)', 'folders/src/file_system.rt')
+
     def test_no_macro_is_defined(self) -> None:
         """A macro can write any name, past all these rules."""
         self.refuse(in_code(r'\bmacro_rules!'))
