@@ -40,7 +40,7 @@ stage: all
 	    install -D -m 644 scripts/completion $(STAGE)/share/bash-completion/completions/$$name || exit; done
 	@cp -R examples tests/programs $(STAGE)/$(DOC) && rm -rf $(STAGE)/$(DOC)/examples/built
 	@find $(STAGE) -name __pycache__ -prune -exec rm -rf {} +
-	@cp docs/MANUAL.md docs/WALKS.md $(STAGE)/$(DOC)
+	@cp docs/MANUAL.md docs/WALKS.md docs/MACHINES.md $(STAGE)/$(DOC)
 	@find $(STAGE)/$(DOC) -name '*.md' -exec sed -E -i '$(PAGE)' {} +
 	@chmod -R u=rwX,go=rX $(STAGE)
 

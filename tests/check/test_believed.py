@@ -145,6 +145,16 @@ def listed() -> dict[str, dict[str, int]]:
     return groups
 
 
+def product_text() -> str:
+    """Returns the sources of the product, comments too."""
+    return '\n'.join(path.read_text() for crate in read_crates() if not crate.is_test for path in crate.sources())
+
+
+def page_text() -> str:
+    """Returns the page with one blank between words."""
+    return ' '.join((TOP / 'docs/PROVED.md').read_text().split())
+
+
 def wanted_list() -> str:
     """Returns what the page must have."""
     rows = {heading: [f'{count:6,} {name}' for name, count in counts.items()] for heading, counts in counted().items()}
@@ -172,10 +182,20 @@ class BelievedTest(RuleTest):
         self.refuse_rows([f'the part "{heading}" is not known' for heading in listed() if heading not in GROUPS])
 
     def test_the_page_counts_the_views_and_the_traits_with_contracts(self) -> None:
-        code = '\n'.join(path.read_text() for crate in read_crates() if not crate.is_test for path in crate.sources())
+        code = product_text()
         views, traits = (len(re.findall(pattern, code, re.MULTILINE)) for pattern in (r'^ *ghost view =', r'^pub trait '))
-        page = ' '.join((TOP / 'docs/PROVED.md').read_text().split())
-        self.assertIn(f'the {views} views (`ghost view`), by which contracts see values; and the contracts of {traits} traits', page)
+        page = page_text()
+        self.assertIn(f'the {views} views, by which contracts see values', page)
+        self.assertIn(f'the contracts of {traits} traits, which code over any implementation relies on', page)
+
+    def test_the_page_names_each_type_of_the_system_and_counts_the_methods_of_its_files(self) -> None:
+        """The contracts of these types say of a file or a stream only where it failed."""
+        code = product_text()
+        types = set(re.findall(r'^impl.*? (?:FileSystem|Reader|Writer) for (\w+)', code, re.MULTILINE))
+        [files] = re.findall(r'^impl[^\n]* FileSystem for SystemFiles.*?^}', code, re.MULTILINE | re.DOTALL)
+        page = page_text().partition(SECTION)[0]
+        self.refuse(sorted(name for name in types if f'`{name}`' not in page))
+        self.assertIn(f"(`SystemFiles`, {len(re.findall(r'^ *fn ', files, re.MULTILINE))} methods of a few lines each", page)
 
     def test_the_page_names_each_library_that_is_trusted(self) -> None:
         crates = read_crates()

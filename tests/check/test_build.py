@@ -27,7 +27,7 @@ test_top: top
 '''
 ALL = ['executable', 'far', 'ground', 'left', 'right', 'top']
 SECONDS = '# a comment\nground 100\nleft 200\nright 250\ntop 500\nexecutable 1000\n'
-FIRST = 'cpmrun: first run: proving the program and building it, which takes some minutes on four cores'
+FIRST = 'cpmrun: first run: proving the program and building it (README.md, "The first build")'
 CLEAR = '\r\x1b[K'
 # As rt does, it locks the folders of its crate and of the crates below, and proves only what was not proved of the same text.
 RT = r'''#!/usr/bin/env bash
@@ -280,5 +280,5 @@ class Build(unittest.TestCase):
     def test_rt_must_be_on_the_path(self):
         self.path = '/usr/bin:/bin'
         self.assertEqual(self.end(self.start(), 1), [])
-        self.assertEqual(self.errors, 'cpmrun: the command rt of the Rattle kit is not on the PATH (README.md, "What it needs")\n')
+        self.assertEqual(self.errors, 'cpmrun: the command rt of the Rattle kit is not on the PATH (README.md, "Try it")\n')
 

@@ -65,11 +65,11 @@ class ExamplesTest(ProgramTest):
 class RebuildTest(ProgramTest):
     """The Makefile whose rules cpmrun writes."""
 
-    def build(self, status: int = 0) -> list[str]:
+    def build(self, status: int = 0, source: str = 'source') -> list[str]:
         """Returns the programs that make assembles, the last one in vain if the status is not 0."""
         env = {name: value for name, value in os.environ.items() if name not in ('MAKEFLAGS', 'MAKELEVEL')}
         words = ['make', '-s', '-f', EXAMPLES / 'rebuild/Makefile', f'CPMRUN={PROGRAM}', 'ASSEMBLER=assemble.com', 'PROGRAMS=HI LETTERS']
-        done = self.run_command(*words, cwd=self.work, env=env)
+        done = self.run_command(*words, f'SOURCE={source}', cwd=self.work, env=env)
         self.assertEqual((done.returncode, bool(done.stderr)), (status, status != 0), done.stderr)
         return done.stdout.decode().replace('assembling ', '').split()
 
@@ -99,6 +99,14 @@ class RebuildTest(ProgramTest):
             self.assertEqual(self.build(2), ['HI'])
         self.change('source/hi.hex', b'"Ho$', b'"Ho$"')
         self.assertEqual(self.build(), ['HI'])
+
+    def test_the_path_of_the_sources_may_have_a_blank(self) -> None:
+        shutil.copytree(EXAMPLES / 'assemble/files', self.work / 'my source')
+        shutil.copy2(EXAMPLES / 'assemble/assemble.com', self.work)
+        self.assertEqual(self.build(source='my source'), ['HI', 'LETTERS'])
+        self.assertEqual(self.build(source='my source'), [])
+        self.change('my source/hi.hex', b'"Hi$"', b'"Ho$"')
+        self.assertIn('HI', self.build(source='my source'))
 
 
 class FixtureTest(ProgramTest):

@@ -46,8 +46,8 @@ class Install(unittest.TestCase):
             shutil.copytree(doc, copy)
             found += wrong_blocks(doc / page, copy, env)
         if has_parallel():
-            page = self.work / 'WALKS.md'
-            page.write_text(smaller((doc / 'WALKS.md').read_text()))
+            page = self.work / 'MACHINES.md'
+            page.write_text(smaller((doc / 'MACHINES.md').read_text()))
             found += wrong_blocks(page, self.work / 'copies/WALKS.md', make_machines(self.work / 'machines', env), 'sh parallel')
         if found:
             self.fail('\n'.join(['', *found]))

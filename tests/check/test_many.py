@@ -1,4 +1,4 @@
-"""Runs the walk over several machines, the blocks of docs/WALKS.md that are fenced by ```sh parallel, with fewer sessions. A stand-in for ssh
+"""Runs the walk over several machines, the blocks of docs/MACHINES.md that are fenced by ```sh parallel, with fewer sessions. A stand-in for ssh
 runs commands in a folder for each machine, and one machine goes away in the middle. Skipped without GNU parallel or rsync."""
 import os
 import re
@@ -71,7 +71,7 @@ class ManyTest(ProgramTest):
         self.top = self.work / 'top'
         self.top.mkdir()
         copy_tree(self.top)
-        self.page = self.put('WALKS.md', smaller((TOP / 'docs/WALKS.md').read_text()))
+        self.page = self.put('MACHINES.md', smaller((TOP / 'docs/MACHINES.md').read_text()))
         self.scripts, self.one, self.several, self.again = [block['commands'] for block in blocks_of(self.page.read_text(), 'sh parallel')[:4]]
 
     def run_block(self, commands: str, machines: str = 'machines', goes: str = '') -> tuple[int, str]:

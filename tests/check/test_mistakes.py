@@ -6,7 +6,7 @@ from pathlib import Path
 
 from helpers import TOP, RuleTest
 
-MOST = 14
+MOST = 4
 """The most edits of a crate that the gate tries."""
 
 

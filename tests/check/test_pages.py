@@ -11,6 +11,9 @@ from pathlib import Path
 
 from helpers import DEPENDENCIES_PROGRAM, PROGRAM, TOP, TRACE_PROGRAM, ProgramTest
 
+LENGTHS = {'README.md': 150, 'docs/PROVED.md': 300}
+"""The most lines of the pages that are read first."""
+
 PARTS = ['cpmrun', 'cpmdeps', 'cpmtrace', 'crates.txt', 'scripts', 'examples', 'tests', 'docs']
 """What the commands may name. Of the crates they may name only the built programs."""
 
@@ -52,6 +55,10 @@ class PagesTest(ProgramTest):
         copy_tree(self.work)
         if found := wrong_blocks(TOP / name, self.work):
             self.fail('\n'.join(['', *found]))
+
+    def test_the_pages_that_are_read_first_are_short(self) -> None:
+        for name, most in LENGTHS.items():
+            self.assertLessEqual(len((TOP / name).read_text().splitlines()), most, name)
 
     def test_commands_of_the_readme(self) -> None:
         self.expect_page('README.md')

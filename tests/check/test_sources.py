@@ -96,6 +96,8 @@ def lines_of(path: Path) -> Iterator[tuple[str, str]]:
     return ((line, f'{name}:{number}: {line.strip()}') for number, line in enumerate(path.read_text().splitlines(), 1))
 
 
+CALLS = r'\bbdos::call\b|\buse bdos\b.*(\bcall\b|\*|\bas\b)'
+RUNS = r'\bmachine::Run\b|\buse machine\b.*(\bRun\b|\*|\bas\b)'
 METER = r'\bMeter>?::|\bMeter as\b|\b(type|impl|for)\b.*\bMeter\b'
 STEPS = r'\brun_from\b|\bmachine::step\b|\buse\b.*\bmachine\b.*(\bstep\b|\*|\bas\b)'
 COMMAND = 'cpmrun/src/command_line.rt'
@@ -220,11 +222,24 @@ class SourcesTest(RuleTest):
         exports = in_code(r'\bpub use\b.*(\b(i8080|known_run|console_calls|bdos)\b.*\b[a-z]|\bas\b)')
         self.refuse(line for line in exports if line.startswith('crates/machine/'))
 
+    def test_only_machine_makes_calls(self) -> None:
+        """Others list bdos for its definitions and its small functions, so they could execute calls that no meter counts."""
+        self.refuse(in_code(CALLS, 'machine/'))
+
+    def test_only_one_run_and_what_lists_or_traces_a_run_names_a_run(self) -> None:
+        """A `Run` executes steps that no meter counts: an edit that ran the session once more by it would have the same contract."""
+        self.refuse(in_code(RUNS, 'one_run/', 'dependencies/', 'tracing/', 'trace_lines/', 'trace_filters/', 'trials/'))
+
     def test_only_the_loop_of_a_rerun_executes_steps_and_in_one_place(self) -> None:
         """`run_from` is public for this loop and `step` for tests; a contract counts the steps of the loop, and not what is executed beside it."""
         self.refuse(in_code(STEPS, LOOP, 'machine/'))
         self.expect_count(2, STEPS, LOOP)
         self.expect_count(1, r'\brun_from\(', LOOP)
+
+    def test_a_file_is_only_written_where_there_is_none(self) -> None:
+        """What is at a path is not written through, be it a file or a link: no contract says how a file is opened."""
+        self.refuse(in_code(r'\b(create|truncate|append)\((true|false)\)|\bFile::create\b|\bfs::write\b'))
+        self.expect_count(1, r'\bcreate_new\(true\)', 'folders/src/file_system.rt')
 
     def test_no_macro_is_defined(self) -> None:
         """A macro can write any name, past all these rules."""

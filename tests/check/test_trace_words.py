@@ -51,6 +51,10 @@ class TraceWordsTest(ProgramTest):
                 done = self.run_command(TRACE_PROGRAM, *words)
                 self.assertEqual((done.returncode, done.stdout, done.stderr.decode().splitlines()[0]), (1, b'', first))
                 self.assertTrue(done.stderr.endswith(b"For more information, try '--help'.\n"))
+                self.assertEqual(done.stderr.count(b'\nUsage: cpmtrace '), done.stderr.count(b'\nUsage: '))
+
+    def test_words_that_are_not_text(self) -> None:
+        self.expect(1, '', f'error: invalid UTF-8 was detected in one or more arguments\n{USAGE}', HI, b'\xff')
 
     def test_help_and_version(self) -> None:
         self.expect(0, 'cpmtrace 1.0.0\n', '', '--version')

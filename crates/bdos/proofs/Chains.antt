@@ -50,7 +50,7 @@ at_err (Ok s) p = tt
 at_err (Err e) p = p
 
 -- The path of a call over a memory, a script and files.
-abbrev path_over : List ℕ → Memory → TableView → SystemTree SystemEnd → SystemPath SystemEnd
+abbrev pub path_over : List ℕ → Memory → TableView → SystemTree SystemEnd → SystemPath SystemEnd
 path_over script m v t = system_path_by (system_answers (bytes m) script v.host v.own) t
 
 module _ {old new : Scene} {v v' : TableView} {result : Result Served AllocError} where
@@ -76,7 +76,7 @@ module _ (script : List ℕ) {old new : Scene} {m1 : Memory} {v v' : TableView} 
       })
 
 -- The looks of some questions to the files, and of the rest.
-look_for-append : (own : OwnFiles) (xs ys : List FileQuestion) (l : FileLooks) → look_for_all own (xs ++ ys) l ≡ look_for_all own ys (look_for_all own xs l)
+pub look_for-append : (own : OwnFiles) (xs ys : List FileQuestion) (l : FileLooks) → look_for_all own (xs ++ ys) l ≡ look_for_all own ys (look_for_all own xs l)
 look_for-append own [] ys l = refl
 look_for-append own (x ∷ xs) ys l = look_for-append own xs ys _
 

@@ -1,5 +1,5 @@
 -- The effect of a function that executes a call, files included. (This project's own.)
-use Rattle.std.specs.Prelude.{◌≡◌, ℕ, List, OnOk, OnErr, [], ◌∷◌}
+use Rattle.std.specs.Prelude.{◌≡◌, ℕ, List, OnOk, OnErr}
 use Rattle.std.specs.declared.result.Result.{Result}
 use Rattle.std.specs.declared.alloc.AllocError.{AllocError}
 use Rattle.interaction_trees.specs.Tree.{result_of, questions_of}
@@ -7,7 +7,7 @@ use Rattle.i8080.specs.declared.registers.Regs.{Regs}
 use Rattle.i8080.specs.Memory.{bytes}
 use Rattle.console_calls.specs.declared.desk.Spot.{Spot}
 use Rattle.console_calls.specs.declared.served.Served.{Served}
-use Rattle.console_calls.specs.StateQuestions.{addresses, script_offsets, StateQuestion, answers}
+use Rattle.console_calls.specs.StateQuestions.{addresses, script_offsets, answers}
 use Rattle.console_calls.specs.PerformsCall.{Scene, CallPath, PerformsCall}
 use Rattle.hostfiles.specs.FileLooks.{KeepsAsks}
 use Rattle.hostfiles.specs.Hosts.{Host}
@@ -16,19 +16,9 @@ use Rattle.file_calls.specs.FileQuestions.{FileQuestion}
 use Rattle.file_calls.specs.TableView.{TableView, look_for_all, file_answers}
 use Rattle.file_calls.specs.Changes.{FileChange}
 use Rattle.file_calls.specs.Deletes.{own_after_change}
-use Rattle.bdos.specs.SystemQuestions.{SystemTree, SystemQuestion, OfState, OfFiles, SystemAnswers}
+use Rattle.bdos.specs.SystemQuestions.{SystemTree, OfState, OfFiles, SystemAnswers}
+pub use Rattle.bdos.specs.SystemQuestions.{state_questions, file_questions}
 use Rattle.bdos.specs.FileCalls.{SystemEnd}
-
--- The questions to the state, and the questions to the files.
-abbrev pub state_questions : List SystemQuestion → List StateQuestion
-state_questions [] = []
-state_questions (OfState q ∷ rest) = q ∷ state_questions rest
-state_questions (OfFiles q ∷ rest) = state_questions rest
-
-abbrev pub file_questions : List SystemQuestion → List FileQuestion
-file_questions [] = []
-file_questions (OfState q ∷ rest) = file_questions rest
-file_questions (OfFiles q ∷ rest) = q ∷ file_questions rest
 
 -- The answers of a memory, a script and files.
 abbrev pub system_answers : (ℕ → ℕ) → List ℕ → Host → OwnFiles → SystemAnswers

@@ -1,4 +1,5 @@
 -- What a call asks of the state: of memory and the script, and of the files. (This project's own.)
+use Rattle.std.specs.Prelude.{List, [], ◌∷◌}
 use Rattle.interaction_trees.specs.Tree.{Tree, Return, Query}
 use Rattle.i8080.specs.Reading.{Reading, Done}
 use Rattle.i8080.specs.Reading as reading
@@ -18,6 +19,17 @@ SystemAnswers = (q : SystemQuestion) → SystemAnswer q
 
 abbrev pub SystemTree : Type 0 → Type 0
 SystemTree E = Tree SystemQuestion SystemAnswer E
+
+-- The questions to the state, and the questions to the files.
+abbrev pub state_questions : List SystemQuestion → List StateQuestion
+state_questions [] = []
+state_questions (OfState q ∷ rest) = q ∷ state_questions rest
+state_questions (OfFiles q ∷ rest) = state_questions rest
+
+abbrev pub file_questions : List SystemQuestion → List FileQuestion
+file_questions [] = []
+file_questions (OfState q ∷ rest) = file_questions rest
+file_questions (OfFiles q ∷ rest) = q ∷ file_questions rest
 
 -- Reads of memory, and what follows them.
 abbrev pub bind_reading : {E F : Type 0} → Reading E → (E → SystemTree F) → SystemTree F

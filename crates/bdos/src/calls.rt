@@ -1,4 +1,4 @@
-ghost use Rattle.std.specs.Prelude.{◌≡◌, ◌≤◌, List, ℕ, true, is_some, Ok, OnErr, length, if◌then◌else◌};
+ghost use Rattle.std.specs.Prelude.{◌≡◌, ◌≤◌, List, ℕ, true, false, is_some, Ok, OnErr, length, if◌then◌else◌};
 ghost use Rattle.file_calls.specs.TableView.{table_view};
 ghost use Rattle.i8080.specs.Memory.{bytes};
 ghost use Rattle.i8080.specs.Performs.{Reads};
@@ -7,8 +7,9 @@ ghost use Rattle.bdos.specs.FileCalls.{block_reading};
 ghost use Rattle.bdos.specs.BlockParts.{byte_count};
 ghost use Rattle.file_calls.specs.Findings.{block_length};
 ghost use Rattle.bdos.specs.SystemCalls.{call, system_function};
-ghost use Rattle.bdos.specs.Growth.{may_grow, names_drive};
+ghost use Rattle.bdos.specs.Growth.{IfOfFiles, NeedsMemoryFor, may_grow, names_drive};
 ghost use Rattle.bdos.specs.PerformsSystemCall.{MakesSystemCall};
+ghost use Rattle.i8080.specs.Performs.{KeepsReady};
 ghost use Rattle.console_calls.specs.PerformsCall.{scene};
 
 use crate::cells::fetch_cells;
@@ -28,7 +29,9 @@ use std::alloc::AllocError;
 ///
 /// # Errors
 ///
-/// `Err` means out of memory. A call that asks about no file, writes nothing and sends nothing is never an `Err`.
+/// `Err` means out of memory. A call of files needs it to note a question to the host files that was not asked before, to change
+/// files, or to write a cell that is not ready; a call of the console to send a byte or to collect a line, and function 8 to write a
+/// cell that is not ready. Functions 9 and 10 may fail although they would print nothing or stop.
 #[tactic(auto, unfolding(crate::specs::SystemCalls::call))]
 #[inline(always)]
 pub fn call<B: Bus>(
@@ -43,6 +46,10 @@ pub fn call<B: Bus>(
         (scene regs.new (B.memory bus.new) desk.new) (table_view table.new) }
     ensures grows { OnErr result (may_grow (system_function regs.old.c) regs.old desk.old.desk.spot
         (bytes (B.memory bus.old)) script.now ≡ true) }
+    ensures needs { (n : ℕ) → OnErr result (IfOfFiles (system_function regs.old.c)
+        (NeedsMemoryFor (call n) script.now (scene regs.old (B.memory bus.old) desk.old)
+        (table_view table.old) (B.is_ready bus.old))) }
+    ensures io_byte { OnErr result (regs.old.c ≡ 8 → B.is_ready bus.old 3 ≡ false) }
 {
     match SystemFunction::decode(regs.c) {
         SystemFunction::OfFile(function) => file_call(regs, bus, table, desk, function),
@@ -66,6 +73,8 @@ fn file_call<B: Bus>(
         (scene regs.new (B.memory bus.new) desk.new) (table_view table.new) }
     ensures grows { OnErr result
         (names_drive regs.old desk.old.desk.spot (bytes (B.memory bus.old)) ≡ true) }
+    ensures needs { (script : List ℕ) → OnErr result (NeedsMemoryFor (file_call function) script
+        (scene regs.old (B.memory bus.old) desk.old) (table_view table.old) (B.is_ready bus.old)) }
 {
     let at = word_of(regs.e, regs.d);
     let dr = fetch(bus, at);
@@ -93,6 +102,8 @@ fn delete_call<B: Bus>(
         (scene regs.new (B.memory bus.new) desk.now) (table_view table.new) }
     ensures grows { OnErr result
         (names_drive regs.old desk.now.desk.spot (bytes (B.memory bus.old)) ≡ true) }
+    ensures needs { (script : List ℕ) → OnErr result (NeedsMemoryFor delete_call script
+        (scene regs.old (B.memory bus.old) desk.now) (table_view table.old) (B.is_ready bus.old)) }
 {
     let at = word_of(regs.e, regs.d);
     let dr = fetch(bus, at);
@@ -125,6 +136,8 @@ fn search_next_call<B: Bus>(
         (scene regs.old (B.memory bus.old) desk.old) (table_view table.old) result
         (scene regs.new (B.memory bus.new) desk.new) (table_view table.new) }
     ensures grows { OnErr result (is_some desk.old.desk.spot.search ≡ true) }
+    ensures needs { (script : List ℕ) → OnErr result (NeedsMemoryFor search_next_call script
+        (scene regs.old (B.memory bus.old) desk.old) (table_view table.old) (B.is_ready bus.old)) }
 {
     let to = fetch_word(bus, regs.sp);
     let finding = search_next(table.host, table.changes, desk.search());
@@ -162,8 +175,9 @@ fn block_length(function: FileFunction) -> BlockLength
 
 // Reads the control block at an address, whose drive byte was already read. Bytes that are not read are zeros.
 fn fetch_block<B: Bus>(bus: &mut B, at: u16, drive: Drive, dr: u8, length: BlockLength) -> Block
-    ensures { Reads (block_reading drive dr (byte_count length) at)
+    ensures reads { Reads (block_reading drive dr (byte_count length) at)
         (B.memory bus.old) result (B.memory bus.new) }
+    ensures kept { KeepsReady (B.is_ready bus.old) (B.is_ready bus.new) }
 {
     let mut bytes = [0; 36];
     bytes[0] = dr;

@@ -1,6 +1,6 @@
 // What a call does with what it found.
 
-ghost use Rattle.std.specs.Prelude.{◌≡◌, ◌≢◌, ◌≤◌, ◌/◌, ◌%◌, List, [], ◌∷◌, ℕ, true, Ok, OnOk, OnErr, length};
+ghost use Rattle.std.specs.Prelude.{◌≡◌, ◌≢◌, ◌≤◌, ◌/◌, ◌%◌, List, [], ◌∷◌, ◌++◌, ℕ, true, Ok, OnOk, OnErr, length};
 ghost use Rattle.console_calls.specs.ScriptLooks.{DeskLooks};
 ghost use Rattle.file_calls.specs.TableView.{TableView, table_view};
 ghost use Rattle.file_calls.specs.DistinctKeys.{HasDistinctKeys};
@@ -8,12 +8,16 @@ ghost use Rattle.file_calls.specs.Changes.{Unchanged, Stored};
 ghost use Rattle.file_calls.specs.Deletes.{own_after_change};
 ghost use Rattle.file_calls.specs.declared.finding.Finding.TheVariants as finding;
 ghost use Rattle.i8080.specs.End.{cells_from};
-ghost use Rattle.i8080.specs.Registers.{word};
+ghost use Rattle.i8080.specs.Registers.{onward, word};
 ghost use Rattle.bdos.specs.FileCalls.{call_with_finding, return_with, directory_record, random_cells};
 ghost use Rattle.bdos.specs.FileCalls.{random_bytes, opened_bytes, made_bytes};
 ghost use Rattle.bdos.specs.PerformsSystemCall.{MakesSystemCall};
 ghost use Rattle.console_calls.specs.PerformsCall.{scene};
-ghost use Rattle.bdos.specs.Growth.{is_done};
+ghost use Rattle.interaction_trees.specs.Tree.{result_of};
+ghost use Rattle.i8080.specs.Performs.{WritesUnready};
+ghost use Rattle.bdos.specs.FileCalls.{place_cells};
+ghost use Rattle.bdos.specs.SystemQuestions.{SystemAnswers};
+ghost use Rattle.bdos.specs.Growth.{Grows, is_done};
 
 use crate::cells::{fetch_cells, put_cells, put_record, ready_place, write_place};
 use console_calls::{Desk, Served, return_to};
@@ -27,8 +31,8 @@ use std::alloc::AllocError;
 ///
 /// # Errors
 ///
-/// `Err` means out of memory; the registers, cells, desk and files are unchanged. A finding that is a value, or that
-/// no entry matches, is never an `Err`.
+/// `Err` means out of memory, to change files or to write a cell that is not ready; the registers, cells, desk and files are
+/// unchanged. A finding that is a value, or that no entry matches, is never an `Err`.
 #[inline(always)]
 pub fn apply_finding<B: Bus>(
     finding: &Finding,
@@ -44,6 +48,8 @@ pub fn apply_finding<B: Bus>(
         (scene regs.old (B.memory bus.old) desk.old) (table_view table.old) result
         (scene regs.new (B.memory bus.new) desk.new) (table_view table.new) }
     ensures grows { OnErr result (is_done finding.now ≡ true) }
+    ensures needs { (f : SystemAnswers) → OnErr result (Grows (B.is_ready bus.old)
+        (result_of f (call_with_finding finding.now regs.old desk.old.desk.spot to))) }
 {
     match finding {
         Finding::Value(value) => Ok(return_value(regs, bus, desk, *value, to)),
@@ -81,10 +87,12 @@ fn return_count<B: Bus>(
     count: u8,
     to: u16,
 ) -> Result<Served, AllocError>
-    ensures { (script : List ℕ) (v : TableView) →
+    ensures makes { (script : List ℕ) (v : TableView) →
         MakesSystemCall (λ r spot. call_with_finding (finding.Opened count) r spot to) script
         (scene regs.old (B.memory bus.old) desk.now) v result
         (scene regs.new (B.memory bus.new) desk.now) v }
+    ensures refused { OnErr result (WritesUnready (B.is_ready bus.old)
+        (cells_from (onward (word regs.old.e regs.old.d) 13) (opened_bytes count))) }
 {
     let at = word_of(regs.e, regs.d).wrapping_add(13);
     return_cells(regs, bus, at, &opened_bytes(count), 0, to)
@@ -100,11 +108,13 @@ fn return_place<B: Bus>(
     value: u8,
     to: u16,
 ) -> Result<Served, AllocError>
-    ensures { (script : List ℕ) (v : TableView) →
+    ensures makes { (script : List ℕ) (v : TableView) →
         let cells = random_cells (word regs.old.e regs.old.d) record_number in
         MakesSystemCall (λ r spot. return_with value r spot to cells Unchanged) script
         (scene regs.old (B.memory bus.old) desk.now) v result
         (scene regs.new (B.memory bus.new) desk.now) v }
+    ensures refused { OnErr result (WritesUnready (B.is_ready bus.old)
+        (random_cells (word regs.old.e regs.old.d) record_number)) }
 {
     let at = word_of(regs.e, regs.d).wrapping_add(33);
     return_cells(regs, bus, at, &random_bytes(record_number), value, to)
@@ -134,10 +144,12 @@ fn return_cells<B: Bus>(
     to: u16,
 ) -> Result<Served, AllocError>
     requires { length bytes.now ≤ 128 }
-    ensures { (script : List ℕ) (d : DeskLooks) (v : TableView) →
+    ensures makes { (script : List ℕ) (d : DeskLooks) (v : TableView) →
         MakesSystemCall (λ r spot. return_with value r spot to (cells_from at bytes.now) Unchanged) script
         (scene regs.old (B.memory bus.old) d) v result
         (scene regs.new (B.memory bus.new) d) v }
+    ensures refused { OnErr result (WritesUnready (B.is_ready bus.old)
+        (cells_from at bytes.now)) }
 {
     put_cells(bus, at, bytes)?;
     return_to(regs, value as u16, to);
@@ -153,10 +165,12 @@ fn return_entry<B: Bus>(
     search: &Search,
     to: u16,
 ) -> Result<Served, AllocError>
-    ensures { (script : List ℕ) (v : TableView) →
+    ensures makes { (script : List ℕ) (v : TableView) →
         MakesSystemCall (λ r spot. call_with_finding (finding.FirstEntry search.now) r spot to) script
         (scene regs.old (B.memory bus.old) desk.old) v result
         (scene regs.new (B.memory bus.new) desk.new) v }
+    ensures refused { OnErr result (WritesUnready (B.is_ready bus.old)
+        (cells_from desk.old.desk.spot.buffer (directory_record search.now.last))) }
 {
     put_cells(bus, desk.buffer(), &directory_record(&search.last))?;
     desk.set_search(Some(*search));
@@ -183,10 +197,13 @@ fn return_record<B: Bus>(
     next: u32,
     to: u16,
 ) -> Result<Served, AllocError>
-    ensures { (script : List ℕ) (v : TableView) →
+    ensures makes { (script : List ℕ) (v : TableView) →
         MakesSystemCall (λ r spot. call_with_finding (finding.Found bytes.now next) r spot to) script
         (scene regs.old (B.memory bus.old) desk.now) v result
         (scene regs.new (B.memory bus.new) desk.now) v }
+    ensures refused { OnErr result (WritesUnready (B.is_ready bus.old)
+        (cells_from desk.now.desk.spot.buffer bytes.now
+        ++ place_cells (word regs.old.e regs.old.d) next)) }
 {
     let block = word_of(regs.e, regs.d);
     put_record(bus, desk.buffer(), bytes, block, next)?;

@@ -31,8 +31,8 @@ const VERSION: u16 = 0x0022;
 ///
 /// # Errors
 ///
-/// `Err` means out of memory. Only functions 2, 8, 9 and 10 can run out of memory, function 1 if it echoes its byte, and
-/// function 6 if it sends one. With more memory, functions 9 and 10 might still have stopped.
+/// `Err` means out of memory. Only functions 2, 9 and 10 can run out of memory, function 8 if the cell of the I/O byte is not
+/// ready, function 1 if it echoes its byte, and function 6 if it sends one. With more memory, functions 9 and 10 might still have stopped.
 #[tactic(auto, unfolding(crate::specs::ConsoleCalls::console_call))]
 pub fn console_call<B: Bus>(
     regs: &mut Regs,
@@ -44,6 +44,7 @@ pub fn console_call<B: Bus>(
         (scene regs.old (B.memory bus.old) desk.old) result (scene regs.new (B.memory bus.new) desk.new) }
     ensures grows { OnErr result
         (may_grow regs.old desk.old.desk.spot script.now ≡ true) }
+    ensures io_byte { OnErr result (regs.old.c ≡ 8 → B.is_ready bus.old 3 ≡ false) }
 {
     match regs.c {
         0 => Ok(Served::Stop(Cause::WarmBoot)),
@@ -183,10 +184,11 @@ fn get_io_byte<B: Bus>(regs: &mut Regs, bus: &mut B, desk: &Desk) -> Served
 }
 
 // Executes function 8, which sets the I/O byte to E.
-#[tactic(auto, using(crate::proofs::Looking::until_it_failed))]
+#[tactic(auto, using(crate::proofs::Looking::until_it_failed, i8080::proofs::ReadyLemmas::unready_before))]
 fn set_io_byte<B: Bus>(regs: &mut Regs, bus: &mut B, desk: &Desk) -> Result<Served, AllocError>
-    ensures { (script : List ℕ) → MakesCall calls.set_io_byte script
+    ensures makes { (script : List ℕ) → MakesCall calls.set_io_byte script
         (scene regs.old (B.memory bus.old) desk.now) result (scene regs.new (B.memory bus.new) desk.now) }
+    ensures refused { OnErr result (B.is_ready bus.old 3 ≡ false) }
 {
     let to = fetch_word(bus, regs.sp);
     bus.ready(IO_BYTE)?;

@@ -1,8 +1,9 @@
 -- The effect of a call on a table. (This project's own.)
-use Rattle.std.specs.Prelude.{◌≡◌, Bool, true, false, IfOk, OnErr}
+use Rattle.std.specs.Prelude.{◌≡◌, ◌⊎◌, Bool, true, false, IfOk, OnErr}
 use Rattle.std.specs.declared.result.Result.{Result}
 use Rattle.std.specs.declared.alloc.AllocError.{AllocError}
 use Rattle.hostfiles.specs.Files.{OwnFiles}
+use Rattle.hostfiles.specs.FileLooks.{HasNewAsk}
 use Rattle.hostfiles.specs.declared.looks.FileLooks.{FileLooks}
 use Rattle.cpmfiles.specs.declared.table.Table.{Table}
 
@@ -23,3 +24,7 @@ pub record DoesIf (result : Result Bool AllocError) (change old new : OwnFiles) 
   pub done : IfOk result (λ b. b ≡ true → new ≡ change)
   pub not_done : IfOk result (λ b. b ≡ false → new ≡ old)
   pub err : OnErr result (new ≡ old)
+
+-- What a call needs memory for: to note a question that was not asked before, or to change files.
+abbrev pub NeedsMemory : FileLooks → FileLooks → Bool → Type 0
+NeedsMemory before after changes = HasNewAsk before after ⊎ (changes ≡ true)

@@ -1,6 +1,6 @@
 // Host files together with what a run did to them.
 
-ghost use Rattle.std.specs.Prelude.{◌≡◌, ◌<◌, true, false, OnOk, OnErr, IfOk, Some, Ok, slice_index};
+ghost use Rattle.std.specs.Prelude.{◌≡◌, ◌<◌, true, false, OnOk, OnErr, IfOk, Some, Ok, nat_lt, slice_index};
 ghost use Rattle.hostfiles.specs.Files.{has, records, length_at, record_if_there, shapes, after_make, after_rename, after_write};
 ghost use Rattle.hostfiles.specs.declared.journal.Gap.TheVariants.{Holes, Zeros};
 ghost use Rattle.hostfiles.specs.FileLooks.{look_has, look_records, look_read, look_directory, HasNewAsk, KeepsAsks};
@@ -9,7 +9,7 @@ ghost use Rattle.cpmfiles.specs.Tables.{can_make, can_rename, extent_count, look
 ghost use Rattle.filenames.specs.Names.{is_sayable};
 ghost use Rattle.cpmfiles.specs.Renaming.{has_wildcard, is_rename};
 ghost use Rattle.cpmfiles.specs.Tables.{count_deleted, look_delete, NamedAreGone, next_bytes};
-ghost use Rattle.cpmfiles.specs.TableParts.{own_of_table, looks_of_table, StandsOver, DoesIf};
+ghost use Rattle.cpmfiles.specs.TableParts.{own_of_table, looks_of_table, StandsOver, DoesIf, NeedsMemory};
 
 use crate::asking;
 use filenames::Key;
@@ -23,8 +23,8 @@ use std::alloc::AllocError;
 /// Host files together with what a run did to them. Each call marks the questions that reach the host files.
 ///
 /// `Err` means out of memory. It changes no file and nothing that the run did; the call may have marked some of its
-/// own questions, but no others. `has`, `records`, `read` and `extent` are an `Err` only if they ask the host files
-/// something that was not asked before, so never about a file that the run made.
+/// own questions, but no others. A call is an `Err` only if it asks the host files something that was not asked before,
+/// or changes a file; so `has`, `records`, `read` and `extent` never are about a file that the run made.
 #[derive(Drop)]
 pub struct Table<'a> {
     /// The host files.
@@ -113,6 +113,9 @@ impl Table<'_> {
             (after_write Holes (length_at self.old.host.now (own_of_table self.old) key.now)
             (own_of_table self.old) key.now k bytes.now)
             (own_of_table self.old) (own_of_table self.new) }
+        ensures refused { OnErr result (NeedsMemory (looks_of_table self.old)
+            (look_records self.old.host.now (own_of_table self.old) key.now (looks_of_table self.old))
+            (has self.old.host.now (own_of_table self.old) key.now)) }
         ensures over { StandsOver self.old self.new }
     {
         self.store(key, k, bytes, Gap::Holes)
@@ -129,6 +132,9 @@ impl Table<'_> {
             (after_write Zeros (length_at self.old.host.now (own_of_table self.old) key.now)
             (own_of_table self.old) key.now k bytes.now)
             (own_of_table self.old) (own_of_table self.new) }
+        ensures refused { OnErr result (NeedsMemory (looks_of_table self.old)
+            (look_records self.old.host.now (own_of_table self.old) key.now (looks_of_table self.old))
+            (has self.old.host.now (own_of_table self.old) key.now)) }
         ensures over { StandsOver self.old self.new }
     {
         self.store(key, k, bytes, Gap::Zeros)
@@ -144,6 +150,9 @@ impl Table<'_> {
             (after_write gap (length_at self.old.host.now (own_of_table self.old) key.now)
             (own_of_table self.old) key.now k bytes.now)
             (own_of_table self.old) (own_of_table self.new) }
+        ensures refused { OnErr result (NeedsMemory (looks_of_table self.old)
+            (look_records self.old.host.now (own_of_table self.old) key.now (looks_of_table self.old))
+            (has self.old.host.now (own_of_table self.old) key.now)) }
         ensures over { StandsOver self.old self.new }
     {
         let Some(n) = self.records(key)? else {
@@ -182,6 +191,9 @@ impl Table<'_> {
         ensures does { DoesIf result (after_make (own_of_table self.old) key.now) (own_of_table self.old)
             (own_of_table self.new) }
         ensures grows { OnErr result (is_sayable key.now ≡ true) }
+        ensures refused { OnErr result (NeedsMemory (looks_of_table self.old)
+            (look_make (own_of_table self.old) key.now (looks_of_table self.old))
+            (can_make self.old.host.now (own_of_table self.old) key.now)) }
         ensures over { StandsOver self.old self.new }
     {
         if !asking::can_make(self.host, self.changes, key)? {
@@ -200,6 +212,9 @@ impl Table<'_> {
         ensures done { OnOk result
             (NamedAreGone self.old.host.now (own_of_table self.old) pattern.now (own_of_table self.new)) }
         ensures err { OnErr result (own_of_table self.new ≡ own_of_table self.old) }
+        ensures refused { OnErr result (NeedsMemory (looks_of_table self.old)
+            (look_delete (own_of_table self.old) pattern.now (looks_of_table self.old))
+            (nat_lt 0 (count_deleted self.old.host.now (own_of_table self.old) pattern.now))) }
         ensures over { StandsOver self.old self.new }
     {
         if has_wildcard(pattern) {
@@ -217,6 +232,9 @@ impl Table<'_> {
         ensures done { OnOk result
             (NamedAreGone self.old.host.now (own_of_table self.old) key.now (own_of_table self.new)) }
         ensures err { OnErr result (own_of_table self.new ≡ own_of_table self.old) }
+        ensures refused { OnErr result (NeedsMemory (looks_of_table self.old)
+            (look_delete (own_of_table self.old) key.now (looks_of_table self.old))
+            (nat_lt 0 (count_deleted self.old.host.now (own_of_table self.old) key.now))) }
         ensures over { StandsOver self.old self.new }
     {
         if !self.has(key)? {
@@ -236,6 +254,9 @@ impl Table<'_> {
         ensures done { OnOk result
             (NamedAreGone self.old.host.now (own_of_table self.old) pattern.now (own_of_table self.new)) }
         ensures err { OnErr result (own_of_table self.new ≡ own_of_table self.old) }
+        ensures refused { OnErr result (NeedsMemory (looks_of_table self.old)
+            (look_delete (own_of_table self.old) pattern.now (looks_of_table self.old))
+            (nat_lt 0 (count_deleted self.old.host.now (own_of_table self.old) pattern.now))) }
         ensures over { StandsOver self.old self.new }
     {
         self.changes.looks.mark_directory(pattern[0]);
@@ -254,6 +275,9 @@ impl Table<'_> {
             (after_rename (own_of_table self.old) old.now new.now) (own_of_table self.old)
             (own_of_table self.new) }
         ensures grows { OnErr result (is_rename old.now new.now ≡ true) }
+        ensures refused { OnErr result (NeedsMemory (looks_of_table self.old)
+            (look_rename (own_of_table self.old) old.now new.now (looks_of_table self.old))
+            (can_rename self.old.host.now (own_of_table self.old) old.now new.now)) }
         ensures over { StandsOver self.old self.new }
     {
         if !asking::can_rename(self.host, self.changes, old, new)? {

@@ -1,5 +1,5 @@
 -- The keys that a deletion deletes, as a list.
-use Rattle.std.proofs.Common.{arith, ◌≡◌, ℕ, suc, Bool, true, false, cond, ◌&&◌, ◌||◌, ◌==◌, List, [], ◌∷◌, map, length, Option, Some, is_some, refl, sym, ap, ◌∙◌, slice_index, nat_lt, drop, Ok}
+use Rattle.std.proofs.Common.{inl, inr, ◌⊎◌, arith, ◌≡◌, ℕ, suc, Bool, true, false, cond, ◌&&◌, ◌||◌, ◌==◌, List, [], ◌∷◌, map, length, Option, Some, is_some, refl, sym, ap, ◌∙◌, slice_index, nat_lt, drop, Ok}
 use Rattle.std.specs.List.{filter, list_any}
 use Rattle.std.specs.Ordering.{nat_cmp, eq_by_cmp}
 use Rattle.std.specs.Cmp.Lexicographic.{slice_cmp, nat_list_cmp_total}
@@ -12,17 +12,17 @@ use Rattle.directory.proofs.Walk.{is_later}
 use Rattle.directory.specs.Entries.{Listing, is_match, fits_name}
 use Rattle.hostfiles.specs.Hosts.{Key, Host}
 use Rattle.hostfiles.specs.Files.{OwnFiles, has, gone_entry, after_delete, shapes}
-use Rattle.hostfiles.specs.FileLooks.{look_has, look_directory, KeepsAsks}
+use Rattle.hostfiles.specs.FileLooks.{look_has, look_directory, HasNewAsk, KeepsAsks}
 use Rattle.std.proofs.Math.Bool.{or-false, and-true, and-false}
 use Rattle.hostfiles.specs.declared.journal.Entry.{Entry}
 use Rattle.hostfiles.proofs.DeleteLemmas.{there}
 use Rattle.cpmfiles.specs.Tables as tables
 use Rattle.cpmfiles.specs.Tables.{is_named, count_deleted, look_delete}
 use Rattle.cpmfiles.specs.Renaming.{has_wildcard}
-use Rattle.interaction_trees.specs.Tree.{Query, Return}
+use Rattle.interaction_trees.specs.Tree.{Query, Return, questions_of, result_of}
 use Rattle.file_calls.specs.declared.block.Block.{Block}
 use Rattle.file_calls.specs.FileQuestions.{IsThere, FilesOn, is_on, files_on}
-use Rattle.file_calls.specs.TableView.{TableView}
+use Rattle.file_calls.specs.TableView.{TableView, file_answers, look_for_all}
 use Rattle.file_calls.specs.Findings as calls
 use Rattle.file_calls.specs.Findings.{matching_keys, deletion}
 use Rattle.file_calls.specs.Deletes.{Deletes, own_without}
@@ -133,6 +133,7 @@ module _ (b : Block) (v v' : TableView) (n : ℕ) where
       err_own = tt;
       extends = extends;
       bound = tt;
+      refused = tt;
       host = host;
       lender = lender;
     }
@@ -143,6 +144,22 @@ module _ (b : Block) (v v' : TableView) (n : ℕ) where
       err_own = tt;
       extends = extends;
       bound = tt;
+      refused = tt;
       host = host;
       lender = lender;
     }
+
+  -- What a deletion needs memory for.
+  pub refuses : HasNewAsk v.looks (look_delete v.own key v.looks) ⊎ (nat_lt 0 (count_deleted v.host v.own key) ≡ true)
+      → HasNewAsk v.looks (look_for_all v.own (questions_of (file_answers v.host v.own) (deletion b)) v.looks)
+      ⊎ (is_some_named (result_of (file_answers v.host v.own) (deletion b)) ≡ true)
+  refuses = by_case (has_wildcard key) where
+    by_case : (w : Bool)
+        → HasNewAsk v.looks (cond w (look_directory (slice_index key 0) v.looks) (look_has v.own key v.looks))
+        ⊎ (nat_lt 0 (cond w (length (filter (λ e. is_match key e.0) (entries (shapes v.host v.own)))) (cond (has v.host v.own key) 1 0)) ≡ true)
+        → HasNewAsk v.looks (look_for_all v.own (questions_of (file_answers v.host v.own) (cond w (Query (FilesOn (drive_number b.drive)) (λ files. Return (matching_keys key files))) (Query (IsThere key) (λ there. Return (cond there (key ∷ []) []))))) v.looks)
+        ⊎ (is_some_named (result_of (file_answers v.host v.own) (cond w (Query (FilesOn (drive_number b.drive)) (λ files. Return (matching_keys key files))) (Query (IsThere key) (λ there. Return (cond there (key ∷ []) []))))) ≡ true)
+    by_case true (inl new) = inl new
+    by_case true (inr some) = inr (sym (some_named (matching_keys key (files_on (drive_number b.drive) (shapes v.host v.own)))) ∙ sym (ap (nat_lt 0) (count_listed v.host v.own key)) ∙ some)
+    by_case false (inl new) = inl new
+    by_case false (inr some) = inr (sym (count_there (has v.host v.own key) key) ∙ some)

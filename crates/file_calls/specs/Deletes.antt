@@ -1,11 +1,11 @@
 -- The journal after a change of files, and the effect of a function that deletes files. (This project's own.)
-use Rattle.std.specs.Prelude.{◌≡◌, Bool, List, [], ◌∷◌, IfOk, OnOk, OnErr}
+use Rattle.std.specs.Prelude.{◌≡◌, ◌⊎◌, Bool, true, List, [], ◌∷◌, IfOk, OnOk, OnErr}
 use Rattle.std.specs.declared.result.Result.{Result}
 use Rattle.std.specs.declared.alloc.AllocError.{AllocError}
 use Rattle.interaction_trees.specs.Tree.{result_of, questions_of}
 use Rattle.hostfiles.specs.Hosts.{Key}
 use Rattle.hostfiles.specs.Files.{OwnFiles, after_delete, after_make, after_rename, after_write}
-use Rattle.hostfiles.specs.FileLooks.{KeepsAsks}
+use Rattle.hostfiles.specs.FileLooks.{HasNewAsk, KeepsAsks}
 use Rattle.file_calls.specs.FileQuestions.{FileTree}
 use Rattle.file_calls.specs.TableView.{TableView, file_answers, look_for_all}
 use Rattle.file_calls.specs.Changes.{is_some_named, FileChange, Unchanged, Made, Deleted, Renamed, Stored}
@@ -32,5 +32,8 @@ pub record Deletes (t : FileTree (List Key)) (v : TableView) (result : Result Bo
   pub extends : KeepsAsks v.looks v'.looks
   -- After an error there are only the earlier looks and some looks of the whole tree.
   pub bound : OnErr result (KeepsAsks v'.looks (look_for_all v.own (questions_of (file_answers v.host v.own) t) v.looks))
+  -- An allocation fails only for a question that was not asked before, or to delete a file.
+  pub refused : OnErr result (HasNewAsk v.looks (look_for_all v.own (questions_of (file_answers v.host v.own) t) v.looks)
+      ⊎ (is_some_named (result_of (file_answers v.host v.own) t) ≡ true))
   pub host : v'.host ≡ v.host
   pub lender : v'.lender ≡ v.lender

@@ -1,8 +1,8 @@
 // What a run did to files, and its questions to the host files.
 
-ghost use Rattle.std.specs.Prelude.{◌≡◌, IfOk};
+ghost use Rattle.std.specs.Prelude.{◌≡◌, true, IfOk, IfSome, IfNone};
 ghost use Rattle.std.specs.FinMap as finmap;
-ghost use Rattle.hostfiles.specs.FileLooks.{no_looks, is_looked};
+ghost use Rattle.hostfiles.specs.FileLooks.{no_looks, is_looked, without_ask, IsUnasked};
 
 use crate::journal::Journal;
 use crate::looks::{Ask, FileLooks};
@@ -44,5 +44,17 @@ impl Changes {
         ensures { result ≡ is_looked self.now.looks ask.now }
     {
         self.looks.looked(ask)
+    }
+
+    /// Removes and returns one of the questions, or `None` if there are none. What the run did to files is unchanged.
+    /// Allocates nothing.
+    #[inline(always)]
+    pub fn take_look(&mut self) -> Option<Ask>
+        ensures there { IfSome result (λ q. is_looked self.old.looks q ≡ true) }
+        ensures some { IfSome result (λ q. self.new.looks ≡ without_ask q self.old.looks) }
+        ensures none { IfNone result ((self.new.looks ≡ self.old.looks) × IsUnasked self.old.looks) }
+        ensures journal { self.new.journal ≡ self.old.journal }
+    {
+        self.looks.take()
     }
 }

@@ -20,7 +20,7 @@ calls_on f from n end before then i st low high at = elim (cases_lt i n) [
 module _ (s : Session) (from end n : ℕ) (low : from ≤ n) (old new : StateView) (at : after (session_answers s) n ≡ Some old.state)
     (calls : CallsNothing (session_answers s) from n) where
   pub arrives_here : n ≤ end → (n < end → old.state.core.regs.pc ≡ 0xfe06) → RunsToCall s from end n (Ok None) old.state
-  arrives_here high call = record { within = (low, high); at = at; calls = calls; arrived = call; stopped = tt }
+  arrives_here high call = record { within = (low, high); at = at; calls = calls; arrived = call; stopped = tt; failed = tt }
 
   -- One more step that is no call.
   pub one_more : old.state.core.regs.pc ≢ 0xfe06 → CallsNothing (session_answers s) from (n + 1)
@@ -39,6 +39,7 @@ module _ (s : Session) (from end n : ℕ) (low : from ≤ n) (old new : StateVie
     calls = calls;
     arrived = tt;
     stopped = (high, subst (λ (st : PartialState). st.core.regs.pc ≢ 0xfe06) (sym w.stays) apart, ap (outcome (session_answers s)) w.stays ∙ w.outcome);
+    failed = tt;
   }
 
   pub breaks_off : (e : AllocError) → n < end → TakesStep s old (Err e) new → RunsToCall s from end n (Err e) new.state
@@ -48,4 +49,5 @@ module _ (s : Session) (from end n : ℕ) (low : from ≤ n) (old new : StateVie
     calls = calls;
     arrived = tt;
     stopped = tt;
+    failed = high;
   }

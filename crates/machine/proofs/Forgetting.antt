@@ -1,5 +1,5 @@
 -- Steps one after another, whose looks are forgotten.
-use Rattle.std.proofs.Common.{◌≡◌, ℕ, ◌+◌, ◌<◌, ◌≤◌, Option, Some, None, Ok, Err, sym, ◌∙◌, ap, arith, IfOk, IfSome}
+use Rattle.std.proofs.Common.{◌≡◌, ℕ, ◌+◌, ◌<◌, ◌≤◌, Option, Some, None, Ok, Err, sym, ◌∙◌, ap, arith, IfOk, IfSome, OnErr}
 use Rattle.std.specs.declared.result.Result.{Result}
 use Rattle.std.specs.declared.alloc.AllocError.{AllocError}
 use Rattle.console_calls.specs.declared.cause.Cause.{Cause}
@@ -13,7 +13,7 @@ use Rattle.machine.specs.TakesStep.{TakesStep}
 
 module _ (s : Session) (from end n : ℕ) (low : from ≤ n) (old new : StateView) (at : after (session_answers s) n ≡ Some old.state) where
   pub ends_here : n ≡ end → RunsForgetting s from end n (Ok None) old.state
-  ends_here last = record { within = (low, omega (arith, last)); at = at; ended = last; stopped = tt }
+  ends_here last = record { within = (low, omega (arith, last)); at = at; ended = last; stopped = tt; failed = tt }
 
   pub steps_on : TakesStep s old (Ok None) new → after (session_answers s) (n + 1) ≡ Some new.state
   steps_on w = after_step (outcome (session_answers s)) start n old.state new.state at w.outcome
@@ -24,6 +24,7 @@ module _ (s : Session) (from end n : ℕ) (low : from ≤ n) (old new : StateVie
     at = at ∙ ap (λ (st : PartialState). Some st) (sym w.stays);
     ended = tt;
     stopped = (high, ap (outcome (session_answers s)) w.stays ∙ w.outcome);
+    failed = tt;
   }
 
   pub fails_here : (e : AllocError) → n < end → TakesStep s old (Err e) new → RunsForgetting s from end n (Err e) new.state
@@ -32,7 +33,14 @@ module _ (s : Session) (from end n : ℕ) (low : from ≤ n) (old new : StateVie
     at = at ∙ ap (λ (st : PartialState). Some st) (sym w.failed);
     ended = tt;
     stopped = tt;
+    failed = high;
   }
+
+-- If one step fails, it is not executed.
+pub fails_before : (s : Session) (from n : ℕ) (st : PartialState) (result : Result (Option Cause) AllocError) → RunsForgetting s from (from + 1) n result st
+    → OnErr result (n ≡ from)
+fails_before s from n st (Ok stop) w = tt
+fails_before s from n st (Err e) w = omega (arith, w.within, w.failed)
 
 -- A stop comes at the step that was reached.
 pub stops_below : (s : Session) (from end n : ℕ) (st : PartialState) (result : Result (Option Cause) AllocError) → RunsForgetting s from end n result st

@@ -22,6 +22,7 @@ pub mod StretchNotes
 pub mod StepNotes
 pub mod ColdLemmas
 pub mod WholeRuns
+mod TrialLemmas
 pub use Rattle.i8080.proofs.LookLemmas
 pub use Rattle.interaction_trees.proofs.RunLemmas
 pub use Rattle.interaction_trees.proofs.DependenceLemmas

@@ -18,6 +18,7 @@ pub mod ChangedFiles
 pub mod PlainState
 pub mod PlainLaid
 pub mod Stops
+pub mod Accesses
 pub mod WrittenCells
 pub use Rattle.console_calls.specs.ScriptLooks
 pub use Rattle.console_calls.specs.declared.cause.Cause

@@ -34,7 +34,7 @@ state_of r = unwrap_or (plain_after r.session r.step) (loaded_machine r.session)
 abbrev pub StopsHere : RunView → Cause → Type 0
 StopsHere r cause = plain_outcome r.session (state_of r) ≡ Stop cause
 
--- One step led from a run to another; or a stop follows it, and it is the same.
+-- One step led from a run to another; or a stop follows it, and the step is the same.
 abbrev pub Leads : RunView → RunView → Option Cause → Type 0
 Leads old new None = (new.step ≡ old.step + 1) × (plain_outcome old.session (state_of old) ≡ Step (state_of new))
 Leads old new (Some cause) = (new.step ≡ old.step) × (plain_outcome old.session (state_of old) ≡ Stop cause)

@@ -51,12 +51,14 @@ pub record RunsForgetting (s : Session) (from end n : ℕ) (result : Result (Opt
   pub at : after (session_answers s) n ≡ Some new
   pub ended : IfOk result (λ stop. IfNone stop (n ≡ end))
   pub stopped : IfOk result (λ stop. IfSome stop (λ cause. (n < end) × (outcome (session_answers s) new ≡ Stop cause)))
+  pub failed : OnErr result (n < end)
 
 -- Steps from `from` on, none of them a call, led to the state after n steps: to step `end`, to a call before it, to a stop before it that
--- is no call, or to an error.
+-- is no call, or to an error before it.
 pub record RunsToCall (s : Session) (from end n : ℕ) (result : Result (Option Cause) AllocError) (new : PartialState) : Type 0 where
   pub within : (from ≤ n) × (n ≤ end)
   pub at : after (session_answers s) n ≡ Some new
   pub calls : CallsNothing (session_answers s) from n
   pub arrived : IfOk result (λ stop. IfNone stop (n < end → new.core.regs.pc ≡ 0xfe06))
   pub stopped : IfOk result (λ stop. IfSome stop (λ cause. (n < end) × (new.core.regs.pc ≢ 0xfe06) × (outcome (session_answers s) new ≡ Stop cause)))
+  pub failed : OnErr result (n < end)

@@ -7,6 +7,7 @@
 //!   makes the same steps
 //! - `run`, `noting`, `whole_run`: a run in progress, as a value; whether it notes its looks; a run that has ended
 //! - `saved_state`, `meter`: a saved state, and the state that is restored from it; the count of executed steps
+//! - `trial`: the cells that the next call of a run writes and reads, by a trial
 //!
 //! Bytes in an edit are of the type `Bytes`, since contracts would compare a `Vec` with its capacity. `State::load_over` and
 //! `SavedState::overlay` take the session, so that its image is the one that the known cells of the state belong to. `run_from`
@@ -26,6 +27,7 @@ mod session;
 mod state;
 mod stretch;
 mod system_area;
+mod trial;
 mod whole_run;
 
 pub use bytes::Bytes;
@@ -45,4 +47,5 @@ pub use session::{
 };
 pub use state::State;
 pub use stretch::{run_from, step};
+pub use trial::{Trials, next_cells};
 pub use whole_run::WholeRun;

@@ -1,4 +1,4 @@
-ghost use Rattle.std.specs.Prelude.{◌≡◌, ◌==◌, ◌+◌, ◌-◌, ◌^◌, ◌<◌, ◌≤◌, ◌↔◌, Some, IfNone, IfOk, IfSome, IsNone, IsTrue, OnOk, Option, length, nat_lt, slice_index, take};
+ghost use Rattle.std.specs.Prelude.{◌≡◌, ◌==◌, ◌+◌, ◌-◌, ◌^◌, ◌<◌, ◌≤◌, ◌↔◌, Some, IfNone, IfOk, IfSome, IsNone, IsTrue, OnErr, OnOk, Option, length, nat_lt, slice_index, take};
 ghost use Rattle.first_looks.specs.FirstLooks.{with_seen};
 ghost use Rattle.machine.specs.FirstLooks.{NotesSeenStep};
 ghost use Rattle.machine.specs.Machine.{HasNoQuestions, after, looks_from, cold_run, session_answers};
@@ -158,6 +158,7 @@ impl<'s> Run<'s> {
         requires { self.old.step < STEP_LIMIT }
         ensures session { self.new.session ≡ self.old.session }
         ensures leads { IfOk result (λ stop. Leads self.old self.new stop) }
+        ensures failed { OnErr result (self.new.step ≡ self.old.step) }
     {
         let from = self.step;
         self.noting = Noting::Nothing;

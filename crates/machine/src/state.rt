@@ -166,7 +166,7 @@ impl State {
         if self.changes.looks.is_empty() {
             return None;
         }
-        match self.changes.looks.take() {
+        match self.changes.take_look() {
             Some(ask) => Some(Question::Host(ask)),
             None => None,
         }
@@ -218,6 +218,8 @@ impl State {
     #[inline(always)]
     pub(crate) fn forget_host_questions(&mut self)
         ensures state { self.new.state ≡ self.old.state }
+        ensures cells { self.new.looked.cells ≡ self.old.looked.cells }
+        ensures offsets { self.new.looked.offsets ≡ self.old.looked.offsets }
         ensures none { HasNoHostQuestions self.new.looked }
         ensures beneath { self.new.beneath ≡ self.old.beneath }
     {

@@ -1,5 +1,5 @@
 -- The rule for make that is made from the whole run of a session. (This project's profile.)
-use Rattle.std.specs.Prelude.{◌≡◌, ℕ, false, IfSome, List, Option, string_bytes}
+use Rattle.std.specs.Prelude.{◌≡◌, ℕ, false, IfSome, List, Option, length, string_bytes}
 use Rattle.std.specs.List.{Contains}
 use Rattle.command_words.specs.declared.words.SessionWords.{SessionWords}
 use Rattle.dependencies.specs.Dependencies.{AreDependencies}
@@ -14,13 +14,14 @@ use Rattle.make_rules.specs.declared.drives.DriveFolder.{DriveFolder}
 use Rattle.make_rules.specs.declared.fault.RuleFault.{RuleFault}
 use Rattle.make_rules.specs.declared.fault.RuleFault.TheVariants.{RulePath, Folders, OutOfMemory}
 
--- What a rule is made from: the dependencies of the whole run of the session, and the names of the files in the folders.
+-- What a rule is made from: the dependencies of the whole run of the session, and the names of the files in the folders of the four drives.
 pub record Sources (w : SessionWords) (files : StoredFiles) (s : Session) : Type 0 where
   pub looks : FirstLooksView
   pub steps : ℕ
   pub cause : Cause
   pub are : AreDependencies s looks steps cause
   pub drives : List (Option DriveFolder)
+  pub four : length drives ≡ 4
   pub listed : IfSome files.bytes (λ stored. ListsDrives stored files.names w.files drives)
 
 -- The text is the rule for make with the files on which the whole run of the session depends, by their names in the folders.

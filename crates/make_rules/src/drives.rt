@@ -1,6 +1,6 @@
 // The folders of the drives, with the names of their files.
 
-ghost use Rattle.std.specs.Prelude.{◌≡◌, IfOk, IfErr, IfSome};
+ghost use Rattle.std.specs.Prelude.{◌≡◌, IfOk, IfErr, IfSome, length};
 ghost use Rattle.filenames.specs.Drives.{drive_number};
 ghost use Rattle.folders.specs.Failures.{KeepsFiles};
 ghost use Rattle.folders.specs.Faults.{FailsBy, failure_paths};
@@ -49,6 +49,7 @@ pub fn list_folders<'a, S: FileSystem>(
 ) -> Result<[Option<DriveFolder<'a>>; 4], Failure>
     ensures lists { IfOk result (λ found. IfSome (S.files system.old).bytes (λ stored.
         ListsDrives stored (S.files system.old).names folders.now found)) }
+    ensures four { IfOk result (λ found. length found ≡ 4) }
     ensures fault { IfErr result (FailsBy (FailsToListAny (S.files system.old) folders.now)) }
     ensures unchanged { KeepsFiles failure_paths result (S.files system.old) (S.files system.new) }
 {

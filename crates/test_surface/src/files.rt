@@ -60,6 +60,6 @@ pub fn changes(alloc: Global, key: Key) -> Result<Journal, AllocError> {
     ] {
         let _is_looked: bool = copy.looked(&ask);
     }
-    let _look: Option<Ask> = copy.looks.take();
+    let _look: Option<Ask> = copy.take_look();
     copy.journal.snapshot()
 }

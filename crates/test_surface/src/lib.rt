@@ -1,5 +1,6 @@
 //! Every public call with its arguments and its result, so that a call that is missing or has another form does not compile.
 //!
+//! - `surface`: the table of their names, to which lines are added and from which none is removed
 //! - `processor`, `memory`: `i8080`; `pagemem`
 //! - `files`, `calls`: `cpmfiles`; `bdos`
 //! - `sessions`, `program`: `machine` and `replay`; `cpmrun`
@@ -11,3 +12,4 @@ pub mod memory;
 pub mod processor;
 pub mod program;
 pub mod sessions;
+pub mod surface;

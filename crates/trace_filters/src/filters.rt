@@ -1,6 +1,6 @@
 // Whether a step has a line.
 
-ghost use Rattle.std.specs.Prelude.{◌≡◌, ◌≤◌, ◌&&◌, ◌||◌, ◌∷◌, ◌++◌, IfOk, IsOk, None, true};
+ghost use Rattle.std.specs.Prelude.{◌≡◌, ◌≤◌, ◌&&◌, ◌||◌, ◌∷◌, ◌++◌, IfOk, IsOk, OnErr, None, true};
 ghost use Rattle.std.specs.List.{list_any};
 ghost use Rattle.filenames.specs.Drives.{drive_number};
 ghost use Rattle.machine.specs.Runs.{state_of};
@@ -162,7 +162,7 @@ fn reads_pass(reads: Option<CellRange>, pc: u16, count: u16, cells: Row) -> bool
 ///
 /// # Errors
 ///
-/// `Err` means out of memory, to try a call if there is a filter of cells.
+/// `Err` means out of memory, to try a call that passes the other filters if there is a filter of cells.
 pub fn has_line(
     run: &Run<'_>,
     session: &Session,
@@ -172,6 +172,8 @@ pub fn has_line(
     requires { run.now.session ≡ session.now }
     ensures line { IfOk result (λ b. b ≡ has_line choice.now session.now run.now.step (state_of run.now)) }
     ensures sure { choice.now.writes ≡ None → choice.now.reads ≡ None → IsOk result }
+    ensures tried { OnErr result (is_chosen choice.now run.now.step (state_of run.now) ≡ true) }
+    ensures called { OnErr result (is_call (state_of run.now) ≡ true) }
 {
     if !is_chosen(run, choice) {
         return Ok(false);

@@ -1,2 +1,2 @@
-pub mod Accesses
 pub mod Ranges
+pub use Rattle.machine.specs.Accesses

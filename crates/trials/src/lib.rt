@@ -1,13 +1,12 @@
-//! Whether the next call of a run writes and reads given cells. The call is executed on copies.
+//! Whether the next call of a run writes and reads given cells, by a trial of the call.
 //!
 //! - `ranges`: ranges of cells, and filters of written cells and of looks
-//! - `trial`: a memory that notes which cells a call reads and writes
-//! - `call`: the call over this memory
+//! - `call`: the filters of a call
 #![tactic(auto)]
 
 mod call;
 mod ranges;
-mod trial;
 
-pub use call::{Trials, call_passes};
+pub use call::call_passes;
+pub use machine::Trials;
 pub use ranges::CellRange;

@@ -1,4 +1,5 @@
 use Rattle.std.proofs.Common.{rules, arith, ◌∙◌, length}
+use Rattle.i8080.proofs.ReadyLemmas.{keeps_on}
 use Rattle.console_calls.proofs.Scanning.{byte_read, looked_at}
 use Rattle.bdos.proofs.Runs.{taken_on, looked_on, taken_all, looked_all}
 use Rattle.bdos.proofs.cells.fetch_each.Goals as goal
@@ -15,6 +16,7 @@ loop-i-preserved g c =
       own = search rules;
       beneath = search rules;
       lender = search rules;
+      kept = keeps_on _ _ _ i.kept c.fetch.ensures.kept;
     }
 
 pub returns-clause-reads : goal.returns-clause-reads

@@ -1,5 +1,6 @@
 use Rattle.std.proofs.Common.{◌≡◌, ◌++◌, ◌-◌, length, take}
 use Rattle.i8080.specs.Memory.{bytes, look_all}
+use Rattle.i8080.specs.Performs.{KeepsReady}
 use Rattle.i8080.specs.Reading.{end_of, asked}
 use Rattle.bdos.specs.FileCalls.{bytes_at}
 use Rattle.bdos.proofs.cells.fetch_each.Given as goal
@@ -12,4 +13,5 @@ invariant-loop-i g l = let first = g.B.Bus.memory l.fn.bus in let now = g.B.Bus.
   own : now.own ≡ first.own;
   beneath : now.beneath ≡ first.beneath;
   lender : now.lender ≡ first.lender;
+  kept : KeepsReady (g.B.Bus.is_ready l.fn.bus) (g.B.Bus.is_ready l.bus);
 }

@@ -10,7 +10,7 @@ pub returns-in-7-clause-makes : goal.returns-in-7-clause-makes
 returns-in-7-clause-makes g c n within = along (numbered _ n _ _ 7 c.in-7.is) (c.get_io_byte.ensures c.args.script.now)
 
 pub returns-in-8-clause-makes : goal.returns-in-8-clause-makes
-returns-in-8-clause-makes g c n within = along (numbered _ n _ _ 8 c.in-8.is) (c.set_io_byte.ensures c.args.script.now)
+returns-in-8-clause-makes g c n within = along (numbered _ n _ _ 8 c.in-8.is) (c.set_io_byte.ensures.makes c.args.script.now)
 
 pub returns-in-9-clause-makes : goal.returns-in-9-clause-makes
 returns-in-9-clause-makes g c n within = along (numbered _ n _ _ 9 c.in-9.is) (c.string_output.ensures c.args.script.now)

@@ -29,7 +29,7 @@ use Rattle.machine.specs.Step.{next, script_limit, step_end_of_call}
 use Rattle.machine.proofs.PlainViews.{state_is}
 use Rattle.machine.proofs.TidyFiles.{tidy_after}
 use Rattle.machine.proofs.WholeFiles.{answer_is}
-use Rattle.trials.specs.Accesses.{NotesStep, answers_in, cells_of_end}
+use Rattle.machine.specs.Accesses.{NotesStep, answers_in, cells_of_end}
 
 -- Nothing is written.
 abbrev pub blank : Own

@@ -3,8 +3,7 @@ use Rattle.std.specs.Prelude.{◌≡◌, ℕ, List, [], is_some, map}
 use Rattle.interaction_trees.specs.Tree.{result_of, questions_of}
 use Rattle.i8080.specs.Memory.{Looks, Own, is_among}
 use Rattle.console_calls.specs.StateQuestions.{addresses}
-use Rattle.bdos.specs.PerformsSystemCall.{state_questions}
-use Rattle.bdos.specs.SystemQuestions.{SystemAnswers}
+use Rattle.bdos.specs.SystemQuestions.{SystemAnswers, state_questions}
 use Rattle.machine.specs.Inputs.{Session}
 use Rattle.machine.specs.PlainState.{PlainState, plain_answers}
 use Rattle.machine.specs.Step.{StepEnd, Went, Stopped, next}

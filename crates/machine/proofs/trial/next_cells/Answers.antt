@@ -1,7 +1,7 @@
 use Rattle.std.proofs.Common.{rules, refl}
 use Rattle.machine.specs.Step.{script_limit, script_limit-is}
-use Rattle.trials.proofs.TrialLemmas.{notes}
-use Rattle.trials.proofs.call.tried_call.Goals as goal
+use Rattle.machine.proofs.TrialLemmas.{notes}
+use Rattle.machine.proofs.trial.next_cells.Goals as goal
 
 pub returns : goal.returns
 returns c =
