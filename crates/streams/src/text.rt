@@ -84,8 +84,7 @@ pub struct TextOver<'w, W: Writer> {
     start: Snapshot<W>,
     said: Tag,
     sent: Tag,
-    ghost bytes: { Appends (W.output start.value).holds (W.output writer.now).holds sent.numbers }
-        by { Appends-prop (W.output start.value).holds (W.output writer.now).holds sent.numbers },
+    ghost bytes: { Appends (W.output start.value).holds (W.output writer.now).holds sent.numbers } by { Appends-prop (W.output start.value).holds (W.output writer.now).holds sent.numbers },
     ghost failures: { (W.output writer.now).failures ≡ (W.output start.value).failures + as_count failed },
     ghost prefix: { take (length sent.numbers) said.numbers ≡ sent.numbers },
     ghost all: { failed ≡ false → sent.numbers ++ buffer.items ≡ said.numbers },
