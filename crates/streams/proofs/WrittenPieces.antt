@@ -33,9 +33,11 @@ module _ {old new last : Pushed} {text : List ℕ} (none : old.text ≡ []) (p :
 
   pub all_written : {b : Output} → WritesWhole last.start b last.text → (count : ℕ) × WritesWhole old.start b (take count text)
   all_written {b = b} w =
-      let whole = ap (λ q. q.text ++ p.rest) same ∙ split_of none p in
-      (length last.text, subst (λ a. WritesWhole a b (take (length last.text) text)) start
-      (subst (WritesWhole last.start b) (sym (take-append_seam last.text p.rest) ∙ ap (take (length last.text)) whole) w))
+      let whole = ap (λ q. q.text ++ p.rest) same ∙ split_of none p in (
+        length last.text,
+        subst (λ a. WritesWhole a b (take (length last.text) text)) start
+            (subst (WritesWhole last.start b) (sym (take-append_seam last.text p.rest) ∙ ap (take (length last.text)) whole) w),
+      )
 
 -- No text was written.
 pub whole_nil : (a : Output) → WritesWhole a a []

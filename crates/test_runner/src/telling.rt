@@ -37,12 +37,7 @@ pub fn write_report(rt: &impl Print, report: &Report<'_>) -> Result<(), Trouble>
     let mut text = TextOver::new(&mut out);
     text.push(head.as_bytes());
     push_text(&mut text, report.text());
-    push_changed_files(
-        &mut text,
-        FileFilter::All,
-        report.files(),
-        report.journal(),
-    );
+    push_changed_files(&mut text, FileFilter::All, report.files(), report.journal());
     text.flush();
     match text.finish() {
         Ok(()) => Ok(()),

@@ -65,12 +65,7 @@ fn push_type<X: Text>(text: &mut X, kind: &[u8])
 }
 
 // Appends the name of a file in a control block, from an index on.
-fn push_name<X: Text>(
-    text: &mut X,
-    current: Drive,
-    block: &[u8; 36],
-    at: usize,
-)
+fn push_name<X: Text>(text: &mut X, current: Drive, block: &[u8; 36], at: usize)
     requires { at ≤ 17 }
     ensures { X.pushed text.new ≡ more (X.pushed text.old) (name_text current block.now at) }
 {
@@ -110,12 +105,7 @@ fn push_file<X: Text>(text: &mut X, run: &Run<'_>, block: &Fcb, at: usize)
 }
 
 // Appends what the line shows of the control block at DE after its file.
-fn push_rest<X: Text>(
-    text: &mut X,
-    run: &Run<'_>,
-    block: &Fcb,
-    argument: Argument,
-)
+fn push_rest<X: Text>(text: &mut X, run: &Run<'_>, block: &Fcb, argument: Argument)
     requires { block.now ≡ block_in (state_of run.now) }
     ensures { X.pushed text.new ≡ more (X.pushed text.old) (block_text argument (state_of run.now)) }
 {
@@ -231,12 +221,7 @@ fn push_printed<X: Text>(text: &mut X, bytes: &[u8])
 
 /// Appends what the line of a call shows after the call was executed: what it returned, from the registers, and the bytes that it sent.
 ///
-pub fn push_call_end<X: Text>(
-    text: &mut X,
-    number: u8,
-    regs: Regs,
-    sent: &[u8],
-)
+pub fn push_call_end<X: Text>(text: &mut X, number: u8, regs: Regs, sent: &[u8])
     ensures { X.pushed text.new
         ≡ more (X.pushed text.old) (returned_text (returned_of number) regs ++ printed_text sent.now) }
 {

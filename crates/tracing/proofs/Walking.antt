@@ -118,7 +118,7 @@ kept_next (suc n) line left = ap (λ k. concat (drop k left)) (let e : suc n - 1
 with_next : (v w : Walked) (line : List ℕ) (left : List (List ℕ)) → w.pushed ≡ more v.pushed (kept_line v.skip line) → w.skip ≡ v.skip - 1 → with_lines w left ≡ with_lines v (line ∷ left)
 with_next v w line left e f =
     let text : more w.pushed (kept_text w.skip left) ≡ more v.pushed (kept_text v.skip (line ∷ left)) =
-        part_pushed v.pushed w.pushed _ (kept_line v.skip line) (kept_text w.skip left) _ e (ap (λ k. kept_line v.skip line ++ kept_text k left) f ∙ kept_next v.skip line left) refl in
+    part_pushed v.pushed w.pushed _ (kept_line v.skip line) (kept_text w.skip left) _ e (ap (λ k. kept_line v.skip line ++ kept_text k left) f ∙ kept_next v.skip line left) refl in
     let count : w.skip - length left ≡ v.skip - suc (length left) = omega (arith, f) in
     λ i. walked (text i) (count i)
 

@@ -68,10 +68,7 @@ fn push_call<X: Text>(run: &mut Run<'_>, text: &mut X) -> Result<Option<Cause>, 
 }
 
 // Executes an instruction, and pushes its line.
-fn push_instruction<X: Text>(
-    run: &mut Run<'_>,
-    text: &mut X,
-) -> Result<Option<Cause>, AllocError>
+fn push_instruction<X: Text>(run: &mut Run<'_>, text: &mut X) -> Result<Option<Cause>, AllocError>
     requires below { run.old.step < run.old.session.limit }
     requires most { run.old.session.limit ≤ STEP_LIMIT }
     requires instruction { is_instruction (state_of run.old) ≡ true }

@@ -36,8 +36,8 @@ returns g c =
     let none : kept_text skip (lines_left ch r stop) ≡ [] = ap (kept_text skip) (end_left ch r stop (c.in_ok-stop.ensures.ends sound)) ∙ nothing_kept skip in
     let shown : c.as_bytes.result.now ≡ line = c.as_bytes.ensures.value ∙ c.deref.ensures.0 ∙ c.stop_line.ensures ∙ ap stop_line c.cause_of.ensures in
     let pushed = c.push.ensures.piece
-        ∙ ap (more (g.X.Text.pushed c.walk.new.text)) (shown ∙ ap (λ t. t ++ line) (sym none))
-        ∙ rest_pushed (g.X.Text.pushed c.args.text.now) (g.X.Text.pushed c.walk.new.text) c.new-walker.result.skip skip
-            (lines_left ch c.args.run.now None) (lines_left ch r stop) line c.in_ok-stop.ensures.lines
-        ∙ ap (more (g.X.Text.pushed c.args.text.now)) start in
+    ∙ ap (more (g.X.Text.pushed c.walk.new.text)) (shown ∙ ap (λ t. t ++ line) (sym none))
+    ∙ rest_pushed (g.X.Text.pushed c.args.text.now) (g.X.Text.pushed c.walk.new.text) c.new-walker.result.skip skip
+    (lines_left ch c.args.run.now None) (lines_left ch r stop) line c.in_ok-stop.ensures.lines
+    ∙ ap (more (g.X.Text.pushed c.args.text.now)) start in
     record { part = whole_part pushed; whole = λ sound. pushed }

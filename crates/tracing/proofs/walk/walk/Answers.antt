@@ -20,5 +20,5 @@ returns-clause-lines g c =
     let none = none_left ch r c.min-end.result at last in
     let lines = (rw c.in_default-2.is at c.in_ok-cause-2.ensures.lines) ∙ ap (with_lines (walked (g.X.Text.pushed c.args.text.now) c.args.walker.now.skip)) (sym same) in
     let limit : c.advance.new.self.session.limit ≡ c.limit-limit.result =
-        ap (λ (s : Session). s.limit) c.advance.ensures.goes.session ∙ limits ∙ sym c.limit-limit.ensures.value in
+    ap (λ (s : Session). s.limit) c.advance.ensures.goes.session ∙ limits ∙ sym c.limit-limit.ensures.value in
     none_more ch c.args.run.now r c.advance.new.self _ _ c.advance.result (ended c.advance.new.self c.limit-limit.result c.advance.result limit c.advance.ensures.ends c.advance.ensures.stops) none lines

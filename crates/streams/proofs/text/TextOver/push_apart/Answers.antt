@@ -14,7 +14,7 @@ invariant_of-self-2 g c =
     let sent : c.with_piece-2.result.numbers ≡ s.sent.numbers ++ take n piece = c.with_piece-2.ensures in
     let whole : c.with_piece-3.result.numbers ≡ s.sent.numbers ++ piece = c.with_piece-3.ensures ∙ ap (λ t. t ++ piece) said in
     record {
-      bytes = rw sent (Appends-trans _ _ _ _ _ s.bytes w.ensures.bytes);
+      bytes = record { bytes = rw sent (Appends-trans _ _ _ _ _ s.bytes.bytes w.ensures.bytes) };
       failures = omega (arith, w.ensures.failures, none);
       prefix = rw (sent, whole) (prefix_more s.sent.numbers piece n w.ensures.count);
       all = λ h. rw (c.flush.ensures.sent, append-nil, sent, whole) (all_more s.sent.numbers piece n (w.ensures.all h));

@@ -16,7 +16,7 @@ invariant_of-self-2 g c =
     let whole : w.result.1 ≡ false → n ≡ length buffer = λ h. omega (arith, w.ensures.all h, size) in
     let sent : c.with_piece.result.numbers ≡ s.sent.numbers ++ take n buffer = rw c.as_slice-2.ensures.value at c.with_piece.ensures in
     record {
-      bytes = rw sent (Appends-trans _ _ _ _ _ s.bytes (rw c.as_slice.ensures.value at w.ensures.bytes));
+      bytes = record { bytes = rw sent (Appends-trans _ _ _ _ _ s.bytes.bytes (rw c.as_slice.ensures.value at w.ensures.bytes)) };
       failures = omega (arith, w.ensures.failures, none);
       prefix = rw (sent, said) (prefix_more s.sent.numbers buffer n within);
       all = λ h. rw (c.clear-2.ensures, append-nil, sent, said) (all_more s.sent.numbers buffer n (whole h));
