@@ -4,9 +4,9 @@ import unittest
 from pathlib import Path
 from xml.etree import ElementTree
 
-from command_case import EXAMPLES, CommandCase
+from command_case import EXAMPLES, TOP, CommandCase
+from vembrusk.accepting import accepted, change_of
 from vembrusk.cases import CaseError, Command, Line, Outcome, Reader, Setup, parse_outcome, spell_file, spell_text, text_line
-from vembrusk.check import accepted
 
 GREETING = EXAMPLES / "greeting/greeting.com"
 
@@ -44,15 +44,15 @@ class ReaderTest(CommandCase):
     def test_the_parts_of_a_session(self) -> None:
         self.put("disk/x.txt", b"1")
         self.put("keys", b"abc")
-        case, other = self.read("== one\nprogram keys\ntail \"a b\"\nfile a.txt\n| one\n| \\x41\\\\\n|\nfile b.txt 00*2\nscript\n| two\nlimit 5\n"
-                                "files-b disk\n> run\n== two\nMVI A,1; RET\ntyped x\\n\n")
+        case, other = self.read("== one\nprogram keys\ntail \"a b\"\nfile a.txt\n| one\n| \\x41\\\\\n|\nfile b.txt 00*2\nscript\n| two\n"
+                                "limit 5\nfiles-b disk\n> run\n== two\nMVI A,1; RET\ntyped x\\n\n")
         self.assertEqual(case.session, Setup(b"abc", b"a b", b"two\r", (("a.txt", b"one\r\nA\\\r\n\r\n"), ("b.txt", b"\0\0")), 5,
                                              folders=(("B", self.room / "disk"),)))
         self.assertEqual((other.session.program, other.session.script, other.number), (b"\x3e\x01\xc9", b"x\n\r", 14))
 
     def test_rows_of_a_table(self) -> None:
         cases = self.read('== {name} of {count}\ntail "{name}"\n> limit {count}\nok\nwith name | count\nx | 1\ny z | 2\n')
-        self.assertEqual([(case.title, case.session.tail, case.commands[0].line, case.is_row) for case in cases],
+        self.assertEqual([(case.title, case.session.tail, case.commands[0].line, case.row is not None) for case in cases],
                          [("x of 1", b"x", "limit 1", True), ("y z of 2", b"y z", "limit 2", True)])
 
     def test_wrong_lines(self) -> None:
@@ -71,7 +71,8 @@ class ReaderTest(CommandCase):
         for data in b"", b"a", b"a\r\n", b"a\r\nb", b"\r\n\r\n", b" a \\ \x1b\r\n ", bytes(range(256)), b"a\r\r\n":
             with self.subTest(data):
                 self.assertEqual(parse_outcome("Halt", 1, spell_text(data)).text, data)
-        for data in b"", bytes(128), b"a\r\n".ljust(128, b"\x1a"), b"a".ljust(128, b"\x1a"), b"a\r\n".ljust(256, b"\x1a"), b"\r\n" * 64, b"\x1a" * 128:
+        lines = [b"a\r\n".ljust(128, b"\x1a"), b"a".ljust(128, b"\x1a"), b"a\r\n".ljust(256, b"\x1a"), b"\r\n" * 64, b"\x1a" * 128]
+        for data in b"", bytes(128), *lines:
             with self.subTest(data):
                 self.assertEqual(parse_outcome("Halt", 1, spell_file("X", data)).files, (("X", data),))
         self.assertEqual(spell_file("X", b"a \r\n".ljust(128, b"\x1a")), ["file X", "| a\\x20"])
@@ -88,15 +89,16 @@ class ReaderTest(CommandCase):
 
     def test_edited_sessions(self) -> None:
         setup = Setup(b"abc", script=b"xyz")
-        for line, part, value in ("insert 1 \"-\"", "script", b"x-yz"), ("replace 1 \"-\"", "script", b"x-z"), ("remove 0 2", "script", b"z"), \
-                ("poke 0101 00", "program", b"a\0c"), ("limit 7", "limit", 7), ("insert 4 00", "script", b"xyz"), ("poke 0103 00", "program", b"abc"):
+        for line, part, value in ('insert 1 "-"', "script", b"x-yz"), ('replace 1 "-"', "script", b"x-z"), ("remove 0 2", "script", b"z"), \
+                ("poke 0101 00", "program", b"a\0c"), ("limit 7", "limit", 7), ("insert 4 00", "script", b"xyz"), \
+                ("poke 0103 00", "program", b"abc"):
             self.assertEqual(getattr(setup.edited(line), part), value, line)
 
     def test_accepted_lines(self) -> None:
         text = "== a\n> run\n# why\nHalt\n\ntext \"x\"\n> limit 5\n"
         command = Command(Line("run", 2), [Line("Halt", 4), Line('text "x"', 6)])
-        self.assertEqual(accepted(text, [(command, ["WarmBoot"])]), "== a\n> run\nWarmBoot\n# why\n\n> limit 5\n")
-        self.assertEqual(accepted(text, [(Command(Line("limit 5", 7), []), ["ok"])]), f"{text}ok\n")
+        self.assertEqual(accepted(text, [change_of(command, ["WarmBoot"])]), "== a\n> run\nWarmBoot\n# why\n\n> limit 5\n")
+        self.assertEqual(accepted(text, [change_of(Command(Line("limit 5", 7), []), ["ok"])]), f"{text}ok\n")
 
 
 class CheckTest(CommandCase):
@@ -110,6 +112,25 @@ class CheckTest(CommandCase):
     def test_cases_that_pass(self) -> None:
         self.assertEqual(self.outcome(EXAMPLES / "tools"), (0, b"4 passed, 0 failed\n", ""))
         self.assertEqual(self.outcome(self.cases(GREETED)), (0, b"1 passed, 0 failed\n", ""))
+
+    def test_cases_of_the_programs(self) -> None:
+        """Each case of tests/programs that needs no further arguments, as text."""
+        texts = []
+        for case in sorted((TOP / "tests/programs").glob("*/cases/*")):
+            if (case / "args").exists() or (case / "expect/out.sum").exists():
+                continue
+            name = case.parent.parent.name
+            lines = [f"== {name}: {case.name}", f"program {case.parent.parent}/{name}.com", "limit 100000000"]
+            lines += [f'tail "{(case / "tail").read_text().strip()}"'] if (case / "tail").exists() else []
+            lines += [f"files {case}/files"] if (case / "files").is_dir() else []
+            lines += [f"console {case}/console.bin"] if (case / "console.bin").exists() else []
+            lines += ["> run", (case / "expect/stderr").read_text().split("\n")[0].removeprefix("stop ")]
+            lines += spell_text((case / "expect/stdout").read_bytes())
+            for path in sorted((case / "expect/out").glob("[!.]*")):
+                lines += spell_file(path.name, path.read_bytes())
+            texts.append("\n".join([*lines, ""]))
+        self.assertGreater(len(texts), 10)
+        self.assertEqual(self.outcome(self.cases("".join(texts))), (0, f"{len(texts)} passed, 0 failed\n".encode(), ""))
 
     def test_a_failure_shows_the_lines_to_paste(self) -> None:
         path = self.cases(GREETED.replace("28", "29").replace("Hello, Ada", "Hallo, Ada"))
@@ -135,12 +156,21 @@ class CheckTest(CommandCase):
         self.assertEqual(self.outcome(path), (0, b"1 passed, 0 failed\n", ""))
         self.assertEqual([each.read_bytes() for each in sorted((self.room / "disk").iterdir())], [b"one"])
 
-    def test_a_row_of_a_table_is_not_accepted(self) -> None:
-        path = self.cases(GREETED.replace("Hello, Ada", "Hello, {name}") + "with name\nAda\nEve\n")
+    def test_a_row_of_a_table_gets_other_values(self) -> None:
+        table = GREETED + "with name | steps | end | shown\n"
+        for old, new in ("typed Ada", "typed {name}"), ("r 28", "r {steps}"), ("E=3D", "E={end}"), ("? Ada", "? {name}"), (", Ada", ", {shown}"):
+            table = table.replace(old, new)
+        path = self.cases(f"{table}Ada | 28 | 3D | Ada\nEve | 1 | 00 | x\n# more\nBob B | 1 | 01 | y\n")
+        self.assertEqual(self.outcome(path, "--accept"), (0, b"1 passed, 0 failed, 2 accepted\n", ""))
+        self.assertEqual(path.read_text(), f"{table}Ada | 28 | 3D | Ada\nEve | 28 | 3D | Eve\n# more\nBob B | 28 | 3D | Bob B\n")
+
+    def test_a_row_that_no_values_fit_is_not_accepted(self) -> None:
+        path = self.cases(GREETED.replace("Ada\"", "{name}\"").replace("WarmBoot", "Halt") + "with name\nAda\nEve\n")
         text = path.read_text()
         status, out, errors = self.outcome(path, "--accept")
-        self.assertEqual((status, path.read_text(), errors), (1, text, f"{path}:2: a row of a table is not written\n"))
-        self.assertIn(b"1 passed, 1 failed", out)
+        self.assertEqual((status, path.read_text()), (1, text))
+        self.assertEqual(errors, f"{path}:2: this row of a table has no values that give these lines\n" * 2)
+        self.assertIn(b"0 passed, 2 failed", out)
 
     def test_junit(self) -> None:
         path = self.cases(GREETED + GREETED.replace("Ada is", "<&> is").replace("Hello", "Hallo"))

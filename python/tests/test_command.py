@@ -75,7 +75,8 @@ class StreamsTest(CommandCase):
 
     def test_closed_streams(self) -> None:
         edits = self.put("edits", b"run\n")
-        for command in "travel $1", f"snap $1 --edits {edits}", "cover $1", f"explore {EXAMPLES}/tools/nest.com --tries 5", "compare $1 --with '--typed x'":
+        for command in "travel $1", f"snap $1 --edits {edits}", "cover $1", f"explore {EXAMPLES}/tools/nest.com --tries 5", \
+                "compare $1 --with '--typed x'":
             for closed in "<&-", ">&-", "2>&-", "<&- >&- 2>&-":
                 with self.subTest(command=command, closed=closed):
                     status, _, errors = self.shell(f'"$0" {command} {closed}')
@@ -158,14 +159,16 @@ class PackageTest(CommandCase):
     def completions(self, *words: str) -> list[str]:
         """Returns what bash offers for the last of these words."""
         script = 'source "$0"; COMP_WORDS=("$@"); COMP_CWORD=$(($# - 1)); _cpmtools 2> /dev/null; echo "${COMPREPLY[*]}"'
-        done = subprocess.run(["bash", "-c", script, TOP / "scripts/completion", "cpmtools", *words], capture_output=True, text=True, cwd=self.room)
+        command = ["bash", "-c", script, TOP / "scripts/completion", "cpmtools", *words]
+        done = subprocess.run(command, capture_output=True, text=True, cwd=self.room)
         return done.stdout.split()
 
     def test_bash_completes(self) -> None:
         self.put("digits.com", b"")
         (self.room / "disk").mkdir()
         for words, wanted in (["s"], "snap shrink"), (["travel", "--sy"], "--symbols"), (["travel", "--files", "di"], "disk"), \
-                (["shrink", "dig"], "digits.com"), (["cover", "--listing", "dig"], "digits.com"), (["check", "--jobs", "d"], ""), (["what", "d"], ""):
+                (["shrink", "dig"], "digits.com"), (["cover", "--listing", "dig"], "digits.com"), (["check", "--jobs", "d"], ""), \
+                (["what", "d"], ""):
             self.assertEqual(self.completions(*words), wanted.split(), words)
 
     def test_no_name_is_unused(self) -> None:

@@ -64,7 +64,8 @@ class CompareTest(CommandCase):
 
     def test_files(self) -> None:
         program = self.put("scan.com", SCAN_CODE)
-        for name, data in ("one/x.txt", b"a" * 130), ("two/x.txt", b"a" * 130 + b"b"), ("three/x.txt", b"a#" + b"a" * 128), ("four/x.txt", b"a" * 120):
+        for name, data in ("one/x.txt", b"a" * 130), ("two/x.txt", b"a" * 130 + b"b"), ("three/x.txt", b"a#" + b"a" * 128), \
+                ("four/x.txt", b"a" * 120):
             self.put(name, data)
         words = [program, "x.txt", "--files", self.room / "one", "--with"]
         self.assertEqual(self.outcome(*words, f"--files {self.room}/two"), (0, SAME, ""))

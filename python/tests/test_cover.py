@@ -75,13 +75,15 @@ loop.com: 7 of 8 bytes executed (87.5 %), 1 run, 8 instructions
 
     def test_an_edit_of_a_case_counts(self) -> None:
         self.put("loop.com", LOOP)
-        cases = self.put("cases.txt", b"== one\nprogram loop.com\n> run\nWarmBoot\n> poke 0101 05\nok\n> poke 0200 05\nrefused 6\n> run\nWarmBoot\n")
+        runs = b"> run\nWarmBoot\n> poke 0101 05\nok\n> poke 0200 05\nrefused 6\n> run\nWarmBoot\n"
+        cases = self.put("cases.txt", b"== one\nprogram loop.com\n" + runs)
         status, out, _ = self.outcome("--cases", cases, "--summary")
         self.assertEqual((status, out), (0, b"loop.com: 7 of 8 bytes executed (87.5 %), 2 runs, 20 instructions\n"))
 
     def page(self) -> str:
         """Returns the page about nest.com and the programs of the cases."""
-        cases = self.put("cases.txt", f"== one\nprogram {NEST}\ntyped (a)\n> run\nWarmBoot\n== two\nprogram {self.put('<&>.com', LOOP)}\n> run\n".encode())
+        program = self.put("<&>.com", LOOP)
+        cases = self.put("cases.txt", f"== one\nprogram {NEST}\ntyped (a)\n> run\n== two\nprogram {program}\n> run\n".encode())
         page = self.room / "page.html"
         self.assertEqual(self.outcome("--cases", cases, "--listing", LISTING, "--html", page, "--summary")[0], 0)
         return page.read_text()
@@ -91,7 +93,8 @@ loop.com: 7 of 8 bytes executed (87.5 %), 1 run, 8 instructions
         self.assertNotRegex(text, r"(?i)<script|\bsrc=|@import|https?:|url\(|<link")
         self.assertIn("prefers-color-scheme: dark", text)
         page = Page(text)
-        self.assertEqual(page.rows["all"][1:], [["nest.com", "20", "21", "instructions", "95.2", "1"], ["<&>.com", "7", "8", "bytes", "87.5", "1"]])
+        self.assertEqual(page.rows["all"][1:], [["nest.com", "20", "21", "instructions", "95.2", "1"],
+                                                ["<&>.com", "7", "8", "bytes", "87.5", "1"]])
         self.assertEqual((text.count('class="miss"'), text.count('<tr class="hit"')), (2, 20))
         self.assertEqual(page.links, ["#program1", "#program2"])
 
@@ -119,8 +122,7 @@ loop.com: 7 of 8 bytes executed (87.5 %), 1 run, 8 instructions
         self.faulty("--lcov needs --listing", NEST, "--lcov", "x")
         self.faulty(f"{EXAMPLES}/tools/nest.asm is no listing of ASM, MAC, M80, z80asm or pasmo", NEST, "--listing", EXAMPLES / "tools/nest.asm")
         other = EXAMPLES / "tools/tag.com"
-        self.faulty(f"{LISTING}:7 is a listing of another program: 0100 06 00\t\t        ld      b,0             ; how many are open".expandtabs(1)
-                    .replace("\t", " "), other, "--listing", LISTING)
+        self.faulty(f"{LISTING}:7 is a listing of another program: 0100 06 00 ld b,0 ; how many are open", other, "--listing", LISTING)
         self.faulty("no case names a program by its path", "--cases", self.put("x.txt", b"== one\nHLT\n> run\nHalt\n"))
         self.faulty("the runner ended with status 1: cpmtrace: cannot read none", "none")
 

@@ -1,4 +1,4 @@
-"""Tests of `cpmtools label`, and of the symbol files and listings that the tools read. pasmo and z80asm make some of them, where they are there."""
+"""Tests of `cpmtools label`, and of the symbol files and listings that the tools read. pasmo and z80asm make some, if they are there."""
 
 import shutil
 import subprocess
@@ -99,7 +99,8 @@ class SymbolsTest(CommandCase):
 
     def test_listings(self) -> None:
         lines = ["0100 0e 09\t\tstart:  ld c,9", "0102 11 0d 01\t\t        ld de,msg", "0105 cd 05 00\t\t        call bdos",
-                 "0108 c3 11 01\t\t        jp done", "010b 00 01\t\tcount:  db 0,1", '010d .. 0d ..\t\tmsg:    db "Hi",13,"$"', "0111 c9\t\tdone:   ret"]
+                 "0108 c3 11 01\t\t        jp done", "010b 00 01\t\tcount:  db 0,1", '010d .. 0d ..\t\tmsg:    db "Hi",13,"$"',
+                 "0111 c9\t\tdone:   ret"]
         debug = ["0100:\t\tlabel start", "0100:0E09\tLD C, 09", "0102:110D01\tLD DE, 010D", "0105:CD0500\tCALL 0005", "0108:C31101\tJP 0111",
                  "010B:\t\tlabel count", "010B:0001\tDEFB of 2 bytes", "010D:48690D24\tDEFB of 4 bytes", "0111:C9\t\tRET"]
         code = [(0x100, b"\x0e\x09"), (0x102, b"\x11\x0d\x01"), (0x105, b"\xcd\x05\x00"), (0x108, b"\xc3\x11\x01"), (0x111, b"\xc9")]
@@ -135,7 +136,8 @@ class LinesTest(unittest.TestCase):
 
     def test_instructions(self) -> None:
         for text, wanted in {
-            "CALL 0005H": "CALL bdos", "JMP 0111H": "JMP done", "JNZ 0103H": "JNZ start+3", "LXI D,010DH": "LXI D,msg", "LXI D,010EH": "LXI D,010EH",
+            "CALL 0005H": "CALL bdos", "JMP 0111H": "JMP done", "JNZ 0103H": "JNZ start+3", "LXI D,010DH": "LXI D,msg",
+            "LXI D,010EH": "LXI D,010EH",
             "LXI B,000DH": "LXI B,000DH", "LDA 010CH": "LDA count+1", "STA 0FE06H": "STA 0FE06H", "MVI C,09H": "MVI C,09H", "RET": "RET",
             "JMP 0210H": "JMP done+255", "JMP 0211H": "JMP 0211H",
         }.items():

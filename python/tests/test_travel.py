@@ -220,7 +220,8 @@ class Shows(TravelCase):
         self.assertEqual(self.answers("to 7; list 0", HI)[1:], ["> stop WarmBoot after 7 steps"])
 
     def test_help(self) -> None:
-        words = ["step", "back", "to", "until", "back-until", "until-wrote", "who-wrote", "who-printed", "regs", "mem", "list", "text", "quit", "help"]
+        words = ["step", "back", "to", "until", "back-until", "until-wrote", "who-wrote", "who-printed", "regs", "mem", "list", "text", "quit",
+                 "help"]
         lines = self.writer("help")
         self.assertEqual([line.split(":")[0].split()[0] for line in lines], words)
         self.assertEqual(self.writer(";".join(f"help {word}" for word in words)), lines)
@@ -281,7 +282,7 @@ class Labels(TravelCase):
     def test_mistakes(self) -> None:
         # digits are an address, also if a label has them
         self.assertEqual(self.labelled("until none; who-wrote abc+x; until back+2; until Abc+0; until abc"), [
-            "error: none is no address: 1 to 4 hexadecimal digits or a label", "error: abc+x is no address: 1 to 4 hexadecimal digits or a label",
+            *(f"error: {word} is no address: 1 to 4 hexadecimal digits or a label" for word in ("none", "abc+x")),
             WRITER_STEPS[4].replace("0107", "Abc"), "error: no later step is at 0107", "error: no later step is at 0ABC",
         ])
 

@@ -7,7 +7,7 @@ from __future__ import annotations
 
 import os
 import re
-from collections.abc import Callable, Iterable, Mapping
+from collections.abc import Callable, Iterable, Iterator, Mapping
 from dataclasses import dataclass, field, replace
 from pathlib import Path
 
@@ -199,7 +199,8 @@ def parse_registers(line: str, stop: str) -> tuple[tuple[str, int], ...]:
     """Returns the registers of a line, and the usual ones that it does not name."""
     named = dict(word.split("=", 1) for word in line.split() if "=" in word)
     usual = usual_registers(stop)
-    if not set(named) <= set(usual) or len(named) != len(line.split()) or not all(re.fullmatch("[0-9A-F]{2,4}", word) for word in named.values()):
+    are_numbers = all(re.fullmatch("[0-9A-F]{2,4}", word) for word in named.values())
+    if not set(named) <= set(usual) or len(named) != len(line.split()) or not are_numbers:
         raise CaseError(f"no registers: {line}")
     return tuple((name, int(named[name], 16) if name in named else value) for name, value in usual.items())
 
@@ -269,15 +270,15 @@ class Case:
     title: str
     session: Setup
     commands: list[Command]
-    is_row: bool = False
-    """Whether it is a row of a table."""
+    row: Row | None = None
+    """The row of a table that it is made of."""
     program_path: Path | None = None
     """The path of its program, unless it has instructions."""
 
     @property
     def number(self) -> int:
         """The number of its first line."""
-        return getattr(self.title, "number", 0)
+        return number_of(self.title)
 
 
 def line_of(command: str) -> str:
@@ -312,27 +313,47 @@ def programs_in(lines: Iterable[str]) -> dict[str, list[str]]:
     return programs
 
 
-def rows_of(lines: list[Line]) -> list[list[Line]]:
-    """Returns the lines once, or, if they end with a table, once for each row, with its values in the place of their names."""
-    heads = [number for number, line in enumerate(lines) if line.startswith("with ")]
+@dataclass(frozen=True)
+class Row:
+    """A row of a table at the end of a case."""
+
+    names: list[str]
+    values: list[str]
+    body: list[Line]
+    """The lines of the case before the table."""
+    line: Line
+
+    def lines(self) -> list[Line]:
+        """Returns the lines of the case with the values in the place of their names."""
+        lines = self.body
+        for name, value in zip(self.names, self.values):
+            lines = [Line(line.replace(f"{{{name}}}", value), line.number) for line in lines]
+        return lines
+
+
+def rows_in(lines: list[Line]) -> list[Row]:
+    """Returns the rows of the table at the end of a case, if there is one."""
+    heads = [index for index, line in enumerate(lines) if line.startswith("with ")]
     if not heads:
-        return [lines]
+        return []
     names = [name.strip() for name in lines[heads[0]][5:].split(" | ")]
     rows = []
     for line in lines[heads[0] + 1:]:
         values = [value.strip() for value in line.split(" | ")]
         if len(values) != len(names):
             raise CaseError(f"{number_of(line)}: a row of {len(values)} values for {len(names)} names: {line}")
-        row = lines[:heads[0]]
-        for name, value in zip(names, values):
-            row = [Line(other.replace("{" + name + "}", value), other.number) for other in row]
-        rows.append(row)
+        rows.append(Row(names, values, lines[:heads[0]], line))
     return rows
 
 
-def number_of(line: str) -> str:
-    """Returns the number of a line, for a message."""
-    return str(getattr(line, "number", 0))
+def rows_of(lines: list[Line]) -> list[list[Line]]:
+    """Returns the lines once, or, if they end with a table, once for each row, with its values in the place of their names."""
+    return [row.lines() for row in rows_in(lines)] or [lines]
+
+
+def number_of(line: str) -> int:
+    """Returns the number of a line, or 0 if it is none of a file."""
+    return line.number if isinstance(line, Line) else 0
 
 
 @dataclass
@@ -348,15 +369,22 @@ class Reader:
         head, *sections = sections_of(path)
         try:
             programs = {**self.programs, **programs_in(head)}
-            return [self.case(path, lines, programs, len(rows) > 1 or rows[0] is not section)
-                    for section in sections for rows in [rows_of(section)] for lines in rows]
+            return [case for section in sections for case in self.section(path, section, programs)]
         except CaseError as fault:
             text = str(fault)
             raise CaseError(text if text.startswith(str(path)) else f"{path}:{text}") from None
 
-    def case(self, path: Path, lines: list[Line], programs: Mapping[str, list[str]], is_row: bool) -> Case:
+    def section(self, path: Path, lines: list[Line], programs: Mapping[str, list[str]]) -> Iterator[Case]:
+        """Yields the case of these lines, or one for each row of their table."""
+        rows = rows_in(lines)
+        if rows:
+            yield from (self.case(path, row.lines(), programs, row) for row in rows)
+        elif not any(line.startswith("with ") for line in lines):
+            yield self.case(path, lines, programs)
+
+    def case(self, path: Path, lines: list[Line], programs: Mapping[str, list[str]], row: Row | None = None) -> Case:
         """Returns the case of these lines."""
-        case = self.case_type(path, Line(lines[0][3:], lines[0].number), Setup(), [], is_row)
+        case = self.case_type(path, Line(lines[0][3:], lines[0].number), Setup(), [], row)
         program: list[str] = []
         is_text: list[str] = []
         for line in lines[1:]:
@@ -384,7 +412,7 @@ class Reader:
             return assemble(program)
         except (ValueError, KeyError, IndexError) as fault:
             wrong = next((line for line in program if line.partition(";")[0].strip() in str(fault)), None)
-            raise CaseError(f'{path}:{getattr(wrong, "number", number)}: {fault}') from None
+            raise CaseError(f'{path}:{(number_of(wrong or "") or number)}: {fault}') from None
 
     def text_part(self, case: Case, line: str, of: list[str]) -> None:
         """Reads a line of text of the script, which CR ends, or of a host file, which CR LF ends."""

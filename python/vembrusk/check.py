@@ -14,7 +14,8 @@ from dataclasses import dataclass, field
 from pathlib import Path
 from xml.etree import ElementTree
 
-from .cases import Case, CaseError, Command, Reader
+from .accepting import accept
+from .cases import Case, CaseError, Reader
 from .files import write_whole
 from .player import Difference, play_case
 from .session import PathName
@@ -68,32 +69,6 @@ def run_case(case: Case, runner: PathName) -> Result:
     return Result(case, differences, time.perf_counter() - begun)
 
 
-def accepted(text: str, differences: Iterable[tuple[Command, list[str]]]) -> str:
-    """Returns the text of a file with these lines after commands in place of the expected ones. Comments and empty lines between those stay, after
-    the new lines."""
-    lines = text.split("\n")
-    changes = [(getattr(command.line, "number"), [getattr(line, "number") for line in command.wanted], new) for command, new in differences]
-    for at, old, new in sorted(changes, key=lambda change: change[0], reverse=True):
-        for number in sorted(old, reverse=True):
-            del lines[number - 1]
-        lines[at:at] = new
-    return "\n".join(lines)
-
-
-def accept(results: list[Result]) -> set[int]:
-    """Writes what the failed cases would need into their files, except rows of tables. Returns the indices of the results that were written."""
-    written: set[int] = set()
-    for path in dict.fromkeys(result.case.path for result in results):
-        changes = []
-        for index, result in enumerate(results):
-            if result.case.path == path and result.differences and not result.case.is_row:
-                changes += [(each.command, each.lines) for each in result.differences if each.command is not None and each.lines is not None]
-                written.add(index)
-        if changes:
-            write_whole(path, accepted(path.read_bytes().decode("latin-1"), changes).encode("latin-1"))
-    return written
-
-
 def junit(results: list[Result]) -> bytes:
     """Returns the results as XML in the form of JUnit."""
     suites = ElementTree.Element("testsuites")
@@ -134,12 +109,12 @@ def run(values: argparse.Namespace) -> int:
             raise
     if values.junit is not None:
         write_whole(values.junit, junit(results))
-    written = accept(results) if values.accept else set()
+    written = accept([(result.case, result.differences) for result in results]) if values.accept else set()
     for index, result in enumerate(results):
         if not result.has_passed and index not in written:
             print(result.text(), end="\n\n")
-        if values.accept and result.differences and result.case.is_row:
-            print(f"{result.case.path}:{result.case.number}: a row of a table is not written", file=sys.stderr)
+            if values.accept:
+                print(f"{result.case.path}:{result.case.number}: this row of a table has no values that give these lines", file=sys.stderr)
     failed = sum(not result.has_passed for result in results) - len(written)
     print(f"{len(results) - failed - len(written)} passed, {failed} failed" + (f", {len(written)} accepted" if written else ""))
     return 1 if failed else 0

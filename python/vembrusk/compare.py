@@ -19,7 +19,7 @@ from pathlib import Path
 
 from .failing import padded
 from .files import host_files, upper
-from .listing import FileReads, Listing, read_listing
+from .listing import FileReads, Listing
 from .memory import loaded_memory
 from .progress import Progress
 from .session import PathName
@@ -155,7 +155,7 @@ def differences(comparison: Comparison, deps: PathName) -> Iterator[str]:
     one, other = comparison.one, comparison.other
     with Progress("running"):
         words = one.words
-        listing = read_listing(deps, words.program, words.tail, folders=words.folders, script=words.console, typed=words.typed, limit=words.limit)
+        listing = words.listing(deps)
     asked = first_answer(listing, one, other)
     limits = [DEFAULT_LIMIT if side.words.limit is None else side.words.limit for side in (one, other)]
     if asked is None and limits[0] == limits[1]:

@@ -41,7 +41,7 @@ def annotated(covered: Covered) -> Iterator[str]:
 
 
 def ranges(covered: Covered, symbols: Symbols) -> Iterator[str]:
-    """Yields the ranges of the program that were executed, and those that were not, with labels."""
+    """Yields the ranges of the program that were executed, and the ones that were not, with labels."""
     executed = covered.counts.executed(covered.program)
     for first, last, is_executed in stretches(covered.program, executed):
         name = symbols.place(first)

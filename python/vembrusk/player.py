@@ -9,13 +9,16 @@ from collections.abc import Callable, Iterator
 from dataclasses import replace
 from pathlib import Path
 
-from .cases import CAUSES, Case, CaseError, Command, Outcome, Setup, line_of, parse_bytes, parse_outcome
+from .cases import CAUSES, Case, CaseError, Command, Outcome, Setup, line_of, number_of, parse_outcome
 from .files import copy_host_files, host_file
 from .session import PathName, Report, parse_report
 from .words import SessionWords
 
 RUN = re.compile(rf"(?:({CAUSES})(?: after ([0-9]+) steps)?|same)")
 EDIT = re.compile(r"(ok|refused [0-9])")
+
+MALFORMED = 2
+"""The status of cpmrun after a line that is no edit line."""
 
 Check = Callable[[list[str]], None]
 """Compares the lines of a reply. Raises `Difference`."""
@@ -68,7 +71,7 @@ class Play:
 
     def wrong(self, line: str, reason: str) -> CaseError:
         """Returns the error of a line of the case."""
-        return CaseError(f'{self.case.path}:{getattr(line, "number", self.case.number)}: {reason}: {line}')
+        return CaseError(f"{self.case.path}:{number_of(line) or self.case.number}: {reason}: {line}")
 
     def edit(self, command: Command) -> None:
         """Sends an edit line. Without an expected line, its reply is a difference."""
@@ -172,8 +175,9 @@ def answers_of(play: Play, runner: PathName) -> list[list[str]]:
     replies = replies_in(done.stdout.decode("latin-1"))
     if done.returncode != 0:
         message = " ".join(done.stderr.decode("utf-8", "replace").split())
-        number = play.case.commands[len(replies)].line.number if len(replies) < len(play.case.commands) and done.returncode == 2 else 0
-        raise CaseError(f"{play.case.path}:{number or play.case.number}: {message}")
+        wrong = play.case.commands[len(replies):][:1] if done.returncode == MALFORMED else []
+        number = number_of(wrong[0].line) if wrong else play.case.number
+        raise CaseError(f"{play.case.path}:{number}: {message}")
     return replies
 
 
@@ -192,6 +196,3 @@ def sessions_of(case: Case) -> Iterator[Setup]:
             yield setup
         else:
             setup = setup.edited(command.line)
-
-
-__all__ = ["EDIT", "RUN", "Difference", "Play", "outcome_of", "parse_bytes", "play_case", "put_session", "sessions_of"]

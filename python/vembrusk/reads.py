@@ -10,7 +10,7 @@ from dataclasses import dataclass
 from html import escape
 from pathlib import Path
 
-from .listing import FileReads, Listing, read_listing, rows_of
+from .listing import FileReads, Listing, rows_of
 from .page import STYLE, document, table, write_page
 from .words import Arguments, SessionWords, session_of
 
@@ -241,8 +241,7 @@ def add_arguments(parser: Arguments) -> None:
 def run(values: argparse.Namespace) -> int:
     """Runs the subcommand."""
     words = session_of(values)
-    listing = read_listing(values.cpmdeps, words.program, words.tail, folders=words.folders, script=words.console, typed=words.typed,
-                           limit=words.limit)
+    listing = words.listing(values.cpmdeps)
     facts = {"Program": words.program, "Command tail": words.tail or "none", "Stop": listing.stop}
     facts |= {} if words.limit is None else {"Limit": f"{words.limit:,} steps"}
     write_page(page(listing, sections_of(listing, words), facts), values.output)

@@ -12,6 +12,7 @@ from pathlib import Path
 from typing import NoReturn
 
 from .files import host_file
+from .listing import Listing, read_listing
 from .session import PathName, Session, session_words
 from .trace import Tracer
 
@@ -54,6 +55,10 @@ class SessionWords:
     def tracer(self, command: PathName) -> Tracer:
         """Returns a tracer of the session, without its limit."""
         return Tracer(command, self.program, self.tail, folders=self.folders, script=self.console, typed=self.typed)
+
+    def listing(self, command: PathName) -> Listing:
+        """Returns what the run of the session asks for."""
+        return read_listing(command, self.program, self.tail, folders=self.folders, script=self.console, typed=self.typed, limit=self.limit)
 
     def script(self) -> bytes:
         """Returns the console input."""
