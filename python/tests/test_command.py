@@ -29,7 +29,7 @@ class WordsTest(CommandCase):
 
     def snap(self, *words: str | Path) -> bytes:
         """Returns what `snap` prints for one run."""
-        status, out, errors = self.outcome(*words, "--edits", self.put("edits", b"run\n"))
+        status, out, errors = self.outcome("--edits", self.put("edits", b"run\n"), *words)
         self.assertEqual((status, errors), (0, ""))
         return out
 

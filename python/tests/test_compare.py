@@ -36,7 +36,7 @@ class CompareTest(CommandCase):
             '< step 9 call 10 read console buffer 013B "Ada\\r"',
             '> step 9 call 10 read console buffer 013B "Eve\\r"',
             "The first call is the same. The next differs:",
-            '  step 4 call 9 print string 0134 "Name? "',
+            '  step 4 call 9 print string 012B "Name? "',
             '< step 9 call 10 read console buffer 013B "Ada\\r"',
             '> step 9 call 10 read console buffer 013B "Eve\\r"',
         ])
@@ -45,7 +45,7 @@ class CompareTest(CommandCase):
         self.assertEqual(self.outcome(GREETING, "--typed", "Ada", "--with", "--typed Ada\\\\r"), (0, SAME, ""))
         typed = self.put("typed", b"Ada\rmore")
         self.assertEqual(self.outcome(GREETING, "--typed", "Ada", "--with", f"--console {typed}"), (0, SAME, ""))
-        self.assertEqual(self.outcome(GREETING, "--typed", "Ada", "--with", "--limit 28"), (0, SAME, ""))
+        self.assertEqual(self.outcome(GREETING, "--typed", "Ada", "--with", "--limit 29"), (0, SAME, ""))
 
     def test_another_limit(self) -> None:
         lines = self.compare(GREETING, "--typed", "Ada", "--with", "--limit 20", "--context", "0")
@@ -70,8 +70,12 @@ class CompareTest(CommandCase):
         words = [program, "x.txt", "--files", self.room / "one", "--with"]
         self.assertEqual(self.outcome(*words, f"--files {self.room}/two"), (0, SAME, ""))
         # the record is read by the call of step 9; step 11 is the first of the loop
-        self.assertTrue(self.compare(*words, f"--disk {self.room}/three", "--context", "0")[1].startswith("< step 14 regs A=23"[:8]))
-        self.assertTrue(self.compare(*words, f"--files {self.room}/four")[0].startswith("The first 1"))
+        lines = self.compare(*words, f"--disk {self.room}/three", "--context", "0")
+        # MOV A,M is step 11, and 16 for the second byte
+        self.assertEqual(lines[0], "The first 17 steps are the same. The next differs:")
+        self.assertIn(" regs A=23 ", lines[2])
+        lines = self.compare(*words, f"--files {self.room}/four")
+        self.assertEqual(lines[0], f"The first {12 + 5 * 120} steps are the same. The next differs:")
         self.put("none/y.txt", b"")
         lines = self.compare(*words, f"--files {self.room}/none")
         self.assertEqual(lines[-2:], ["< step 4 call 15 open file X.TXT = 00", "> step 4 call 15 open file X.TXT = FF"])
@@ -97,7 +101,7 @@ class CompareTest(CommandCase):
         self.faulty("the following arguments are required: --with", GREETING)
         self.faulty("--with: No closing quotation", GREETING, "--with", "'x")
         self.faulty("--typed and --console exclude each other", GREETING, "--with", "--typed x --console y")
-        status, out, errors = self.outcome(GREETING, "--with", "--what")
+        status, out, errors = self.outcome(GREETING, "--with=--what")
         self.assertEqual((status, out, errors), (2, b"", "cpmtools compare: --with: unrecognized arguments: --what\n"))
         self.faulty("none: No such file or directory", GREETING, "--with", "none")
         self.faulty("the runner ended with status 1: cpmdeps: cannot read none", "none", "--with", "x")

@@ -23,7 +23,7 @@ class CountsTest(unittest.TestCase):
         call = 'step 12 call 9 print string 0109 "\\nstep 1 regs A=00 F=02 B=00 C=00 D=00 E=00 H=00 L=00 SP=FDFE PC=0200 00"'
         for block in [LINE.format(10, 0x100), LINE.format(11, 0x101), call], [LINE.format(13, 0x100), LINE.format(14, 0x102)], []:
             add_block(counts, "".join(f"\n{line}" for line in block).encode())
-        self.assertEqual((counts.counts, counts.first, counts.steps), ({0x100: 2, 0x101: 1, 0x102: 1}, {0x100: 10, 0x101: 11, 0x102: 14}, 4))
+        self.assertEqual((counts.counts, counts.first, counts.steps), ({0x100: 2, 0x101: 1, 0x102: 1}, {0x100: 10, 0x101: 11, 0x102: 14}, 5))
 
     def test_lengths(self) -> None:
         lengths = [length_of(opcode) for opcode in range(256)]
@@ -45,7 +45,7 @@ class CoverTest(CommandCase):
         program = self.put("loop.com", LOOP)
         symbols = self.put("loop.sym", b"again:\tequ $0102\n")
         self.assertEqual(self.outcome(program, "--symbols", symbols), (0, b"""\
-loop.com: 7 of 8 bytes executed (87.5 %), 1 run, 8 instructions
+loop.com: 7 of 8 bytes executed (87.5 %), 1 run, 9 steps
   0100-0106 executed
   0107-0107 not executed  again+5
 """, ""))
@@ -54,31 +54,35 @@ loop.com: 7 of 8 bytes executed (87.5 %), 1 run, 8 instructions
         status, out, errors = self.outcome(NEST, "--typed", "(a)", "--listing", LISTING)
         self.assertEqual((status, errors), (0, ""))
         lines = out.decode().splitlines()
-        # of 22 instructions HLT is not executed; the loop is begun by each of the four bytes that are typed
-        self.assertEqual(lines[0], "nest.com: 20 of 21 instructions executed (95.2 %), 1 run, 52 instructions")
+        # of 18 instructions only HLT is not executed; the loop is begun by each of the four bytes that are typed
+        self.assertEqual(lines[0], "nest.com: 17 of 18 instructions executed (94.4 %), 1 run, 50 steps")
         found = {line[23:27]: (line[:10].strip(), line[10:21].strip()) for line in lines[2:]}
         self.assertEqual([found[address] for address in ("0100", "0102", "0111", "0118", "011e", "010b")],
-                         [("1", "0"), ("4", "1"), ("1", "10"), ("#####", ""), ("1", "37"), ("4", "8")])
+                         [("1", "0"), ("4", "1"), ("1", "11"), ("#####", ""), ("1", "39"), ("4", "8")])
+
+    def test_a_run_that_the_limit_stops(self) -> None:
+        self.assertEqual(self.outcome(self.put("loop.com", LOOP), "--limit", "3", "--summary"),
+                         (0, b"loop.com: 6 of 8 bytes executed (75.0 %), 1 run, 3 steps; 1 stopped by Limit\n", ""))
 
     def test_lcov(self) -> None:
         info = self.room / "cover.info"
         self.assertEqual(self.outcome(NEST, "--typed", "(a)", "--listing", LISTING, "--lcov", info, "--summary")[0], 0)
         lines = info.read_text().splitlines()
-        self.assertEqual(lines[:3] + lines[-3:], ["TN:", f"SF:{LISTING}", "DA:7,1", "LF:21", "LH:20", "end_of_record"])
+        self.assertEqual(lines[:3] + lines[-3:], ["TN:", f"SF:{LISTING}", "DA:7,1", "LF:18", "LH:17", "end_of_record"])
         self.assertIn("DA:20,0", lines)
 
     def test_cases_of_several_programs(self) -> None:
         status, out, errors = self.outcome("--cases", EXAMPLES / "tools", "--summary")
         self.assertEqual((status, errors), (0, ""))
-        self.assertRegex(out.decode(), r"^greeting\.com: \d+ of 59 bytes executed \([\d.]+ %\), 5 runs, \d+ instructions\n"
-                                       r"sort\.com: \d+ of \d+ bytes executed \([\d.]+ %\), 1 run, [\d,]+ instructions\n$")
+        self.assertRegex(out.decode(), r"^greeting\.com: \d+ of 60 bytes executed \([\d.]+ %\), 5 runs, \d+ steps\n"
+                                       r"sort\.com: \d+ of \d+ bytes executed \([\d.]+ %\), 1 run, [\d,]+ steps\n$")
 
     def test_an_edit_of_a_case_counts(self) -> None:
         self.put("loop.com", LOOP)
         runs = b"> run\nWarmBoot\n> poke 0101 05\nok\n> poke 0200 05\nrefused 6\n> run\nWarmBoot\n"
         cases = self.put("cases.txt", b"== one\nprogram loop.com\n" + runs)
         status, out, _ = self.outcome("--cases", cases, "--summary")
-        self.assertEqual((status, out), (0, b"loop.com: 7 of 8 bytes executed (87.5 %), 2 runs, 20 instructions\n"))
+        self.assertEqual((status, out), (0, b"loop.com: 7 of 8 bytes executed (87.5 %), 2 runs, 22 steps\n"))
 
     def page(self) -> str:
         """Returns the page about nest.com and the programs of the cases."""
@@ -93,9 +97,9 @@ loop.com: 7 of 8 bytes executed (87.5 %), 1 run, 8 instructions
         self.assertNotRegex(text, r"(?i)<script|\bsrc=|@import|https?:|url\(|<link")
         self.assertIn("prefers-color-scheme: dark", text)
         page = Page(text)
-        self.assertEqual(page.rows["all"][1:], [["nest.com", "20", "21", "instructions", "95.2", "1"],
+        self.assertEqual(page.rows["all"][1:], [["nest.com", "17", "18", "instructions", "94.4", "1"],
                                                 ["<&>.com", "7", "8", "bytes", "87.5", "1"]])
-        self.assertEqual((text.count('class="miss"'), text.count('<tr class="hit"')), (2, 20))
+        self.assertEqual((text.count('class="miss"'), text.count('<tr class="hit"')), (2, 17))
         self.assertEqual(page.links, ["#program1", "#program2"])
 
     @with_browser
@@ -114,7 +118,7 @@ loop.com: 7 of 8 bytes executed (87.5 %), 1 run, 8 instructions
         program = self.put("long.com", bytes.fromhex("0603 0E00 1600 15 C20601 0D C20401 05 C20201 C9"))
         status, out, _ = self.outcome(program, "--summary", "--limit", "1000000")
         steps = 1 + 3 * (1 + 256 * (1 + 256 * 2 + 2) + 2) + 2
-        self.assertEqual((status, out.decode()), (0, f"long.com: 17 of 17 bytes executed (100 %), 1 run, {steps:,} instructions\n"))
+        self.assertEqual((status, out.decode()), (0, f"long.com: 19 of 19 bytes executed (100 %), 1 run, {steps:,} steps\n"))
 
     def test_faults(self) -> None:
         self.faulty("either PROGRAM or --cases is needed")
@@ -124,7 +128,8 @@ loop.com: 7 of 8 bytes executed (87.5 %), 1 run, 8 instructions
         other = EXAMPLES / "tools/tag.com"
         self.faulty(f"{LISTING}:7 is a listing of another program: 0100 06 00 ld b,0 ; how many are open", other, "--listing", LISTING)
         self.faulty("no case names a program by its path", "--cases", self.put("x.txt", b"== one\nHLT\n> run\nHalt\n"))
-        self.faulty("the runner ended with status 1: cpmtrace: cannot read none", "none")
+        self.faulty("none: No such file or directory", "none")
+        self.faulty("none: No such file or directory", NEST, "--cpmtrace", "none")
 
 
 if __name__ == "__main__":

@@ -268,22 +268,22 @@ class Labels(TravelCase):
 
     def labelled(self, commands: str) -> list[str]:
         """Returns what the commands print with labels."""
-        symbols = self.put("writer.sym", b"cell\t\tEQU 00120H\nback\t\tEQU 00105H\ntwo\t\tEQU 00105H\nAbc\t\tEQU 00107H\n")
+        symbols = self.put("writer.sym", b"cell\t\tEQU 00120H\nback\t\tEQU 00105H\ntwo\t\tEQU 00105H\nNext\t\tEQU 00107H\nAbc\t\tEQU 00300H\n")
         return self.writer(commands, "--symbols", symbols)
 
     def test_labels_are_shown_and_read(self) -> None:
-        lines = [line.replace("cell 0120", "cell cell").replace("0120H", "cell").replace("PC=0107", "PC=Abc") for line in WRITER_STEPS]
-        lines = [line.replace("PC=0108", "PC=Abc+1").replace("PC=010A", "PC=Abc+3").replace("PC=010D", "PC=Abc+6") for line in lines]
-        self.assertEqual(self.labelled("step; until abc; who-wrote cell; who-wrote Cell+0; back-until abc"),
+        lines = [line.replace("cell 0120", "cell cell").replace("0120H", "cell").replace("PC=0107", "PC=Next") for line in WRITER_STEPS]
+        lines = [line.replace("PC=0108", "PC=Next+1").replace("PC=010A", "PC=Next+3").replace("PC=010D", "PC=Next+6") for line in lines]
+        self.assertEqual(self.labelled("step; until next; who-wrote cell; who-wrote Cell+0; back-until next"),
                          [lines[1], lines[4], lines[3], lines[3], "error: no earlier step is at 0107"])
         self.assertEqual(self.labelled("list 9"), [f"{'>' if at == 0 else ' '} {line}" for at, line in enumerate(lines)] + [f"  {HALTED}"])
         self.assertEqual(self.labelled("to 4; mem cell 1")[1], memory_line(0x120, [0x43]))
 
     def test_mistakes(self) -> None:
         # digits are an address, also if a label has them
-        self.assertEqual(self.labelled("until none; who-wrote abc+x; until back+2; until Abc+0; until abc"), [
+        self.assertEqual(self.labelled("until none; who-wrote abc+x; until back+2; until Abc+0; until abc; until fde"), [
             *(f"error: {word} is no address: 1 to 4 hexadecimal digits or a label" for word in ("none", "abc+x")),
-            WRITER_STEPS[4].replace("0107", "Abc"), "error: no later step is at 0107", "error: no later step is at 0ABC",
+            WRITER_STEPS[4].replace("0107", "Next"), "error: no later step is at 0300", "error: no later step is at 0ABC", "error: no later step is at 0FDE",
         ])
 
 

@@ -50,8 +50,8 @@ def open_missing_streams() -> None:
 def message_of(fault: Exception) -> str:
     """Returns an error in one line."""
     text = str(fault)
-    if isinstance(fault, OSError) and fault.filename is not None:
-        text = f"{fault.filename}: {fault.strerror}"
+    if isinstance(fault, OSError) and fault.strerror is not None:
+        text = fault.strerror if fault.filename is None else f"{fault.filename}: {fault.strerror}"
     return " ".join(text.split())
 
 

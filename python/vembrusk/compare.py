@@ -190,13 +190,9 @@ def second_words(values: argparse.Namespace, text: str) -> SessionWords:
         given = parser.read(shlex.split(text))
     except ValueError as fault:
         raise UsageError(f"--with: {fault}") from None
-    both = argparse.Namespace(**vars(values))
-    for name, value in vars(given).items():
-        if value is not None and name != "operands":
-            setattr(both, name, value)
-            if name in EXCLUDED:
-                setattr(both, EXCLUDED[name], None)
-    return session_of(both)
+    new = {name: value for name, value in vars(given).items() if value is not None and name != "operands"}
+    replaced = {EXCLUDED[name]: None for name in new if name in EXCLUDED}
+    return session_of(argparse.Namespace(**vars(values) | replaced | new))
 
 
 def add_arguments(parser: Arguments) -> None:

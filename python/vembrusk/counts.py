@@ -38,11 +38,10 @@ class Counts:
     first: dict[int, int] = field(default_factory=dict)
     """The first step at each address, over all runs."""
     runs: int = 0
-
-    @property
-    def steps(self) -> int:
-        """The number of instructions of all runs."""
-        return self.counts.total()
+    steps: int = 0
+    """The steps of all runs, calls too."""
+    limited: int = 0
+    """The runs that stopped by Limit, so that a longer one may execute more."""
 
     def add(self, other: Counts) -> None:
         """Adds the counts of other runs."""
@@ -50,6 +49,8 @@ class Counts:
         for address, step in other.first.items():
             self.first[address] = min(step, self.first.get(address, step))
         self.runs += other.runs
+        self.steps += other.steps
+        self.limited += other.limited
 
     def executed(self, program: bytes) -> set[int]:
         """Returns the addresses of the program's bytes that belong to executed instructions."""
@@ -70,6 +71,7 @@ def length_of(opcode: int) -> int:
 
 def add_block(counts: Counts, block: bytes) -> None:
     """Adds whole lines of a trace, with a line end before the first."""
+    counts.steps += block.count(b"\nstep ")
     found = Counter(_ADDRESS.findall(block))
     addresses = {digits: int(digits, 16) for digits in found}
     counts.counts.update({addresses[digits]: count for digits, count in found.items()})
@@ -82,7 +84,7 @@ def add_block(counts: Counts, block: bytes) -> None:
 
 
 def blocks_of(command: list[str]) -> Iterator[bytes]:
-    """Yields the lines that a command prints, many at once, with a line end before the first. Raises ProgramEnded if it ends with an error."""
+    """Yields the whole lines that a command prints, many at once, with a line end before the first. Raises ProgramEnded if it ends with an error."""
     with subprocess.Popen(command, stdin=subprocess.DEVNULL, stdout=subprocess.PIPE, stderr=subprocess.PIPE, process_group=0) as process:
         assert process.stdout is not None and process.stderr is not None
         try:
@@ -94,7 +96,6 @@ def blocks_of(command: list[str]) -> Iterator[bytes]:
                     continue
                 yield rest + data[:end]
                 rest = data[end:]
-            yield rest
             errors = process.stderr.read().decode("utf-8", "replace")
             process.wait()
         finally:
@@ -105,9 +106,10 @@ def blocks_of(command: list[str]) -> Iterator[bytes]:
 
 def count_run(tracer: PathName, words: SessionWords) -> Counts:
     """Returns how often the run of a session executed each address."""
-    counts = Counts(runs=1)
+    counts, block = Counts(runs=1), b""
     for block in blocks_of([str(tracer), "--steps", *words.words()]):
         add_block(counts, block)
+    counts.limited = int(block.rstrip().endswith(b"\nstop Limit"))
     return counts
 
 

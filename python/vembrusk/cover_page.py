@@ -29,7 +29,7 @@ def page(programs: list[Covered]) -> str:
     """Returns the page about programs: a table of all, and a section for each."""
     marks = {f"program{number}": covered for number, covered in enumerate(programs, 1)}
     facts = {"Programs": ", ".join(covered.name for covered in programs), "Runs": f"{sum(covered.counts.runs for covered in programs):,}",
-             "Instructions executed": f"{sum(covered.counts.steps for covered in programs):,}"}
+             "Steps": f"{sum(covered.counts.steps for covered in programs):,}"}
     heads = "Program", "Executed", "Of", "", "Per cent", "Runs"
     rows = [(covered.name, f"{some:,}", f"{total:,}", unit, percent(some, total), f"{covered.counts.runs:,}")
             for covered in programs for some, total, unit in [covered.part()]]

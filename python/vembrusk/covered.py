@@ -39,7 +39,8 @@ class Covered:
         """Returns the line about the program."""
         some, total, unit = self.part()
         runs = f"{self.counts.runs:,} run{'s' * (self.counts.runs != 1)}"
-        return f"{self.name}: {some:,} of {total:,} {unit} executed ({percent(some, total)} %), {runs}, {self.counts.steps:,} instructions"
+        limited = f"; {self.counts.limited:,} stopped by Limit" if self.counts.limited else ""
+        return f"{self.name}: {some:,} of {total:,} {unit} executed ({percent(some, total)} %), {runs}, {self.counts.steps:,} steps{limited}"
 
 
 def percent(some: int, total: int) -> str:

@@ -10,6 +10,7 @@ import argparse
 import cmd
 import re
 import sys
+from contextlib import closing
 from pathlib import Path
 
 from .memory import LAST_ADDRESS, Memory, loaded_memory
@@ -271,8 +272,7 @@ def run(values: argparse.Namespace) -> int:
     words = session_of(values)
     symbols = read_symbols(values.symbols)
     sys.stdin.reconfigure(errors="backslashreplace")  # type: ignore[union-attr]
-    whole = Run(words, values.cpmrun, values.cpmtrace)
-    loaded = loaded_memory(Path(words.program).read_bytes(), words.tail or "")
-    Travel(whole, Memory(whole, loaded, words.host_data, has_plain_script(words)), symbols).loop()
-    whole.close()
+    with closing(Run(words, values.cpmrun, values.cpmtrace)) as whole:
+        loaded = loaded_memory(Path(words.program).read_bytes(), words.tail or "")
+        Travel(whole, Memory(whole, loaded, words.host_data, has_plain_script(words)), symbols).loop()
     return 0
