@@ -1,4 +1,4 @@
-; NEST - reads what is typed up to a carriage return, and counts open
+; NEST - reads the script up to a carriage return, and counts open
 ; parentheses.  It is to fail: a third open one halts, and one that closes
 ; too much goes on into a byte which is no opcode.
 

@@ -80,6 +80,18 @@ class CompareTest(CommandCase):
         lines = self.compare(*words, f"--files {self.room}/none")
         self.assertEqual(lines[-2:], ["< step 4 call 15 open file X.TXT = 00", "> step 4 call 15 open file X.TXT = FF"])
 
+    def test_files_at_the_end(self) -> None:
+        """The second version of sort.com has another jump, by which it sorts the other way."""
+        data = (EXAMPLES / "sort/sort.com").read_bytes()
+        other = self.put("sort.com", data[:0xC3] + b"\xda" + data[0xC4:])
+        self.put("disk/in.txt", b"a\r\nb\r\n")
+        lines = self.compare(EXAMPLES / "sort/sort.com", "in.txt out.txt", "--files", self.room / "disk", "--with", str(other), "--context", "0")
+        self.assertEqual([line[-14:] for line in lines[1:3]], ["D2D101 JNC 01D1H"[-14:], "DAD101 JC 01D1H"[-14:]])
+        self.assertEqual(lines[3:], ["All calls are the same.", "File OUT.TXT differs after the runs, from byte 0 on, in record 0."])
+        (self.room / "none").mkdir()
+        lines = self.compare(EXAMPLES / "sort/sort.com", "in.txt out.txt", "--files", self.room / "disk", "--with", f"--disk {self.room}/none")
+        self.assertEqual(lines[-1], "File OUT.TXT is there after the first run only.")
+
     def test_a_difference_that_only_shows_late(self) -> None:
         """The programs differ in a byte that is read after 50 million steps."""
         code = WAIT + OUTPUT

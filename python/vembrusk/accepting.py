@@ -6,7 +6,7 @@ import re
 from collections.abc import Iterable, Mapping
 from pathlib import Path
 
-from .cases import Case, Command, Row, number_of
+from .cases import Case, Command, Row, number_of, read_text
 from .files import write_whole
 from .player import Difference
 
@@ -83,5 +83,5 @@ def accept(results: list[tuple[Case, list[Difference]]]) -> set[int]:
             changes.setdefault(case.path, []).extend(each for each in new if each is not None)
             written.add(index)
     for path, of_path in changes.items():
-        write_whole(path, accepted(path.read_bytes().decode("latin-1"), of_path).encode("latin-1"))
+        write_whole(path, accepted(read_text(path), of_path))
     return written

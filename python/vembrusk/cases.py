@@ -287,10 +287,15 @@ def line_of(command: str) -> str:
     return f"{words[0]} {words[1]} {digits(parse_bytes(words[2]))}" if words[0] in WITH_BYTES and len(words) == 3 else command
 
 
+def read_text(path: Path) -> str:
+    """Returns the text of a file. Bytes that are not UTF-8 stay."""
+    return path.read_bytes().decode("utf-8", "surrogateescape")
+
+
 def sections_of(path: Path) -> list[list[Line]]:
     """Returns the lines of each case, and of what is before the first."""
     sections: list[list[Line]] = [[]]
-    for number, line in enumerate(path.read_bytes().decode("latin-1").split("\n"), 1):
+    for number, line in enumerate(read_text(path).split("\n"), 1):
         if line.startswith("== "):
             sections.append([])
         if line.strip() and not line.startswith("#"):

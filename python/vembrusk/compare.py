@@ -17,8 +17,9 @@ from dataclasses import dataclass
 from itertools import zip_longest
 from pathlib import Path
 
-from .failing import padded
+from .failing import file_after, padded
 from .files import host_files, upper
+from .inputs import common
 from .listing import FileReads, Listing
 from .memory import loaded_memory
 from .progress import Progress
@@ -116,6 +117,7 @@ class Comparison:
 
     one: Side
     other: Side
+    runner: PathName
     tracer: PathName
     context: int
     """The most lines that are shown before a difference."""
@@ -139,10 +141,26 @@ class Comparison:
         with Progress("comparing steps"):
             return self.first(str.__eq__, "--steps", f"--from={begin}")
 
+    def ends(self) -> Iterator[str]:
+        """Yields how the files differ that the runs leave. The trace of a call does not show what is in a record."""
+        with Progress("running"), self.one.words.start(self.runner) as session, self.other.words.start(self.runner) as other:
+            reports = session.run(), other.run()
+        for name in dict.fromkeys([*reports[0].files, *reports[1].files]):
+            left, right = (file_after(report, name, side.words.host_data) for report, side in zip(reports, (self.one, self.other)))
+            if left != right:
+                yield file_line(name, left, right)
+
     def first_call(self) -> Found | None:
         """Returns the first call that differs in more than its step and addresses of memory."""
         with Progress("comparing calls"):
             return self.first(lambda line, other: bare(line) == bare(other))
+
+
+def file_line(name: str, one: bytes | None, other: bytes | None) -> str:
+    """Returns how the records differ that two runs leave of a file."""
+    if one is None or other is None:
+        return f"File {name} is there after the {'second' if one is None else 'first'} run only."
+    return f"File {name} differs after the runs, from byte {common(one, other):,} on, in record {common(one, other) // RECORD:,}."
 
 
 def text_of(line: bytes) -> str:
@@ -172,6 +190,7 @@ def differences(comparison: Comparison, deps: PathName) -> Iterator[str]:
     else:
         yield heading(call.count, "call")
         yield from call.lines(one, other)
+    yield from comparison.ends()
 
 
 def heading(count: int, unit: str) -> str:
@@ -199,8 +218,8 @@ def add_arguments(parser: Arguments) -> None:
     """Adds the arguments of the subcommand."""
     parser.set_operands("PROGRAM [TAIL]", "the .COM file, and its command tail, one word")
     parser.add_session()
-    parser.add_program("cpmdeps")
-    parser.add_program("cpmtrace")
+    for name in "cpmrun", "cpmdeps", "cpmtrace":
+        parser.add_program(name)
     add = parser.add_argument
     add("--with", dest="other", metavar="WORDS", help="the words in which the second session differs, as 'new.com --files-b disk'")
     parser.add_symbols()
@@ -216,7 +235,7 @@ def run(values: argparse.Namespace) -> int:
     one = Side(session_of(values), symbols)
     other = Side(second_words(values, values.other), read_symbols(values.with_symbols) if values.with_symbols else symbols)
     status = 0
-    for line in differences(Comparison(one, other, values.cpmtrace, values.context), values.cpmdeps):
+    for line in differences(Comparison(one, other, values.cpmrun, values.cpmtrace, values.context), values.cpmdeps):
         print(line)
         status = 1
     if status == 0:
