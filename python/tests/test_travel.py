@@ -14,6 +14,7 @@ from pathlib import Path
 from command_case import EXAMPLES, SCAN_CODE, TOP, CommandCase
 from vembrusk.session import ProgramEnded, UnknownReply
 from vembrusk.memory import control_block, loaded_memory
+from vembrusk.run import stretches
 from vembrusk.trace import Step, Tracer, Written, parse_step
 from vembrusk.travel import memory_line
 
@@ -301,6 +302,20 @@ LONG_CODE = bytes.fromhex("3E01 323001 0600 0E00 1600 15 C20B01 0D C20901 05 C20
 
 LONG_STEPS = 3 + 256 * (1 + 256 * (1 + 512 + 2) + 2) + 3 + 1
 """The steps of LONG_CODE with the jump to the warm start."""
+
+
+class StretchesTest(unittest.TestCase):
+    """The stretches that a search goes through."""
+
+    def test_stretches_have_each_step_once_and_in_order(self) -> None:
+        for steps in 0, 1, 999_999, 1_000_000, 1_000_001, 5_000_000, 9_000_000, 9_000_001, 9_000_002, 100_000_001:
+            for processors in 1, 2, 3:
+                with self.subTest(steps=steps, processors=processors):
+                    batches = list(stretches(steps, processors))
+                    ends = [0, *(end for batch in batches for _, end in batch)]
+                    self.assertEqual([first for batch in batches for first, _ in batch], ends[:-1])
+                    self.assertEqual((ends[-1], sorted(set(ends))), (steps, ends))
+                    self.assertLessEqual(max(map(len, batches), default=0), processors)
 
 
 class Long(TravelCase):

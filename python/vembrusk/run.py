@@ -2,11 +2,12 @@
 
 from __future__ import annotations
 
-from collections.abc import Callable, Iterator
+import os
+from collections.abc import Callable, Iterable, Iterator
 
 from .progress import Progress
 from .session import PathName, Report, Session
-from .trace import Step, Tracer
+from .trace import Direction, Step, Tracer
 from .words import SessionWords
 
 DEFAULT_LIMIT = 1_000_000
@@ -18,15 +19,16 @@ WINDOW = 200
 """The lines before and after a step that are read together with it."""
 
 FIRST_STRETCH = 1_000_000
-"""The steps that are searched first by a search backward; each further stretch has four times as many."""
+LATER_STRETCH = 4_000_000
+"""The steps that a search goes through at first, and then on each processor."""
 
 
 class Run:
     """The run of a session, and its state after any number of steps.
 
     cpmrun keeps checkpoints of the whole run, so a report of any step takes milliseconds. cpmtrace begins at the start each time, and executes
-    the steps before the first one that is asked for at full speed. So steps around the last one are kept, and a search backward goes through
-    stretches from the last one to the first.
+    the steps before the first one that is asked for at full speed. So steps around the last one are kept, and a search goes through stretches of
+    steps from here on, several at once.
     """
 
     def __init__(self, words: SessionWords, runner: PathName, tracer: PathName) -> None:
@@ -101,20 +103,24 @@ class Run:
         return low
 
     def _next(self, option: str, first: int) -> Step | None:
-        with Progress("searching forward"):
-            return self._tracer.first(option, f"--from={first}", self._up_to(self._limit))
+        """Returns the first step from `first` on that this option chooses."""
+        batches = ([(first + begin, first + end) for begin, end in batch] for batch in stretches(self._limit - first, os.cpu_count() or 1))
+        return self._search(option, batches, Direction.FORWARD)
 
     def _last(self, option: str, steps: int) -> Step | None:
         """Returns the last of the first `steps` steps that this option chooses."""
-        end, stretch = steps, FIRST_STRETCH
-        with Progress("searching backward") as progress:
-            while end > 0:
-                first = max(end - stretch, 0)
-                progress.doing = f"searching backward from step {end}"
-                step = self._tracer.last(option, f"--from={first}", f"--to={end - 1}", self._up_to(end))
+        batches = ([(steps - end, steps - begin) for begin, end in batch] for batch in stretches(steps, os.cpu_count() or 1))
+        return self._search(option, batches, Direction.BACKWARD)
+
+    def _search(self, option: str, batches: Iterable[list[tuple[int, int]]], direction: Direction) -> Step | None:
+        """Returns the first or the last step that this option chooses, in the first stretch that has one."""
+        with Progress("searching") as progress:
+            for batch in batches:
+                progress.doing = f"searching from step {min(batch)[0]} to {max(batch)[1]}"
+                choices = [(option, f"--from={first}", f"--to={end - 1}", self._up_to(end)) for first, end in batch]
+                step = self._tracer.search(choices, direction)
                 if step is not None:
                     return step
-                end, stretch = first, 4 * stretch
         return None
 
     def _traced(self, *options: str, steps: int) -> Iterator[Step]:
@@ -123,3 +129,14 @@ class Run:
 
     def _up_to(self, steps: int) -> str:
         return f"--limit={min(steps, self._limit)}"
+
+
+def stretches(steps: int, processors: int) -> Iterator[list[tuple[int, int]]]:
+    """Yields stretches of this many steps, in order, as first steps and ends: those of a list are searched at once. The first list has a short
+    one, and the last list the rest, in as many parts as there are processors."""
+    middle = FIRST_STRETCH + processors * LATER_STRETCH
+    for begin, end, length in (0, FIRST_STRETCH, FIRST_STRETCH), (FIRST_STRETCH, middle, LATER_STRETCH), \
+            (middle, steps, -(-(steps - middle) // processors)):
+        end = min(end, steps)
+        if begin < end:
+            yield [(first, min(first + length, end)) for first in range(begin, end, length)]

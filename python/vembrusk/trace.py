@@ -12,9 +12,10 @@ from __future__ import annotations
 import os
 import re
 import subprocess
-from collections.abc import Generator, Iterable, Mapping
-from contextlib import closing
+from collections.abc import Generator, Iterable, Mapping, Sequence
+from contextlib import ExitStack, closing
 from dataclasses import dataclass
+from enum import Enum
 
 from .session import PathName, ProgramEnded, UnknownReply, session_words
 
@@ -44,6 +45,13 @@ class Step:
     """The cells that an instruction wrote, by address. The line of a call does not have them."""
 
 
+class Direction(Enum):
+    """Which of several steps is returned: the first, or the last."""
+
+    FORWARD = 1
+    BACKWARD = 2
+
+
 class Tracer:
     """Asks cpmtrace for steps of one session. Each question is a run of its own."""
 
@@ -66,27 +74,53 @@ class Tracer:
 
         Raises OSError if the command cannot be started, and ProgramEnded with its message if it ends with an error.
         """
-        with closing(self._lines(options)) as lines:
-            for line in lines:
+        with closing(self.start(*options)) as running:
+            for line in running.steps():
                 yield parse_step(_text(line))
 
-    def last(self, *options: str) -> Step | None:
-        """Returns the last step that these options choose, or None if they choose none."""
-        last: bytes | None = None
-        with closing(self._lines(options)) as lines:
-            for line in lines:
-                last = line
-        return None if last is None else parse_step(_text(last))
+    def search(self, choices: Sequence[Sequence[str]], direction: Direction) -> Step | None:
+        """Returns a step of the first of these choices of options that choose any: the first of them, or the last. The commands run at once."""
+        with ExitStack() as stack:
+            for running in [stack.enter_context(closing(self.start(*options))) for options in choices]:
+                line = next(running.steps(), None) if direction is Direction.FORWARD else _last(running.steps())
+                if line is not None:
+                    return parse_step(_text(line))
+        return None
 
     def first(self, *options: str) -> Step | None:
         """Returns the first step that these options choose, or None if they choose none. Does not wait for the rest of the run."""
         with closing(self.steps(*options)) as steps:
             return next(steps, None)
 
-    def _lines(self, options: Iterable[str]) -> Generator[bytes, None, None]:
-        """Yields the lines of the steps that these options choose, without the line of the stop."""
-        with closing(trace_lines([*self._command, *options, *self._session])) as lines:
-            yield from (line for line in lines if not line.startswith(b"stop "))
+    def start(self, *options: str) -> Running:
+        """Returns the running command with these options."""
+        return Running([*self._command, *options, *self._session])
+
+
+class Running:
+    """A running command, whose lines can be read once. `close` ends it."""
+
+    def __init__(self, words: list[str]) -> None:
+        """Starts the command. Raises OSError if it cannot be started."""
+        # in a process group of its own, so that an interrupt from the keyboard reaches the caller alone
+        self._process = subprocess.Popen(words, stdin=subprocess.DEVNULL, stdout=subprocess.PIPE, stderr=subprocess.PIPE, process_group=0)
+
+    def lines(self) -> Generator[bytes, None, None]:
+        """Yields the lines that it prints. Raises ProgramEnded with its message if it ends with an error."""
+        assert self._process.stdout is not None and self._process.stderr is not None
+        yield from self._process.stdout
+        errors = self._process.stderr.read().decode("utf-8", "replace")
+        if self._process.wait() != 0:
+            raise ProgramEnded(self._process.returncode, errors)
+
+    def steps(self) -> Generator[bytes, None, None]:
+        """Yields the lines of steps, without the line of the stop."""
+        yield from (line for line in self.lines() if not line.startswith(b"stop "))
+
+    def close(self) -> None:
+        """Ends the command, if it has not ended."""
+        with self._process:
+            self._process.kill()
 
 
 def trace_lines(words: list[str]) -> Generator[bytes, None, None]:
@@ -94,17 +128,15 @@ def trace_lines(words: list[str]) -> Generator[bytes, None, None]:
 
     Raises OSError if the command cannot be started, and ProgramEnded with its message if it ends with an error.
     """
-    # in a process group of its own, so that an interrupt from the keyboard reaches the caller alone
-    with subprocess.Popen(words, stdin=subprocess.DEVNULL, stdout=subprocess.PIPE, stderr=subprocess.PIPE, process_group=0) as process:
-        assert process.stdout is not None and process.stderr is not None
-        try:
-            yield from process.stdout
-            errors = process.stderr.read().decode("utf-8", "replace")
-            process.wait()
-        finally:
-            process.kill()
-    if process.returncode != 0:
-        raise ProgramEnded(process.returncode, errors)
+    with closing(Running(words)) as running:
+        yield from running.lines()
+
+
+def _last(lines: Iterable[bytes]) -> bytes | None:
+    last = None
+    for line in lines:
+        last = line
+    return last
 
 
 def _text(line: bytes) -> str:
