@@ -17,7 +17,7 @@ TRACE_PROGRAM = crates/cpmtrace/out/cpmtrace
 STAGE = crates/executable/out/stage
 DOC = share/doc/cpmrun
 # An installed page says `cpmrun` for `./cpmrun`.
-PAGE = s,(\.\./)+(cpmrun|cpmdeps|cpmtrace|cpmtools),\2,g; s,\./(cpmrun|cpmdeps|cpmtrace|cpmtools),\1,g; s,tests/programs/,programs/,g
+PAGE = s,(\.\./)+(cpmrun|cpmdeps|cpmtrace|cpmtools),\2,g; s,\./(cpmrun|cpmdeps|cpmtrace|cpmtools),\1,g; s,tests/programs/,programs/,g; s,\.\./docs/,../,g
 
 .PHONY: all check stage install uninstall dist bench needs pages clean
 
