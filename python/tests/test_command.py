@@ -4,8 +4,10 @@ import ast
 import os
 import re
 import shutil
+import signal
 import subprocess
 import sys
+import time
 import tomllib
 import unittest
 import venv
@@ -86,6 +88,21 @@ class StreamsTest(CommandCase):
     def test_output_that_cannot_be_written(self) -> None:
         self.assertEqual(self.shell('"$0" cover "$1" > /dev/full'), (2, b"", "cpmtools cover: No space left on device\n"))
         self.assertEqual(self.shell('set -o pipefail; "$0" explore "$1" --tries 3000 | head -n 1')[::2], (0, ""))
+
+    def test_an_interrupt(self) -> None:
+        """The program spins up to the limit, which takes a quarter of a minute."""
+        program = self.put("spin.com", b"\xc3\0\1")
+        cases = self.put("cases.txt", b"== one\nprogram spin.com\nlimit 4000000000\n> run\nLimit\n")
+        limit = ["--limit", "4000000000"]
+        for words in ["cover", "--cases", cases], ["cover", program, *limit], ["check", cases], ["travel", program, *limit], \
+                ["compare", program, *limit, "--with", "--limit 5"], ["shrink", program, *limit, "--cause", "Limit"]:
+            streams = {"stdin": subprocess.DEVNULL, "stdout": subprocess.PIPE, "stderr": subprocess.PIPE}
+            command = ["env", "--default-signal", TOOLS, *words]
+            with self.subTest(words), subprocess.Popen(command, **streams, start_new_session=True) as process:
+                time.sleep(1)
+                os.killpg(process.pid, signal.SIGINT)
+                out, err = process.communicate(timeout=30)
+                self.assertEqual((process.returncode, out, err.decode()), (130, b"", f"cpmtools {words[0]}: interrupted\n"))
 
     def test_the_command_itself(self) -> None:
         for words, status, out, err in ("--version", 0, f"cpmtools {__version__}\n", ""), \

@@ -1,11 +1,15 @@
 """Tests of `cpmtools cover`, and of the counts. The environment variable CPMTRACE names the built program."""
 
+import tempfile
 import unittest
+from pathlib import Path
 
-from command_case import EXAMPLES, NEST, CommandCase
+from command_case import EXAMPLES, NEST, SCAN_CODE, CommandCase
 from test_reads import Page, browse, pixels_of, with_browser
+from vembrusk.cases import Reader
 from vembrusk.counts import Counts, add_block, length_of
 from vembrusk.covered import percent
+from vembrusk.player import put_session, sessions_of
 
 LISTING = EXAMPLES / "tools/nest.lst"
 
@@ -83,6 +87,35 @@ loop.com: 7 of 8 bytes executed (87.5 %), 1 run, 9 steps
         cases = self.put("cases.txt", b"== one\nprogram loop.com\n" + runs)
         status, out, _ = self.outcome("--cases", cases, "--summary")
         self.assertEqual((status, out), (0, b"loop.com: 7 of 8 bytes executed (87.5 %), 2 runs, 22 steps\n"))
+
+    def test_files_of_a_case_that_come_and_go(self) -> None:
+        """The program halts if its file has a `#`, returns if not, and so it does if there is no file."""
+        self.put("scan.com", SCAN_CODE)
+        self.put("disk/x.txt", b"#")
+        cases = self.put("cases.txt", b"""== one
+program scan.com
+tail "X.TXT"
+files disk
+> run
+Halt
+> gone X.TXT
+ok
+> run
+WarmBoot
+> file X.TXT "#"
+ok
+> run
+Halt
+""")
+        self.assertEqual(self.outcome("--cases", cases, "--summary")[1][-50:].split(b", ")[1], b"3 runs")
+        runs = [sessions_of(case) for case in Reader().read(cases)]
+        present = []
+        for setup in runs[0]:
+            with tempfile.TemporaryDirectory() as room:
+                folder = Path(put_session(setup, Path(room)).folders["A"])
+                present.append([path.name for path in folder.iterdir()])
+        self.assertEqual(present, [["x.txt"], [], ["x.txt"]])
+        self.assertEqual((self.room / "disk/x.txt").read_bytes(), b"#")
 
     def page(self) -> str:
         """Returns the page about nest.com and the programs of the cases."""

@@ -284,7 +284,8 @@ class Labels(TravelCase):
         # digits are an address, also if a label has them
         self.assertEqual(self.labelled("until none; who-wrote abc+x; until back+2; until Abc+0; until abc; until fde"), [
             *(f"error: {word} is no address: 1 to 4 hexadecimal digits or a label" for word in ("none", "abc+x")),
-            WRITER_STEPS[4].replace("0107", "Next"), "error: no later step is at 0300", "error: no later step is at 0ABC", "error: no later step is at 0FDE",
+            WRITER_STEPS[4].replace("0107", "Next"), "error: no later step is at 0300",
+            "error: no later step is at 0ABC", "error: no later step is at 0FDE",
         ])
 
 

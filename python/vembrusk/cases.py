@@ -129,6 +129,8 @@ class Setup:
     slots: int = 64
     folders: tuple[tuple[str, Path], ...] = ()
     """The folders of drives that have host files besides these."""
+    gone: tuple[str, ...] = ()
+    """The host files that are removed, of these and of the folders."""
 
     def edited(self, line: str) -> Setup:
         """Returns the session after an edit line, or the same one if it is refused."""
@@ -145,7 +147,9 @@ class Setup:
             case "poke" if 0 <= (at := int(first, 16) - 0x100) <= len(self.program) - len(data := parse_bytes(more)):
                 return replace(self, program=self.program[:at] + data + self.program[at + len(data):])
             case "file":
-                return replace(self, files=(*self.files, (first, parse_bytes(more))))
+                return replace(self, files=(*self.files, (first, parse_bytes(more))), gone=tuple(each for each in self.gone if each != first))
+            case "gone":
+                return replace(self, gone=(*self.gone, first))
             case "limit" if int(first) <= LARGEST_LIMIT:
                 return replace(self, limit=int(first))
         return self

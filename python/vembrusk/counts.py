@@ -84,7 +84,8 @@ def add_block(counts: Counts, block: bytes) -> None:
 
 
 def blocks_of(command: list[str]) -> Iterator[bytes]:
-    """Yields the whole lines that a command prints, many at once, with a line end before the first. Raises ProgramEnded if it ends with an error."""
+    """Yields the whole lines that a command prints, many at once, with a line end before the first. Raises ProgramEnded if it ends with an
+    error."""
     with subprocess.Popen(command, stdin=subprocess.DEVNULL, stdout=subprocess.PIPE, stderr=subprocess.PIPE, process_group=0) as process:
         assert process.stdout is not None and process.stderr is not None
         try:

@@ -6,6 +6,7 @@ from __future__ import annotations
 
 import argparse
 import os
+import signal
 from collections.abc import Iterator
 from concurrent.futures import ProcessPoolExecutor
 from pathlib import Path
@@ -75,7 +76,8 @@ def covered_by_cases(paths: list[str], tracer: PathName, jobs: int) -> list[Cove
             setups.setdefault(case.program_path.resolve(), []).extend(sessions_of(case))
     if not setups:
         raise ValueError("no case names a program by its path")
-    with ProcessPoolExecutor(jobs) as pool:
+    # an interrupt ends the workers at once, and with their pipes the programs that they run
+    with ProcessPoolExecutor(jobs, initializer=signal.signal, initargs=(signal.SIGINT, signal.SIG_DFL)) as pool:
         parts = {path: pool.map(count_setup, [tracer] * len(sessions), sessions, chunksize=4) for path, sessions in setups.items()}
         with Progress("running the cases"):
             return [Covered(os.path.relpath(path), path.read_bytes(), merged(counts)) for path, counts in parts.items()]

@@ -12,11 +12,11 @@ from pathlib import Path
 def write_whole(path: Path | str, data: bytes | str) -> None:
     """Writes a file under another name in its folder and renames it, so that the path has the old file or the whole new one. A path that is no
     regular file, such as a device, is written as it is. The file keeps its mode."""
-    path = Path(os.path.realpath(path))
     content = data if isinstance(data, bytes) else data.encode("utf-8", "surrogateescape")
-    if path.exists() and not path.is_file():
-        path.write_bytes(content)
+    if Path(path).exists() and not Path(path).is_file():
+        Path(path).write_bytes(content)
         return
+    path = Path(os.path.realpath(path))
     mode = path.stat().st_mode & 0o7777 if path.exists() else 0o666 & ~_umask()
     with tempfile.NamedTemporaryFile(dir=path.parent, prefix=f".{path.name}.", delete=False) as file:
         try:

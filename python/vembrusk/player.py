@@ -146,20 +146,35 @@ def replies_in(out: str) -> list[list[str]]:
     return replies
 
 
-def put_session(setup: Setup, room: Path) -> SessionWords:
-    """Writes a session into a folder, and returns the words that name it."""
-    (room / "program.com").write_bytes(setup.program)
-    (room / "script").write_bytes(setup.script)
-    folders = {drive: str(folder) for drive, folder in setup.folders}
-    for name, data in setup.files:
+class Room:
+    """A folder into which a session is written."""
+
+    def __init__(self, setup: Setup, room: Path) -> None:
+        """Writes the session. Folders whose files change are copied."""
+        self._room = room
+        self._folders = {drive: folder for drive, folder in setup.folders}
+        (room / "program.com").write_bytes(setup.program)
+        (room / "script").write_bytes(setup.script)
+        for name, data in setup.files:
+            self.path(name).write_bytes(data)
+        for name in setup.gone:
+            self.path(name).unlink(missing_ok=True)
+        self.folders = {drive: str(folder) for drive, folder in self._folders.items()}
+
+    def path(self, name: str) -> Path:
+        """Returns the path of a host file in the folder of its drive, which is a copy."""
         drive, _, plain = name.rpartition(":")
         drive = drive.upper() or "A"
-        folder = room / drive
-        if not folder.exists():
-            copy_host_files(Path(folders[drive]), folder) if drive in folders else folder.mkdir()
-            folders[drive] = str(folder)
-        path = host_file(folder, plain) or folder / plain.upper()
-        path.write_bytes(data)
+        copy = self._room / drive
+        if not copy.exists():
+            copy_host_files(self._folders[drive], copy) if drive in self._folders else copy.mkdir()
+            self._folders[drive] = copy
+        return host_file(copy, plain) or copy / plain.upper()
+
+
+def put_session(setup: Setup, room: Path) -> SessionWords:
+    """Writes a session into a folder, and returns the words that name it."""
+    folders = Room(setup, room).folders
     tail = setup.tail.decode("latin-1") if setup.tail else None
     return SessionWords(str(room / "program.com"), tail, folders, str(room / "script"), None, setup.limit, setup.spacing, setup.slots)
 
