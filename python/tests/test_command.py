@@ -97,8 +97,10 @@ class StreamsTest(CommandCase):
         for words in ["cover", "--cases", cases], ["cover", program, *limit], ["check", cases], ["travel", program, *limit], \
                 ["compare", program, *limit, "--with", "--limit 5"], ["shrink", program, *limit, "--cause", "Limit"]:
             streams = {"stdin": subprocess.DEVNULL, "stdout": subprocess.PIPE, "stderr": subprocess.PIPE}
-            command = ["env", "--default-signal", TOOLS, *words]
+            command = ["env", "--default-signal", sys.executable, "-B", TOOLS, *words]
             with self.subTest(words), subprocess.Popen(command, **streams, start_new_session=True) as process:
+                while not any(path.read_text() for path in Path(f"/proc/{process.pid}/task").glob("*/children")):
+                    time.sleep(0.05)
                 time.sleep(1)
                 os.killpg(process.pid, signal.SIGINT)
                 out, err = process.communicate(timeout=30)
