@@ -4,6 +4,7 @@ import contextlib
 import fcntl
 import os
 import pty
+import select
 import subprocess
 import sys
 import termios
@@ -347,7 +348,12 @@ class Terminal(CommandCase):
             shown = b""
             for wanted, typed in turns:
                 while wanted not in shown:
+                    if not select.select([terminal], [], [], 60)[0]:
+                        process.kill()
+                        self.fail(f"{wanted!r} is not shown: {shown!r}")
                     shown += os.read(terminal, 4096)
+                # the prompt is shown shortly before the terminal is read
+                time.sleep(0.5)
                 os.write(terminal, typed)
             with contextlib.suppress(OSError):
                 while piece := os.read(terminal, 4096):
