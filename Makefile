@@ -17,7 +17,7 @@ TRACE_PROGRAM = crates/cpmtrace/out/cpmtrace
 STAGE = crates/executable/out/stage
 DOC = share/doc/cpmrun
 # An installed page says `cpmrun` for `./cpmrun`.
-PAGE = s,(\.\./)+(cpmrun|cpmdeps|cpmtrace),\2,g; s,\./(cpmrun|cpmdeps|cpmtrace),\1,g; s,tests/programs/,programs/,g
+PAGE = s,(\.\./)+(cpmrun|cpmdeps|cpmtrace|cpmtools),\2,g; s,\./(cpmrun|cpmdeps|cpmtrace|cpmtools),\1,g; s,tests/programs/,programs/,g; s,\.\./docs/,../,g
 
 .PHONY: all check stage install uninstall dist bench needs pages clean
 
@@ -35,22 +35,24 @@ stage: all
 	@install -D $(PROGRAM) $(STAGE)/bin/cpmrun
 	@install -D $(DEPENDENCIES_PROGRAM) $(STAGE)/bin/cpmdeps
 	@install -D $(TRACE_PROGRAM) $(STAGE)/bin/cpmtrace
-	@for name in cpmrun cpmdeps cpmtrace; do \
+	@install -D cpmtools $(STAGE)/bin/cpmtools
+	@mkdir -p $(STAGE)/share/cpmtools && cp -R python/vembrusk $(STAGE)/share/cpmtools
+	@for name in cpmrun cpmdeps cpmtrace cpmtools; do \
 	    install -D -m 644 docs/$$name.1 $(STAGE)/share/man/man1/$$name.1 && \
 	    install -D -m 644 scripts/completion $(STAGE)/share/bash-completion/completions/$$name || exit; done
 	@cp -R examples tests/programs $(STAGE)/$(DOC) && rm -rf $(STAGE)/$(DOC)/examples/built
 	@find $(STAGE) -name __pycache__ -prune -exec rm -rf {} +
-	@cp docs/MANUAL.md docs/WALKS.md docs/MACHINES.md $(STAGE)/$(DOC)
+	@cp docs/MANUAL.md docs/TOOLS.md docs/WALKS.md docs/MACHINES.md $(STAGE)/$(DOC)
 	@find $(STAGE)/$(DOC) -name '*.md' -exec sed -E -i '$(PAGE)' {} +
 	@chmod -R u=rwX,go=rX $(STAGE)
 
 install: stage
 	@umask 022 && mkdir -p '$(DESTDIR)$(PREFIX)' && cp -R --remove-destination $(STAGE)/. '$(DESTDIR)$(PREFIX)'
-	@echo 'installed bin/cpmrun, bin/cpmdeps, bin/cpmtrace, their man pages and completion for bash, and $(DOC) in $(DESTDIR)$(PREFIX)'
+	@echo 'installed bin/cpmrun, bin/cpmdeps, bin/cpmtrace, bin/cpmtools, their man pages and completion for bash, and $(DOC) in $(DESTDIR)$(PREFIX)'
 
 uninstall: stage
 	@cd $(STAGE) && find . -type f | (cd '$(DESTDIR)$(PREFIX)' && xargs -d '\n' rm -f)
-	@cd $(STAGE) && find $(DOC) -depth -type d | (cd '$(DESTDIR)$(PREFIX)' && xargs -d '\n' rmdir --ignore-fail-on-non-empty)
+	@cd $(STAGE) && find $(DOC) share/cpmtools -depth -type d | (cd '$(DESTDIR)$(PREFIX)' && xargs -d '\n' rmdir --ignore-fail-on-non-empty)
 
 dist: stage
 	@name=$$($(PROGRAM) --version | tr ' ' -)-linux-x86_64 && tar -C $(STAGE) --transform "s,^\.,$$name," -czf $$name.tar.gz . && echo $$name.tar.gz
@@ -65,6 +67,7 @@ needs:
 
 pages: all
 	@scripts/pages $(PROGRAM) $(DEPENDENCIES_PROGRAM) $(TRACE_PROGRAM)
+	@scripts/tool_pages
 
 clean:
 	@rm -rf crates/*/out

@@ -5,15 +5,18 @@ import os
 import shutil
 import signal
 import subprocess
+import sys
 import tempfile
 import unittest
 from collections.abc import Iterable
 from dataclasses import dataclass
 from pathlib import Path
 
-from assembler import assemble
-
 TOP = Path(__file__).resolve().parents[2]
+sys.path.insert(0, str(TOP / 'python'))
+
+from vembrusk.assembler import assemble  # noqa: E402
+
 PROGRAM = Path(os.environ.get('PROGRAM', TOP / 'crates/executable/out/executable')).resolve()
 DEPENDENCIES_PROGRAM = Path(os.environ.get('DEPENDENCIES_PROGRAM', TOP / 'crates/cpmdeps/out/cpmdeps')).resolve()
 TRACE_PROGRAM = Path(os.environ.get('TRACE_PROGRAM', TOP / 'crates/cpmtrace/out/cpmtrace')).resolve()

@@ -1,28 +1,28 @@
-"""Plays the cases of tests/cases with crates/test_runner. The environment variable SESSIONS names the program."""
+"""Plays the cases of tests/cases with crates/test_runner, by the player of the package `vembrusk`, which this one extends by checkpoints, executed
+steps, cells, and programs of calls. The environment variable SESSIONS names the program."""
 import itertools
 import os
+import re
 import subprocess
 import tempfile
 from collections.abc import Iterator
 from dataclasses import replace
 from pathlib import Path
 
-from assembler import assemble
-from cases import EDIT, LIMIT, RUN, Case, CaseError, Command, Report, Session, digits, parse_bytes, parse_kept, parse_report, spell, spell_kept
+from cases import EDIT, RUN, command_of, name_of, parse_kept, spell_kept
 from helpers import TOP
+from vembrusk.assembler import assemble
+from vembrusk.cases import LIMIT, Case, CaseError, Command, Outcome, Setup, digits, line_of, parse_bytes, parse_outcome, spell
+from vembrusk.player import Difference
+from vembrusk.player import Play as CasePlay
 
 SESSIONS = Path(os.environ.get('SESSIONS', TOP / 'crates/test_runner/out/test_runner')).resolve()
 SHORT = 150
 """The largest number of steps of a run that is also broken off after each of them."""
 PIECES = (1, 5, 4096)
 """The largest numbers of bytes of edit lines that are read at once."""
-WITH_BYTES = ('insert', 'replace', 'poke', 'file')
 SAVED = bytes.fromhex('019311 c5 f1')
 """Sets the flags S, AC and CY: LXI B,1193H; PUSH B; POP PSW."""
-
-
-class Difference(Exception):
-    """What differs, with the lines that the case would need."""
 
 
 def answers_in(out: str) -> list[list[str]]:
@@ -49,12 +49,6 @@ def answers_to(commands: list[str], program: Path = SESSIONS) -> list[list[str]]
     return answers
 
 
-def line_of(command: str) -> str:
-    """Returns the edit line of a command."""
-    words = command.split(' ', 2)
-    return f'{words[0]} {words[1]} {digits(parse_bytes(words[2]))}' if words[0] in WITH_BYTES and len(words) == 3 else command
-
-
 def hex_of(word: str) -> bytes:
     return b'' if word == '-' else bytes.fromhex(word)
 
@@ -67,16 +61,16 @@ def kept_in(answer: list[str]) -> tuple[int, tuple[int, ...]]:
     return executed, tuple(kept)
 
 
-def report_in(answer: list[str]) -> Report:
+def report_in(answer: list[str]) -> Outcome:
     """Returns the report at the beginning of an answer."""
     stop, steps, registers, text, *files = answer[:-2]
     words = [line.split() for line in files]
     changed = tuple((words[1], hex_of(words[2]) if words[0] == 'file' else None) for words in words)
     named = {name: int(value, 16) for name, _, value in (word.partition('=') for word in registers.split()[1:])}
-    return Report(stop[5:], int(steps[6:]), tuple(named.items()), hex_of(text[5:]), changed)
+    return Outcome(stop[5:], int(steps[6:]), tuple(named.items()), hex_of(text[5:]), changed)
 
 
-def due_steps(session: Session, kept: tuple[int, ...], steps: int) -> tuple[int, ...]:
+def due_steps(session: Setup, kept: tuple[int, ...], steps: int) -> tuple[int, ...]:
     """Returns the kept steps after a run: those before, and above them each multiple of the spacing and the last step. Of these the last."""
     newest = kept[-1] if kept else 0
     multiples = range(newest - newest % session.spacing + session.spacing, steps + 1, session.spacing)
@@ -84,36 +78,30 @@ def due_steps(session: Session, kept: tuple[int, ...], steps: int) -> tuple[int,
     return (*kept, *made)[-session.slots:]
 
 
-class Play:
+class Play(CasePlay):
     """One case: the commands that were sent, what each should be answered, and the session as it then is."""
 
+    run_form, edit_form = RUN, EDIT
+
     def __init__(self, case: Case) -> None:
-        self.case = case
-        self.session = case.session
+        super().__init__(case)
         self.kept: tuple[int, ...] = ()
-        self.last: Report | None = None
-        self.sent: list[str] = []
-        self.checks: list = []
 
-    def send(self, line: str, check) -> None:
-        self.sent.append(line)
-        self.checks.append(check)
-
-    def differs(self, command: str, got: list[str]) -> Difference:
-        return Difference('\n'.join([self.case.name, f'> {command}', *got]))
+    @property
+    def name(self) -> str:
+        return name_of(self.case)
 
     def run(self, program: Path = SESSIONS) -> None:
         """Sends all commands and checks the answers."""
-        answers = answers_to(self.sent, program)
-        for check, answer in zip(self.checks, answers):
+        for check, answer in zip(self.checks, answers_to(self.sent, program)):
             check(answer)
 
-    def begin(self, session: Session, wanted: list[str]) -> None:
+    def begin(self, session: Setup, wanted: list[str]) -> None:
         def check(answer: list[str]) -> None:
             self.session, self.kept = session, ()
             if answer != wanted:
                 raise self.differs('begin', answer)
-        self.send(session.command(), check)
+        self.send(command_of(session), check)
 
     def commands(self) -> None:
         """Sends the commands of the case."""
@@ -140,32 +128,32 @@ class Play:
                 raise self.differs(command.line, answer)
         self.send(line, check)
 
-    def edit(self, command: Command) -> None:
-        wanted = EDIT.fullmatch(command.wanted[0]) if len(command.wanted) == 1 else None
-        if not wanted:
-            raise CaseError(f'{self.case.name}: > {command.line}: no reply to an edit')
-
+    def expect_edit(self, command: Command, wanted: re.Match[str] | None) -> None:
+        """An edit: its reply, and the kept steps after it."""
         def check(answer: list[str]) -> None:
-            kept = parse_kept(wanted[2])
+            kept = parse_kept(wanted[2]) if wanted else None
             before = self.kept if kept is None else kept
             _, self.kept = kept_in(answer)
-            if answer[0] != wanted[1] or self.kept != before:
-                raise self.differs(command.line, [f'{answer[0]}, kept {spell_kept(self.kept)}'])
+            if not wanted or answer[0] != wanted[1] or self.kept != before:
+                raise self.differs(command, [f'{answer[0]}, kept {spell_kept(self.kept)}'])
             if command.line.startswith('limit ') and answer[0] == 'ok':
                 self.session = replace(self.session, limit=int(command.line[6:]))
         self.send(line_of(command.line), check)
 
     def run_command(self, command: Command) -> None:
         """A run: its first line, its report, and questions about cells and files."""
-        first = RUN.fullmatch(command.wanted[0]) if command.wanted else None
-        if not first or not (first[1] or self.last):
-            raise CaseError(f'{self.case.name}: no first line of a run')
         asked, others = lines_of_run(command)
-        self.last = parse_report(first[1], int(first[2]), others) if first[1] else self.last
-        self.expect_run(self.last, int(first[3]) if first[3] else None, parse_kept(first[4]))
+        super().run_command(Command(command.line, [*command.wanted[:1], *others]))
         self.ask(self.last, asked)
 
-    def expect_run(self, wanted: Report, ran: int | None, kept: tuple[int, ...] | None) -> None:
+    def expect_outcome(self, command: Command, wanted: Outcome | None) -> None:
+        """A run, as its first line says it."""
+        first = self.run_form.fullmatch(command.wanted[0]) if command.wanted else None
+        if not first or not wanted:
+            raise CaseError(f'{self.name}: no first line of a run')
+        self.expect_run(wanted, int(first[3]) if first[3] else None, parse_kept(first[4]))
+
+    def expect_run(self, wanted: Outcome, ran: int | None, kept: tuple[int, ...] | None) -> None:
         def check(answer: list[str]) -> None:
             start = max((step for step in self.kept if step <= self.session.limit), default=0)
             after = due_steps(self.session, self.kept, wanted.steps) if kept is None else kept
@@ -177,7 +165,7 @@ class Play:
                                            *(f'# {line}' for line in wanted.lines())])
         self.send('run', check)
 
-    def ask(self, wanted: Report, lines: list[str]) -> None:
+    def ask(self, wanted: Outcome, lines: list[str]) -> None:
         """Asks for cells, for files, and for the changed names, which must be those of the report."""
         for line in lines:
             self.ask_line(wanted, line)
@@ -190,14 +178,14 @@ class Play:
                 raise self.differs('run', ['the changed names differ:', *answer])
         self.send('ask changed', check)
 
-    def without_steps(self, wanted: Report, answer: list[str]) -> list[str]:
+    def without_steps(self, wanted: Outcome, answer: list[str]) -> list[str]:
         """Returns an answer without its line about executed steps: the run was made again from the last checkpoint within the limit."""
         steps = wanted.steps - max((step for step in self.kept if step <= self.session.limit), default=0)
         if (answer[:1] == [f'executed {steps}']) != (steps > 0):
             raise self.differs('run', [f'a question: {steps} steps', *answer])
         return answer[1:] if steps else answer
 
-    def ask_line(self, wanted: Report, line: str) -> None:
+    def ask_line(self, wanted: Outcome, line: str) -> None:
         word, name, rest = line.split(' ', 2)
         data = parse_bytes(rest) if word == 'cells' else b''
 
@@ -228,14 +216,14 @@ class Play:
             self.begin(self.case.session, ['ok'])
             self.send(f'replay {longest} {digits(text)}', check)
 
-    def with_spacings(self, wanted: Report) -> None:
+    def with_spacings(self, wanted: Outcome) -> None:
         """Runs the session twice with each spacing up to 12."""
         for spacing in range(1, 13):
             self.begin(replace(self.case.session, spacing=spacing, slots=64), ['ok'])
             self.expect_run(wanted, wanted.steps, None)
             self.expect_run(wanted, 0, None)
 
-    def broken_off(self, wanted: Report, asked: list[str]) -> None:
+    def broken_off(self, wanted: Outcome, asked: list[str]) -> None:
         """Runs the session up to each of its steps, and then to its end from there."""
         for limit in range(wanted.steps):
             self.begin(replace(self.case.session, limit=limit), ['ok'])
@@ -303,11 +291,11 @@ class CallPlay(Play):
             self.call(int(number), address)
             self.registers.update(A=int(value, 16), B=0, H=0, L=int(value, 16))
 
-    def report(self, stop: str) -> Report:
+    def report(self, stop: str) -> Outcome:
         pc = self.case.start + len(self.code)
-        return Report(stop, self.steps, tuple({**self.registers, 'PC': pc}.items()), self.text)
+        return Outcome(stop, self.steps, tuple({**self.registers, 'PC': pc}.items()), self.text)
 
-    def limited(self) -> Session:
+    def limited(self) -> Setup:
         return replace(self.case.session, program=self.program(self.code + b'\x76'), spacing=1000)
 
     def stop(self, rest: str, wanted: list[tuple[str, str]]) -> None:
@@ -316,15 +304,15 @@ class CallPlay(Play):
         kept = self.code, self.steps, dict(self.registers)
         self.call(int(number), address)
         stack = (self.registers['SP'] - 2) % 65536
-        report = Report(cause, self.steps - 1, tuple({**self.registers, 'SP': stack, 'PC': 0xFE06}.items()), self.text)
+        report = Outcome(cause, self.steps - 1, tuple({**self.registers, 'SP': stack, 'PC': 0xFE06}.items()), self.text)
         self.begin(self.limited(), ['ok'])
         self.finish(report, wanted)
         self.code, self.steps, self.registers = kept
 
-    def finish(self, report: Report, wanted: list[tuple[str, str]]) -> None:
+    def finish(self, report: Outcome, wanted: list[tuple[str, str]]) -> None:
         """Runs to this end. The changed files are compared only if the case names some, or says that there are none."""
         files = [(word, rest) for word, rest in wanted if word in ('file', 'gone', 'changed')]
-        named = parse_report('Halt', 0, [f'{word} {rest}' for word, rest in files if word != 'changed']).files
+        named = parse_outcome('Halt', 0, [f'{word} {rest}' for word, rest in files if word != 'changed']).files
 
         def check(answer: list[str]) -> None:
             _, self.kept = kept_in(answer)
@@ -339,7 +327,7 @@ class CallPlay(Play):
 
     def play(self) -> None:
         """Runs the program of all acts up to each call, and to its end."""
-        points: list[tuple[Report, list[tuple[str, str]]]] = []
+        points: list[tuple[Outcome, list[tuple[str, str]]]] = []
         calls = self.case.calls
         for number, call in enumerate(calls):
             stops = itertools.takewhile(lambda later: later.verb == 'stops', calls[number:])
@@ -366,7 +354,7 @@ class CallPlay(Play):
             self.session = replace(self.session, limit=limit)
         self.send(f'limit {limit}', check)
 
-    def each_step(self, last: Report, wanted: list[tuple[str, str]]) -> None:
+    def each_step(self, last: Outcome, wanted: list[tuple[str, str]]) -> None:
         """Runs the program up to each of its steps, and then to its end from there."""
         for limit in range(last.steps):
             self.begin(replace(self.limited(), limit=limit), ['ok'])
@@ -394,7 +382,7 @@ def plays_of(case: Case) -> Iterator[Play]:
     if first.line == 'run':
         head = RUN.fullmatch(first.wanted[0])
         asked, others = lines_of_run(first)
-        report = parse_report(head[1], int(head[2]), others)
+        report = parse_outcome(head[1], int(head[2]), others)
         if report.steps <= SHORT:
             play.with_spacings(report)
         if report.steps <= SHORT and len(case.commands) == 1:

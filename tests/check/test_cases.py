@@ -4,8 +4,9 @@ case would need. The environment variable SESSIONS names the program, and CASES 
 import os
 import unittest
 
-from cases import FOLDER, read_cases, session_files
-from playing import Difference, play_case
+from cases import FOLDER, name_of, read_cases, session_files
+from playing import play_case
+from vembrusk.player import Difference
 
 
 class CasesTest(unittest.TestCase):
@@ -16,7 +17,7 @@ class CasesTest(unittest.TestCase):
         self.assertTrue(paths)
         for path in paths:
             for case in read_cases(path):
-                with self.subTest(case=case.name):
+                with self.subTest(case=name_of(case)):
                     try:
                         play_case(case)
                     except Difference as difference:

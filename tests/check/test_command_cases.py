@@ -3,9 +3,10 @@ its own; its status, its two outputs and the files that it leaves."""
 import shlex
 from pathlib import Path
 
-from assembler import assemble
-from cases import FOLDER, common_programs, parse_bytes, programs_in, rows_of, sections_of
+from cases import FOLDER, common_programs
 from helpers import PROGRAM, TRACE_PROGRAM, ProgramTest
+from vembrusk.assembler import assemble
+from vembrusk.cases import parse_bytes, programs_in, rows_of, sections_of
 
 
 class Wanted:

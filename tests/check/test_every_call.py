@@ -3,9 +3,11 @@ across the end of memory. There is no host file, no tail and no script. Each run
 there. Expected values are worked out by hand. The environment variable SESSIONS names the program."""
 import unittest
 
-from assembler import assemble
-from cases import FOLDER, Case, Command, Report, Session, usual_registers
-from playing import Difference, Play
+from cases import FOLDER
+from playing import Play
+from vembrusk.assembler import assemble
+from vembrusk.cases import Case, Command, Outcome, Setup, usual_registers
+from vembrusk.player import Difference
 
 WORDS = (0x0000, 0x00FF, 0xFFE0, 0xFFFF)
 """The first cell, the one before the program, and two from which a control block continues at 0000H."""
@@ -39,29 +41,29 @@ def stop_of(number: int, word: int) -> str | None:
     return None if number in KNOWN else f'Unsupported {number}'
 
 
-def end_of(number: int, word: int) -> Report:
+def end_of(number: int, word: int) -> Outcome:
     """Returns how a run ends that makes a call and returns."""
     at_call = {**usual_registers('NoDollar'), 'C': number, 'D': word // 256, 'E': word % 256}
     stop = stop_of(number, word)
     if stop:
-        return Report(stop, 4, tuple(at_call.items()))
+        return Outcome(stop, 4, tuple(at_call.items()))
     value = VALUES.get(number, 0)
     stop, steps, others = ASTRAY.get((number, word), ('WarmBoot', 7, {'SP': 0xFE00, 'PC': 0xFF03}))
     prints = number == 2 or number == 6 and word % 256 != 0xFF
-    return Report(stop, steps, tuple({**at_call, 'A': value, 'L': value, **others}.items()), bytes([word % 256]) if prints else b'')
+    return Outcome(stop, steps, tuple({**at_call, 'A': value, 'L': value, **others}.items()), bytes([word % 256]) if prints else b'')
 
 
 class EveryCallTest(unittest.TestCase):
 
     def test_each_number_of_a_call_has_its_end(self) -> None:
         for number in range(256):
-            play = Play(Case(FOLDER / 'every call', f'call {number}', Session(), []))
+            play = Play(Case(FOLDER / 'every call', f'call {number}', Setup(), []))
             for word in WORDS:
                 code = assemble([f'MVI C,{number}; LXI D,{word}; CALL 5; RET'])
                 wanted = end_of(number, word)
                 called = {**usual_registers('NoDollar'), 'C': number, 'D': word // 256, 'E': word % 256}
-                play.begin(Session(program=code, limit=4), ['ok'])
-                play.expect_run(Report('Limit', 4, tuple(called.items())), 4, None)
+                play.begin(Setup(program=code, limit=4), ['ok'])
+                play.expect_run(Outcome('Limit', 4, tuple(called.items())), 4, None)
                 play.edit(Command(f'limit {LIMIT}', ['ok']))
                 play.expect_run(wanted, wanted.steps - 4, None)
                 play.expect_run(wanted, 0, None)

@@ -39,15 +39,16 @@ class HelpTextTest(ProgramTest):
         return found
 
     def test_make_pages_changes_nothing_and_writes_what_is_lost(self) -> None:
-        for folder in 'docs', 'scripts':
+        for folder in 'docs', 'scripts', 'python':
             shutil.copytree(TOP / folder, self.work / folder)
-        for name in 'docs/cpmrun.1', 'docs/cpmdeps.1', 'docs/cpmtrace.1', 'scripts/completion':
+        for name in 'docs/cpmrun.1', 'docs/cpmdeps.1', 'docs/cpmtrace.1', 'docs/cpmtools.1', 'scripts/completion':
             text = (TOP / name).read_text()
             with_losses = re.sub(r'The same for drive|[\d.]+(?=" "Vembrusk")| --limit=N', '', text)
             self.assertNotEqual(with_losses, text)
             for before in text, with_losses:
                 page = self.put(name, before)
                 self.expect_command(0, '', '', self.work / 'scripts/pages', *PROGRAMS.values())
+                self.expect_command(0, '', '', self.work / 'scripts/tool_pages')
                 self.assertEqual(page.read_text(), text, f'run `make pages`, which writes {name}')
 
     def test_a_man_page_shows_each_entry_of_the_help(self) -> None:

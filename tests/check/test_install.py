@@ -38,10 +38,10 @@ class Install(unittest.TestCase):
         for name, program in PROGRAMS.items():
             self.assertEqual((prefix / 'bin' / name).read_bytes(), program.read_bytes())
         for page in doc.rglob('*.md'):
-            self.assertNotRegex(page.read_text(), r'\./cpm(run|deps|trace)|tests/programs', page)
+            self.assertNotRegex(page.read_text(), r'\./cpm(run|deps|trace|tools)|tests/programs', page)
         env = {**os.environ, 'PATH': f'{prefix}/bin:{os.environ["PATH"]}'}
         found = []
-        for page in 'WALKS.md', 'MANUAL.md', 'examples/README.md':
+        for page in 'WALKS.md', 'MANUAL.md', 'TOOLS.md', 'examples/README.md':
             copy = self.work / 'copies' / page
             shutil.copytree(doc, copy)
             found += wrong_blocks(doc / page, copy, env)
@@ -54,12 +54,11 @@ class Install(unittest.TestCase):
         examples = run('make', '-s', '-C', doc / 'examples', f'BUILT={self.work}/built', 'test-hi', env=env)
         self.assertIn('hi: as expected', examples.stdout)
         (self.work / 'typed').write_bytes(b'((a)(b(c))) and more\r')
-        shrunk = run('python3', '-B', doc / 'examples/python/shrink.py', doc / 'examples/python/nest.com', '--console', 'typed', '--cause', 'Halt',
-                     '-o', 'least', cwd=self.work, env=env)
+        tools, nest = prefix / 'bin/cpmtools', doc / 'examples/tools/nest.com'
+        shrunk = run(tools, 'shrink', nest, '--console', 'typed', '--cause', 'Halt', '-o', 'least', cwd=self.work, env=env)
         self.assertIn('3 of 21 bytes left', shrunk.stdout)
-        explored = run('bash', '-o', 'pipefail', '-c', 'python3 -B "$0/explore.py" "$0/nest.com" --tries 3000 2>&1 > >(head -n 1 > /dev/null)',
-                       doc / 'examples/python', env=env)
-        self.assertEqual(explored.stdout, '', 'explore.py complains of a closed pipe')
+        explored = run('bash', '-o', 'pipefail', '-c', '"$0" explore "$1" --tries 3000 2>&1 > >(head -n 1 > /dev/null)', tools, nest, env=env)
+        self.assertEqual(explored.stdout, '', 'explore complains of a closed pipe')
         (doc / 'mine').write_text('mine')
         self.make('uninstall', f'PREFIX={prefix}')
         self.assertEqual(files_below(prefix), {'bin/other': b'not ours', 'share/doc/cpmrun/mine': b'mine'})

@@ -14,7 +14,7 @@ from helpers import DEPENDENCIES_PROGRAM, PROGRAM, TOP, TRACE_PROGRAM, ProgramTe
 LENGTHS = {'README.md': 150, 'docs/PROVED.md': 300}
 """The most lines of the pages that are read first."""
 
-PARTS = ['cpmrun', 'cpmdeps', 'cpmtrace', 'crates.txt', 'scripts', 'examples', 'tests', 'docs']
+PARTS = ['cpmrun', 'cpmdeps', 'cpmtrace', 'cpmtools', 'crates.txt', 'scripts', 'examples', 'python', 'tests', 'docs']
 """What the commands may name. Of the crates they may name only the built programs."""
 
 
@@ -72,5 +72,8 @@ class PagesTest(ProgramTest):
     def test_commands_of_the_examples(self) -> None:
         self.expect_page('examples/README.md')
 
+    def test_commands_of_the_tools(self) -> None:
+        self.expect_page('docs/TOOLS.md')
+
     def test_commands_of_the_client_for_python(self) -> None:
-        self.expect_page('examples/python/README.md')
+        self.expect_page('python/README.md')

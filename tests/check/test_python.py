@@ -1,4 +1,4 @@
-"""Runs the tests of the clients for Python and of the programs over them, examples/python, with the built programs."""
+"""Runs the tests of the package for Python, `python/tests`, with the built programs."""
 import os
 import sys
 
@@ -7,8 +7,8 @@ from helpers import DEPENDENCIES_PROGRAM, PROGRAM, TOP, TRACE_PROGRAM, ProgramTe
 
 class PythonTest(ProgramTest):
 
-    def test_the_tests_of_the_clients_pass(self) -> None:
+    def test_the_tests_of_the_package_pass(self) -> None:
         env = {**os.environ, 'CPMRUN': str(PROGRAM), 'CPMDEPS': str(DEPENDENCIES_PROGRAM), 'CPMTRACE': str(TRACE_PROGRAM)}
         words = [sys.executable, '-B', '-W', 'error', '-m', 'unittest']
-        done = self.run_with_children(*words, cwd=TOP / 'examples/python', env=env, timeout=600)
+        done = self.run_with_children(*words, cwd=TOP / 'python/tests', env=env, timeout=600)
         self.assertEqual(done.returncode, 0, done.stderr.decode())

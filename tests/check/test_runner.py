@@ -4,10 +4,11 @@ environment variable SESSIONS names it."""
 from dataclasses import replace
 from pathlib import Path
 
-from cases import FOLDER, LIMIT, Case, Session, read_cases
+from cases import FOLDER, command_of, name_of, read_cases
 from failures import FailureTest
 from helpers import TOP
 from playing import SESSIONS, Play, answers_in, answers_to, kept_in, report_in
+from vembrusk.cases import LIMIT, Case, Setup
 
 OUT_OF_MEMORY = 'out of memory'
 
@@ -59,13 +60,13 @@ class RunnerTest(FailureTest):
                 done = self.run_with_failure(at, SESSIONS, file)
                 *answers, last = answers_in(done.stdout.decode())
                 failures = Failures()
-                with self.subTest(case=case.name, allocation=at):
+                with self.subTest(case=name_of(case), allocation=at):
                     self.assertEqual((done.returncode, done.stderr, last, len(answers)), (0, b'', ['ok'], len(wanted)), done.stdout[-200:])
                     for command, one, answer in zip(commands, wanted, answers):
                         self.assertIsNone(failures.difference(command, one, answer), (command, one))
                 if not self.mark.exists():
                     break
-            self.assertGreater(at, 6, f'{case.name}: fewer than six allocations')
+            self.assertGreater(at, 6, f'{name_of(case)}: fewer than six allocations')
 
     def test_cases_of_programs(self) -> None:
         """Runs each to its end, up to half its steps, and to its end from there. Cases with arguments of their own, or with a large file, are left to
@@ -77,11 +78,11 @@ class RunnerTest(FailureTest):
             with self.subTest(case=case):
                 self.check_case(session_of(case), case / 'expect')
 
-    def check_case(self, session: Session, expected: Path) -> None:
-        *_, answer = answers_to([session.command(), 'run'])
+    def check_case(self, session: Setup, expected: Path) -> None:
+        *_, answer = answers_to([command_of(session), 'run'])
         whole = report_in(answer)
         half = whole.steps // 2
-        _, first, _, second, _, third = answers_to([session.command(), 'run', f'limit {half}', 'run', f'limit {LIMIT}', 'run'])
+        _, first, _, second, _, third = answers_to([command_of(session), 'run', f'limit {half}', 'run', f'limit {LIMIT}', 'run'])
         self.assertEqual(report_in(first), whole)
         self.assertEqual((report_in(second).stop, report_in(second).steps), ('Limit', half))
         self.assertEqual((report_in(third), kept_in(third)[0]), (whole, 0))
@@ -91,10 +92,10 @@ class RunnerTest(FailureTest):
         self.assertEqual(whole.files, files)
 
 
-def session_of(case: Path) -> Session:
+def session_of(case: Path) -> Setup:
     """Returns the session of a case of tests/programs."""
     files = tuple((path.name, path.read_bytes()) for path in sorted((case / 'files').glob('[!.]*')))
-    session = Session(program=(case.parent.parent / f'{case.parent.parent.name}.com').read_bytes(), files=files, spacing=100)
+    session = Setup(program=(case.parent.parent / f'{case.parent.parent.name}.com').read_bytes(), files=files, spacing=100)
     if (case / 'tail').exists():
         session = replace(session, tail=(case / 'tail').read_bytes().removesuffix(b'\n'))
     if (case / 'console.bin').exists():

@@ -7,9 +7,9 @@ import socket
 import subprocess
 import tty
 
-from assembler import assemble
 from failures import FailureTest, Wanted
 from helpers import PROGRAM, ProgramTest, build_library
+from vembrusk.assembler import assemble
 
 WARM_BOOT = b'stop WarmBoot\n'
 PRINT = 'MVI E,{0}; MVI C,2; CALL 5'

@@ -23,7 +23,7 @@ PLAINER = {
 }
 WORDS = {re.compile(rf'\b({words})\b'): better for words, better in PLAINER.items()}
 
-FILES = ['*.md', 'docs/*.md', 'docs/*.1', 'examples/*.md', 'examples/python/*.md', 'tests/*.md', 'crates/*/src/*.rt', 'crates/*/specs/**/*.antt',
+FILES = ['*.md', 'docs/*.md', 'docs/*.1', 'examples/*.md', 'python/*.md', 'python/vembrusk/*.py', 'tests/*.md', 'crates/*/src/*.rt', 'crates/*/specs/**/*.antt',
          'crates/*/proofs/**/*.antt']
 
 

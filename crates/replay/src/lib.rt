@@ -11,7 +11,7 @@
 //! `self` for a plain clause, so the clause on it is a starred one (`ends`): it says what the runner is once the report is gone.
 //!
 //! There is no library for C. Rattle passes no owned value to C, so a runner, a session and a report would need handles, with rules
-//! of lifetime that nothing proves. `--edits /dev/stdin` serves every language through a pipe; `examples/python` has a client.
+//! of lifetime that nothing proves. `--edits /dev/stdin` serves every language through a pipe; `python/vembrusk` has a client.
 #![tactic(auto)]
 
 mod change;

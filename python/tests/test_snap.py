@@ -1,0 +1,66 @@
+"""Tests of `cpmtools snap`. The environment variable CPMRUN names the built program."""
+
+from command_case import EXAMPLES, CommandCase
+
+GREETING = EXAMPLES / "greeting/greeting.com"
+
+SHOWN = """\
+> insert 0 4164610D
+ok
+> run
+stop WarmBoot after 28 steps
+A=00 F=02 B=00 C=09 D=01 E=3D H=00 L=00 SP=FE00 PC=FF03
+  | Name? Ada
+  | Hello, Ada
+> gone NONE.TXT
+refused 3: there is no host file of this name
+> file A.BIN 00FF41
+ok
+"""
+
+COPIER = bytes.fromhex("0E13 115C00 CD0500 0E16 115C00 CD0500 0E15 115C00 CD0500 C9")
+"""Deletes the file of its tail, makes it, and writes the record at 80H, which begins with the tail: MVI C,19; LXI D,5CH; CALL 5; the
+same with 22 and 21; RET."""
+
+
+class Snap(CommandCase):
+    """What the command prints and writes, and its status."""
+
+    command = "snap"
+
+    def setUp(self) -> None:
+        super().setUp()
+        self.edits = self.put("edits", b"insert 0 4164610D\nrun\ngone NONE.TXT\nfile A.BIN 00FF41")
+
+    def test_shown(self) -> None:
+        self.assertEqual(self.outcome(GREETING, "--edits", self.edits), (0, SHOWN.encode(), ""))
+
+    def test_kept(self) -> None:
+        kept = self.room / "kept"
+        words = [GREETING, "--edits", self.edits, "--kept", kept]
+        status, printed, errors = self.outcome(*words)
+        self.assertEqual((status, errors), (1, ""))
+        self.assertIn(b"+stop WarmBoot after 28 steps", printed)
+        self.assertEqual(self.outcome(*words, "--accept"), (0, b"", ""))
+        self.assertEqual(kept.read_text(), SHOWN)
+        self.assertEqual(self.outcome(*words), (0, b"", ""))
+        kept.write_text(SHOWN.replace("Hello", "Hallo"))
+        status, printed, errors = self.outcome(*words)
+        self.assertEqual((status, errors), (1, ""))
+        self.assertIn(b"-  | Hallo, Ada\n+  | Hello, Ada\n", printed)
+
+    def test_files(self) -> None:
+        program = self.put("copier.com", COPIER)
+        edits = self.put("edits", b"run\n")
+        status, printed, _ = self.outcome(program, "X.BIN", "--edits", edits)
+        dump = "  000000  06 20 58 2e 42 49 4e" + " 00" * 9
+        self.assertIn(f"file X.BIN, 1 record\n{dump}\n".encode(), printed)
+        self.assertEqual(status, 0)
+
+    def test_no_line(self) -> None:
+        self.assertEqual(self.outcome(GREETING, "--edits", self.put("empty", b"")), (0, b"", ""))
+
+    def test_faults(self) -> None:
+        self.faulty("--accept needs --kept", GREETING, "--edits", self.edits, "--accept")
+        self.faulty("the runner ended with status 2: cpmrun: line 1 is malformed", GREETING, "--edits", self.put("bad", b"stop\n"))
+        self.faulty("the runner ended with status 2: cpmrun: line 2 is malformed", GREETING, "--edits", self.put("bad", b"run\nrun\r\n"))

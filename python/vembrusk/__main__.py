@@ -1,0 +1,5 @@
+"""Runs the command: `python3 -m vembrusk SUBCOMMAND`."""
+
+from .command import main
+
+main()
