@@ -1,18 +1,15 @@
 -- The texts of a report, in pieces.
-use Rattle.std.proofs.Common.{arith, map, drop, take-append-drop, unwrap_or, ◌<◌, ◌/◌, ◌%◌, slice_index, Some, None, [], ◌∷◌, take-suc, add-one, append-nil, append_assoc, codes, ◌≡◌, ℕ, ◌+◌, ◌≤◌, List, ◌++◌, length, take, Option, refl, sym, ap, ◌∙◌, inl, inr}
+use Rattle.std.proofs.Common.{arith, map, ◌<◌, ◌/◌, ◌%◌, slice_index, Some, None, [], ◌∷◌, take-suc, add-one, append-nil, append_assoc, ◌≡◌, ℕ, ◌+◌, List, ◌++◌, length, take, Option, refl, sym, ap, ◌∙◌, inl, inr}
 use Rattle.std.proofs.lemmas.Bool.{cases_lt}
-use Rattle.std.proofs.lemmas.List.{take_all}
 use Rattle.std.specs.List.{concat, slice_get}
-use Rattle.std.specs.Option.{option_map}
 use Rattle.std.proofs.lemmas.Option.{get_or_from_slice_get, slice_get_past}
 use Rattle.hostfiles.specs.Files.{OwnFiles, file_contents}
 use Rattle.hostfiles.specs.Changed.{changed_names, changed_keys}
 use Rattle.hostfiles.proofs.ChangedWalk.{keys_above, keys_above_none}
-use Rattle.report_lines.specs.FirstLines.{line, text_line}
 use Rattle.hex.specs.Hex.{encode_with, encode_lower, lower_digits}
-use Rattle.filenames.specs.Names.{Key, display_text}
+use Rattle.filenames.specs.Names.{Key}
 use Rattle.hostfiles.specs.Hosts.{Record, Host}
-use Rattle.report_lines.specs.ChangedLines.{records_text, changed_text, changed_line, line_of_file, lines_of_files}
+use Rattle.report_lines.specs.ChangedLines.{line_of_file, lines_of_files}
 use Rattle.report_lines.specs.declared.changed_lines.FileFilter.{FileFilter}
 use Rattle.machine.proofs.ChangedFileLemmas.{told_laid, changed_keys_laid}
 use Rattle.hostfiles.specs.Files.{files}

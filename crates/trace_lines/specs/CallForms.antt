@@ -1,6 +1,6 @@
--- The name of each call, and what its line shows besides. ([Interface Guide 1979, system function summary]; what is shown: this
--- project's profile.)
-use Rattle.std.specs.Prelude.{ℕ, ◌==◌, ◌||◌, Bool, List, codes, if◌then◌else◌}
+-- The name of each call, and what its line shows besides. A call that the guide names and that is not there is `unsupported`, one that it
+-- does not name `unknown`. ([Interface Guide 1979, system function summary]; what is shown: this project's profile.)
+use Rattle.std.specs.Prelude.{ℕ, ◌==◌, ◌&&◌, ◌||◌, Bool, List, codes, if◌then◌else◌, nat_le}
 use Rattle.trace_lines.specs.declared.forms.Argument.{Argument}
 use Rattle.trace_lines.specs.declared.forms.Argument.TheVariants as argument
 use Rattle.trace_lines.specs.declared.forms.Returned.{Returned}
@@ -37,6 +37,7 @@ call_name n =
     else if n == 35 then codes "compute file size"
     else if n == 36 then codes "set random record"
     else if n == 40 then codes "write random with zero fill"
+    else if n == 3 || n == 4 || n == 5 || nat_le 27 n && nat_le n 32 || n == 37 then codes "unsupported"
     else codes "unknown"
 
 -- What a call is given: E, DE, or the control block at DE, of which some calls use the new name or a record number too.

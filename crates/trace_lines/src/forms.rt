@@ -33,7 +33,8 @@ pub enum Returned {
     Word,
 }
 
-/// Returns the name of a call. [Interface Guide 1979, system function summary]
+/// Returns the name of a call: `unsupported` for one that the guide names and that is not there, `unknown` for one that it does not name.
+/// [Interface Guide 1979, system function summary]
 pub fn call_name(number: u8) -> &'static str
     ensures { result.now ≡ call_name number }
 {
@@ -67,6 +68,7 @@ pub fn call_name(number: u8) -> &'static str
         35 => "compute file size",
         36 => "set random record",
         40 => "write random with zero fill",
+        3 | 4 | 5 | 27..=32 | 37 => "unsupported",
         _ => "unknown",
     }
 }

@@ -232,26 +232,14 @@ abbrev pub left_to : Option Cause → ℕ → ℕ → ℕ
 left_to None end step = suc (end - step)
 left_to (Some cause) end step = 0
 
--- The same by whether sending failed.
-abbrev pub left_unless : Bool → Option Cause → ℕ → ℕ → ℕ
-left_unless true stop end step = 0
-left_unless false stop end step = left_to stop end step
-
-pub goes_up : (old new : RunView) (end : ℕ) (stop : Option Cause) → GoesBy old new end stop → old.step ≤ new.step
-goes_up old new end None w = omega (arith, w.0)
-goes_up old new end (Some cause) w = w.0
-
 pub ends_by : (old new : RunView) (end : ℕ) (stop : Option Cause) → GoesBy old new end stop → IsWithin new end stop
 ends_by old new end None w = w.1
 ends_by old new end (Some cause) w = (w.1, w.2)
 
--- A piece of a walk ended, unless sending failed in it or after it.
-pub piece_smaller : (before after : Bool) (r : RunView) (stop : Option Cause) (end pause step : ℕ) → (before ≡ true → after ≡ true)
-    → (before ≡ false → EndsAt r pause stop) → step < pause → pause ≤ end → left_unless after stop end r.step < left_unless false None end step
-piece_smaller before true r stop end pause step keeps ends up within = omega arith
-piece_smaller true false r stop end pause step keeps ends up within = let no : false ≡ true = keeps refl in absurd (cc)
-piece_smaller false false r None end pause step keeps ends up within = let here : r.step ≡ pause = ends refl in omega (arith, here, up, within)
-piece_smaller false false r (Some cause) end pause step keeps ends up within = omega arith
+-- What has not failed after it was sent had not failed before.
+pub sound_before : (before after : Bool) → (before ≡ true → after ≡ true) → after ≡ false → before ≡ false
+sound_before true after keeps sound = let no : true ≡ false = sym (keeps refl) ∙ sound in absurd (cc)
+sound_before false after keeps sound = refl
 
 pub within_more : (r : RunView) (end pause : ℕ) (stop : Option Cause) → pause ≤ end → IsWithin r pause stop → IsWithin r end stop
 within_more r end pause None most low = omega (arith, most, low)

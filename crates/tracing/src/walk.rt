@@ -185,29 +185,17 @@ fn push_next<X: Text>(
     push_step(run, session, choice, walker, text)
 }
 
-// Walks on up to step `end` or to a stop, and pushes the lines of the chosen steps. If sending fails, it ends early.
-fn push_piece<X: Text>(
-    run: &mut Run<'_>,
-    session: &Session,
-    choice: &Choice,
-    end: u64,
-    walker: &mut Walker,
-    text: &mut X,
-) -> Result<Option<Cause>, AllocError>
-    requires session { run.old.session ≡ session.now }
-    requires within { (run.old.step ≤ end) × (end ≤ run.old.session.limit) }
-    requires most { run.old.session.limit ≤ STEP_LIMIT }
-    ensures session { run.new.session ≡ run.old.session }
-    ensures within { IfOk result (IsWithin run.new end) }
-    ensures ends { IfOk result (λ stop. X.failed text.new ≡ false → EndsAt run.new end stop) }
-    ensures lines { WalksOn choice.now run.old (walked (X.pushed text.old) walker.old.skip)
-        run.new (walked (X.pushed text.new) walker.new.skip) result }
+// Sends a text if it is due at a step, and returns the step at which it is due next.
+fn send_if_due<X: Text>(text: &mut X, step: u64, due: u64) -> u64
+    requires { step ≤ STEP_LIMIT }
+    ensures same { X.pushed text.new ≡ X.pushed text.old }
+    ensures later { step < result }
 {
-    let mut stop = None;
-    while stop.is_none() && run.step() < end && !text.has_failed() {
-        stop = push_next(run, session, choice, end, walker, text)?;
+    if step < due {
+        return due;
     }
-    Ok(stop)
+    text.flush();
+    step + STEPS_UNTIL_TEXT
 }
 
 // Walks on up to step `end` or to a stop, and pushes and sends the lines of the chosen steps. If sending fails, it ends early.
@@ -228,10 +216,10 @@ fn push_lines<X: Text>(
         run.new (walked (X.pushed text.new) walker.new.skip) result }
 {
     let mut stop = None;
+    let mut due = 0;
     while stop.is_none() && run.step() < end && !text.has_failed() {
-        let pause = end.min(run.step() + STEPS_UNTIL_TEXT);
-        stop = push_piece(run, session, choice, pause, walker, text)?;
-        text.flush();
+        due = send_if_due(text, run.step(), due);
+        stop = push_next(run, session, choice, end.min(due), walker, text)?;
     }
     Ok(stop)
 }
@@ -282,6 +270,7 @@ pub fn walk<X: Text>(
     if let Some(cause) = push_lines(run, session, choice, end, walker, text)? {
         return Ok(Some(cause));
     }
+    text.flush();
     if text.has_failed() {
         return Ok(None);
     }

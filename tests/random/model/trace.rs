@@ -181,6 +181,7 @@ pub fn name_of_call(number: u8) -> &'static str {
         35 => "compute file size",
         36 => "set random record",
         40 => "write random with zero fill",
+        3..=5 | 27..=32 | 37 => "unsupported",
         _ => "unknown",
     }
 }

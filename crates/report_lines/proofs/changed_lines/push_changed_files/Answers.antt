@@ -1,4 +1,4 @@
-use Rattle.std.proofs.Common.{List, ◌++◌, ◌∙◌, Some, ap, map, sym}
+use Rattle.std.proofs.Common.{List, ◌∙◌, Some, ap, map, sym}
 use Rattle.std.specs.List.{concat}
 use Rattle.hostfiles.specs.Names.{Key}
 use Rattle.hostfiles.proofs.ChangedWalk.{changed_next, changed_none}

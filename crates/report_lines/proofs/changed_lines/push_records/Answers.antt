@@ -1,4 +1,4 @@
-use Rattle.std.proofs.Common.{◌≡◌, Some, slice_get, [], take, unwrap_or, ◌∙◌, arith, ap, append-nil, sym}
+use Rattle.std.proofs.Common.{◌≡◌, Some, slice_get, [], take, unwrap_or, ◌∙◌, arith, ap, sym}
 use Rattle.std.specs.List.{concat}
 use Rattle.hex.specs.Hex.{encode_lower}
 use Rattle.hostfiles.specs.FileView.{view_contents}

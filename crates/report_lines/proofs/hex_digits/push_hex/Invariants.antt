@@ -1,4 +1,4 @@
-use Rattle.std.proofs.Common.{◌≡◌, ℕ, length}
+use Rattle.std.proofs.Common.{◌≡◌, length}
 use Rattle.streams.specs.Pushing.{more}
 use Rattle.hex.specs.Hex.{encode_lower}
 use Rattle.report_lines.proofs.hex_digits.push_hex.Given as goal

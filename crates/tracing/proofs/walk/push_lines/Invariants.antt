@@ -1,6 +1,6 @@
 use Rattle.std.proofs.Common.{◌≡◌, None}
 use Rattle.tracing.specs.Walks.{IsWithin, lines_left, walked, with_lines}
-use Rattle.tracing.proofs.Walking.{left_unless}
+use Rattle.tracing.proofs.Walking.{left_to}
 use Rattle.tracing.proofs.walk.push_lines.Given as goal
 
 abbrev pub invariant-loop-run : goal.invariant-loop-run
@@ -12,4 +12,4 @@ invariant-loop-run g l = record {
 }
 
 abbrev pub decreases-loop-run : goal.decreases-loop-run
-decreases-loop-run g l = left_unless (g.X.Text.failed l.text) l.stop l.end l.run.step
+decreases-loop-run g l = left_to l.stop l.end l.run.step

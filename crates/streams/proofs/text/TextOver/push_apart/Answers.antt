@@ -1,4 +1,4 @@
-use Rattle.std.proofs.Common.{◌≡◌, ◌++◌, false, ap, arith, append-nil, sym, take, ◌∙◌}
+use Rattle.std.proofs.Common.{◌≡◌, ◌++◌, ap, arith, append-nil, sym, take, ◌∙◌}
 use Rattle.std.proofs.KnownBytes.{Appends-trans}
 use Rattle.streams.proofs.Texts.{all_more, prefix_more}
 use Rattle.streams.proofs.text.TextOver.push_apart.Goals as goal

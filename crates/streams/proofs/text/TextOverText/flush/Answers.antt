@@ -1,4 +1,4 @@
-use Rattle.std.proofs.Common.{◌≡◌, ◌≤◌, ◌++◌, false, ap, arith, append-nil, length, sym, take, ◌∙◌}
+use Rattle.std.proofs.Common.{◌≡◌, ◌≤◌, ◌++◌, false, ap, arith, append-nil, length, sym, take}
 use Rattle.std.proofs.KnownBytes.{Appends-trans}
 use Rattle.streams.proofs.Texts.{all_more, prefix_more}
 use Rattle.streams.proofs.text.TextOverText.flush.Goals as goal
