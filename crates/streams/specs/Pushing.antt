@@ -37,7 +37,7 @@ as_count true = 1
 as_count false = 0
 
 -- These bytes were written to a writer. Two proofs of that are the same.
-pub record IsSent (old new : Output) (text : List ℕ) : Type 0 where
+pub record Wrote (old new : Output) (text : List ℕ) : Type 0 where
   pub bytes : Appends old.holds new.holds text
 
 Appends-prop : (a b : Option (List ℕ)) (t : List ℕ) → IsProp (Appends a b t)
@@ -45,5 +45,5 @@ Appends-prop None b t = Unit-prop
 Appends-prop (Some x) None t = ⊥_prop
 Appends-prop (Some x) (Some y) t = Coded-set (coded_list coded_ℕ) y (x ++ t)
 
-pub IsSent-prop : (old new : Output) (text : List ℕ) → IsProp (IsSent old new text)
-IsSent-prop old new text p q = λ i. record { bytes = Appends-prop old.holds new.holds text p.bytes q.bytes i }
+pub Wrote-prop : (old new : Output) (text : List ℕ) → IsProp (Wrote old new text)
+Wrote-prop old new text p q = λ i. record { bytes = Appends-prop old.holds new.holds text p.bytes q.bytes i }

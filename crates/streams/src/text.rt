@@ -3,7 +3,7 @@
 ghost use Rattle.std.specs.Prelude.{◌≡◌, ℕ, List, ◌+◌, ◌++◌, ◌≤◌, [], length, take, true, false, Bool, OnOk, OnErr};
 ghost use Rattle.std.specs.Io.KnownBytes.{Appends};
 ghost use Rattle.streams.specs.Streams.{WritesText};
-ghost use Rattle.streams.specs.Pushing.{IsSent, IsSent-prop, Pushed, more, as_count};
+ghost use Rattle.streams.specs.Pushing.{Wrote, Wrote-prop, Pushed, more, as_count};
 
 use crate::streams::{Failed, Writer};
 use arrayvec::ArrayVec;
@@ -84,7 +84,7 @@ pub struct TextOver<'w, W: Writer> {
     start: Snapshot<W>,
     said: Tag,
     sent: Tag,
-    ghost bytes: { IsSent (W.output start.value) (W.output writer.now) sent.numbers } by { IsSent-prop _ _ _ },
+    ghost bytes: { Wrote (W.output start.value) (W.output writer.now) sent.numbers } by { Wrote-prop _ _ _ },
     ghost failures: { (W.output writer.now).failures ≡ (W.output start.value).failures + as_count failed },
     ghost prefix: { take (length sent.numbers) said.numbers ≡ sent.numbers },
     ghost all: { failed ≡ false → sent.numbers ++ buffer.items ≡ said.numbers },
