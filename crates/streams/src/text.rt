@@ -121,6 +121,13 @@ impl<'w, W: Writer> TextOver<'w, W> {
             self.said = with_piece(&self.said, piece);
             return;
         }
+        match self.buffer.try_extend_from_slice(piece) {
+            Ok(()) => {
+                self.said = with_piece(&self.said, piece);
+                return;
+            }
+            Err(_) => (),
+        }
         let (count, failed) = write_counted(self.writer, piece);
         self.sent = with_piece(&self.sent, &piece[..count]);
         self.said = with_piece(&self.said, piece);

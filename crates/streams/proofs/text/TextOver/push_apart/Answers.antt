@@ -1,4 +1,4 @@
-use Rattle.std.proofs.Common.{◌≡◌, ◌++◌, ap, arith, append-nil, sym, take, ◌∙◌}
+use Rattle.std.proofs.Common.{◌≡◌, ◌++◌, [], ap, arith, append-nil, sym, take, ◌∙◌}
 use Rattle.std.proofs.KnownBytes.{Appends-trans}
 use Rattle.streams.proofs.Texts.{all_more, prefix_more}
 use Rattle.streams.proofs.text.TextOver.push_apart.Goals as goal
@@ -13,9 +13,10 @@ invariant_of-self-2 g c =
     let said : s.said.numbers ≡ s.sent.numbers = sym (s.all c.if-self.false) ∙ ap (λ b. s.sent.numbers ++ b) c.flush.ensures.sent ∙ append-nil s.sent.numbers in
     let sent : c.with_piece-2.result.numbers ≡ s.sent.numbers ++ take n piece = c.with_piece-2.ensures in
     let whole : c.with_piece-3.result.numbers ≡ s.sent.numbers ++ piece = c.with_piece-3.ensures ∙ ap (λ t. t ++ piece) said in
+    let empty : c.try_extend_from_slice.new.self.items ≡ [] = ap (λ b. b.items) c.in-Err.ensures.err ∙ c.flush.ensures.sent in
     record {
       bytes = record { bytes = rw sent (Appends-trans _ _ _ _ _ s.bytes.bytes w.ensures.bytes) };
       failures = omega (arith, w.ensures.failures, none);
       prefix = rw (sent, whole) (prefix_more s.sent.numbers piece n w.ensures.count);
-      all = λ h. rw (c.flush.ensures.sent, append-nil, sent, whole) (all_more s.sent.numbers piece n (w.ensures.all h));
+      all = λ h. rw (empty, append-nil, sent, whole) (all_more s.sent.numbers piece n (w.ensures.all h));
     }
