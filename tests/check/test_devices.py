@@ -1,9 +1,9 @@
 """Runs the built program with each of its system calls failing in turn, also when each read and each write moves one byte. It names the file or
 folder that failed, or standard output; its output is a prefix, and each file that it wrote is whole. At the path of a file is the older file,
 if there was one, or the whole new one."""
-from assembler import assemble
 from failures import FailureTest, Wanted
 from helpers import PROGRAM, TOP, report_of_hi
+from vembrusk.assembler import assemble
 
 GREETING = 'examples/greeting/greeting.com'
 EDITS = 'examples/greeting/edits.txt'
