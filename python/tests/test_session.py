@@ -1,5 +1,6 @@
 """Tests of the client. The environment variable CPMRUN names the built program."""
 
+import pickle
 import signal
 import tempfile
 import unittest
@@ -141,6 +142,12 @@ class Ends(unittest.TestCase):
         with self.assertRaises(ProgramEnded) as caught:
             session.run()
         self.assertEqual(caught.exception.status, -signal.SIGKILL)
+
+    def test_an_error_reaches_another_process(self) -> None:
+        for error in (Refused(3), ProgramEnded(2, "cpmrun: line 1 is malformed\n")):
+            copy = pickle.loads(pickle.dumps(error))
+            self.assertEqual((str(copy), vars(copy)), (str(error), vars(error)))
+        self.assertEqual(str(ProgramEnded(2, "")), "the runner ended with status 2: it wrote no message")
 
     def test_no_process_is_left(self) -> None:
         with self.assertRaises(ZeroDivisionError), Session(RUNNER, HI) as session:

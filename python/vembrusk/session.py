@@ -59,22 +59,28 @@ class Refused(SessionError):
     """An edit was refused and changed nothing. The session can be used further."""
 
     def __init__(self, number: int) -> None:
+        super().__init__(number)
         self.number = number
         """The number after `refused`."""
         self.meaning = _MEANINGS.get(number, "a refusal that this module does not know")
         """Why it was refused, in words."""
-        super().__init__(f"refused {number}: {self.meaning}")
+
+    def __str__(self) -> str:
+        return f"refused {self.number}: {self.meaning}"
 
 
 class ProgramEnded(SessionError):
     """The runner ended before `close`, or with a status other than 0."""
 
     def __init__(self, status: int, errors: str) -> None:
+        super().__init__(status, errors)
         self.status = status
         """Its exit status, or the negative number of the signal that ended it."""
         self.errors = errors
         """Its standard error."""
-        super().__init__(f"the runner ended with status {status}: {errors.strip() or 'it wrote no message'}")
+
+    def __str__(self) -> str:
+        return f"the runner ended with status {self.status}: {self.errors.strip() or 'it wrote no message'}"
 
 
 class UnknownReply(SessionError):
