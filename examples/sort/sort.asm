@@ -3,7 +3,7 @@
 ;       SORT from to
 ;
 ; The lines come in the order of their bytes, and each ends by 0DH 0AH.
-; `from` and `to` may be one file.  The whole text stands in memory.
+; `from` and `to` may be one file.  The whole text is in memory.
 ;
 ; A program of CP/M is loaded at 0100H and begins there.  It asks CP/M for
 ; all that it wants by `call 5`, with the number of the call in C and what
@@ -79,7 +79,7 @@ line:   ld      a,(de)
         ld      de,2
         call    room
         pop     de
-        ld      (hl),e          ; an address stands with its low byte first
+        ld      (hl),e          ; the low byte of an address is first
         inc     hl
         ld      (hl),d
         inc     hl
@@ -107,7 +107,7 @@ listed: ld      (tabend),hl
 
 ; Sorts the addresses: each line is put in among those before it.
         ld      hl,(table)
-each:   ld      a,(tabend)      ; HL is where the next line stands
+each:   ld      a,(tabend)      ; HL is where the next line is
         cp      l
         jp      nz,insert
         ld      a,(tabend+1)
@@ -121,12 +121,12 @@ insert: push    hl
         ex      de,hl
         ld      (taken),hl      ; the line that is put in
         ex      de,hl
-back:   ld      a,(table)       ; HL is where it may stand
+back:   ld      a,(table)       ; HL is where it may go
         cp      l
         jp      nz,before
         ld      a,(table+1)
         cp      h
-        jp      z,stands        ; nothing stands before it
+        jp      z,placed        ; there is nothing before it
 before: dec     hl
         ld      d,(hl)
         dec     hl
@@ -147,7 +147,7 @@ before: dec     hl
         jp      back
 behind: inc     hl
         inc     hl
-stands: ex      de,hl
+placed: ex      de,hl
         ld      hl,(taken)
         ex      de,hl
         ld      (hl),e
