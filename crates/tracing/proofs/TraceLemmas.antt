@@ -1,7 +1,6 @@
 -- The parts of the whole trace.
-use Rattle.std.proofs.Common.{◌≡◌, ℕ, Bool, true, false, ◌+◌, ◌-◌, ◌<◌, ◌≤◌, List, [], ◌++◌, length, drop, take, Option, Some, None, Result, Ok, Err, IfErr, IfOk, OnOk, unwrap_or, refl, sym, ◌∙◌, ap, arith, append-nil, subst}
+use Rattle.std.proofs.Common.{◌≡◌, ℕ, Bool, true, false, ◌+◌, ◌-◌, ◌<◌, List, ◌++◌, length, drop, Option, Some, None, Result, Ok, Err, IfOk, unwrap_or, refl, sym, ◌∙◌, ap, arith}
 use Rattle.std.specs.List.{concat}
-use Rattle.std.proofs.lemmas.List.{drop_all}
 use Rattle.interaction_trees.specs.Run.{RunResult}
 use Rattle.interaction_trees.specs.Steps as steps
 use Rattle.interaction_trees.proofs.RunLemmas.{run_limited, run_stops}

@@ -1,12 +1,12 @@
 -- The lines along a run.
-use Rattle.std.proofs.Common.{◌≡◌, ℕ, zero, suc, ◌+◌, ◌-◌, ◌<◌, ◌≤◌, Bool, true, false, List, [], ◌∷◌, ◌++◌, length, drop, take, ◌&&◌, ◌||◌, Option, Some, None, refl, sym, ◌∙◌, ap, arith, append_assoc, nat_le, subst, Ok, Err, IfOk, IfSome, IsErr, min, inl, inr, if◌then◌else◌}
+use Rattle.std.proofs.Common.{◌≡◌, ℕ, zero, suc, ◌+◌, ◌-◌, ◌<◌, ◌≤◌, Bool, true, false, List, [], ◌∷◌, ◌++◌, length, drop, ◌&&◌, ◌||◌, Option, Some, None, refl, sym, ◌∙◌, ap, arith, nat_le, subst, Ok, Err, IfOk, IfSome, IsErr, min, inl, inr, if◌then◌else◌}
 use Rattle.std.specs.List.{concat}
 use Rattle.interaction_trees.specs.Outcome.{Outcome, Step, Stop}
 use Rattle.interaction_trees.specs.Steps as steps
 use Rattle.interaction_trees.proofs.RunLemmas.{step_before}
 use Rattle.console_calls.specs.declared.cause.Cause.{Cause}
 use Rattle.machine.specs.Inputs.{Session}
-use Rattle.std.proofs.lemmas.Bool.{and_parts, cases_lt, leb-false, leb-true, lt-leb, ne_eqb}
+use Rattle.std.proofs.lemmas.Bool.{and_parts, cases_lt, lt-leb, ne_eqb}
 use Rattle.std.proofs.Math.Bool.{and-false}
 use Rattle.std.specs.declared.result.Result.{Result}
 use Rattle.std.specs.declared.alloc.AllocError.{AllocError}

@@ -1,6 +1,8 @@
 // A walk along a run, which pushes the line of each chosen step.
 
-ghost use Rattle.std.specs.Prelude.{◌≡◌, ◌+◌, ◌-◌, ◌<◌, ◌≤◌, IfOk, None, drop, length, false, true};
+ghost use Rattle.std.specs.Prelude.{◌≡◌, ◌+◌, ◌-◌, ◌<◌, ◌≤◌, IfOk, None, Some, drop, length, false, true};
+ghost use Rattle.machine.specs.Session.{IsSession};
+ghost use Rattle.machine.specs.PlainLaid.{plain_after};
 ghost use Rattle.machine.specs.PlainState.{plain_outcome};
 ghost use Rattle.machine.specs.Runs.{Leads, state_of};
 ghost use Rattle.streams.specs.Pushing.{PushesText};
@@ -8,7 +10,7 @@ ghost use Rattle.trace_lines.specs.CallLines.{call_line};
 ghost use Rattle.trace_lines.specs.StepLines.{is_instruction, step_line};
 ghost use Rattle.trace_filters.specs.Chosen.{is_call};
 ghost use Rattle.tracing.specs.Trace.{line_of};
-ghost use Rattle.tracing.specs.Walks.{EndsAt, GoesBy, IsEnd, IsWithin, WalksOn, kept_line, lines_left, walked};
+ghost use Rattle.tracing.specs.Walks.{EndsAt, GoesBy, IsEnd, WalksOn, kept_line, lines_left, walked};
 
 use machine::{Cause, Run, STEP_LIMIT, Session};
 use std::alloc::AllocError;
@@ -138,28 +140,8 @@ fn push_step<X: Text>(
     run.take_step()
 }
 
-// Goes on to a step that may have a line, or to step `end`. Without instructions only calls have lines.
-fn to_next(run: &mut Run<'_>, choice: &Choice, end: u64) -> Result<Option<Cause>, AllocError>
-    requires below { (run.old.step < end) × (end ≤ run.old.session.limit) }
-    requires most { run.old.session.limit ≤ STEP_LIMIT }
-    ensures session { run.new.session ≡ run.old.session }
-    ensures low { run.old.step ≤ run.new.step }
-    ensures within { IfOk result (IsWithin run.new end) }
-    ensures lines { IfOk result (λ stop.
-        lines_left choice.now run.old None ≡ lines_left choice.now run.new stop) }
-{
-    if choice.instructions {
-        return Ok(None);
-    }
-    let _ = run.step();
-    if let Some(cause) = run.advance_to_call(end)? {
-        return Ok(Some(cause));
-    }
-    let _ = run.step();
-    Ok(None)
-}
-
-// Executes a step that may have a line, after the steps before it that have none; or goes on to step `end` without a line.
+// Executes a step that may have a line, after the steps before it that have none; or goes on to step `end` without a line. Without
+// instructions only calls have lines.
 fn push_next<X: Text>(
     run: &mut Run<'_>,
     session: &Session,
@@ -169,6 +151,8 @@ fn push_next<X: Text>(
     text: &mut X,
 ) -> Result<Option<Cause>, AllocError>
     requires session { run.old.session ≡ session.now }
+    requires at { plain_after run.old.session run.old.step ≡ Some (state_of run.old) }
+    requires valid { IsSession run.old.session }
     requires below { (run.old.step < end) × (end ≤ run.old.session.limit) }
     requires most { run.old.session.limit ≤ STEP_LIMIT }
     ensures session { run.new.session ≡ run.old.session }
@@ -176,7 +160,10 @@ fn push_next<X: Text>(
     ensures lines { WalksOn choice.now run.old (walked (X.pushed text.old) walker.old.skip)
         run.new (walked (X.pushed text.new) walker.new.skip) result }
 {
-    if let Some(cause) = to_next(run, choice, end)? {
+    if choice.instructions {
+        return push_step(run, session, choice, walker, text);
+    }
+    if let Some(cause) = run.advance_to_call(end)? {
         return Ok(Some(cause));
     }
     if run.step() == end {

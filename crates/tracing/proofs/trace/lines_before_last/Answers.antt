@@ -1,6 +1,6 @@
 use Rattle.std.proofs.Common.{◌≡◌, ◌≤◌, [], false, None, ap, arith, length}
-use Rattle.tracing.specs.Trace.{all_lines, lines}
-use Rattle.tracing.specs.Walks.{IsEnd, Walked, lines_left}
+use Rattle.tracing.specs.Trace.{all_lines}
+use Rattle.tracing.specs.Walks.{Walked, lines_left}
 use Rattle.machine.specs.PlainState.{loaded_machine}
 use Rattle.tracing.proofs.TraceLemmas.{all_left, none_failed}
 use Rattle.tracing.proofs.Walking.{end_left, lines_short}

@@ -1,11 +1,9 @@
 use Rattle.std.proofs.Common.{◌≡◌, ◌∙◌, ◌++◌, ◌∷◌, [], List, ℕ, None, ap, drop, length, rules}
-use Rattle.machine.specs.PlainState.{plain_outcome}
 use Rattle.machine.specs.Regs.{Regs}
 use Rattle.machine.specs.Runs.{state_of}
-use Rattle.streams.specs.Pushing.{more}
 use Rattle.streams.proofs.Pushes.{next_pushed, part_longer, pushes_part, whole_part}
 use Rattle.trace_lines.specs.CallForms.{returned_of}
-use Rattle.trace_lines.specs.CallLines.{call_line, call_start, printed_text, returned_text}
+use Rattle.trace_lines.specs.CallLines.{call_start, printed_text, returned_text}
 use Rattle.tracing.proofs.LineLemmas.{call_begun, call_ended, call_went, text_grows}
 use Rattle.tracing.proofs.walk.push_call.Goals.{then-is_none, else-is_none}
 use Rattle.tracing.proofs.walk.push_call.Goals as goal
