@@ -1,8 +1,9 @@
 -- A text that is sent in parts.
-use Rattle.std.proofs.Common.{◌≡◌, ℕ, ◌+◌, ◌≤◌, List, ◌++◌, length, take, drop, ap, ◌∙◌, arith, length-append, Option}
+use Rattle.std.proofs.Common.{◌≡◌, ℕ, ◌+◌, ◌≤◌, List, ◌++◌, length, take, drop, ap, ◌∙◌, arith, length-append, Option, Result, Ok, Err, OnErr, false}
 use Rattle.std.proofs.lemmas.List.{take-append-le, length-take, take_all}
 use Rattle.std.proofs.Math.Seq.{take-add, take-append-add}
 use Rattle.std.specs.Io.KnownBytes.{Appends}
+use Rattle.std.specs.Result.{is_ok}
 use Rattle.std.proofs.KnownBytes.{Appends-trans}
 
 -- m more bytes are written.
@@ -23,3 +24,8 @@ prefix_more sent piece n h =
 
 pub all_more : (sent piece : List ℕ) (n : ℕ) → n ≡ length piece → sent ++ take n piece ≡ sent ++ piece
 all_more sent piece n e = ap (λ t. sent ++ t) (take_all n piece (omega (arith, e)))
+
+-- What an error says, if there was no success.
+pub on_error : {T E P : Type 0} (r : Result T E) → is_ok r ≡ false → OnErr r P → P
+on_error (Ok x) failed p = absurd (cc)
+on_error (Err e) failed p = p

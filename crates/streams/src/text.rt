@@ -117,20 +117,12 @@ impl<'w, W: Writer> TextOver<'w, W> {
         ensures remembers { self.old.failed ≡ true → self.new.failed ≡ true }
     {
         self.flush();
-        if self.failed {
-            self.said = with_piece(&self.said, piece);
+        self.said = with_piece(&self.said, piece);
+        if self.failed || self.buffer.try_extend_from_slice(piece).is_ok() {
             return;
-        }
-        match self.buffer.try_extend_from_slice(piece) {
-            Ok(()) => {
-                self.said = with_piece(&self.said, piece);
-                return;
-            }
-            Err(_) => (),
         }
         let (count, failed) = write_counted(self.writer, piece);
         self.sent = with_piece(&self.sent, &piece[..count]);
-        self.said = with_piece(&self.said, piece);
         self.failed = failed;
     }
 
